@@ -1,0 +1,146 @@
+//! Every refusal of the product, by its number, and want of memory.
+
+ghost use Rattle.std.specs.Prelude.{◌≡◌, IfOk};
+
+use std::alloc::{AllocError, AllocFailed, Global};
+use std::fmt;
+use std::marker::Model;
+use thiserror::Error;
+
+/// The name of what is outside the subset: an instruction, a test, a BIF with its arity, or a kind of operand.
+#[derive(Debug, Drop)]
+pub struct Name {
+    text: String,
+}
+
+impl Model for Name {
+    ghost use Rattle.std.specs.Prelude.{List, ℕ, string_bytes};
+
+    ghost Value = { List ℕ };
+
+    ghost view = { λ a. string_bytes a.text };
+}
+
+impl Name {
+    /// The name that `text` spells, in UTF-8.
+    ///
+    /// Memory is all that it may lack.
+    pub fn new(alloc: Global, text: &str) -> Result<Name, AllocError>
+        ensures { IfOk result (λ name. name ≡ text.now) }
+    {
+        let text = String::from_str(alloc, text)?;
+        Ok(Name { text })
+    }
+
+    /// The name's text.
+    pub fn as_str(&self) -> &str
+        ensures { result.now ≡ self.now }
+    {
+        self.text.as_str()
+    }
+}
+
+impl fmt::Display for Name {
+    fn fmt<W: fmt::Write>(&self, f: &mut fmt::Formatter<W>) -> fmt::Result {
+        f.write_str(self.text.as_str())
+    }
+}
+
+/// Why a call was refused: a number from 1 to 34 with what it names, or want of memory.
+///
+/// Lines count from 1.
+#[derive(Debug, Drop, Error)]
+pub enum Fault {
+    #[error("the table of atoms is full")]
+    TooManyAtoms { line: Option<usize> },
+    #[error("an atom has over 255 characters")]
+    AtomTooLong { line: Option<usize> },
+    #[error("line {line}: no token begins here")]
+    BadToken { line: usize },
+    #[error("line {line}: a token that cannot stand here")]
+    BadTerm { line: usize },
+    #[error("line {line}: brackets nest over 256 deep")]
+    TooDeep { line: usize },
+    #[error("line {line}: the text ends within a token or a term, or before its full stop")]
+    Truncated { line: usize },
+    #[error("line {line}: bytes that are no UTF-8")]
+    NotUtf8 { line: usize },
+    #[error("line {line}: no form, a form out of order, or a missing one")]
+    BadForm { line: usize },
+    #[error("line {line}: {name} is outside the subset")]
+    Unsupported { line: usize, name: Name },
+    #[error("line {line}: a wrong number or kind of operands")]
+    BadOperand { line: usize },
+    #[error("line {line}: an integer outside 64 bits, or a literal that is too high")]
+    LiteralRange { line: usize },
+    #[error("label {label} stands twice")]
+    LabelTwice { label: u32 },
+    #[error("there is no label {label}")]
+    LabelMissing { label: u32 },
+    #[error("the entry of function {function} is no label of its own")]
+    EntryMissing { function: usize },
+    #[error("line {line}: a register or a frame out of range")]
+    RegisterRange { line: usize },
+    #[error("the input is past a limit")]
+    TooLarge,
+    #[error("two modules have one name")]
+    ModuleTwice,
+    #[error("an export names no function of its module")]
+    ExportMissing,
+    #[error("more than 64 modules")]
+    TooManyModules,
+    #[error("the choice is not enabled")]
+    NotEnabled,
+    #[error("the world has trapped")]
+    Halted,
+    #[error("no choice stands that far back")]
+    BeforeStart,
+    #[error("no choice stands that far ahead")]
+    AfterEnd,
+    #[error("line {line}: no line of a plan")]
+    BadLine { line: usize },
+    #[error("line {line}: two schedules have one name")]
+    NameTwice { line: usize },
+    #[error("line {line}: too many choices, or too many in all")]
+    TooLong { line: usize },
+    #[error("the choices at {position} cannot be exchanged")]
+    NotIndependent { position: usize },
+    #[error("the unit is not leased to this worker")]
+    NotLeased,
+    #[error("the piece belongs to another campaign")]
+    Foreign,
+    #[error("the unit is done already")]
+    Twice,
+    #[error("a unit is not done")]
+    Unfinished,
+    #[error("the start is no exported function of no arguments")]
+    NoEntry,
+    #[error("line {line}: no command")]
+    BadCommand { line: usize },
+    #[error("the number of workers is not 1 to 64")]
+    Workers,
+    #[error("memory ran out")]
+    Memory,
+}
+
+impl From<AllocError> for Fault {
+    ghost use Rattle.std.specs.Prelude.{◌≡◌};
+    ghost use Rattle.bx_terms.specs.declared.faults.Fault.TheVariants.{Memory};
+
+    ghost from_gives = { λ _ f. f ≡ Memory };
+
+    fn from(_: AllocError) -> Fault {
+        Fault::Memory
+    }
+}
+
+impl<T: Drop> From<AllocFailed<T>> for Fault {
+    ghost use Rattle.std.specs.Prelude.{◌≡◌};
+    ghost use Rattle.bx_terms.specs.declared.faults.Fault.TheVariants.{Memory};
+
+    ghost from_gives = { λ _ f. f ≡ Memory };
+
+    fn from(_: AllocFailed<T>) -> Fault {
+        Fault::Memory
+    }
+}

@@ -1,0 +1,14 @@
+//! Atoms, terms and faults: what every other crate of `bxemu` speaks of.
+#![tactic(auto)]
+
+mod atom_table;
+mod faults;
+mod kinds;
+mod places;
+mod terms;
+
+pub use atom_table::AtomId;
+pub use faults::{Fault, Name};
+pub use kinds::{Class, Trap};
+pub use places::Place;
+pub use terms::{MAX_HEIGHT, Term, TermRefusal, View};
