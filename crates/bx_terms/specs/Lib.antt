@@ -5,3 +5,6 @@ pub mod Form
 pub mod Falls
 pub mod View
 pub mod Built
+pub mod FixedAtoms
+pub mod AtomTable
+pub mod Naming

@@ -3,11 +3,12 @@
 
 mod atom_table;
 mod faults;
+pub mod fixed;
 mod kinds;
 mod places;
 mod terms;
 
-pub use atom_table::AtomId;
+pub use atom_table::{AtomId, Atoms};
 pub use faults::{Fault, Name};
 pub use kinds::{Class, Trap};
 pub use places::Place;

@@ -1,0 +1,131 @@
+-- Tables of atoms: what is held, and what a new text adds.
+use Rattle.std.proofs.Common.{◌≡◌, ℕ, zero, suc, ◌+◌, ◌<◌, ◌≤◌, Bool, true, false, not, cond, ◌||◌, List, [], ◌∷◌, ◌++◌, length, take, get_or, map, fold, Option, Some, None, Ok, String, bytes_eq, position, nat_lt, refl, sym, ◌∙◌, ap, subst, arith, lit≤}
+use Rattle.bx_terms.specs.FixedAtoms.{fixed_atoms}
+use Rattle.std.specs.List.{prefix_len, list_any}
+use Rattle.std.specs.Str.{IsUtf8, is_utf8, chars}
+use Rattle.std.proofs.lemmas.Str.{encodes-chars, length-le-encodes, is_utf8-from_IsUtf8}
+use Rattle.std.proofs.lemmas.List.{length-map, map-append, length-append, length-take, take-append-le}
+use Rattle.std.proofs.lemmas.List.Sums.{AllPass-from_list_all}
+use Rattle.std.proofs.lemmas.List.Quantifiers.{position-Some}
+use Rattle.std.proofs.lemmas.List.Elements.{All-push}
+use Rattle.std.proofs.lemmas.Map.Keys.{IsDistinct-push}
+use Rattle.std.proofs.lemmas.Slice.Eq.{bytes_eq-Decides}
+use Rattle.std.proofs.lemmas.Map.Made.{IsDistinct-from_count}
+use Rattle.std.proofs.lemmas.Cmp.{nat_list_eq_equiv}
+use Rattle.std.specs.String.{string_bytes, string_eq}
+use Rattle.indexmap.specs.IndexSet.{insert_key}
+use Rattle.bx_terms.specs.declared.fixed.TheConstants.{TEXTS}
+use Rattle.bx_terms.specs.Naming.{naming, atom}
+use Rattle.bx_terms.specs.AtomTable.{is_short, number_of, used, IsAtomTable}
+
+-- a text has no more characters than bytes
+pub count_of_chars : (bs : List ℕ) → IsUtf8 bs → length (chars bs) ≤ length bs
+count_of_chars bs u = subst (λ (xs : List ℕ). length (chars bs) ≤ length xs) (encodes-chars bs u) (length-le-encodes (chars bs))
+
+module _ {X Y : Type 0} where
+  prefix_len-map : (p : X → Bool) (f : Y → X) (ys : List Y) → prefix_len p (map f ys) ≡ prefix_len (λ y. p (f y)) ys
+  prefix_len-map p f [] = refl
+  prefix_len-map p f (y ∷ ys) = rw (prefix_len-map p f ys)
+
+  -- the first place is the same in the list of what `f` gives
+  pub position-map : (p : X → Bool) (f : Y → X) (ys : List Y) → position p (map f ys) ≡ position (λ y. p (f y)) ys
+  position-map p f ys = rw (prefix_len-map (λ x. not (p x)) f ys, length-map ys f)
+
+-- a text is in the list exactly where it has a place
+pub list_any-place : {X : Type 0} (p : X → Bool) (xs : List X) → list_any p xs ≡ nat_lt (prefix_len (λ x. not (p x)) xs) (length xs)
+list_any-place p [] = refl
+list_any-place p (x ∷ xs) = by (p x) (list_any-place p xs)
+  where
+    by : (b : Bool) → list_any p xs ≡ nat_lt (prefix_len (λ x. not (p x)) xs) (length xs)
+        → (b || list_any p xs) ≡ nat_lt (cond (not b) (1 + prefix_len (λ x. not (p x)) xs) 0) (length (x ∷ xs))
+    by true e = grind arith
+    by false e = grind (arith, e)
+
+list_any_none : {X : Type 0} (p : X → Bool) (xs : List X) → position p xs ≡ None → list_any p xs ≡ false
+list_any_none p xs none = list_any-place p xs ∙ by (nat_lt (prefix_len (λ x. not (p x)) xs) (length xs)) none
+  where
+    by : (b : Bool) → cond b (Some (prefix_len (λ x. not (p x)) xs)) None ≡ None → b ≡ false
+    by true e = cc
+    by false e = refl
+
+-- a held text is one of the table's own
+pub known_short : (texts : List (List ℕ)) (text : List ℕ) (i : ℕ) → IsAtomTable texts → number_of texts text ≡ Some i → is_short text ≡ true
+known_short texts text i table held =
+    let at = position-Some (bytes_eq text) texts i [] held in
+    let same : text ≡ get_or texts i [] = (bytes_eq-Decides text (get_or texts i [])).0 at.1 in
+    subst (λ (t : List ℕ). is_short t ≡ true) (sym same) (table.short i [] at.0)
+
+length-fixed_atoms : length fixed_atoms ≡ 80
+unfolding fixed_atoms
+length-fixed_atoms = refl
+
+-- the fixed atoms stand first
+pub holds_fixed : (texts : List (List ℕ)) → IsAtomTable texts → 80 ≤ length texts
+holds_fixed texts table = omega (arith, length-take 80 texts, ap length table.fixed, length-fixed_atoms)
+
+-- a new text that is not refused
+pub grown : (texts : List (List ℕ)) (text : List ℕ) → IsAtomTable texts → IsUtf8 text → is_short text ≡ true
+    → number_of texts text ≡ None → length texts < 65536 → IsAtomTable (texts ++ text ∷ [])
+grown texts text table utf8 short new room = record {
+  at_most = omega (arith, length-append texts (text ∷ []));
+  distinct = IsDistinct-push nat_list_eq_equiv texts text table.distinct (list_any_none (bytes_eq text) texts new);
+  short = All-push (λ t. is_short t ≡ true) texts text table.short short;
+  utf8 = All-push (λ t. is_utf8 t ≡ true) texts text table.utf8 (is_utf8-from_IsUtf8 text utf8);
+  fixed = take-append-le 80 texts (text ∷ []) (holds_fixed texts table) ∙ table.fixed;
+}
+
+pub fixed_table : IsAtomTable fixed_atoms
+unfolding fixed_atoms chars is_utf8 lib.Utf8.encode
+fixed_table = record {
+  at_most = lit≤ tt;
+  distinct = IsDistinct-from_count nat_list_eq_equiv _ refl;
+  short = AllPass-from_list_all is_short fixed_atoms refl;
+  utf8 = AllPass-from_list_all is_utf8 fixed_atoms refl;
+  fixed = refl;
+}
+
+-- the place of a text among strings
+pub number_among : {Z : Type 0} (names : List (String Z)) (text : List ℕ) → number_of (map string_bytes names) text ≡ position (λ name. bytes_eq text (string_bytes name)) names
+number_among names text = position-map (bytes_eq text) string_bytes names
+
+-- where a text is held its number is given, and nothing is added
+pub naming_held : (texts : List (List ℕ)) (text : List ℕ) (i : ℕ) → IsAtomTable texts → number_of texts text ≡ Some i → naming texts text ≡ Ok (texts, atom i)
+naming_held texts text i table held = rw (known_short texts text i table held, held)
+
+-- a new text goes last
+pub naming_new : (texts : List (List ℕ)) (text : List ℕ) → is_short text ≡ true → number_of texts text ≡ None → length texts < 65536
+    → naming texts text ≡ Ok (texts ++ text ∷ [], atom (length texts))
+naming_new texts text short new room = let fits : nat_lt (length texts) 65536 ≡ true = grind arith in rw (short, new, fits)
+
+list_any_some : {X : Type 0} (p : X → Bool) (xs : List X) (i : ℕ) → position p xs ≡ Some i → list_any p xs ≡ true
+list_any_some p xs i some = list_any-place p xs ∙ by (nat_lt (prefix_len (λ x. not (p x)) xs) (length xs)) some
+  where
+    by : (b : Bool) → cond b (Some (prefix_len (λ x. not (p x)) xs)) None ≡ Some i → b ≡ true
+    by true e = refl
+    by false e = cc
+
+-- the strings of a table after one went in
+pub inserted : {Z : Type 0} (names after : List (String Z)) (name : String Z) (texts : List (List ℕ)) (text : List ℕ)
+    → map string_bytes names ≡ texts → string_bytes name ≡ text → after ≡ insert_key string_eq names name
+    → map string_bytes after ≡ used texts text
+inserted names after name texts text view is put =
+    by (position (string_eq name) names) refl ∙ (λ i. used (view i) (is i))
+  where
+    by : (o : Option ℕ) → position (string_eq name) names ≡ o → map string_bytes after ≡ used (map string_bytes names) (string_bytes name)
+    by None e =
+        let there : number_of (map string_bytes names) (string_bytes name) ≡ None = number_among names (string_bytes name) ∙ e in
+        let put_last : after ≡ names ++ name ∷ [] = rw (list_any_none (string_eq name) names e) at put in
+        rw (there, put_last) (map-append string_bytes names (name ∷ []))
+    by (Some k) e =
+        let there : number_of (map string_bytes names) (string_bytes name) ≡ Some k = number_among names (string_bytes name) ∙ e in
+        let kept : after ≡ names = rw (list_any_some (string_eq name) names k e) at put in
+        rw (there, kept)
+
+-- a new text goes last
+pub used_new : (texts : List (List ℕ)) (text : List ℕ) → number_of texts text ≡ None → used texts text ≡ texts ++ text ∷ []
+used_new texts text new = rw new
+
+-- the program's table of fixed atoms is the one above
+pub fixed_by_use : fold (λ held text. used held text.now) [] TEXTS ≡ fixed_atoms
+unfolding fixed_atoms
+fixed_by_use = refl
