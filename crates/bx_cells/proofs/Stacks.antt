@@ -1,0 +1,27 @@
+-- Frames in a row, the topmost last, and the registers of one frame.
+use Rattle.std.proofs.Common.{◌≡◌, ℕ, ◌+◌, ◌-◌, ◌<◌, ◌≤◌, List, [], ◌∷◌, ◌++◌, length, get_or, take, drop, reverse, refl, ap, sym, ◌∙◌, arith, ◌↔◌, add-one, drop-cons}
+use Rattle.std.proofs.lemmas.List.{take_more, take_more_same, take_all, reverse-append, reverse-reverse}
+use Rattle.std.specs.Prelude.{Option, Some, None}
+use Rattle.bx_terms.specs.declared.places.Place.{Place}
+use Rattle.bx_cells.specs.declared.values.Value.{Value}
+use Rattle.bx_cells.specs.Stack.{lowest_tag}
+
+-- what is left of a row begins with its element at that place
+pub lowest_from : (cells : List (Option Value)) (i : ℕ) (d : Option Value) → i < length cells → lowest_tag (drop i cells) ≡ lowest_tag (get_or cells i d ∷ drop (i + 1) cells)
+lowest_from cells i d h = let e : drop i cells ≡ get_or cells i d ∷ drop (i + 1) cells = rw (add-one, drop-cons cells i d) in ap lowest_tag e
+
+-- one frame more is one more on top
+pub reverse_next : {A : Type 0} (xs : List A) (i : ℕ) (d : A) → i < length xs → reverse (take (i + 1) xs) ≡ get_or xs i d ∷ reverse (take i xs)
+reverse_next xs i d h = ap reverse (take_more xs i d h) ∙ reverse-append (take i xs) (get_or xs i d ∷ [])
+
+-- two rows that were the same so far, and whose next elements are, are the same one further
+pub same_so_far : {A : Type 0} (xs ys : List A) (i : ℕ) (d : A) → i < length xs → i < length ys → take i xs ≡ take i ys → get_or xs i d ≡ get_or ys i d → take (i + 1) xs ≡ take (i + 1) ys
+same_so_far xs ys i d = take_more_same xs ys i d
+
+-- rows of one length that are the same as far as they go are the same
+pub same_whole : {A : Type 0} (xs ys : List A) (i : ℕ) → length xs ≤ i → length ys ≤ i → take i xs ≡ take i ys → xs ≡ ys
+same_whole xs ys i hx hy e = sym (take_all i xs hx) ∙ e ∙ take_all i ys hy
+
+-- two rows are the same exactly where they are the same turned round
+pub same_reversed : {A : Type 0} (xs ys : List A) → (xs ≡ ys) ↔ (reverse xs ≡ reverse ys)
+same_reversed xs ys = (ap reverse, λ e. sym (reverse-reverse xs) ∙ ap reverse e ∙ reverse-reverse ys)

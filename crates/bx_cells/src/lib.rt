@@ -1,0 +1,12 @@
+//! What a process holds: values, x registers, stack frames, links.
+#![tactic(auto)]
+
+mod frames;
+mod links;
+mod registers;
+mod values;
+
+pub use frames::{Frame, Frames};
+pub use links::Links;
+pub use registers::Registers;
+pub use values::Value;

@@ -1,0 +1,148 @@
+//! The x registers of a process.
+
+ghost use Rattle.std.specs.Prelude.{◌≡◌, ◌↔◌, ◌<◌, ◌≤◌, ℕ, length, IfOk, OnOk, IfErr, OnErr, IsTrue, None, option_map};
+ghost use Rattle.std.specs.FinMap as map;
+ghost use Rattle.bx_cells.specs.Indexed.{cell_at, indexed};
+
+use crate::values::Value;
+use std::alloc::{AllocError, Global};
+use std::marker::Model;
+
+/// The x registers: which numbers hold a value, and which value.
+///
+/// They lie in a vector by number, so that each is read and written in constant time.
+///
+/// Source: The BEAM Book, "The Registers".
+#[derive(Debug, Drop)]
+pub struct Registers {
+    cells: Vec<Option<Value>>,
+}
+
+impl Model for Registers {
+    ghost use Rattle.std.specs.Prelude.{ℕ};
+    ghost use Rattle.std.specs.Coded.{coded_ℕ};
+    ghost use Rattle.std.specs.FinMap as map;
+    ghost use Rattle.std.specs.Ordering.{nat_cmp};
+    ghost use Rattle.bx_cells.specs.declared.values.Value.{Value as Held};
+    ghost use Rattle.bx_cells.specs.contracts.values.Value as held;
+    ghost use Rattle.bx_cells.specs.Indexed.{indexed};
+
+    ghost Value = { map.FinMap nat_cmp Held };
+
+    ghost coded = { map.code coded_ℕ held.the_row.coded };
+
+    ghost view = { λ a. indexed 0 a.cells.items };
+}
+
+impl Registers {
+    /// No register holds anything.
+    pub fn new(alloc: Global) -> Registers
+        ensures { result ≡ map.empty }
+    {
+        Registers {
+            cells: Vec::new(alloc),
+        }
+    }
+
+    /// What the register of this number holds.
+    #[inline]
+    #[tactic(auto, using(crate::proofs::Cells::get_indexed))]
+    pub fn get(&self, number: u16) -> Option<&Value>
+        ensures { option_map (λ v. v.now) result ≡ map.get self.now number }
+    {
+        cell(&self.cells, number as usize)
+    }
+
+    /// Puts `value` into the register of this number, or hands it back where memory ran out, and then nothing has
+    /// changed. Memory is taken only where that register holds nothing.
+    #[inline]
+    #[tactic(auto, using(crate::proofs::Cells::nothing_past))]
+    pub fn set(&mut self, number: u16, value: Value) -> Result<(), Value>
+        ensures ok { OnOk result (self.new ≡ map.insert self.old number value) }
+        ensures err { IfErr result (λ v. (v ≡ value) × (self.new ≡ self.old) × (map.get self.old number ≡ None)) }
+    {
+        let at = number as usize;
+        if grow(&mut self.cells, at).is_err() {
+            return Err(value);
+        }
+        write(&mut self.cells, at, value);
+        Ok(())
+    }
+
+    /// The same registers. Terms are shared.
+    pub fn copy(&self, _alloc: Global) -> Result<Registers, AllocError>
+        ensures { IfOk result (λ r. r ≡ self.now) }
+    {
+        let cells = self.cells.clone()?;
+        Ok(Registers { cells })
+    }
+
+    /// Whether the same registers hold the same values.
+    #[tactic(auto, using(crate::proofs::Cells::indexed_same))]
+    pub fn same(&self, other: &Registers) -> bool
+        ensures { IsTrue result ↔ (self.now ≡ other.now) }
+    {
+        same_cells(&self.cells, &other.cells)
+    }
+}
+
+/// Makes the row long enough to have a register at `at`.
+#[tactic(auto, using(crate::proofs::Cells::indexed_more))]
+fn grow(cells: &mut Vec<Option<Value>>, at: usize) -> Result<(), AllocError>
+    requires { at < 65536 }
+    ensures long { OnOk result (at < length cells.new.items) }
+    ensures kept { indexed 0 cells.new.items ≡ indexed 0 cells.old.items }
+    ensures short { OnErr result (length cells.old.items ≤ at) }
+{
+    for _next in cells.len()..at + 1 {
+        cells.push(None)?;
+    }
+    Ok(())
+}
+
+/// Writes into a register that the row has.
+#[tactic(auto, using(crate::proofs::Cells::indexed_set))]
+fn write(cells: &mut Vec<Option<Value>>, at: usize, value: Value)
+    requires { at < length cells.old.items }
+    ensures { indexed 0 cells.new.items ≡ map.insert (indexed 0 cells.old.items) at value }
+{
+    cells[at] = Some(value);
+}
+
+/// Whether two rows hold the same at each number.
+#[tactic(auto, using(crate::proofs::Cells::same_below))]
+fn same_cells(xs: &[Option<Value>], ys: &[Option<Value>]) -> bool
+    ensures { IsTrue result ↔ ((k : ℕ) → cell_at xs.now k ≡ cell_at ys.now k) }
+{
+    for at in 0..xs.len().max(ys.len()) {
+        if !same_held(cell(xs, at), cell(ys, at)) {
+            return false;
+        }
+    }
+    true
+}
+
+/// Whether both hold the same value, or neither holds one.
+pub(crate) fn same_held(one: Option<&Value>, other: Option<&Value>) -> bool
+    ensures { IsTrue result ↔ (option_map (λ v. v.now) one.entry ≡ option_map (λ v. v.now) other.entry) }
+{
+    match (one, other) {
+        (None, None) => true,
+        (Some(value), Some(other)) => value.same(other),
+        _ => false,
+    }
+}
+
+/// What stands at `at`, where something does.
+#[inline]
+fn cell(cells: &[Option<Value>], at: usize) -> Option<&Value>
+    ensures { option_map (λ v. v.now) result ≡ cell_at cells.now at }
+{
+    if at >= cells.len() {
+        return None;
+    }
+    match &cells[at] {
+        Some(value) => Some(value),
+        None => None,
+    }
+}

@@ -1,0 +1,54 @@
+//! What a register may hold.
+
+ghost use Rattle.std.specs.Prelude.{◌≡◌, ◌↔◌, IfOk, IsTrue};
+
+use bx_terms::{Class, Place, Term};
+use std::alloc::{AllocError, Global};
+
+/// What a register holds, where it holds something.
+///
+/// Source: The BEAM Book, "Exceptions" for tags and traces.
+#[derive(Debug, Drop)]
+pub enum Value {
+    /// A term.
+    Term(Term),
+    /// A catch tag, with the place at which its fault is caught.
+    Tag(Place),
+    /// What a caught fault leaves to be raised again, with the fault's class. It has no contents.
+    Trace(Class),
+}
+
+impl Value {
+    /// The same value. A term's content is shared.
+    pub fn copy(&self, _alloc: Global) -> Result<Value, AllocError>
+        ensures { IfOk result (λ v. v ≡ self.now) }
+    {
+        self.clone()
+    }
+
+    /// Whether the two values have the same content.
+    pub fn same(&self, other: &Value) -> bool
+        ensures { IsTrue result ↔ (self.now ≡ other.now) }
+    {
+        match (self, other) {
+            (Value::Term(term), Value::Term(other)) => term.same(other),
+            (Value::Tag(place), Value::Tag(other)) => *place == *other,
+            (Value::Trace(class), Value::Trace(other)) => *class == *other,
+            _ => false,
+        }
+    }
+}
+
+impl Clone for Value {
+    ghost use Rattle.std.specs.Prelude.{◌≡◌};
+
+    ghost is_clone = { λ v w. w ≡ v };
+
+    fn clone(&self) -> Result<Value, AllocError> {
+        Ok(match self {
+            Value::Term(term) => Value::Term(term.clone()?),
+            Value::Tag(place) => Value::Tag(*place),
+            Value::Trace(class) => Value::Trace(*class),
+        })
+    }
+}
