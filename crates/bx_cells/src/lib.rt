@@ -10,3 +10,6 @@ pub use frames::{Frame, Frames};
 pub use links::Links;
 pub use registers::Registers;
 pub use values::Value;
+
+#[cfg(test)]
+mod tests;
