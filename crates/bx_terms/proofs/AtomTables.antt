@@ -1,5 +1,5 @@
 -- Tables of atoms: what is held, and what a new text adds.
-use Rattle.std.proofs.Common.{◌≡◌, ℕ, zero, suc, ◌+◌, ◌<◌, ◌≤◌, Bool, true, false, not, cond, ◌||◌, List, [], ◌∷◌, ◌++◌, length, take, get_or, map, fold, Option, Some, None, Ok, String, bytes_eq, position, nat_lt, refl, sym, ◌∙◌, ap, subst, arith, lit≤}
+use Rattle.std.proofs.Common.{◌≡◌, ℕ, ◌+◌, ◌<◌, ◌≤◌, Bool, true, false, not, cond, ◌||◌, List, [], ◌∷◌, ◌++◌, length, get_or, map, fold, Option, Some, None, Ok, String, bytes_eq, position, nat_lt, refl, sym, ◌∙◌, ap, subst, arith, lit≤}
 use Rattle.bx_terms.specs.FixedAtoms.{fixed_atoms}
 use Rattle.std.specs.List.{prefix_len, list_any}
 use Rattle.std.specs.Str.{IsUtf8, is_utf8, chars}
@@ -41,7 +41,7 @@ list_any-place p (x ∷ xs) = by (p x) (list_any-place p xs)
     by true e = grind arith
     by false e = grind (arith, e)
 
-list_any_none : {X : Type 0} (p : X → Bool) (xs : List X) → position p xs ≡ None → list_any p xs ≡ false
+pub list_any_none : {X : Type 0} (p : X → Bool) (xs : List X) → position p xs ≡ None → list_any p xs ≡ false
 list_any_none p xs none = list_any-place p xs ∙ by (nat_lt (prefix_len (λ x. not (p x)) xs) (length xs)) none
   where
     by : (b : Bool) → cond b (Some (prefix_len (λ x. not (p x)) xs)) None ≡ None → b ≡ false
@@ -97,7 +97,7 @@ pub naming_new : (texts : List (List ℕ)) (text : List ℕ) → is_short text �
     → naming texts text ≡ Ok (texts ++ text ∷ [], atom (length texts))
 naming_new texts text short new room = let fits : nat_lt (length texts) 65536 ≡ true = grind arith in rw (short, new, fits)
 
-list_any_some : {X : Type 0} (p : X → Bool) (xs : List X) (i : ℕ) → position p xs ≡ Some i → list_any p xs ≡ true
+pub list_any_some : {X : Type 0} (p : X → Bool) (xs : List X) (i : ℕ) → position p xs ≡ Some i → list_any p xs ≡ true
 list_any_some p xs i some = list_any-place p xs ∙ by (nat_lt (prefix_len (λ x. not (p x)) xs) (length xs)) some
   where
     by : (b : Bool) → cond b (Some (prefix_len (λ x. not (p x)) xs)) None ≡ Some i → b ≡ true

@@ -1,7 +1,8 @@
 -- A row of terms from a place on.
-use Rattle.std.proofs.Common.{◌≡◌, ℕ, ◌+◌, ◌<◌, zero, suc, List, [], ◌∷◌, length, get_or, drop, refl, sym, ap, ◌∙◌, arith}
-use Rattle.std.proofs.lemmas.List.{drop_more, drop_all}
+use Rattle.std.proofs.Common.{◌≡◌, ℕ, ◌+◌, ◌<◌, zero, suc, List, [], ◌∷◌, length, get_or, drop, refl, sym, ap, subst, ◌∙◌, slice_range, arith}
+use Rattle.std.proofs.lemmas.List.{drop_more, take_rest}
 use Rattle.bx_terms.specs.Tree.{Tree, listed, nodes}
+use Rattle.bx_terms.specs.Order.{size}
 
 -- an element that was read is the first of what is left
 pub row_at : (xs : List Tree) (i : ℕ) (x : Tree) → i < length xs → x ≡ get_or xs i x → drop i xs ≡ x ∷ drop (i + 1) xs
@@ -21,3 +22,17 @@ nodes_in (x ∷ xs) (suc i) d here = omega (arith, nodes_in xs i d (omega arith)
 -- an element has fewer nodes than its row
 pub nodes_at : (xs : List Tree) (i : ℕ) (x : Tree) → i < length xs → x ≡ get_or xs i x → nodes x < nodes (listed xs)
 nodes_at xs i x here is = omega (arith, ap nodes is, nodes_in xs i x here)
+
+pub size_listed : (xs : List Tree) → size (listed xs) ≡ length xs
+size_listed [] = refl
+size_listed (x ∷ xs) = omega (arith, size_listed xs)
+
+nodes_in_rest : (xs : List Tree) (i : ℕ) (x : Tree) → i < length (drop 1 xs) → x ≡ get_or (drop 1 xs) i x → nodes x < nodes (listed xs)
+nodes_in_rest [] i x here is = absurd (omega arith)
+nodes_in_rest (y ∷ ys) i x here is = omega (arith, nodes_at ys i x here is)
+
+-- the same of an element after the first
+pub nodes_after_first : (xs : List Tree) (i : ℕ) (x : Tree) → i < length (slice_range xs 1 (length xs)) → x ≡ get_or (slice_range xs 1 (length xs)) i x → nodes x < nodes (listed xs)
+nodes_after_first xs i x here is =
+    let rest = take_rest xs 1 in
+    nodes_in_rest xs i x (subst (λ ys. i < length ys) rest here) (subst (λ ys. x ≡ get_or ys i x) rest is)

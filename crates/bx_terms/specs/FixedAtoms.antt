@@ -1,5 +1,6 @@
 -- The atoms that every table holds from the start, in the order of their numbers, from 0.
-use Rattle.std.specs.Prelude.{ℕ, List, [], ◌∷◌, ◌++◌, codes}
+use Rattle.std.specs.Prelude.{ℕ, List, [], ◌∷◌, ◌++◌, codes, slice_get, Some, ◌≡◌}
+use Rattle.bx_terms.specs.declared.atom_table.AtomId.{AtomId}
 
 -- truth values, reasons of faults and exits, and the words of processes
 abbrev pub reserved_atoms : List (List ℕ)
@@ -33,3 +34,7 @@ native_atoms =
 
 unfoldable pub fixed_atoms : List (List ℕ)
 fixed_atoms = reserved_atoms ++ guard_atoms ++ native_atoms
+
+-- the fixed atom with this number has this text
+abbrev pub Spells : AtomId → List ℕ → Type 0
+Spells atom text = slice_get fixed_atoms atom.0 ≡ Some text

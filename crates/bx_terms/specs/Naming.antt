@@ -4,6 +4,7 @@ use Rattle.bx_terms.specs.declared.atom_table.AtomId.{AtomId}
 use Rattle.bx_terms.specs.declared.faults.Fault.{Fault}
 use Rattle.bx_terms.specs.declared.faults.Fault.TheVariants.{TooManyAtoms, AtomTooLong}
 use Rattle.bx_terms.specs.AtomTable.{is_short, number_of}
+use Rattle.bx_terms.specs.Outcomes.{◌>>=◌}
 
 abbrev pub atom : ℕ → AtomId
 atom number = record { 0 = number }
@@ -21,3 +22,8 @@ naming texts text =
 -- naming the text adds it to the table
 abbrev pub Adds : List (List ℕ) → List ℕ → Type 0
 Adds texts text = naming texts text ≡ Ok (texts ++ text ∷ [], atom (length texts))
+
+-- naming each text in turn
+abbrev pub naming_all : List (List ℕ) → List (List ℕ) → Result (List (List ℕ)) Fault
+naming_all texts [] = Ok texts
+naming_all texts (text ∷ more) = naming texts text >>= λ named. naming_all named.0 more

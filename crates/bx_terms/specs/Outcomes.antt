@@ -21,3 +21,13 @@ abbrev pub Does : {S A : Type 0} → Type 0 → S → S → Result A Fault → R
 Does takes old new (Ok x) said = said ≡ Ok (new, x)
 Does takes old new (Err Memory) said = takes × (new ≡ old)
 Does takes old new (Err fault) said = (said ≡ Err fault) × (new ≡ old)
+
+-- a refusal, where a call's answer has a shape of its own: the definition's fault; want of memory only where `takes` holds
+abbrev pub Refuses : {A : Type 0} → Type 0 → Fault → Result A Fault → Type 0
+Refuses takes Memory said = takes
+Refuses takes fault said = said ≡ Err fault
+
+-- the answer of a call that consumes `given`: the value, seen by `view`, or the fault with all that was given handed back
+abbrev pub HandsBack : {X A G : Type 0} → Type 0 → (X → A) → G → Result X (Fault × G) → Result A Fault → Type 0
+HandsBack takes view given (Ok x) said = said ≡ Ok (view x)
+HandsBack takes view given (Err refused) said = Refuses takes refused.0 said × (refused.1 ≡ given)

@@ -1,6 +1,6 @@
 //! Atoms by number, in order of first use.
 
-ghost use Rattle.std.specs.Prelude.{◌≡◌, ◌≤◌, ◌<◌, ◌++◌, [], ◌∷◌, Ok, Some, None, length, fold, map, option_map, slice_get, string_bytes, MatchResult, OnOk, IfOk};
+ghost use Rattle.std.specs.Prelude.{◌≡◌, ◌↔◌, None, Ok, length, fold, map, option_map, slice_get, string_bytes, OnOk, IfOk, IsTrue};
 ghost use Rattle.bx_terms.specs.AtomTable.{is_short, number_of, used};
 ghost use Rattle.bx_terms.specs.FixedAtoms.{fixed_atoms};
 
@@ -11,7 +11,7 @@ use std::alloc::{AllocError, Global};
 use std::marker::Model;
 
 /// The number of an atom in its table.
-#[derive(Clone, Copy, Debug, PartialEq, Eq)]
+#[derive(Clone, Copy, Debug, PartialEq, Eq, Hash)]
 pub struct AtomId(pub u32);
 
 /// The table of atoms: their texts, numbered from 0 in order of first use.
@@ -48,6 +48,7 @@ impl Atoms {
     /// The table of the fixed atoms.
     ///
     /// Memory is all that it may lack.
+    #[tactic(auto, using(crate::proofs::AtomTables::fixed_table))]
     pub fn new(alloc: Global) -> Result<Atoms, Fault>
         ensures { Gives (Unit {0}) (λ atoms. atoms) result (Ok fixed_atoms) }
     {
@@ -86,6 +87,7 @@ impl Atoms {
     ///
     /// Refused are a text of over 255 characters, and a new one where 65,536 are held, in this order.
     /// Memory is taken only for a new text that is not refused. After a refusal nothing has changed.
+    #[tactic(auto, using(crate::proofs::AtomTables::naming_held))]
     pub fn name(&mut self, alloc: Global, text: &str) -> Result<AtomId, Fault>
         ensures { Does (Adds self.old text.now) self.old self.new result (naming self.old text.now) }
     {
@@ -93,6 +95,14 @@ impl Atoms {
             Some(known) => Ok(known),
             None => self.add(alloc, text),
         }
+    }
+
+    /// Whether both tables hold the same atoms under the same numbers.
+    #[tactic(auto, using(crate::proofs::AtomLists::strings_decide))]
+    pub fn same(&self, other: &Atoms) -> bool
+        ensures { IsTrue result ↔ (self.now ≡ other.now) }
+    {
+        self.names.as_slice() == other.names.as_slice()
     }
 
     // A new text goes last.
@@ -103,7 +113,7 @@ impl Atoms {
         if !is_short(text) {
             return Err(Fault::AtomTooLong { line: None });
         }
-        let number = self.names.len();
+        let number = self.len();
         if number >= MOST_ATOMS {
             return Err(Fault::TooManyAtoms { line: None });
         }
@@ -139,3 +149,6 @@ fn is_short(text: &str) -> bool
 {
     text.len() <= MOST_CHARACTERS || text.chars().count() <= MOST_CHARACTERS
 }
+
+#[cfg(test)]
+mod tests;

@@ -40,16 +40,40 @@ impl Name {
     }
 }
 
+impl PartialEq for Name {
+    ghost use Rattle.std.specs.Prelude.{bytes_eq};
+    ghost use Rattle.std.specs.Cmp.Lexicographic.{nat_list_eq_equiv};
+    ghost use Rattle.std.specs.Cmp.{partial_equiv_from_equiv};
+
+    ghost eq = { bytes_eq };
+
+    ghost laws = { partial_equiv_from_equiv nat_list_eq_equiv };
+
+    fn eq(&self, other: &Name) -> bool {
+        self.as_str() == other.as_str()
+    }
+}
+
+impl Eq for Name {
+    ghost use Rattle.std.specs.Cmp.Lexicographic.{nat_list_eq_equiv};
+
+    ghost laws = { nat_list_eq_equiv };
+}
+
 impl fmt::Display for Name {
+    ghost use Rattle.std.specs.Prelude.{Some};
+
+    ghost output = { λ name. Some name };
+
     fn fmt<W: fmt::Write>(&self, f: &mut fmt::Formatter<W>) -> fmt::Result {
-        f.write_str(self.text.as_str())
+        f.write_str(self.as_str())
     }
 }
 
 /// Why a call was refused: a number from 1 to 34 with what it names, or want of memory.
 ///
 /// Lines count from 1.
-#[derive(Debug, Drop, Error)]
+#[derive(Debug, Drop, Error, PartialEq, Eq)]
 pub enum Fault {
     #[error("the table of atoms is full")]
     TooManyAtoms { line: Option<usize> },
@@ -123,6 +147,84 @@ pub enum Fault {
     Memory,
 }
 
+impl Fault {
+    ghost use Rattle.std.specs.Prelude.{option_map, codes};
+    ghost use Rattle.std.specs.Option.{option_map_or};
+    ghost use Rattle.bx_terms.specs.Refusals.{refusal, at_line};
+
+    /// The number of the refusal, 1 to 34, or `None` for want of memory.
+    pub fn number(&self) -> Option<u8>
+        ensures { result ≡ option_map (λ row. row.0) (refusal self.now) }
+    {
+        let (number, _) = self.refusal()?;
+        Some(number)
+    }
+
+    /// The name of the refusal, or `Memory`.
+    pub fn name(&self) -> &'static str
+        ensures { result.now ≡ option_map_or (λ row. row.1) (refusal self.now) (codes "Memory") }
+    {
+        match self.refusal() {
+            Some((_, name)) => name,
+            None => "Memory",
+        }
+    }
+
+    // The number and the name.
+    fn refusal(&self) -> Option<(u8, &'static str)>
+        ensures { option_map (λ row. (row.0, row.1.now)) result ≡ refusal self.now }
+    {
+        match self {
+            Fault::TooManyAtoms { .. } => Some((1, "TooManyAtoms")),
+            Fault::AtomTooLong { .. } => Some((2, "AtomTooLong")),
+            Fault::BadToken { .. } => Some((3, "BadToken")),
+            Fault::BadTerm { .. } => Some((4, "BadTerm")),
+            Fault::TooDeep { .. } => Some((5, "TooDeep")),
+            Fault::Truncated { .. } => Some((6, "Truncated")),
+            Fault::NotUtf8 { .. } => Some((7, "NotUtf8")),
+            Fault::BadForm { .. } => Some((8, "BadForm")),
+            Fault::Unsupported { .. } => Some((9, "Unsupported")),
+            Fault::BadOperand { .. } => Some((10, "BadOperand")),
+            Fault::LiteralRange { .. } => Some((11, "LiteralRange")),
+            Fault::LabelTwice { .. } => Some((12, "LabelTwice")),
+            Fault::LabelMissing { .. } => Some((13, "LabelMissing")),
+            Fault::EntryMissing { .. } => Some((14, "EntryMissing")),
+            Fault::RegisterRange { .. } => Some((15, "RegisterRange")),
+            Fault::TooLarge => Some((16, "TooLarge")),
+            Fault::ModuleTwice => Some((17, "ModuleTwice")),
+            Fault::ExportMissing => Some((18, "ExportMissing")),
+            Fault::TooManyModules => Some((19, "TooManyModules")),
+            Fault::NotEnabled => Some((20, "NotEnabled")),
+            Fault::Halted => Some((21, "Halted")),
+            Fault::BeforeStart => Some((22, "BeforeStart")),
+            Fault::AfterEnd => Some((23, "AfterEnd")),
+            Fault::BadLine { .. } => Some((24, "BadLine")),
+            Fault::NameTwice { .. } => Some((25, "NameTwice")),
+            Fault::TooLong { .. } => Some((26, "TooLong")),
+            Fault::NotIndependent { .. } => Some((27, "NotIndependent")),
+            Fault::NotLeased => Some((28, "NotLeased")),
+            Fault::Foreign => Some((29, "Foreign")),
+            Fault::Twice => Some((30, "Twice")),
+            Fault::Unfinished => Some((31, "Unfinished")),
+            Fault::NoEntry => Some((32, "NoEntry")),
+            Fault::BadCommand { .. } => Some((33, "BadCommand")),
+            Fault::Workers => Some((34, "Workers")),
+            Fault::Memory => None,
+        }
+    }
+
+    /// The same fault, met on that line of a text where it is the refusal of an atom.
+    pub fn at_line(self, line: usize) -> Fault
+        ensures { result ≡ at_line line self }
+    {
+        match self {
+            Fault::TooManyAtoms { .. } => Fault::TooManyAtoms { line: Some(line) },
+            Fault::AtomTooLong { .. } => Fault::AtomTooLong { line: Some(line) },
+            other => other,
+        }
+    }
+}
+
 impl From<AllocError> for Fault {
     ghost use Rattle.std.specs.Prelude.{◌≡◌};
     ghost use Rattle.bx_terms.specs.declared.faults.Fault.TheVariants.{Memory};
@@ -144,3 +246,6 @@ impl<T: Drop> From<AllocFailed<T>> for Fault {
         Fault::Memory
     }
 }
+
+#[cfg(test)]
+mod tests;

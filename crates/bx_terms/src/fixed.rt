@@ -1,4 +1,6 @@
-//! The atoms that every table holds from the start, with their numbers.
+//! The atoms that every table holds from the start: a constant for each, which is its number in every table.
+//!
+//! A constant has the name of its atom, in capitals, where nothing else is said.
 
 use crate::atom_table::AtomId;
 
@@ -49,15 +51,19 @@ pub const TRAP_EXIT: AtomId = AtomId(21);
 
 pub const ERLANG: AtomId = AtomId(22);
 
-pub const CAUGHT_EXIT: AtomId = AtomId(23);
+/// `'EXIT'`.
+pub const EXIT_TAG: AtomId = AtomId(23);
 
 // Guard BIFs.
 pub const SELF: AtomId = AtomId(24);
 
+/// `'+'`.
 pub const PLUS: AtomId = AtomId(25);
 
+/// `'-'`.
 pub const MINUS: AtomId = AtomId(26);
 
+/// `'*'`.
 pub const TIMES: AtomId = AtomId(27);
 
 pub const DIV: AtomId = AtomId(28);
@@ -78,20 +84,28 @@ pub const BNOT: AtomId = AtomId(35);
 
 pub const ABS: AtomId = AtomId(36);
 
+/// `'=='`.
 pub const EQUAL: AtomId = AtomId(37);
 
+/// `'/='`.
 pub const NOT_EQUAL: AtomId = AtomId(38);
 
+/// `'=:='`.
 pub const EXACTLY_EQUAL: AtomId = AtomId(39);
 
+/// `'=/='`.
 pub const EXACTLY_NOT_EQUAL: AtomId = AtomId(40);
 
+/// `'<'`.
 pub const LESS: AtomId = AtomId(41);
 
+/// `'>'`.
 pub const GREATER: AtomId = AtomId(42);
 
+/// `'=<'`.
 pub const LESS_OR_EQUAL: AtomId = AtomId(43);
 
+/// `'>='`.
 pub const GREATER_OR_EQUAL: AtomId = AtomId(44);
 
 pub const MIN: AtomId = AtomId(45);
@@ -153,10 +167,12 @@ pub const PROCESS_FLAG: AtomId = AtomId(72);
 
 pub const SEND: AtomId = AtomId(73);
 
+/// `'!'`.
 pub const BANG: AtomId = AtomId(74);
 
 pub const DISPLAY: AtomId = AtomId(75);
 
+/// `'++'`.
 pub const APPEND: AtomId = AtomId(76);
 
 pub const SETELEMENT: AtomId = AtomId(77);

@@ -1,5 +1,11 @@
 //! Classes of faults and kinds of traps.
 
+ghost use Rattle.std.specs.Prelude.{◌≡◌};
+ghost use Rattle.bx_terms.specs.Kinds.{class_atom, trap_name};
+
+use crate::atom_table::AtomId;
+use crate::fixed;
+
 /// The class of a fault, as `catch` and `try` tell them apart.
 ///
 /// Source: Erlang Reference Manual, "Errors and Error Handling".
@@ -8,6 +14,19 @@ pub enum Class {
     Throw,
     Error,
     Exit,
+}
+
+impl Class {
+    /// The atom that stands for the class in Erlang terms: `throw`, `error` or `exit`.
+    pub fn atom(self) -> AtomId
+        ensures { result ≡ class_atom self }
+    {
+        match self {
+            Class::Throw => fixed::THROW,
+            Class::Error => fixed::ERROR,
+            Class::Exit => fixed::EXIT,
+        }
+    }
 }
 
 /// Why a run of an instruction has no meaning: the world halts, and nothing else changes.
@@ -39,4 +58,37 @@ pub enum Trap {
     WrongShape,
     /// The instruction is loaded and not run by this emulator.
     Unsupported,
+}
+
+impl Trap {
+    /// The name of the kind, as reports print it.
+    pub fn name(self) -> &'static str
+        ensures { result.now ≡ trap_name self }
+    {
+        match self {
+            Trap::Unset => "Unset",
+            Trap::NotATerm => "NotATerm",
+            Trap::NoFrame => "NoFrame",
+            Trap::FrameSize => "FrameSize",
+            Trap::NoTag => "NoTag",
+            Trap::NoPending => "NoPending",
+            Trap::BadPlace => "BadPlace",
+            Trap::IntegerRange => "IntegerRange",
+            Trap::TermHeight => "TermHeight",
+            Trap::NoMessage => "NoMessage",
+            Trap::WrongShape => "WrongShape",
+            Trap::Unsupported => "Unsupported",
+        }
+    }
+}
+
+#[cfg(test)]
+mod tests {
+    use super::*;
+
+    #[test]
+    fn words(rt: HostRuntime) {
+        assert_eq!(rt; Class::Throw.atom(), fixed::THROW);
+        assert_eq!(rt; Trap::NotATerm.name(), "NotATerm");
+    }
 }

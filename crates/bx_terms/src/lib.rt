@@ -2,14 +2,21 @@
 #![tactic(auto)]
 
 mod atom_table;
+mod atom_text;
 mod faults;
 pub mod fixed;
 mod kinds;
+pub mod laws;
+mod ordering;
 mod places;
+mod printing;
 mod terms;
 
 pub use atom_table::{AtomId, Atoms};
+pub use atom_text::push_atom;
 pub use faults::{Fault, Name};
 pub use kinds::{Class, Trap};
+pub use ordering::order;
 pub use places::Place;
+pub use printing::{print, push_pid};
 pub use terms::{MAX_HEIGHT, Term, TermRefusal, View};

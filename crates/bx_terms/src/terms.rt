@@ -1,6 +1,6 @@
 //! Terms: immutable, shared, and never higher than 10,000.
 
-ghost use Rattle.std.specs.Prelude.{◌≡◌, ◌≤◌, ◌↔◌, IfOk, IfErr, IsTrue};
+ghost use Rattle.std.specs.Prelude.{◌≡◌, ◌≤◌, ◌↔◌, IfOk, IfErr, IsOk, IsTrue};
 ghost use Rattle.bx_terms.specs.Tree.{Tree, height, highest, cons, tuple, int, atom, pid, nil, listed};
 ghost use Rattle.bx_terms.specs.Built.{Refuses, IsWithinHeight};
 ghost use Rattle.bx_terms.specs.View.{seen};
@@ -205,9 +205,10 @@ impl Term {
     /// The same term, sharing what this one holds.
     ///
     /// It takes time and memory in no proportion to the term's size. Want of memory is also the answer where the count of
-    /// sharers is full.
+    /// sharers is full; a term of height 0 is always copied.
     pub fn copy(&self, _alloc: Global) -> Result<Term, AllocError>
-        ensures { IfOk result (λ t. t ≡ self.now) }
+        ensures ok { IfOk result (λ t. t ≡ self.now) }
+        ensures succeeds { height self.now ≡ 0 → IsOk result }
     {
         self.clone()
     }
@@ -237,6 +238,10 @@ impl Clone for Term {
 
     ghost is_clone = { λ t u. u ≡ t };
 
+    ghost use Rattle.bx_terms.specs.Tree.{height};
+
+    ghost is_infallible = { λ t. height t ≡ 0 };
+
     fn clone(&self) -> Result<Term, AllocError> {
         let form = match &self.form {
             Form::Int(value) => Form::Int(*value),
@@ -248,6 +253,25 @@ impl Clone for Term {
         };
         Ok(Term { form })
     }
+}
+
+impl PartialEq for Term {
+    ghost use Rattle.bx_terms.specs.Same.{same_tree};
+    ghost use Rattle.bx_terms.specs.Sameness.{same_partial_equivalence};
+
+    ghost eq = { same_tree };
+
+    ghost laws = { same_partial_equivalence };
+
+    fn eq(&self, other: &Term) -> bool {
+        self.same(other)
+    }
+}
+
+impl Eq for Term {
+    ghost use Rattle.bx_terms.specs.Sameness.{same_equivalence};
+
+    ghost laws = { same_equivalence };
 }
 
 #[cycle(same)]
@@ -266,8 +290,8 @@ fn same_elements(xs: &[Term], ys: &[Term]) -> bool
     true
 }
 
-#[tactic(auto, using(crate::proofs::Rows::row_at))]
 /// The height of the highest of `terms`, or 0 where there is none.
+#[tactic(auto, using(crate::proofs::Rows::row_at))]
 fn highest(terms: &[Term]) -> u32
     ensures highest { result ≡ highest (listed terms.now) }
     ensures within { result ≤ 10000 }

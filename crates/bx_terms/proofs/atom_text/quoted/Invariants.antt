@@ -1,0 +1,7 @@
+use Rattle.std.proofs.Common.{◌≡◌, ◌++◌, string_bytes, codes}
+use Rattle.std.specs.List.{flat_map}
+use Rattle.bx_terms.specs.AtomText.{escaped}
+use Rattle.bx_terms.proofs.atom_text.quoted.Given as goal
+
+abbrev pub invariant-loop-c : goal.invariant-loop-c
+invariant-loop-c l = string_bytes l.out ≡ codes "'" ++ flat_map escaped l.yielded

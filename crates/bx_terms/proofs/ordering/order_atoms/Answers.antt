@@ -1,0 +1,10 @@
+use Rattle.std.proofs.Common.{◌≡◌, ap, sym, ◌∙◌, arith}
+use Rattle.std.proofs.lemmas.Bool.Decides.{nat_tests}
+use Rattle.bx_terms.specs.Order.{atom_order}
+use Rattle.bx_terms.proofs.Total.{atom_order_itself}
+use Rattle.bx_terms.proofs.ordering.order_atoms.Goals as goal
+
+pub returns-then-eq : goal.returns-then-eq
+returns-then-eq c =
+    let same : c.args.a.0 ≡ c.args.b.0 = grind (arith, nat_tests, c.if-eq.ensures) in
+    sym (ap (atom_order c.args.atoms.now c.args.a.0) (sym same) ∙ atom_order_itself c.args.atoms.now c.args.a.0)
