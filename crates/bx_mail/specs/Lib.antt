@@ -1,0 +1,4 @@
+pub mod Mail
+pub mod Slots
+pub mod Joined
+pub mod History

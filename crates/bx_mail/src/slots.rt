@@ -1,0 +1,201 @@
+//! Slots that hold messages and are joined by their numbers.
+
+ghost use Rattle.std.specs.Prelude.{◌≡◌, ◌↔◌, ◌^◌, ◌<◌, ◌≤◌, ◌≢◌, ℕ, [], length, Some, None, IfOk, OnOk, OnErr, IsTrue, option_map, slice_set, slice_get};
+ghost use Rattle.bx_mail.specs.Slots.{full, vacant, message_of, next_of, link_behind, last_behind, message_in, next_in, row, Relinked, Opened};
+
+use bx_terms::Term;
+use std::alloc::{AllocError, Global};
+use std::marker::Model;
+use std::mem;
+
+/// Room for one message. Without one it is free.
+#[derive(Debug, Drop)]
+pub struct Slot {
+    pub message: Option<Term>,
+    /// The number of the slot that comes next.
+    pub next: Option<usize>,
+}
+
+impl Clone for Slot {
+    ghost use Rattle.std.specs.Prelude.{◌≡◌};
+
+    ghost is_clone = { λ s t. t ≡ s };
+
+    fn clone(&self) -> Result<Slot, AllocError> {
+        let message = self.message.clone()?;
+        Ok(Slot {
+            message,
+            next: self.next,
+        })
+    }
+}
+
+/// Slots by number. A link names a slot, or none.
+#[derive(Debug, Drop)]
+pub struct Slots {
+    slots: Vec<Slot>,
+}
+
+impl Model for Slots {
+    ghost use Rattle.std.specs.Prelude.{List};
+    ghost use Rattle.std.specs.Coded.{coded_list};
+    ghost use Rattle.bx_mail.specs.declared.slots.Slot.{Slot};
+    ghost use Rattle.bx_mail.specs.contracts.slots.Slot as slot;
+
+    ghost Value = { List Slot };
+
+    ghost coded = { coded_list slot.the_row.coded };
+
+    ghost view = { λ a. a.slots.items };
+}
+
+impl Slots {
+    pub fn new(alloc: Global) -> Slots
+        ensures { result ≡ [] }
+    {
+        Slots {
+            slots: Vec::new(alloc),
+        }
+    }
+
+    /// The message in the slot that `link` names.
+    pub fn message_of(&self, link: Option<usize>) -> Option<&Term>
+        ensures { option_map (λ m. m.now) result ≡ message_of self.now link }
+    {
+        self.slots.get(link?)?.message.as_ref()
+    }
+
+    /// The link in the slot that `link` names.
+    pub fn next_of(&self, link: Option<usize>) -> Option<usize>
+        ensures { result ≡ next_of self.now link }
+    {
+        self.slots.get(link?)?.next
+    }
+
+    /// The link in the slot that `behind` names, or `first` where it names none.
+    pub fn link_behind(&self, first: Option<usize>, behind: Option<usize>) -> Option<usize>
+        ensures { result ≡ link_behind self.now first behind }
+    {
+        match behind {
+            None => first,
+            Some(_) => self.next_of(behind),
+        }
+    }
+
+    /// Makes the link in the slot that `behind` names, or `first` where it names none, lead to `to`.
+    pub fn relink(&mut self, first: &mut Option<usize>, behind: Option<usize>, to: Option<usize>)
+        requires { (at : ℕ) → behind ≡ Some at → at < length self.old }
+        ensures { Relinked self.old self.new first.old first.new behind to }
+    {
+        match behind {
+            None => *first = to,
+            Some(at) => self.slots[at].next = to,
+        }
+    }
+
+    /// Empties a slot, and puts it before the free slots. The answer is its message, and the link that it had.
+    pub fn empty(&mut self, at: usize, free: Option<usize>) -> (Option<Term>, Option<usize>)
+        requires { at < length self.old }
+        ensures message { result.0 ≡ message_in (slice_get self.old at) }
+        ensures next { result.1 ≡ next_in (slice_get self.old at) }
+        ensures emptied { self.new ≡ slice_set self.old at (vacant free) }
+    {
+        let slot = &mut self.slots[at];
+        let Slot { message, next } = mem::replace(
+            slot,
+            Slot {
+                message: None,
+                next: free,
+            },
+        );
+        (message, next)
+    }
+
+    /// Puts a message into a slot, with no slot next. The answer is the link that the slot had.
+    pub fn fill(&mut self, at: usize, message: Term) -> Option<usize>
+        requires { at < length self.old }
+        ensures next { result ≡ next_in (slice_get self.old at) }
+        ensures filled { self.new ≡ slice_set self.old at (full message None) }
+    {
+        let slot = &mut self.slots[at];
+        let old = mem::replace(
+            slot,
+            Slot {
+                message: Some(message),
+                next: None,
+            },
+        );
+        old.next
+    }
+
+    /// The number of a free slot: the first of them, or else a new one.
+    pub fn open(&mut self, free: Option<usize>) -> Result<usize, AllocError>
+        requires { length self.old < 2 ^ 63 }
+        ensures ok { IfOk result (λ at. Opened self.old self.new free at) }
+        ensures bounded { OnOk result (length self.new < 2 ^ 63) }
+        ensures err { OnErr result (self.new ≡ self.old) }
+    {
+        if let Some(at) = free {
+            return Ok(at);
+        }
+        let at = self.slots.len();
+        self.slots.push(Slot {
+            message: None,
+            next: None,
+        })?;
+        Ok(at)
+    }
+
+    /// The same slots.
+    pub fn copy(&self) -> Result<Slots, AllocError>
+        ensures { IfOk result (λ s. s ≡ self.now) }
+    {
+        let slots = self.slots.clone()?;
+        Ok(Slots { slots })
+    }
+}
+
+/// Whether so many slots hold the same messages, from where two links lead.
+pub fn same_row(
+    slots: &Slots,
+    first: Option<usize>,
+    others: &Slots,
+    other_first: Option<usize>,
+    count: usize,
+) -> bool
+    ensures { IsTrue result ↔ (row slots.now count first ≡ row others.now count other_first) }
+{
+    let mut at = first;
+    let mut other = other_first;
+    let mut left = count;
+    while left > 0 {
+        if !same_message(slots.message_of(at), others.message_of(other)) {
+            return false;
+        }
+        at = slots.next_of(at);
+        other = others.next_of(other);
+        left -= 1;
+    }
+    true
+}
+
+/// Whether both are the same message, or neither is one.
+fn same_message(one: Option<&Term>, other: Option<&Term>) -> bool
+    ensures { IsTrue result ↔ (option_map (λ m. m.now) one.entry ≡ option_map (λ m. m.now) other.entry) }
+{
+    match (one, other) {
+        (None, None) => true,
+        (Some(message), Some(other)) => message.same(other),
+        _ => false,
+    }
+}
+
+/// Which slot is the last, once the one between `before` and `next` is taken out.
+pub fn last_behind(before: Option<usize>, next: Option<usize>, last: Option<usize>) -> Option<usize>
+    ensures { result ≡ last_behind before next last }
+{
+    match next {
+        None => before,
+        Some(_) => last,
+    }
+}

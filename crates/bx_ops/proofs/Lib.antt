@@ -1,0 +1,4 @@
+pub mod Found
+pub mod GuardBifLemmas
+pub mod Named
+pub mod OpcodeLemmas

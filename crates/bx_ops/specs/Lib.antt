@@ -1,0 +1,4 @@
+pub mod Classes
+pub mod GuardBifs
+pub mod Opcodes
+pub mod OpsByLength
