@@ -1,14 +1,13 @@
 -- What a term's parts come to, over the list of its elements.
-use Rattle.std.proofs.Common.{◌≡◌, ℕ, ◌+◌, ◌<◌, max, List, [], ◌∷◌, ◌++◌, length, map, fold, codes, refl, ap, sym, ◌∙◌, append_assoc, arith}
-use Rattle.std.specs.declared.cmp.Ordering.{Ordering}
-use Rattle.std.specs.declared.cmp.Ordering.TheVariants.{Less, Equal, Greater}
+use Rattle.std.proofs.Common.{◌≡◌, ℕ, ◌+◌, ◌<◌, max, List, [], ◌∷◌, ◌++◌, length, map, fold, codes, refl, ap, ◌∙◌, arith}
+use Rattle.std.specs.declared.cmp.Ordering.TheVariants.{Less, Equal}
 use Rattle.std.specs.Ordering.{nat_cmp, ordering_then}
 use Rattle.std.specs.Cmp.Lexicographic.{slice_cmp}
 use Rattle.std.specs.List.{join_by, flat_map}
 use Rattle.std.proofs.lemmas.Bool.Decides.{nat_tests}
 use Rattle.bx_terms.specs.Tree.{Tree, tuple, listed, height, highest}
 use Rattle.bx_terms.specs.Order.{order_of, size}
-use Rattle.bx_terms.specs.Printed.{printed, printed_tail, printed_elements}
+use Rattle.bx_terms.specs.Printed.{printed, printed_tail}
 use Rattle.bx_terms.proofs.Rows.{size_listed}
 
 -- the highest so far and of those that follow

@@ -1,5 +1,5 @@
 -- Only equal terms are equal in the order.
-use Rattle.std.proofs.Common.{◌≡◌, ℕ, ◌<◌, ◌↔◌, inl, inr, true, false, List, Option, Some, None, length, get_or, option_map, unwrap_or, slice_get, chars, bytes_eq, refl, ap, sym, subst, ◌∙◌, arith}
+use Rattle.std.proofs.Common.{◌≡◌, ℕ, ◌<◌, ◌↔◌, inl, inr, true, List, Option, Some, None, get_or, option_map, unwrap_or, slice_get, chars, bytes_eq, refl, ap, sym, subst, ◌∙◌, arith}
 use Rattle.std.specs.declared.cmp.Ordering.{Ordering}
 use Rattle.std.specs.declared.cmp.Ordering.TheVariants.{Less, Equal, Greater}
 use Rattle.std.specs.Ordering.{nat_cmp, ordering_then, is_eq}
@@ -14,7 +14,7 @@ use Rattle.std.proofs.lemmas.Option.{slice_get_within, unwrap_or-slice_get}
 use Rattle.std.proofs.lemmas.Str.{IsUtf8-from_is_utf8}
 use Rattle.bx_terms.specs.AtomTable.{IsAtomTable}
 use Rattle.bx_terms.specs.Tree.{Tree, int, atom, pid, tuple, nil, cons}
-use Rattle.bx_terms.specs.Order.{codes_of, order_of, atom_order, text_order, size}
+use Rattle.bx_terms.specs.Order.{order_of, atom_order, text_order, size}
 use Rattle.bx_terms.proofs.Total.{order_of_total}
 use Rattle.bx_terms.proofs.Utf8.{bytes_by_codes}
 

@@ -1,14 +1,13 @@
 -- The order of terms is total: it is the order of their keys, read one after another.
-use Rattle.std.proofs.Common.{◌≡◌, ℕ, ℤ, pos, ◌+◌, List, [], ◌∷◌, ◌++◌, Option, Some, None, refl, ap, sym, ◌∙◌, append_assoc, append-nil, arith}
+use Rattle.std.proofs.Common.{◌≡◌, ℕ, ℤ, pos, List, [], ◌∷◌, ◌++◌, Option, Some, None, refl, ap, sym, ◌∙◌, append_assoc, append-nil}
 use Rattle.std.specs.declared.cmp.Ordering.{Ordering}
 use Rattle.std.specs.declared.cmp.Ordering.TheVariants.{Less, Equal, Greater}
 use Rattle.std.specs.Ordering.{nat_cmp, int_cmp, ordering_then, ordering_reverse, on, then_cmp}
 use Rattle.std.specs.Cmp.{IsTotalOrder}
 use Rattle.std.specs.Cmp.Lexicographic.{slice_cmp}
 use Rattle.std.proofs.lemmas.Cmp.{nat_cmp_total, int_cmp_total, nat_list_cmp_total, on_total, then_total, lists_total, tied_itself}
-use Rattle.std.proofs.lemmas.Bool.Decides.{nat_tests}
 use Rattle.bx_terms.specs.Tree.{Tree, int, atom, pid, tuple, nil, cons}
-use Rattle.bx_terms.specs.Order.{codes_of, order_of, atom_order, text_order, kind_order, size}
+use Rattle.bx_terms.specs.Order.{codes_of, order_of, atom_order, text_order, size}
 
 -- an order that answers as a total one does is total
 pub total_as : {K : Type 0} {R S : K → K → Ordering} → ((x y : K) → R x y ≡ S x y) → IsTotalOrder S → IsTotalOrder R

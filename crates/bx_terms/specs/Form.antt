@@ -1,5 +1,5 @@
 -- How a term is stored: what it holds is shared, with its height.
-use Rattle.std.specs.Prelude.{◌≡◌, ℕ, ◌≤◌}
+use Rattle.std.specs.Prelude.{◌≡◌, ◌≤◌}
 use Rattle.bx_terms.specs.declared.terms.Form.{Form}
 use Rattle.bx_terms.specs.declared.terms.Form.TheVariants.{Int, Atom, Pid, Tuple, Nil, Cons}
 use Rattle.bx_terms.specs.Tree.{Tree, int, atom, pid, tuple, nil, cons, listed, height}

@@ -1,5 +1,5 @@
 -- When two terms are the same, as a test.
-use Rattle.std.specs.Prelude.{ℕ, Bool, true, false, ◌&&◌, ◌==◌}
+use Rattle.std.specs.Prelude.{Bool, true, false, ◌&&◌, ◌==◌}
 use Rattle.std.specs.Ordering.{int_eq}
 use Rattle.bx_terms.specs.Tree.{Tree, int, atom, pid, tuple, nil, cons}
 
