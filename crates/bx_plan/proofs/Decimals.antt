@@ -1,0 +1,103 @@
+-- Numbers are read as they are spelled.
+use Rattle.std.proofs.Common.{◌≡◌, ℕ, ◌+◌, ◌-◌, ◌*◌, ◌^◌, ◌<◌, ◌≤◌, Bool, true, false, cond, ◌&&◌, List, [], ◌∷◌, Some, None, length, get_or, refl, sym, ap, ◌∙◌, arith, rules, inl, inr, ◌⊎◌}
+use Rattle.std.specs.Prelude.{nat_eq, nat_le, ◌↔◌}
+use Rattle.std.specs.Char.{is_ascii_digit}
+use Rattle.std.specs.Str.{all_ascii_digits}
+use Rattle.std.specs.Fmt.{decimal}
+use Rattle.std.proofs.lemmas.Bool.{and_parts, and_from, leb-true, le-leb, eqb-true, eq-eqb, cases_eq, ne_eqb}
+use Rattle.std.proofs.lemmas.Str.Parse.{IsNumeralModel, numerals_by_fold}
+use Rattle.std.proofs.lemmas.Fmt.{digits_decimal, digits_value-decimal, decimal-digits_value, decimal_nonempty, first_decimal, decimal_digit}
+use Rattle.bx_plan.specs.Reading.{digits_from, number_of}
+use Rattle.bx_plan.proofs.Marks.{Lacks}
+
+-- the number that the digits write behind those of n
+abbrev value_from : ℕ → List ℕ → ℕ
+value_from n [] = n
+value_from n (b ∷ bs) = value_from (n * 10 + (b - 48)) bs
+
+abbrev AreDigits : List ℕ → Type 0
+AreDigits text = all_ascii_digits text ≡ true
+
+numerals : IsNumeralModel AreDigits (value_from 0)
+numerals = numerals_by_fold _ (search rules) value_from (search rules)
+
+value_grows : (n : ℕ) (text : List ℕ) → n ≤ value_from n text
+value_grows n [] = omega arith
+value_grows n (b ∷ bs) = omega (arith, value_grows (n * 10 + (b - 48)) bs)
+
+abbrev ReadsFrom : ℕ → ℕ → List ℕ → ℕ → Type 0
+ReadsFrom most n text m = AreDigits text × (value_from n text ≡ m) × (n ≤ most → m ≤ most)
+
+from_digits : (most n : ℕ) (text : List ℕ) (m : ℕ) → digits_from most n text ≡ Some m → ReadsFrom most n text m
+from_digits most n [] m h = let e : n ≡ m = cc in (refl, e, λ small. omega arith)
+from_digits most n (b ∷ bs) m h = one (is_ascii_digit b) (nat_le (n * 10 + (b - 48)) most) refl refl (from_digits most (n * 10 + (b - 48)) bs m) h where
+  one : (digit fits : Bool) → is_ascii_digit b ≡ digit → nat_le (n * 10 + (b - 48)) most ≡ fits
+      → (digits_from most (n * 10 + (b - 48)) bs ≡ Some m → ReadsFrom most (n * 10 + (b - 48)) bs m)
+      → cond (digit && fits) (digits_from most (n * 10 + (b - 48)) bs) None ≡ Some m → ReadsFrom most n (b ∷ bs) m
+  one true true p q later r =
+      let more = later r in
+      (and_from (is_ascii_digit b) (all_ascii_digits bs) p more.0, more.1, λ small. more.2 (leb-true _ _ q))
+  one true false p q later r = cc
+  one false fits p q later r = cc
+
+to_digits : (most n : ℕ) (text : List ℕ) → AreDigits text → value_from n text ≤ most → digits_from most n text ≡ Some (value_from n text)
+to_digits most n [] digits small = refl
+to_digits most n (b ∷ bs) digits small =
+    let parts = and_parts (is_ascii_digit b) (all_ascii_digits bs) digits in
+    let fits : nat_le (n * 10 + (b - 48)) most ≡ true = le-leb _ _ (omega (arith, value_grows (n * 10 + (b - 48)) bs)) in
+    ap (λ t. cond t (digits_from most (n * 10 + (b - 48)) bs) None) (and_from (is_ascii_digit b) (nat_le (n * 10 + (b - 48)) most) parts.0 fits)
+    ∙ to_digits most (n * 10 + (b - 48)) bs parts.1 small
+
+-- it begins with no 0 before other digits
+abbrev IsPlain : List ℕ → Type 0
+IsPlain text = (0 < length text) × (get_or text 0 0 ≡ 48 → length text ≡ 1)
+
+plain_number : (most : ℕ) (text : List ℕ) → IsPlain text → number_of most text ≡ digits_from most 0 text
+plain_number most [] h = absurd (omega (arith, h.0))
+plain_number most (b ∷ []) h = refl
+plain_number most (b ∷ c ∷ bs) h = one (nat_eq b 48) refl where
+  one : (zero : Bool) → nat_eq b 48 ≡ zero → cond zero None (digits_from most 0 (b ∷ c ∷ bs)) ≡ digits_from most 0 (b ∷ c ∷ bs)
+  one true p = absurd (omega (arith, h.1 (eqb-true b 48 p)))
+  one false p = refl
+
+number_plain : (most : ℕ) (text : List ℕ) (n : ℕ) → number_of most text ≡ Some n → IsPlain text
+number_plain most [] n h = cc
+number_plain most (b ∷ []) n h = (omega arith, λ e. refl)
+number_plain most (b ∷ c ∷ bs) n h = one (nat_eq b 48) refl h where
+  one : (zero : Bool) → nat_eq b 48 ≡ zero → cond zero None (digits_from most 0 (b ∷ c ∷ bs)) ≡ Some n → IsPlain (b ∷ c ∷ bs)
+  one true p r = cc
+  one false p r = (omega arith, λ e. let t : nat_eq b 48 ≡ true = eq-eqb b 48 e in cc)
+
+decimal_plain : (n : ℕ) → n < 2 ^ 64 → IsPlain (decimal n)
+decimal_plain n small = (decimal_nonempty n small, one (cases_eq n 0)) where
+  one : (n ≡ 0) ⊎ (n ≡ 0 → ⊥) → get_or (decimal n) 0 0 ≡ 48 → length (decimal n) ≡ 1
+  one (inl e) h = ap (λ m. length (decimal m)) e ∙ ap length (decimal_digit 0 (omega arith))
+  one (inr e) h = absurd (omega (arith, first_decimal n (omega arith) small))
+
+-- what is read is spelled so, and what is spelled so is read
+pub number_spelled : (most n : ℕ) (text : List ℕ) → most < 2 ^ 64 → number_of most text ≡ Some n → (n ≤ most) × (text ≡ decimal n)
+number_spelled most n text wide h =
+    let plain = number_plain most text n h in
+    let read = from_digits most 0 text n (sym (plain_number most text plain) ∙ h) in
+    let small : value_from 0 text < 2 ^ 64 = omega (arith, read.1, read.2 (omega arith)) in
+    (read.2 (omega arith), sym (decimal-digits_value numerals text read.0 plain.0 plain.1 small) ∙ ap decimal read.1)
+
+pub number_again : (most n : ℕ) → most < 2 ^ 64 → n ≤ most → number_of most (decimal n) ≡ Some n
+number_again most n wide small =
+    let digits = digits_decimal numerals n (omega arith) in
+    let value = digits_value-decimal numerals n (omega arith) in
+    plain_number most (decimal n) (decimal_plain n (omega arith))
+    ∙ to_digits most 0 (decimal n) digits (omega arith)
+    ∙ ap Some value
+
+digits_lack : (mark : ℕ) (text : List ℕ) → is_ascii_digit mark ≡ false → AreDigits text → Lacks mark text
+digits_lack mark [] h digits = tt
+digits_lack mark (b ∷ bs) h digits =
+    let parts = and_parts (is_ascii_digit b) (all_ascii_digits bs) digits in
+    (ne_eqb b mark (λ e. let same = ap is_ascii_digit e in cc), digits_lack mark bs h parts.1)
+
+pub decimal_lacks : (mark n : ℕ) → is_ascii_digit mark ≡ false → n < 2 ^ 64 → Lacks mark (decimal n)
+decimal_lacks mark n h small = digits_lack mark (decimal n) h (digits_decimal numerals n small)
+
+pub number_law : (most n : ℕ) (text : List ℕ) → most < 2 ^ 64 → (number_of most text ≡ Some n) ↔ ((n ≤ most) × (text ≡ decimal n))
+number_law most n text wide = (number_spelled most n text wide, λ h. ap (number_of most) h.1 ∙ number_again most n wide h.0)

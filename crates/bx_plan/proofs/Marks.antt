@@ -1,0 +1,57 @@
+-- Texts without a mark, and where a text is cut.
+use Rattle.std.proofs.Common.{◌≡◌, ℕ, Bool, true, false, cond, List, [], ◌∷◌, ◌++◌, Option, Some, None, refl, ap, ◌∙◌, option_map, subst}
+use Rattle.std.specs.Option.{option_map_or}
+use Rattle.std.specs.Prelude.{nat_eq}
+use Rattle.std.proofs.lemmas.Bool.{eqb-true, eq-eqb}
+use Rattle.bx_plan.specs.Reading.{cut, parts_of}
+use Rattle.bx_plan.proofs.Cuts.{parts_none, parts_some}
+
+-- no byte of the text is the mark
+abbrev pub Lacks : ℕ → List ℕ → Type 0
+Lacks mark [] = Unit {0}
+Lacks mark (b ∷ bs) = (nat_eq b mark ≡ false) × Lacks mark bs
+
+pub Lacks-append : (mark : ℕ) (xs ys : List ℕ) → Lacks mark xs → Lacks mark ys → Lacks mark (xs ++ ys)
+Lacks-append mark [] ys h k = k
+Lacks-append mark (x ∷ xs) ys h k = (h.0, Lacks-append mark xs ys h.1 k)
+
+pub cut_lacks : (mark : ℕ) (text : List ℕ) → Lacks mark text → cut mark text ≡ None
+cut_lacks mark [] h = refl
+cut_lacks mark (b ∷ bs) h =
+    ap (λ t. cond t (Some ([], bs)) (option_map (λ parts. (b ∷ parts.0, parts.1)) (cut mark bs))) h.0
+    ∙ ap (option_map (λ parts. (b ∷ parts.0, parts.1))) (cut_lacks mark bs h.1)
+
+pub cut_at : (mark : ℕ) (before behind : List ℕ) → Lacks mark before → cut mark (before ++ mark ∷ behind) ≡ Some (before, behind)
+cut_at mark [] behind h =
+    ap (λ t. cond t (Some ([], behind)) (option_map (λ parts. (mark ∷ parts.0, parts.1)) (cut mark behind))) (eq-eqb mark mark refl)
+cut_at mark (b ∷ bs) behind h =
+    ap (λ t. cond t (Some ([], bs ++ mark ∷ behind)) (option_map (λ parts. (b ∷ parts.0, parts.1)) (cut mark (bs ++ mark ∷ behind)))) h.0
+    ∙ ap (option_map (λ parts. (b ∷ parts.0, parts.1))) (cut_at mark bs behind h.1)
+
+some_is : (x y : List ℕ × List ℕ) → Some x ≡ Some y → x ≡ y
+some_is x y h = ap (λ o. option_map_or (λ v. v) o x) h
+
+-- the text is so, where it is cut so
+abbrev pub CutAt : ℕ → List ℕ → List ℕ × List ℕ → Type 0
+CutAt mark text parts = (text ≡ parts.0 ++ mark ∷ parts.1) × Lacks mark parts.0
+
+pub cut_takes : (mark : ℕ) (text : List ℕ) (parts : List ℕ × List ℕ) → cut mark text ≡ Some parts → CutAt mark text parts
+cut_takes mark [] parts h = cc
+cut_takes mark (b ∷ bs) parts h = one (nat_eq b mark) (cut mark bs) refl refl (λ more. cut_takes mark bs more) h where
+  one : (same : Bool) (found : Option (List ℕ × List ℕ)) → nat_eq b mark ≡ same → cut mark bs ≡ found
+      → ((more : List ℕ × List ℕ) → cut mark bs ≡ Some more → CutAt mark bs more)
+      → cond same (Some ([], bs)) (option_map (λ p. (b ∷ p.0, p.1)) found) ≡ Some parts → CutAt mark (b ∷ bs) parts
+  one true found p q later r =
+      let e : ([], bs) ≡ parts = some_is ([], bs) parts r in
+      subst (CutAt mark (b ∷ bs)) e (ap (λ x. x ∷ bs) (eqb-true b mark p), tt)
+  one false None p q later r = cc
+  one false (Some more) p q later r =
+      let e : (b ∷ more.0, more.1) ≡ parts = some_is (b ∷ more.0, more.1) parts r in
+      let before = later more q in
+      subst (CutAt mark (b ∷ bs)) e (ap (λ x. b ∷ x) before.0, (p, before.1))
+
+pub parts_lacks : (mark : ℕ) (text : List ℕ) → Lacks mark text → parts_of mark text ≡ text ∷ []
+parts_lacks mark text h = parts_none mark text (cut_lacks mark text h)
+
+pub parts_at : (mark : ℕ) (before behind : List ℕ) → Lacks mark before → parts_of mark (before ++ mark ∷ behind) ≡ before ∷ parts_of mark behind
+parts_at mark before behind h = parts_some mark (before ++ mark ∷ behind) before behind (cut_at mark before behind h)

@@ -1,0 +1,37 @@
+-- A plan while its lines are read.
+use Rattle.std.specs.Prelude.{◌≡◌, ℕ, ◌≤◌, ◌<◌, Bool, true, false, List, [], ◌∷◌, ◌++◌, length, Result, Ok, Err}
+use Rattle.std.specs.BTreeSet.{contains}
+use Rattle.std.specs.Ordering.{nat_cmp}
+use Rattle.std.specs.Cmp.Lexicographic.{slice_cmp}
+use Rattle.std.specs.Borrow.{Bor}
+use Rattle.bx_terms.specs.declared.faults.Fault.{Fault}
+use Rattle.bx_terms.specs.declared.faults.Fault.TheVariants.{Memory}
+use Rattle.bx_plan.specs.declared.plans.Builder.{Builder}
+use Rattle.bx_plan.specs.Planned.{Planned, IsPlanned, schedules}
+use Rattle.bx_plan.specs.Nodes.{node_count}
+use Rattle.bx_plan.specs.Plans.{Named, choices_of, has_name}
+use Rattle.bx_plan.specs.View.{lines_view}
+
+abbrev pub planned : Builder → Planned
+planned builder = record { lines = lines_view builder.lines.items; tree = builder.tree }
+
+-- the schedules so far
+abbrev pub so_far : Builder → List Named
+so_far builder = schedules (planned builder)
+
+-- the set has the names of the schedules so far, and the tree is theirs
+pub record IsBuilding (builder : Builder) : Type 0 where
+  pub known : (name : Bor (List ℕ)) → contains (λ x y. slice_cmp nat_cmp x.now y.now) builder.names name ≡ has_name name.now (so_far builder)
+  pub planned : IsPlanned (planned builder)
+  pub few : length builder.tree.paths ≤ 1000001
+
+-- a step is what the definition says of the schedules before it; want of memory only where `takes` holds
+abbrev pub Adds : {A : Type 0} → Type 0 → Builder → Result A Fault → Result (List Named) Fault → Type 0
+Adds takes new (Ok x) said = (said ≡ Ok (so_far new)) × IsBuilding new
+Adds takes new (Err Memory) said = takes
+Adds takes new (Err fault) said = said ≡ Err fault
+
+-- a schedule more, or its nodes are too many
+abbrev pub Pushes : Builder → Builder → Named → Bool → Type 0
+Pushes old new schedule true = (so_far new ≡ so_far old ++ schedule ∷ []) × IsBuilding new
+Pushes old new schedule false = 1000000 < node_count (choices_of (so_far old ++ schedule ∷ []))

@@ -1,0 +1,29 @@
+-- The look-up of a node's children.
+use Rattle.std.specs.Prelude.{◌≡◌, ℕ, ◌<◌, List, [], ◌∷◌, ◌++◌, None, Some, length, map}
+use Rattle.std.specs.declared.cmp.Ordering.{Ordering}
+use Rattle.std.specs.Ordering.{nat_cmp, ordering_then}
+use Rattle.std.specs.Option.{option_cmp}
+use Rattle.std.specs.BTreeMap.{BTreeMap, get}
+use Rattle.bx_world.specs.declared.choices.Choice.{Choice}
+use Rattle.bx_world.specs.declared.choices.Choice.TheVariants.{Run, Deliver}
+use Rattle.bx_plan.specs.declared.trees.Edge.{Edge}
+use Rattle.bx_plan.specs.declared.trees.Step.{Step}
+use Rattle.bx_plan.specs.Trees.{Tree, path, parent, choice}
+
+abbrev pub edge : ℕ → Choice → Edge
+edge at (Run p) = record { parent = at; first = p; second = None }
+edge at (Deliver p q) = record { parent = at; first = p; second = Some q }
+
+abbrev pub edge_cmp : Edge → Edge → Ordering
+edge_cmp a b = ordering_then (nat_cmp a.parent b.parent) (ordering_then (nat_cmp a.first b.first) (option_cmp nat_cmp a.second b.second))
+
+-- each edge that is there leads to its node, and the edge to each node is there
+pub record IsIndexed (tree : Tree) (children : BTreeMap Edge ℕ) : Type 0 where
+  pub found : (at : ℕ) (c : Choice) (node : ℕ) → get edge_cmp children (edge at c) ≡ Some node → (at < length tree.paths) × (node < length tree.paths) × (path tree node ≡ path tree at ++ c ∷ [])
+  pub all : (node : ℕ) → 0 < node → node < length tree.paths → get edge_cmp children (edge (parent tree node) (choice tree node)) ≡ Some node
+
+abbrev pub step_view : Step → ℕ × Choice
+step_view step = (step.parent, step.choice)
+
+abbrev pub steps_view : List Step → List (ℕ × Choice)
+steps_view steps = map step_view steps

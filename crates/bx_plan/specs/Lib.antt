@@ -1,0 +1,14 @@
+pub mod Entry
+pub mod Reading
+pub mod Parts
+pub mod Lines
+pub mod Plans
+pub mod Planned
+pub mod View
+pub mod Building
+pub mod Grammar
+pub mod Texts
+pub mod Nodes
+pub mod Trees
+pub mod Edges
+pub mod Walks

@@ -1,0 +1,127 @@
+//! Steps as keys, the look-up of a node's children, and growing along choices.
+
+ghost use Rattle.std.specs.Prelude.{◌≡◌, ◌+◌, ◌<◌, ◌≤◌, ◌++◌, ◌∷◌, [], false, length, MatchOption, IfOk, OnErr};
+ghost use Rattle.bx_plan.specs.Nodes.{has_node};
+ghost use Rattle.bx_plan.specs.Trees.{path, grown, tree_of, IsTree};
+ghost use Rattle.bx_plan.specs.Edges.{edge, steps_view};
+ghost use Rattle.bx_plan.specs.Walks.{Steps, Walks};
+
+use super::{Edge, Growing, MOST_NODES, Step};
+use bx_world::Choice;
+use std::alloc::{AllocError, Global};
+use std::collections::BTreeMap;
+
+/// The key of a step.
+fn edge(parent: usize, choice: Choice) -> Edge
+    ensures { result ≡ edge parent choice }
+{
+    match choice {
+        Choice::Run(first) => Edge {
+            parent,
+            first,
+            second: None,
+        },
+        Choice::Deliver(first, second) => Edge {
+            parent,
+            first,
+            second: Some(second),
+        },
+    }
+}
+
+impl Growing {
+    /// A tree that is a root alone.
+    pub(crate) fn new(alloc: Global) -> Growing
+        ensures { result.paths ≡ [] ∷ [] }
+    {
+        Growing {
+            steps: Vec::new(alloc),
+            children: BTreeMap::new(alloc),
+        }
+    }
+
+    /// The root.
+    fn root(&self) -> usize
+        ensures { (result < length self.now.paths) × (path self.now result ≡ []) }
+    {
+        let _steps = &self.steps;
+        0
+    }
+
+    /// How many nodes there are below the root.
+    fn count(&self) -> usize
+        ensures { result + 1 ≡ length self.now.paths }
+    {
+        self.steps.len()
+    }
+
+    /// The child to which the choice leads from a node.
+    fn child(&self, at: usize, choice: Choice) -> Option<usize>
+        requires { at < length self.now.paths }
+        ensures { MatchOption result (has_node self.now.paths (path self.now at ++ choice ∷ []) ≡ false) (λ node. (node < length self.now.paths) × (path self.now node ≡ path self.now at ++ choice ∷ [])) }
+    {
+        self.children.get(&edge(at, choice)).copied()
+    }
+
+    /// A new child of a node.
+    fn grow(&mut self, at: usize, choice: Choice) -> Result<usize, AllocError>
+        requires within { at < length self.old.paths }
+        requires new { has_node self.old.paths (path self.old at ++ choice ∷ []) ≡ false }
+        ensures ok { IfOk result (λ node. (node ≡ length self.old.paths) × (self.new ≡ grown self.old at choice)) }
+        ensures err { OnErr result (self.new ≡ self.old) }
+    {
+        let node = self.steps.len() + 1;
+        self.steps.reserve(1)?;
+        self.children.insert(edge(at, choice), node)?;
+        let step = Step { parent: at, choice };
+        match self.steps.push(step) {
+            Ok(()) => Ok(node),
+            Err(_) => unreachable!(),
+        }
+    }
+
+    /// The child to which the choice leads from a node, made where there is none; none where that would be
+    /// a node too many.
+    fn step(&mut self, at: usize, choice: Choice) -> Result<Option<usize>, AllocError>
+        requires within { at < length self.old.paths }
+        requires few { length self.old.paths ≤ 1000001 }
+        ensures { IfOk result (Steps self.old self.new (path self.old at) choice) }
+    {
+        if let Some(node) = self.child(at, choice) {
+            return Ok(Some(node));
+        }
+        if self.count() >= MOST_NODES {
+            return Ok(None);
+        }
+        match self.grow(at, choice) {
+            Ok(node) => Ok(Some(node)),
+            Err(e) => Err(e),
+        }
+    }
+
+    /// The node to which the choices lead from the root, made as far as it is not there; none where that
+    /// would be nodes too many.
+    pub(crate) fn walk(&mut self, choices: &[Choice]) -> Result<Option<usize>, AllocError>
+        requires { length self.old.paths ≤ 1000001 }
+        ensures { IfOk result (Walks self.old self.new choices.now) }
+    {
+        let mut at = self.root();
+        for choice in choices {
+            match self.step(at, *choice) {
+                Ok(Some(node)) => at = node,
+                Ok(None) => return Ok(None),
+                Err(e) => return Err(e),
+            }
+        }
+        Ok(Some(at))
+    }
+
+    /// The steps to the nodes below the root, in the order of the nodes.
+    pub(crate) fn into_steps(self) -> Vec<Step>
+        ensures steps { tree_of (steps_view result.items) ≡ self }
+        ensures tree { IsTree self }
+    {
+        let Growing { steps, children: _ } = self;
+        steps
+    }
+}

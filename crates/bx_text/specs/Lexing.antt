@@ -1,0 +1,159 @@
+-- Which token begins at a place: the longest spelling of one (Erlang Reference Manual, "Data Types").
+use Rattle.std.specs.Prelude.{ℕ, ◌+◌, ◌-◌, Bool, true, false, not, ◌&&◌, ◌||◌, ◌==◌, nat_le, if◌then◌else◌, ℤ, pos, List, [], ◌∷◌, length, take, drop, codes, Option, Some, None, Result, Ok, Err}
+use Rattle.std.specs.List.{prefix_len}
+use Rattle.std.specs.Str.{bytes_eq}
+use Rattle.std.specs.Str.Lossy.{utf8_valid_len}
+use Rattle.bx_terms.specs.Outcomes.{◌>>=◌}
+use Rattle.bx_terms.specs.declared.faults.Fault.{Fault}
+use Rattle.bx_terms.specs.declared.faults.Fault.TheVariants.{BadToken, Truncated, NotUtf8}
+use Rattle.bx_text.specs.declared.tokens.Mark.{Mark}
+use Rattle.bx_text.specs.declared.tokens.Mark.TheVariants.{CloseTuple, CloseList, Comma, Bar, Stop, Fun, Other}
+use Rattle.bx_text.specs.declared.kinds.Kind.{Kind}
+use Rattle.bx_text.specs.declared.kinds.Kind.TheVariants as kind
+use Rattle.bx_text.specs.Bytes.{begins, is_space, is_percent, is_digit, is_lower, is_name, is_accented, is_accented_lower, is_plain}
+use Rattle.bx_text.specs.Number.{number}
+use Rattle.bx_text.specs.Place.{Place, after, feeds}
+use Rattle.bx_text.specs.Blank.{skip}
+use Rattle.bx_text.specs.Token.{Token, integer, atom, text, open_tuple, open_list, mark, Lexeme}
+
+-- what a token that begins with this byte can be
+abbrev pub punctuation_of : ℕ → Kind
+punctuation_of b =
+    if b == 123 then kind.OpenTuple
+    else (if b == 125 then kind.Mark CloseTuple
+    else (if b == 91 then kind.OpenList
+    else (if b == 93 then kind.Mark CloseList
+    else (if b == 44 then kind.Mark Comma
+    else (if b == 124 then kind.Mark Bar
+    else (if b == 46 then kind.Dot
+    else (if b == 39 then kind.Quote
+    else (if b == 34 then kind.DoubleQuote
+    else (if b == 45 then kind.Minus
+    else (if b == 40 || b == 41 || b == 58 || b == 47 then kind.Mark Other
+    else (if b == 35 || b == 60 || b == 61 || b == 62 then kind.Begun
+    else kind.Nothing)))))))))))
+
+abbrev pub kind_of : ℕ → Kind
+kind_of b =
+    if is_lower b then kind.Letter
+    else (if is_digit b then kind.Digit
+    else (if b == 195 then kind.Accent
+    else (if nat_le 128 b then kind.Foreign
+    else punctuation_of b)))
+
+-- how many bytes the longest run of an atom's letters at the front has; behind 195 a letter's second byte
+abbrev mutual
+  pub name_len : List ℕ → ℕ
+  name_len [] = 0
+  name_len (b ∷ bs) = if is_name b then 1 + name_len bs else (if b == 195 then accent_len bs else 0)
+
+  pub accent_len : List ℕ → ℕ
+  accent_len [] = 0
+  accent_len (b ∷ bs) = if is_accented b then 2 + name_len bs else 0
+
+-- how many bytes the first of those letters has
+abbrev pub letter_width : List ℕ → ℕ
+letter_width [] = 0
+letter_width (b ∷ bs) = if is_name b then 1 else (if b == 195 && begins is_accented bs then 2 else 0)
+
+-- the bare word `fun` is no atom
+abbrev pub word : List ℕ → Token
+word w = if bytes_eq w (codes "fun") then mark Fun else atom w
+
+abbrev pub bare_at : Place → List ℕ × Place
+bare_at p = (take (name_len p.rest) p.rest, after p (name_len p.rest))
+
+abbrev pub word_at : Place → Result (Token × Place) Fault
+word_at p = Ok (word (bare_at p).0, (bare_at p).1)
+
+-- bytes from 128 on that begin no token: no UTF-8, or another character
+abbrev pub foreign_at : Place → Result (Token × Place) Fault
+foreign_at p = if utf8_valid_len p.rest == 0 then Err (NotUtf8 p.line) else Err (BadToken p.line)
+
+abbrev pub accent_at : Place → Result (Token × Place) Fault
+accent_at p = if begins is_accented_lower (drop 1 p.rest) then word_at p else foreign_at p
+
+abbrev pub begins_fraction : List ℕ → Bool
+begins_fraction [] = false
+begins_fraction (b ∷ bs) = b == 46 && begins is_digit bs
+
+-- an integer of which the sign takes so many bytes, and the digits so many; a float is no token here
+abbrev pub digits_at : Place → ℕ → ℕ → Result (Token × Place) Fault
+digits_at p sign n =
+    if n == 0 then (if length p.rest == sign then Err (Truncated p.line) else Err (BadToken p.line))
+    else (if begins_fraction (drop (sign + n) p.rest) then Err (BadToken p.line)
+    else Ok (integer (number (take (sign + n) p.rest)), after p (sign + n)))
+
+abbrev pub number_at : Place → ℕ → Result (Token × Place) Fault
+number_at p sign = digits_at p sign (prefix_len is_digit (drop sign p.rest))
+
+-- a full stop is followed by a space, a comment or the end of the text
+abbrev pub ends : List ℕ → Bool
+ends [] = true
+ends (b ∷ bs) = is_space b || is_percent b
+
+abbrev pub stop_at : Place → Result (Token × Place) Fault
+stop_at p = if ends (drop 1 p.rest) then Ok (mark Stop, after p 1) else Err (BadToken p.line)
+
+-- a byte that begins tokens of more bytes, none of which is read
+abbrev pub begun_at : Place → Result (Token × Place) Fault
+begun_at p = if length p.rest == 1 then Err (Truncated p.line) else Err (BadToken p.line)
+
+-- where the plain bytes behind an opening quote end: n of them, at the place of the quote
+abbrev pub closing_at : Place → List ℕ → ℕ → List ℕ → Result (List ℕ × Place) Fault
+closing_at p body n [] = Err (Truncated (p.line + feeds body))
+closing_at p body n (b ∷ bs) =
+    if b == 92 then Err (BadToken p.line)
+    else Ok (take n body, record { rest = drop (n + 2) p.rest; at = p.at + (n + 2); line = p.line + feeds (take n body) })
+
+abbrev pub body_at : Place → List ℕ → ℕ → Result (List ℕ × Place) Fault
+body_at p body n =
+    if utf8_valid_len (take n body) == n then closing_at p body n (drop n body)
+    else Err (NotUtf8 (p.line + feeds (take (utf8_valid_len (take n body)) body)))
+
+abbrev pub quoted_at : ℕ → Place → Result (List ℕ × Place) Fault
+quoted_at quote p = body_at p (drop 1 p.rest) (prefix_len (is_plain quote) (drop 1 p.rest))
+
+abbrev pub token_by : Kind → Place → Result (Token × Place) Fault
+token_by kind.Letter p = word_at p
+token_by kind.Accent p = accent_at p
+token_by kind.Digit p = number_at p 0
+token_by kind.Minus p = number_at p 1
+token_by kind.Quote p = quoted_at 39 p >>= λ x. Ok (atom x.0, x.1)
+token_by kind.DoubleQuote p = quoted_at 34 p >>= λ x. Ok (text x.0, x.1)
+token_by kind.OpenTuple p = Ok (open_tuple, after p 1)
+token_by kind.OpenList p = Ok (open_list, after p 1)
+token_by (kind.Mark m) p = Ok (mark m, after p 1)
+token_by kind.Dot p = stop_at p
+token_by kind.Begun p = begun_at p
+token_by kind.Foreign p = foreign_at p
+token_by kind.Nothing p = Err (BadToken p.line)
+
+abbrev pub token_on : List ℕ → Place → Result (Token × Place) Fault
+token_on [] p = Err (Truncated p.line)
+token_on (b ∷ bs) p = token_by (kind_of b) p
+
+-- the token that begins at a place
+abbrev pub token_at : Place → Result (Token × Place) Fault
+token_at p = token_on p.rest p
+
+abbrev pub lexeme_from : Place → Result Lexeme Fault
+lexeme_from p = token_at p >>= λ x. Ok (record { token = x.0; from = p.at; line = p.line; after = x.1 })
+
+-- the first token from a place on
+abbrev pub lexeme_at : Place → Result Lexeme Fault
+lexeme_at p = skip p >>= lexeme_from
+
+-- the atom's text that begins at a place, bare or quoted, if one begins there
+abbrev pub name_by : Kind → Place → Result (Option (List ℕ × Place)) Fault
+name_by kind.Letter p = Ok (Some (bare_at p))
+name_by kind.Accent p = if begins is_accented_lower (drop 1 p.rest) then Ok (Some (bare_at p)) else Ok None
+name_by kind.Quote p = quoted_at 39 p >>= λ x. Ok (Some x)
+name_by k p = Ok None
+
+abbrev pub name_on : List ℕ → Place → Result (Option (List ℕ × Place)) Fault
+name_on [] p = Ok None
+name_on (b ∷ bs) p = name_by (kind_of b) p
+
+abbrev pub name_at : Place → Result (Option (List ℕ × Place)) Fault
+name_at p = name_on p.rest p

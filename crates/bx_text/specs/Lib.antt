@@ -1,0 +1,15 @@
+pub mod Blank
+pub mod Bytes
+pub mod Falls
+pub mod Follow
+pub mod Form
+pub mod Forms
+pub mod Lexing
+pub mod Number
+pub mod Place
+pub mod Rows
+pub mod Terms
+pub mod Token
+pub mod Tree
+pub mod View
+pub mod Grammar

@@ -1,0 +1,86 @@
+//! A token where it stands.
+
+ghost use Rattle.std.specs.Prelude.{◌≡◌};
+ghost use Rattle.bx_text.specs.Token.{lexeme_of, token_of};
+ghost use Rattle.bx_text.specs.Place.{place};
+ghost use Rattle.bx_text.specs.Terms as terms;
+
+use crate::node::Span;
+use crate::reader::Reader;
+use crate::tokens::{Mark, Token};
+
+/// A token, where it begins, and the place behind it.
+#[derive(Clone, Copy, Debug)]
+pub(crate) struct Lexeme<'a> {
+    pub(crate) token: Token<'a>,
+    pub(crate) from: usize,
+    pub(crate) line: usize,
+    pub(crate) after: Reader<'a>,
+}
+
+/// The part of the text from the first byte of a token to a place.
+pub(crate) fn span(l: Lexeme<'_>, end: Reader<'_>) -> Span
+    ensures { result ≡ terms.span (lexeme_of l.entry) (place end.entry) }
+{
+    Span {
+        from: l.from,
+        to: end.at,
+        line: l.line,
+    }
+}
+
+pub(crate) fn closes_tuple(token: Token<'_>) -> bool
+    ensures { result ≡ terms.closes_tuple (token_of token.entry) }
+{
+    match token {
+        Token::Mark(Mark::CloseTuple) => true,
+        _ => false,
+    }
+}
+
+pub(crate) fn closes_list(token: Token<'_>) -> bool
+    ensures { result ≡ terms.closes_list (token_of token.entry) }
+{
+    match token {
+        Token::Mark(Mark::CloseList) => true,
+        _ => false,
+    }
+}
+
+pub(crate) fn is_comma(token: Token<'_>) -> bool
+    ensures { result ≡ terms.is_comma (token_of token.entry) }
+{
+    match token {
+        Token::Mark(Mark::Comma) => true,
+        _ => false,
+    }
+}
+
+pub(crate) fn is_bar(token: Token<'_>) -> bool
+    ensures { result ≡ terms.is_bar (token_of token.entry) }
+{
+    match token {
+        Token::Mark(Mark::Bar) => true,
+        _ => false,
+    }
+}
+
+pub(crate) fn is_stop(token: Token<'_>) -> bool
+    ensures { result ≡ terms.is_stop (token_of token.entry) }
+{
+    match token {
+        Token::Mark(Mark::Stop) => true,
+        _ => false,
+    }
+}
+
+/// Whether a term that begins with the token is a list.
+pub(crate) fn spells_list(token: Token<'_>) -> bool
+    ensures { result ≡ terms.spells_list (token_of token.entry) }
+{
+    match token {
+        Token::Text(_) => true,
+        Token::OpenList => true,
+        _ => false,
+    }
+}

@@ -1,0 +1,111 @@
+//! Which token comes next.
+
+ghost use Rattle.std.specs.Prelude.{◌≡◌, ◌≤◌, Err, length, take};
+ghost use Rattle.std.specs.Str.{IsAscii};
+ghost use Rattle.bx_terms.specs.Outcomes.{Gives};
+ghost use Rattle.bx_text.specs.Place.{place};
+ghost use Rattle.bx_text.specs.Token.{token_of, lexeme_of};
+ghost use Rattle.bx_text.specs.Lexing.{ends, stop_at, begun_at, token_by, token_at, lexeme_from, lexeme_at};
+
+use crate::blanks::skip;
+use crate::bytes::is_space;
+use crate::kinds::{Kind, kind_of};
+use crate::lexemes::Lexeme;
+use crate::moves::ahead;
+use crate::numbers::number;
+use crate::quotes::quoted;
+use crate::reader::Reader;
+use crate::tokens::{Mark, Token};
+use crate::words::{accent, foreign, word};
+use bx_terms::Fault;
+
+/// Whether a full stop ends before these bytes.
+fn ends(bytes: &[u8]) -> bool
+    ensures { result ≡ ends bytes.now }
+{
+    match bytes {
+        [] => true,
+        [b, ..] => is_space(*b) || *b == b'%',
+    }
+}
+
+fn stop<'a>(r: Reader<'a>) -> Result<(Token<'a>, Reader<'a>), Fault>
+    requires { 1 ≤ length r.rest.now }
+    ensures { Gives ⊥ (λ x. (token_of x.0, place x.1)) result (stop_at (place r.entry)) }
+{
+    if ends(&r.rest[1..]) {
+        Ok((Token::Mark(Mark::Stop), ahead(r, 1)))
+    } else {
+        Err(Fault::BadToken { line: r.line })
+    }
+}
+
+/// The fault of a byte that only begins a token.
+fn begun(r: Reader<'_>) -> Fault
+    ensures { begun_at (place r.entry) ≡ Err result }
+{
+    if r.rest.len() == 1 {
+        Fault::Truncated { line: r.line }
+    } else {
+        Fault::BadToken { line: r.line }
+    }
+}
+
+/// The token at `r` that begins as `kind` says.
+fn token_by<'a>(kind: Kind, r: Reader<'a>) -> Result<(Token<'a>, Reader<'a>), Fault>
+    requires ascii { kind ≡ Kind.Minus → IsAscii (take 1 r.rest.now) }
+    requires some { 1 ≤ length r.rest.now }
+    ensures { Gives ⊥ (λ x. (token_of x.0, place x.1)) result (token_by kind (place r.entry)) }
+{
+    match kind {
+        Kind::Letter => Ok(word(r)),
+        Kind::Accent => accent(r),
+        Kind::Digit => number(r, 0),
+        Kind::Minus => number(r, 1),
+        Kind::Quote => {
+            let (text, after) = quoted(r, b'\'')?;
+            Ok((Token::Atom(text), after))
+        }
+        Kind::DoubleQuote => {
+            let (text, after) = quoted(r, b'"')?;
+            Ok((Token::Text(text), after))
+        }
+        Kind::OpenTuple => Ok((Token::OpenTuple, ahead(r, 1))),
+        Kind::OpenList => Ok((Token::OpenList, ahead(r, 1))),
+        Kind::Mark(mark) => Ok((Token::Mark(mark), ahead(r, 1))),
+        Kind::Dot => stop(r),
+        Kind::Begun => Err(begun(r)),
+        Kind::Foreign => Err(foreign(r)),
+        Kind::Nothing => Err(Fault::BadToken { line: r.line }),
+    }
+}
+
+/// The token at `r`.
+fn token<'a>(r: Reader<'a>) -> Result<(Token<'a>, Reader<'a>), Fault>
+    ensures { Gives ⊥ (λ x. (token_of x.0, place x.1)) result (token_at (place r.entry)) }
+{
+    if r.rest.is_empty() {
+        return Err(Fault::Truncated { line: r.line });
+    }
+    token_by(kind_of(r.rest[0]), r)
+}
+
+/// The token at `r`, where it stands.
+pub(crate) fn lexeme_from<'a>(r: Reader<'a>) -> Result<Lexeme<'a>, Fault>
+    ensures { Gives ⊥ lexeme_of result (lexeme_from (place r.entry)) }
+{
+    let (token, after) = token(r)?;
+    Ok(Lexeme {
+        token,
+        from: r.at,
+        line: r.line,
+        after,
+    })
+}
+
+/// The first token from `r` on, behind spaces and comments.
+pub(crate) fn lexeme<'a>(r: Reader<'a>) -> Result<Lexeme<'a>, Fault>
+    ensures { Gives ⊥ lexeme_of result (lexeme_at (place r.entry)) }
+{
+    lexeme_from(skip(r)?)
+}

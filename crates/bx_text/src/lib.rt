@@ -1,0 +1,29 @@
+//! Erlang's term texts: tokens, terms and their full stops, read from bytes.
+#![tactic(auto)]
+
+mod blanks;
+mod bytes;
+mod follows;
+mod forms;
+mod kinds;
+pub mod laws;
+mod lexemes;
+mod lexing;
+mod moves;
+mod node;
+mod numbers;
+mod quotes;
+mod reader;
+mod strings;
+mod terms;
+mod tokens;
+mod word;
+mod words;
+
+pub use forms::{atom_at, next_term};
+pub use node::{Node, Span, View};
+pub use reader::Reader;
+pub use word::Word;
+
+#[cfg(test)]
+mod tests;

@@ -1,0 +1,403 @@
+//! Texts with what they spell, or their first refusal, worked out by hand.
+
+use crate::{Node, Reader, View, atom_at, next_term};
+use bx_terms::Fault;
+use std::alloc::{AllocError, Global};
+use std::process::Abort;
+use std::test::Fail;
+
+/// Writes a node in Erlang's notation, so many levels of it.
+#[cycle(show)]
+fn show(out: &mut String, node: &Node<'_>, levels: u32) -> Result<(), AllocError> {
+    match node.view() {
+        View::Integer(n) => write!(out, "{n}"),
+        View::Large(digits) => write!(out, "large {digits}"),
+        View::Atom(text) => out.push_str(text),
+        View::Tuple(elements) => {
+            out.push_str("{")?;
+            show_all(out, elements, levels)?;
+            out.push_str("}")
+        }
+        View::List(elements, tail) => {
+            out.push_str("[")?;
+            show_all(out, elements, levels)?;
+            if let Some(tail) = tail {
+                out.push_str("|")?;
+                show_below(out, tail, levels)?;
+            }
+            out.push_str("]")
+        }
+    }
+}
+
+#[cycle(show)]
+fn show_all(out: &mut String, nodes: &[Node<'_>], levels: u32) -> Result<(), AllocError> {
+    for (i, node) in nodes.iter().enumerate() {
+        if i > 0 {
+            out.push_str(",")?;
+        }
+        show_below(out, node, levels)?;
+    }
+    Ok(())
+}
+
+#[cycle(show)]
+fn show_below(out: &mut String, node: &Node<'_>, levels: u32) -> Result<(), AllocError> {
+    if levels == 0 {
+        return out.push_str("..");
+    }
+    show(out, node, levels - 1)
+}
+
+/// A refusal's number and line.
+fn refusal(alloc: Global, fault: Fault) -> Result<String, AllocError> {
+    match fault {
+        Fault::BadToken { line } => format!(in alloc; "R3 {line}"),
+        Fault::BadTerm { line } => format!(in alloc; "R4 {line}"),
+        Fault::TooDeep { line } => format!(in alloc; "R5 {line}"),
+        Fault::Truncated { line } => format!(in alloc; "R6 {line}"),
+        Fault::NotUtf8 { line } => format!(in alloc; "R7 {line}"),
+        _ => format!(in alloc; "another"),
+    }
+}
+
+/// What the first form of a text is, with its end, or its refusal.
+fn first(alloc: Global, text: &[u8]) -> Result<String, AllocError> {
+    match next_term(alloc, text, 0) {
+        Ok(None) => format!(in alloc; "none"),
+        Ok(Some((node, end))) => {
+            let mut out = String::new(alloc);
+            show(&mut out, &node, 8)?;
+            write!(out, " {end}")?;
+            Ok(out)
+        }
+        Err(fault) => refusal(alloc, fault),
+    }
+}
+
+static TERMS: [(&[u8], &str); 36] = [
+    (b"a.", "a 2"),
+    (b" a . b", "a 4"),
+    (b"a.%c", "a 2"),
+    (b"12.", "12 3"),
+    (b"-0.", "0 3"),
+    (b"007.", "7 4"),
+    (b"-12 .", "-12 5"),
+    (b"9223372036854775807.", "9223372036854775807 20"),
+    (b"-9223372036854775808.", "-9223372036854775808 21"),
+    (b"9223372036854775808.", "large 9223372036854775808 20"),
+    (b"-9223372036854775809.", "large -9223372036854775809 21"),
+    (b"000000000000000000000000000005.", "5 31"),
+    (b"{}.", "{} 3"),
+    (b"{a}.", "{a} 4"),
+    (b"{ a , {b,1} }.", "{a,{b,1}} 14"),
+    (b"[].", "[] 3"),
+    (b"[a,b].", "[a,b] 6"),
+    (b"[a|b].", "[a|b] 6"),
+    (b"[a,b|c].", "[a,b|c] 8"),
+    (b"[a|[b]].", "[a,b] 8"),
+    (b"[a|[]].", "[a] 7"),
+    (b"[a|[b|[c|d]]].", "[a,b,c|d] 14"),
+    (b"[a|\"bc\"].", "[a,98,99] 9"),
+    (b"[a|{b}].", "[a|{b}] 8"),
+    (b"\"\".", "[] 3"),
+    (b"\"ab\" \"c\".", "[97,98,99] 9"),
+    (b"\"a\"%x\n\"b\".", "[97,98] 10"),
+    (b"\"\xC3\xA9\n\".", "[233,10] 6"),
+    (b"''.", " 3"),
+    (b"'k k'.", "k k 6"),
+    (b"'fun'.", "fun 6"),
+    (b"function.", "function 9"),
+    (b"aB_9@.", "aB_9@ 6"),
+    (b"\xC3\x9F\xC3\x80a.", "\u{DF}\u{C0}a 6"),
+    (b"%\xC3\xA9\n a.", "a 7"),
+    (b" \n%b", "none"),
+];
+
+static REFUSALS: [(&[u8], &str); 107] = [
+    // No token begins here.
+    (b"1.a.", "R3 1"),
+    (b"1.5.", "R3 1"),
+    (b"{a,\n1.5}.", "R3 2"),
+    (b"[1 1.5].", "R3 1"),
+    (b"--1.", "R3 1"),
+    (b"-a.", "R3 1"),
+    (b"_a.", "R3 1"),
+    (b"A.", "R3 1"),
+    (b"16#FF.", "R3 1"),
+    (b"1_0.", "R3 1"),
+    (b"$c.", "R3 1"),
+    (b"\xC3\x80.", "R3 1"),
+    (b"\xC3\xB7.", "R3 1"),
+    (b"a\xC3\x97.", "R3 1"),
+    (b"\xC2\xA0a.", "R3 1"),
+    (b"\xEF\xBB\xBFa.", "R3 1"),
+    (b"'a\\n'.", "R3 1"),
+    (b"\n'a\n\\q", "R3 2"),
+    (b"\"a\n\\q\xFF", "R3 1"),
+    (b"#{}.", "R3 1"),
+    (b"<<>>.", "R3 1"),
+    (b"=>.", "R3 1"),
+    (b">=", "R3 1"),
+    (b".a", "R3 1"),
+    (b"#\xFF", "R3 1"),
+    (b".\xFF", "R3 1"),
+    (b"-\xFF", "R3 1"),
+    (b"{a #\xFF", "R3 1"),
+    // A token that cannot stand here.
+    (b".", "R4 1"),
+    (b"\n. ", "R4 2"),
+    (b"(a).", "R4 1"),
+    (b")", "R4 1"),
+    (b"a b.", "R4 1"),
+    (b"12ab.", "R4 1"),
+    (b"1e5.", "R4 1"),
+    (b"1 2.", "R4 1"),
+    (b"{a. ", "R4 1"),
+    (b"{a.", "R4 1"),
+    (b"{a,}.", "R4 1"),
+    (b"{,a}.", "R4 1"),
+    (b"{a,,b}.", "R4 1"),
+    (b"[|a].", "R4 1"),
+    (b"[a|].", "R4 1"),
+    (b"[a|b,c].", "R4 1"),
+    (b"[a|b|c].", "R4 1"),
+    (b"[a|b\n}.", "R4 2"),
+    (b"{a].", "R4 1"),
+    (b"[a}.", "R4 1"),
+    (b"{].", "R4 1"),
+    (b"{a|b}.", "R4 1"),
+    (b"}.", "R4 1"),
+    (b"|.", "R4 1"),
+    (b"fun.", "R4 1"),
+    (b"fun a:b/1.", "R4 1"),
+    (b"{fun}.", "R4 1"),
+    (b"a:b.", "R4 1"),
+    (b"a/1.", "R4 1"),
+    (b"a,b.", "R4 1"),
+    (b"{a\n\nb}.", "R4 3"),
+    (b"'a'b.", "R4 1"),
+    (b"\"a\" 1.", "R4 1"),
+    (b"{a b\xFF", "R4 1"),
+    // The text ends in a token, in a term or before a full stop.
+    (b"a", "R6 1"),
+    (b"a\n", "R6 2"),
+    (b"a %c\n\n", "R6 3"),
+    (b"1", "R6 1"),
+    (b"-", "R6 1"),
+    (b"\n-", "R6 2"),
+    (b"#", "R6 1"),
+    (b"=", "R6 1"),
+    (b"<", "R6 1"),
+    (b">", "R6 1"),
+    (b"{", "R6 1"),
+    (b"{a", "R6 1"),
+    (b"{a,", "R6 1"),
+    (b"{a,\n", "R6 2"),
+    (b"{a,-", "R6 1"),
+    (b"[a|", "R6 1"),
+    (b"[a|b", "R6 1"),
+    (b"[a|[b]", "R6 1"),
+    (b"'ab", "R6 1"),
+    (b"'ab\n\n", "R6 3"),
+    (b"\"a\n", "R6 2"),
+    (b"\"a\" \"b", "R6 1"),
+    (b"\"a\"", "R6 1"),
+    (b"{module,'ab", "R6 1"),
+    // Bytes that are no UTF-8.
+    (b"\xFF.", "R7 1"),
+    (b"\x80.", "R7 1"),
+    (b"\n\xC3", "R7 2"),
+    (b"\xC3(", "R7 1"),
+    (b"\xE2\x82", "R7 1"),
+    (b"a\xFF", "R7 1"),
+    (b"a\xC3", "R7 1"),
+    (b"a\n \xC3\x28", "R7 2"),
+    (b"%\xFF", "R7 1"),
+    (b"%\xC3", "R7 1"),
+    (b"\n%a\xFFb\nc.", "R7 2"),
+    (b"a %\xFF\n.", "R7 1"),
+    (b"'a\xFF'.", "R7 1"),
+    (b"'a\n\xFFb", "R7 2"),
+    (b"'\n\n\xC3'.", "R7 3"),
+    (b"'a\xC3", "R7 1"),
+    (b"'a\xFF\n\\", "R7 1"),
+    (b"\"a\" \"\xFF", "R7 1"),
+    (b"\"a\" \n\"\xFF", "R7 2"),
+    (b"{a, \xFF", "R7 1"),
+    (b"\"\xED\xA0\x80\".", "R7 1"),
+];
+
+static DEPTHS: [(&str, usize, &str, &str); 14] = [
+    ("[", 257, "", "R5 1"),
+    ("{", 257, "", "R5 1"),
+    ("[\n", 257, "", "R5 257"),
+    ("[", 256, "", "R6 1"),
+    ("[", 256, ")", "R4 1"),
+    ("[", 256, "\n\"a\"", "R5 2"),
+    ("{", 256, "\"\"", "R5 1"),
+    ("[", 255, "\"a\"", "R6 1"),
+    ("[", 256, "\"a", "R6 1"),
+    ("[", 256, "\"\\q\"", "R3 1"),
+    ("[", 256, "a", "R6 1"),
+    ("[a|", 257, "", "R5 1"),
+    ("[a|", 256, "\"\"", "R5 1"),
+    ("[a|", 256, "b", "R6 1"),
+];
+
+static ATOMS: [(&[u8], usize, &str); 19] = [
+    (b"ab:c", 0, "ab 2"),
+    (b"ab:c", 3, "c 4"),
+    (b"ab:c", 1, "b 2"),
+    (b"ab:c", 2, "none"),
+    (b"ab:c", 4, "none"),
+    (b"'k k':3", 0, "k k 5"),
+    (b"''", 0, " 2"),
+    (b"fun", 0, "fun 3"),
+    (b"\xC3\x9F1:x", 0, "\u{DF}1 3"),
+    (b"\xC3\x80", 0, "none"),
+    (b"1a", 0, "none"),
+    (b"A", 0, "none"),
+    (b" a", 0, "none"),
+    (b"\"a\"", 0, "none"),
+    (b"\xFF", 0, "none"),
+    (b"'a", 0, "R6 1"),
+    (b"a\n'b", 2, "R6 2"),
+    (b"'\\n'", 0, "R3 1"),
+    (b"'\xFF'", 0, "R7 1"),
+];
+
+/// Asserts what each text's first form is.
+fn check(alloc: Global, rt: &impl Abort, rows: &[(&[u8], &str)]) -> Result<(), Fail> {
+    for (text, wanted) in rows {
+        let found = first(alloc, text)?;
+        assert_eq!(rt; found.as_str(), *wanted, "{text:?}");
+    }
+    Ok(())
+}
+
+#[test]
+fn terms(rt: HostRuntime) -> Result<(), Fail> {
+    check(rt.alloc(), &rt, &TERMS)
+}
+
+#[test]
+fn refusals(rt: HostRuntime) -> Result<(), Fail> {
+    check(rt.alloc(), &rt, &REFUSALS)
+}
+
+/// What follows so many times the same text.
+fn nested(alloc: Global, open: &str, count: usize, rest: &str) -> Result<String, AllocError> {
+    let mut text = String::new(alloc);
+    for _ in 0..count {
+        text.push_str(open)?;
+    }
+    text.push_str(rest)?;
+    Ok(text)
+}
+
+fn check_depths(
+    alloc: Global,
+    rt: &impl Abort,
+    rows: &[(&str, usize, &str, &str)],
+) -> Result<(), Fail> {
+    for (open, count, rest, wanted) in rows {
+        let text = nested(alloc, open, *count, rest)?;
+        let found = first(alloc, text.as_bytes())?;
+        assert_eq!(rt; found.as_str(), *wanted, "{open} {rest}");
+    }
+    Ok(())
+}
+
+#[test]
+fn depths(rt: HostRuntime) -> Result<(), Fail> {
+    check_depths(rt.alloc(), &rt, &DEPTHS)?;
+    let mut text = nested(rt.alloc(), "[", 256, "")?;
+    for _ in 0..256 {
+        text.push_str("]")?;
+    }
+    text.push_str(".")?;
+    assert_eq!(rt; next_term(rt.alloc(), text.as_bytes(), 0).is_ok(), true);
+    Ok(())
+}
+
+#[test]
+fn forms_in_a_row(rt: HostRuntime) -> Result<(), Fail> {
+    let text = b"a.\n{b,\n \"c\n\"} .\n% d\n";
+    let mut reader = Reader::at(text, 0);
+    let mut seen = String::new(rt.alloc());
+    for _ in 0..3 {
+        match reader.next(rt.alloc())? {
+            Some((node, end)) => {
+                show(&mut seen, &node, 8)?;
+                let span = node.span();
+                write!(
+                    seen,
+                    " {}-{} line {}, then {}.",
+                    span.from, span.to, span.line, end.line
+                )?;
+                reader = end;
+            }
+            None => seen.push_str(" end")?,
+        }
+    }
+    assert_eq!(rt;
+        seen.as_str(),
+        "a 0-1 line 1, then 1.{b,[99,10]} 3-13 line 2, then 4. end"
+    );
+    assert_eq!(rt; next_term(rt.alloc(), text, 16)?.is_none(), true);
+    match next_term(rt.alloc(), b"a.\n\n )", 2) {
+        Err(fault) => assert_eq!(rt; refusal(rt.alloc(), fault)?.as_str(), "R4 3"),
+        Ok(_) => assert!(rt; false),
+    }
+    Ok(())
+}
+
+#[test]
+fn spans_of_parts(rt: HostRuntime) -> Result<(), Fail> {
+    let found = next_term(rt.alloc(), b"\n[ 'b c' ,\n-12|{ }].", 0)?;
+    let mut seen = String::new(rt.alloc());
+    if let Some((node, _)) = found {
+        if let View::List(elements, tail) = node.view() {
+            for element in elements {
+                let span = element.span();
+                write!(seen, "{}-{} line {}. ", span.from, span.to, span.line)?;
+            }
+            if let Some(tail) = tail {
+                let span = tail.span();
+                write!(seen, "{}-{} line {}", span.from, span.to, span.line)?;
+            }
+        }
+    }
+    assert_eq!(rt; seen.as_str(), "3-8 line 2. 11-14 line 3. 15-18 line 3");
+    Ok(())
+}
+
+/// What stands as an atom at a place of a text.
+fn atom(alloc: Global, text: &[u8], at: usize) -> Result<String, AllocError> {
+    if at > text.len() {
+        return format!(in alloc; "past the end");
+    }
+    match atom_at(alloc, text, at) {
+        Ok(Some((name, end))) => {
+            let mut out = name;
+            write!(out, " {end}")?;
+            Ok(out)
+        }
+        Ok(None) => format!(in alloc; "none"),
+        Err(fault) => refusal(alloc, fault),
+    }
+}
+
+fn check_atoms(alloc: Global, rt: &impl Abort, rows: &[(&[u8], usize, &str)]) -> Result<(), Fail> {
+    for (text, at, wanted) in rows {
+        let found = atom(alloc, text, *at)?;
+        assert_eq!(rt; found.as_str(), *wanted, "{text:?} {at}");
+    }
+    Ok(())
+}
+
+#[test]
+fn atoms(rt: HostRuntime) -> Result<(), Fail> {
+    check_atoms(rt.alloc(), &rt, &ATOMS)
+}
