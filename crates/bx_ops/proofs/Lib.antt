@@ -1,3 +1,4 @@
+pub mod Equality
 pub mod Found
 pub mod GuardBifLemmas
 pub mod Named

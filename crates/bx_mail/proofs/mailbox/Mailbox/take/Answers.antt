@@ -1,7 +1,8 @@
 use Rattle.std.proofs.Common.{◌∙◌, ◌<◌, ap, sym, arith, length, length-set}
 use Rattle.std.proofs.lemmas.Option.{slice_get_within}
+use Rattle.bx_mail.specs.declared.slots.Slot.{Slot}
 use Rattle.bx_mail.specs.Mail.{current, taken}
-use Rattle.bx_mail.specs.Slots.{full, vacant, message_in}
+use Rattle.bx_mail.specs.Slots.{full, message_in}
 use Rattle.bx_mail.proofs.Mails.{no_rest, no_current, taken_none, current_slot, saved_full, parted_is, as_read}
 use Rattle.bx_mail.proofs.Taking.{take_joined}
 use Rattle.bx_mail.proofs.mailbox.Mailbox.take.Goals as goal
@@ -23,7 +24,7 @@ pub relink-requires : goal.relink-requires
 relink-requires c at e =
     let s = saved_full _ _ _ _ _ _ _ _ at c.self.invariant (sym c.take-saved.ensures.value ∙ e) in
     let within : at < length c.self.inside.slots = slice_get_within c.self.inside.slots at (full s.0 s.1) s.2 in
-    omega (arith, ap length c.empty-message.ensures.emptied, length-set c.self.inside.slots c.in_ok-at.at (vacant c.self.inside.free))
+    omega (arith, ap length c.empty-message.ensures.emptied, length-set {A = Slot})
 
 pub invariant_of-self : goal.invariant_of-self
 invariant_of-self c =
