@@ -1,0 +1,9 @@
+pub mod Rows
+pub mod Readings
+pub mod LiteralLists
+pub mod LiteralRows
+pub mod Each
+pub mod Functions
+pub mod Forms
+pub mod FormLoop
+pub mod Heads

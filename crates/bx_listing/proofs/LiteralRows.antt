@@ -1,0 +1,118 @@
+-- The row of a literal's elements, read one after another: what was kept so far stands before what is still read.
+use Rattle.std.proofs.Common.{◌≡◌, ℕ, ◌+◌, ◌<◌, ◌≤◌, zero, suc, List, [], ◌∷◌, ◌++◌, Option, Some, None, length, get_or, drop, refl, sym, ap, subst, ◌∙◌, append_assoc, add-one, arith}
+use Rattle.std.proofs.lemmas.List.{append-nil}
+use Rattle.std.proofs.Math.Seq.{drop-cons}
+use Rattle.std.proofs.Math.ListN.{drop_of_length-le}
+use Rattle.bx_terms.specs.Tree as term
+use Rattle.bx_terms.specs.declared.faults.Fault.{Fault}
+use Rattle.bx_terms.specs.declared.faults.Fault.TheVariants.{Memory}
+use Rattle.bx_text.specs.Tree.{Tree, integer, atom, tuple, list, nil, cons, chain, nodes}
+use Rattle.bx_listing.specs.Reading.{Table, Outcome, read, refused, table_of, Begins, Begins-refl, Begins-trans, Reading, and_then, ◌>>=◌, give, Refuses}
+use Rattle.bx_listing.specs.Literals.{Row, with_first, longer, parts, literal, IsNode, ended}
+use Rattle.bx_listing.specs.LiteralRows.{with_last}
+use Rattle.bx_listing.proofs.Readings.{refuses_first, refuses_after}
+
+abbrev pub Kept : Type 0
+Kept = Option (List term.Tree)
+
+abbrev pub joined : Kept → Kept → Kept
+joined (Some xs) (Some ys) = Some (xs ++ ys)
+joined _ _ = None
+
+abbrev pub resumed : Kept → Outcome Row → Outcome Row
+resumed front (read t r) = read t (record { elements = joined front r.elements; tail = r.tail })
+resumed front (refused t fault) = refused t fault
+
+-- the row of these elements before that tail
+abbrev pub row : ℕ → List Tree → Tree → Reading Row
+row line es u = (parts line (chain es u)).row
+
+joined-nil : (front : Kept) → joined front (Some []) ≡ front
+joined-nil (Some xs) = ap Some (append-nil xs)
+joined-nil None = refl
+
+joined-first : (front : Kept) (x : Option term.Tree) (more : Kept) → joined front (with_first x more) ≡ joined (with_last front x) more
+joined-first (Some xs) (Some x) (Some ys) = ap Some (sym (append_assoc xs (x ∷ []) ys))
+joined-first (Some xs) (Some x) None = refl
+joined-first (Some xs) None more = refl
+joined-first None x more = refl
+
+resumed_longer : (front : Kept) (x : Option term.Tree) (o : Outcome Row) → resumed front (and_then o (λ r. give (longer x r))) ≡ resumed (with_last front x) o
+resumed_longer front x (read t r) = ap (λ es. read t (record { elements = es; tail = r.tail })) (joined-first front x r.elements)
+resumed_longer front x (refused t fault) = refl
+
+resumed-table : (front : Kept) (o : Outcome Row) → table_of (resumed front o) ≡ table_of o
+resumed-table front (read t r) = refl
+resumed-table front (refused t fault) = refl
+
+pub next_element : (es : List Tree) (i : ℕ) (e : Tree) → i < length es → e ≡ get_or es i e → drop i es ≡ e ∷ drop (i + 1) es
+next_element es i e here at = drop-cons es i e here ∙ (ap (λ y. y ∷ drop (suc i) es) (sym at) ∙ ap (λ n. e ∷ drop n es) (sym (add-one i)))
+
+pub resumed_next : (line : ℕ) (es : List Tree) (u : Tree) (i : ℕ) (e : Tree) (front : Kept) (x : Option term.Tree) (t mid : Table) → i < length es → e ≡ get_or es i e → (literal line e).run t ≡ read mid x → resumed front ((row line (drop i es) u).run t) ≡ resumed (with_last front x) ((row line (drop (i + 1) es) u).run mid)
+resumed_next line es u i e front x t mid here at h =
+    let unfolded : resumed front ((row line (drop i es) u).run t) ≡ resumed front ((row line (e ∷ drop (i + 1) es) u).run t) = ap (λ ts. resumed front ((row line ts u).run t)) (next_element es i e here at) in
+    let stepped : resumed front ((row line (e ∷ drop (i + 1) es) u).run t) ≡ resumed front (and_then ((row line (drop (i + 1) es) u).run mid) (λ r. give (longer x r))) = ap (λ o. resumed front (and_then o (λ y. row line (drop (i + 1) es) u >>= λ r. give (longer y r)))) h in
+    unfolded ∙ (stepped ∙ resumed_longer front x ((row line (drop (i + 1) es) u).run mid))
+
+pub refuses_resumed : (front : Kept) (old t new : Table) (fault : Fault) (inner whole : Reading Row) → Begins old t → resumed front (inner.run t) ≡ whole.run old → Refuses (Unit {0}) t new fault inner → Refuses (Unit {0}) old new fault whole
+refuses_resumed front old t new Memory inner whole grown e h =
+    (tt, Begins-trans old t new grown h.1, subst (λ o. Begins new o) (sym (resumed-table front (inner.run t)) ∙ ap table_of e) h.2)
+refuses_resumed front old t new _ inner whole grown e h = sym e ∙ ap (resumed front) h
+
+pub refuses_element : (line : ℕ) (es : List Tree) (u : Tree) (i : ℕ) (e : Tree) (front : Kept) (old t new : Table) (fault : Fault) → i < length es → e ≡ get_or es i e → Begins old t → resumed front ((row line (drop i es) u).run t) ≡ (row line es u).run old → Refuses (Unit {0}) t new fault (literal line e) → Refuses (Unit {0}) old new fault (row line es u)
+refuses_element line es u i e front old t new fault here at grown so_far h =
+    let first : Refuses (Unit {0}) t new fault (row line (e ∷ drop (i + 1) es) u) = refuses_first (Unit {0}) t new fault (literal line e) (λ y. row line (drop (i + 1) es) u >>= λ r. give (longer y r)) h in
+    let unfolded : resumed front ((row line (e ∷ drop (i + 1) es) u).run t) ≡ (row line es u).run old = ap (λ ts. resumed front ((row line ts u).run t)) (sym (next_element es i e here at)) ∙ so_far in
+    refuses_resumed front old t new fault (row line (e ∷ drop (i + 1) es) u) (row line es u) grown unfolded first
+
+pub memory_after_element : (line : ℕ) (es : List Tree) (u : Tree) (i : ℕ) (e : Tree) (front : Kept) (x : Option term.Tree) (old t mid : Table) → i < length es → e ≡ get_or es i e → Begins old t → resumed front ((row line (drop i es) u).run t) ≡ (row line es u).run old → (literal line e).run t ≡ read mid x → Refuses (Unit {0}) old mid Memory (row line es u)
+memory_after_element line es u i e front x old t mid here at grown so_far h =
+    let next : Option term.Tree → Reading Row = λ y. row line (drop (i + 1) es) u >>= λ r. give (longer y r) in
+    let after : Refuses (Unit {0}) t mid Memory (row line (e ∷ drop (i + 1) es) u) = refuses_after (Unit {0}) t mid mid Memory (literal line e) x next h (tt, Begins-refl mid, (next x).grows mid) in
+    let unfolded : resumed front ((row line (e ∷ drop (i + 1) es) u).run t) ≡ (row line es u).run old = ap (λ ts. resumed front ((row line ts u).run t)) (sym (next_element es i e here at)) ∙ so_far in
+    refuses_resumed front old t mid Memory (row line (e ∷ drop (i + 1) es) u) (row line es u) grown unfolded after
+
+pub grown_after : (line : ℕ) (e : Tree) (x : Option term.Tree) (old t mid : Table) → Begins old t → (literal line e).run t ≡ read mid x → Begins old mid
+grown_after line e x old t mid grown h = Begins-trans old t mid grown (subst (λ o. Begins t (table_of o)) h ((literal line e).grows t))
+
+pub row_of_node : (line : ℕ) (u : Tree) → IsNode u → (parts line u).row ≡ (literal line u >>= λ x. give (ended x))
+row_of_node line (integer s n) h = refl
+row_of_node line (atom s text) h = refl
+row_of_node line (tuple s r) h = refl
+row_of_node line (list s r) h = refl
+row_of_node line nil h = absurd h
+row_of_node line (cons t rest) h = absurd h
+
+at_end : (line : ℕ) (es : List Tree) (u : Tree) (i : ℕ) (front : Kept) (old t : Table) → length es ≤ i → resumed front ((row line (drop i es) u).run t) ≡ (row line es u).run old → resumed front ((parts line u).row.run t) ≡ (row line es u).run old
+at_end line es u i front old t past so_far = ap (λ ts. resumed front ((row line ts u).run t)) (sym (drop_of_length-le es past)) ∙ so_far
+
+pub ends_without : (line : ℕ) (es : List Tree) (i : ℕ) (front : Kept) (old t : Table) → length es ≤ i → resumed front ((row line (drop i es) nil).run t) ≡ (row line es nil).run old → (row line es nil).run old ≡ read t (record { elements = front; tail = Some term.nil })
+ends_without line es i front old t past so_far = sym (at_end line es nil i front old t past so_far) ∙ ap (λ f. read t (record { elements = f; tail = Some term.nil })) (joined-nil front)
+
+pub ends_with : (line : ℕ) (es : List Tree) (u : Tree) (i : ℕ) (front : Kept) (x : Option term.Tree) (old t new : Table) → length es ≤ i → IsNode u → resumed front ((row line (drop i es) u).run t) ≡ (row line es u).run old → (literal line u).run t ≡ read new x → (row line es u).run old ≡ read new (record { elements = front; tail = x })
+ends_with line es u i front x old t new past node so_far h =
+    let alone : (parts line u).row.run t ≡ read new (ended x) = ap (λ r. r.run t) (row_of_node line u node) ∙ ap (λ o. and_then o (λ y. give (ended y))) h in
+    sym (at_end line es u i front old t past so_far) ∙ (ap (resumed front) alone ∙ ap (λ f. read new (record { elements = f; tail = x })) (joined-nil front))
+
+pub refuses_tail : (line : ℕ) (es : List Tree) (u : Tree) (i : ℕ) (front : Kept) (old t new : Table) (fault : Fault) → length es ≤ i → IsNode u → Begins old t → resumed front ((row line (drop i es) u).run t) ≡ (row line es u).run old → Refuses (Unit {0}) t new fault (literal line u) → Refuses (Unit {0}) old new fault (row line es u)
+refuses_tail line es u i front old t new fault past node grown so_far h =
+    let first : Refuses (Unit {0}) t new fault ((parts line u).row) = subst (λ r. Refuses (Unit {0}) t new fault r) (sym (row_of_node line u node)) (refuses_first (Unit {0}) t new fault (literal line u) (λ y. give (ended y)) h) in
+    refuses_resumed front old t new fault ((parts line u).row) (row line es u) grown (at_end line es u i front old t past so_far) first
+
+-- the parts of a row are smaller than the row
+pub element_falls : (es : List Tree) (u : Tree) (i : ℕ) (e : Tree) → i < length es → e ≡ get_or es i e → nodes e < nodes (chain es u)
+element_falls [] u i e here at = absurd (omega (arith, here))
+element_falls (x ∷ es) u zero e here at = omega (arith, ap nodes at)
+element_falls (x ∷ es) u (suc i) e here at = omega (arith, element_falls es u i e (omega (arith, here)) at)
+
+pub tail_le : (es : List Tree) (u : Tree) → nodes u ≤ nodes (chain es u)
+tail_le [] u = omega arith
+tail_le (x ∷ es) u = omega (arith, tail_le es u)
+
+pub resumed-start : (o : Outcome Row) → resumed (Some []) o ≡ o
+resumed-start (read t r) = ap (λ es. read t (record { elements = es; tail = r.tail })) (joined-start r.elements)
+  where
+    joined-start : (more : Kept) → joined (Some []) more ≡ more
+    joined-start (Some ys) = refl
+    joined-start None = refl
+resumed-start (refused t fault) = refl

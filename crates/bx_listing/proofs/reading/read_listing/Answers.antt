@@ -1,0 +1,34 @@
+use Rattle.std.proofs.Common.{◌≡◌, ◌⊎◌, inl, inr, subst, Ok, Err, Some}
+use Rattle.std.proofs.lemmas.Result.{err_from_is_err_and}
+use Rattle.bx_terms.specs.Outcomes.{Gives}
+use Rattle.bx_text.specs.Place.{place, place_in}
+use Rattle.bx_text.specs.Forms.{takes_memory}
+use Rattle.bx_listing.specs.Reading.{from_result}
+use Rattle.bx_listing.specs.Shape.{shape}
+use Rattle.bx_listing.specs.HeadForms.{module_name}
+use Rattle.bx_listing.specs.Forms.{forms, last_line}
+use Rattle.bx_listing.specs.Listing as listings
+use Rattle.bx_listing.proofs.Readings.{refuses_first, refuses_result, reads_taking, reads_same}
+use Rattle.bx_listing.proofs.Heads.{listing-named, is_named}
+use Rattle.bx_listing.proofs.reading.read_listing.Goals as goal
+
+pub returns-in_err-form : goal.returns-in_err-form
+returns-in_err-form c =
+    let p = err_from_is_err_and c.from_residual.result c.from_residual.ensures.1 in
+    let start = place_in c.args.text.now 0 in
+    let said = listings.taken (last_line c.args.text.now) (forms start) in
+    let takes : Type 0 = takes_memory start ⊎ listings.IsNamed (forms start) in
+    let fault = c.in_err-form.field-0.0 in
+    let given : Gives {X = listings.Taken} (takes_memory start) (λ x. x) (Err fault) said = subst (λ q. Gives {X = listings.Taken} (takes_memory q) (λ x. x) (Err fault) (listings.taken (last_line c.args.text.now) (forms q))) c.at.ensures c.in_err-form.ensures in
+    rw (p.1, p.2) (refuses_first takes _ _ _ (from_result said) (listings.listing_from (last_line c.args.text.now)) (refuses_result (takes_memory start) takes _ _ said inl given))
+
+pub returns-in-Some : goal.returns-in-Some
+returns-in-Some c =
+    let start = place_in c.args.text.now 0 in
+    let last = last_line c.args.text.now in
+    let form = listings.taken_at c.in_ok-form.form (place c.in_ok-form.behind) in
+    let taken : listings.taken last (forms start) ≡ Ok form = rw c.at.ensures at c.in_ok-form.ensures in
+    let named : Some c.in-Some.name.now ≡ module_name (shape c.in_ok-form.form) = rw c.shape_of.ensures at c.in-Some.ensures in
+    let takes : Type 0 = takes_memory start ⊎ listings.IsNamed (forms start) in
+    reads_same takes _ _ _ _ (listings.named_listing last form.line form.rest c.in-Some.name.now) (listings.listing last (forms start)) (listing-named last (forms start) form c.in-Some.name.now _ taken named)
+    (reads_taking takes _ _ _ _ _ (inr (is_named last (forms start) form c.in-Some.name.now taken named)) (rw c.span-line.ensures at c.named_listing.ensures))

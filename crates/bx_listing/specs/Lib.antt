@@ -1,0 +1,13 @@
+pub mod ListedCode
+pub mod Code
+pub mod Reading
+pub mod Shape
+pub mod Seen
+pub mod Words
+pub mod Literals
+pub mod LiteralRows
+pub mod Operands
+pub mod ItemForms
+pub mod Forms
+pub mod HeadForms
+pub mod Listing

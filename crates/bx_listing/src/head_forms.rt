@@ -1,0 +1,155 @@
+//! The forms of a listing that hold no item: `module`, `exports`, `attributes`, `labels` and `function`.
+
+ghost use Rattle.std.specs.Prelude.{◌≡◌, ◌++◌, option_map};
+ghost use Rattle.bx_listing.specs.HeadForms.{module_name, offer, are_offers, named_offer, named_offers, offers, exports_form, is_attributes, is_labels, begun, function_form};
+ghost use Rattle.bx_listing.specs.Seen.{seen};
+ghost use Rattle.bx_listing.specs.Reading.{Reads};
+
+use crate::code_form::{Export, Function};
+use crate::operands::name_atom;
+use crate::shapes::{Shape, list_elements, number, shape_of, word};
+use crate::words::{FormWord, form_word};
+use bx_terms::{Atoms, Fault};
+use bx_text::Node;
+use std::alloc::Global;
+
+/// The module's name, of `{module,M}`.
+pub(crate) fn module_name<'v>(form: Shape<'v, '_>) -> Option<&'v str>
+    ensures { option_map (λ name. name.now) result ≡ module_name (seen form.entry) }
+{
+    let Shape::Tagged(text, [name]) = form else {
+        return None;
+    };
+    match form_word(text) {
+        FormWord::Module => word(name),
+        _ => None,
+    }
+}
+
+/// The exported functions, of `{exports,[{F,A},..]}`.
+pub(crate) fn exports_form(
+    alloc: Global,
+    atoms: &mut Atoms,
+    line: usize,
+    form: Shape,
+) -> Result<Vec<Export>, Fault>
+    ensures { Reads (Unit {0}) (λ exports. exports.items) atoms.old atoms.new result (exports_form line (seen form.entry)) }
+{
+    let Shape::Tagged(text, [list]) = form else {
+        return Err(Fault::BadForm { line });
+    };
+    match (form_word(text), list_elements(list)) {
+        (FormWord::Exports, Some(list)) => offers(alloc, atoms, line, list),
+        _ => Err(Fault::BadForm { line }),
+    }
+}
+
+fn offers(
+    alloc: Global,
+    atoms: &mut Atoms,
+    line: usize,
+    list: &[Node],
+) -> Result<Vec<Export>, Fault>
+    ensures { Reads (Unit {0}) (λ exports. exports.items) atoms.old atoms.new result (offers line list.now) }
+{
+    if are_offers(list) {
+        named_offers(alloc, atoms, line, list)
+    } else {
+        Err(Fault::BadForm { line })
+    }
+}
+
+/// Whether all of them are `{F,A}`.
+fn are_offers(list: &[Node]) -> bool
+    ensures { result ≡ are_offers list.now }
+{
+    for i in 0..list.len() {
+        if offer(&list[i]).is_none() {
+            return false;
+        }
+    }
+    true
+}
+
+fn named_offers(
+    alloc: Global,
+    atoms: &mut Atoms,
+    line: usize,
+    list: &[Node],
+) -> Result<Vec<Export>, Fault>
+    ensures { Reads (Unit {0}) (λ exports. exports.items) atoms.old atoms.new result (named_offers line list.now) }
+{
+    let mut exports = Vec::new(alloc);
+    for i in 0..list.len() {
+        match named_offer(alloc, atoms, line, &list[i]) {
+            Ok(export) => exports.push(export)?,
+            Err(fault) => return Err(fault),
+        }
+    }
+    Ok(exports)
+}
+
+fn named_offer(alloc: Global, atoms: &mut Atoms, line: usize, node: &Node) -> Result<Export, Fault>
+    ensures { Reads (Unit {0}) (λ export. export) atoms.old atoms.new result (named_offer line node.now) }
+{
+    match offer(node) {
+        Some((name, arity)) => {
+            let function = name_atom(alloc, atoms, line, name)?;
+            Ok(Export { function, arity })
+        }
+        None => Err(Fault::BadForm { line }),
+    }
+}
+
+/// The name and the arity of `{F,A}`.
+fn offer<'v>(node: &'v Node) -> Option<(&'v str, u32)>
+    ensures { option_map (λ offer. (offer.0.now, offer.1)) result ≡ offer node.now }
+{
+    match shape_of(node) {
+        Shape::Tagged(name, [arity]) => Some((name, number(arity)?)),
+        _ => None,
+    }
+}
+
+/// Whether the form is `{attributes,T}`.
+pub(crate) fn is_attributes(form: Shape) -> bool
+    ensures { result ≡ is_attributes (seen form.entry) }
+{
+    match form {
+        Shape::Tagged(text, [_]) => matches!(form_word(text), FormWord::Attributes),
+        _ => false,
+    }
+}
+
+/// Whether the form is `{labels,N}`.
+pub(crate) fn is_labels(form: Shape) -> bool
+    ensures { result ≡ is_labels (seen form.entry) }
+{
+    match form {
+        Shape::Tagged(text, [count]) => {
+            matches!(form_word(text), FormWord::Labels) && number(count).is_some()
+        }
+        _ => false,
+    }
+}
+
+/// The function that begins with `{function,F,A,Entry}`, of which these are the parts.
+pub(crate) fn function_form(
+    alloc: Global,
+    atoms: &mut Atoms,
+    line: usize,
+    parts: &[Node],
+) -> Result<Function, Fault>
+    ensures { Reads (Unit {0}) (λ function. function) atoms.old atoms.new result (function_form line parts.now) }
+{
+    let [name, arity, entry] = parts else {
+        return Err(Fault::BadForm { line });
+    };
+    match (word(name), number(arity), number(entry)) {
+        (Some(name), Some(arity), Some(entry)) => {
+            let name = name_atom(alloc, atoms, line, name)?;
+            Ok(Function::new(alloc, name, arity, entry))
+        }
+        _ => Err(Fault::BadForm { line }),
+    }
+}

@@ -1,0 +1,148 @@
+//! The terms of literals.
+
+ghost use Rattle.std.specs.Prelude.{◌≡◌, IfOk, option_map};
+ghost use Rattle.bx_text.specs.Tree.{chain};
+ghost use Rattle.bx_text.specs.View.{tail_seen};
+ghost use Rattle.bx_listing.specs.Literals.{kept_cons, kept_before, kept_list, kept_tuple, literal, parts, IsNode};
+ghost use Rattle.bx_listing.specs.LiteralRows.{row_of, with_last};
+ghost use Rattle.bx_listing.specs.Reading.{Reads};
+
+use crate::operands::name_atom;
+use bx_terms::{Atoms, Fault, Term, TermRefusal};
+use bx_text::{Node, View};
+use std::alloc::{AllocError, Global};
+
+/// The elements of a tuple or a list, and what follows them. What is too high is not kept, nor what holds it.
+#[derive(Drop)]
+struct Row {
+    elements: Option<Vec<Term>>,
+    tail: Option<Term>,
+}
+
+/// The term of a literal, or `None` where it is higher than terms may be.
+///
+/// All of it is read even then, so that the first fault in it is found, and its atoms are numbered.
+#[cycle(literal)]
+pub(crate) fn literal(
+    alloc: Global,
+    atoms: &mut Atoms,
+    line: usize,
+    node: &Node,
+) -> Result<Option<Term>, Fault>
+    ensures read { Reads (Unit {0}) (λ term. term) atoms.old atoms.new result (literal line node.now) }
+    ensures node { IsNode node.now }
+{
+    match node.view() {
+        View::Integer(value) => Ok(Some(Term::int(value))),
+        View::Large(_) => Err(Fault::LiteralRange { line }),
+        View::Atom(text) => {
+            let atom = name_atom(alloc, atoms, line, text)?;
+            Ok(Some(Term::atom(atom)))
+        }
+        View::Tuple(elements) => {
+            let row = literal_row(alloc, atoms, line, elements, None)?;
+            Ok(tuple(alloc, row.elements)?)
+        }
+        View::List(elements, tail) => {
+            let row = literal_row(alloc, atoms, line, elements, tail)?;
+            Ok(list(alloc, row)?)
+        }
+    }
+}
+
+#[cycle(literal)]
+fn literal_row(
+    alloc: Global,
+    atoms: &mut Atoms,
+    line: usize,
+    elements: &[Node],
+    tail: Option<&Node>,
+) -> Result<Row, Fault>
+    ensures { Reads (Unit {0}) row_of atoms.old atoms.new result (parts line (chain elements.now (tail_seen tail.entry))).row }
+{
+    let mut kept = Some(Vec::new(alloc));
+    for i in 0..elements.len() {
+        match literal(alloc, atoms, line, &elements[i]) {
+            Ok(term) => kept = with_last(kept, term)?,
+            Err(fault) => return Err(fault),
+        }
+    }
+    match tail {
+        Some(node) => match literal(alloc, atoms, line, node) {
+            Ok(tail) => Ok(Row {
+                elements: kept,
+                tail,
+            }),
+            Err(fault) => Err(fault),
+        },
+        None => Ok(Row {
+            elements: kept,
+            tail: Some(Term::nil()),
+        }),
+    }
+}
+
+fn with_last(terms: Option<Vec<Term>>, term: Option<Term>) -> Result<Option<Vec<Term>>, AllocError>
+    ensures { IfOk result (λ longer. option_map (λ ts. ts.items) longer ≡ with_last (option_map (λ ts. ts.items) terms) term) }
+{
+    match (terms, term) {
+        (Some(mut terms), Some(term)) => {
+            terms.push(term)?;
+            Ok(Some(terms))
+        }
+        _ => Ok(None),
+    }
+}
+
+/// The list cell of both, where the tail is kept and the cell is not too high.
+fn cell(alloc: Global, head: Term, tail: Option<Term>) -> Result<Option<Term>, AllocError>
+    ensures { IfOk result (λ term. term ≡ kept_cons head tail) }
+{
+    let Some(tail) = tail else {
+        return Ok(None);
+    };
+    match Term::cons(alloc, head, tail) {
+        Ok(term) => Ok(Some(term)),
+        Err((TermRefusal::TooHigh, ..)) => Ok(None),
+        Err((TermRefusal::Memory, ..)) => Err(AllocError),
+    }
+}
+
+fn list(alloc: Global, row: Row) -> Result<Option<Term>, AllocError>
+    ensures { IfOk result (λ term. term ≡ kept_list (option_map (λ ts. ts.items) row.elements) row.tail) }
+{
+    let Row { elements, tail } = row;
+    match elements {
+        Some(elements) => list_before(alloc, elements, tail),
+        None => Ok(None),
+    }
+}
+
+#[tactic(auto, using(crate::proofs::LiteralLists::last_before))]
+/// The list of these elements before that tail.
+fn list_before(
+    alloc: Global,
+    mut elements: Vec<Term>,
+    tail: Option<Term>,
+) -> Result<Option<Term>, AllocError>
+    ensures { IfOk result (λ term. term ≡ kept_before elements.items tail) }
+{
+    let mut list = tail;
+    while let Some(element) = elements.pop() {
+        list = cell(alloc, element, list)?;
+    }
+    Ok(list)
+}
+
+fn tuple(alloc: Global, elements: Option<Vec<Term>>) -> Result<Option<Term>, AllocError>
+    ensures { IfOk result (λ term. term ≡ kept_tuple (option_map (λ ts. ts.items) elements)) }
+{
+    let Some(elements) = elements else {
+        return Ok(None);
+    };
+    match Term::tuple(alloc, elements) {
+        Ok(term) => Ok(Some(term)),
+        Err((TermRefusal::TooHigh, _)) => Ok(None),
+        Err((TermRefusal::Memory, _)) => Err(AllocError),
+    }
+}

@@ -1,0 +1,97 @@
+//! What each form behind the head adds to the functions before it.
+
+ghost use Rattle.std.specs.Prelude.{◌≡◌, OnOk};
+ghost use Rattle.bx_listing.specs.Listing.{with_item, with_optional, part, part_of, with_form_item, with_form, begun_function};
+ghost use Rattle.bx_listing.specs.Seen.{seen};
+ghost use Rattle.bx_listing.specs.Reading.{Reads};
+
+use crate::code_form::Function;
+use crate::head_forms::function_form;
+use crate::item_forms::item;
+use crate::items::{Item, PlacedItem};
+use crate::shapes::Shape;
+use crate::words::{FormWord, form_word};
+use bx_terms::{Atoms, Fault};
+use bx_text::Node;
+use std::alloc::{AllocError, Global};
+
+/// Reads a form behind the head: the beginning of a function, or an item of the last one.
+pub(crate) fn part(
+    alloc: Global,
+    atoms: &mut Atoms,
+    functions: &mut Vec<Function>,
+    line: usize,
+    form: Shape,
+) -> Result<(), Fault>
+    ensures { Reads (Unit {0}) (λ done. functions.new.items) atoms.old atoms.new result (part line functions.old.items (seen form.entry)) }
+{
+    match form {
+        Shape::Tagged(text, parts) => match form_word(text) {
+            FormWord::Function => begin_function(alloc, atoms, functions, line, parts),
+            _ => add_form(alloc, atoms, functions, line, form),
+        },
+        _ => add_form(alloc, atoms, functions, line, form),
+    }
+}
+
+fn begin_function(
+    alloc: Global,
+    atoms: &mut Atoms,
+    functions: &mut Vec<Function>,
+    line: usize,
+    parts: &[Node],
+) -> Result<(), Fault>
+    ensures { Reads (Unit {0}) (λ done. functions.new.items) atoms.old atoms.new result (begun_function line functions.old.items parts.now) }
+{
+    let function = function_form(alloc, atoms, line, parts)?;
+    functions.push(function)?;
+    Ok(())
+}
+
+// There are no items before the first function.
+fn add_form(
+    alloc: Global,
+    atoms: &mut Atoms,
+    functions: &mut Vec<Function>,
+    line: usize,
+    form: Shape,
+) -> Result<(), Fault>
+    ensures { Reads (Unit {0}) (λ done. functions.new.items) atoms.old atoms.new result (with_form line functions.old.items (seen form.entry)) }
+{
+    if functions.is_empty() {
+        return Err(Fault::BadForm { line });
+    }
+    add_form_item(alloc, atoms, functions, line, form)
+}
+
+#[tactic(auto, using(crate::proofs::Readings::refuses_first, crate::proofs::Readings::memory_after))]
+fn add_form_item(
+    alloc: Global,
+    atoms: &mut Atoms,
+    functions: &mut Vec<Function>,
+    line: usize,
+    form: Shape,
+) -> Result<(), Fault>
+    ensures { Reads (Unit {0}) (λ done. functions.new.items) atoms.old atoms.new result (with_form_item line functions.old.items (seen form.entry)) }
+{
+    let item = item(alloc, atoms, line, form)?;
+    add_item(functions, line, item)?;
+    Ok(())
+}
+
+/// Adds an item to the last function.
+fn add_item(
+    functions: &mut Vec<Function>,
+    line: usize,
+    item: Option<Item>,
+) -> Result<(), AllocError>
+    ensures { OnOk result (functions.new.items ≡ with_optional line item functions.old.items) }
+{
+    let Some(item) = item else {
+        return Ok(());
+    };
+    if let Some(function) = functions.last_mut() {
+        function.add(PlacedItem { line, item })?;
+    }
+    Ok(())
+}

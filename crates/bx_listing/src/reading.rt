@@ -1,0 +1,199 @@
+//! Listings, read form by form.
+
+ghost use Rattle.std.specs.Prelude.{◌≡◌, ◌<◌, ◌⊎◌, [], length, option_map, IfOk, IfSome, IsSome};
+ghost use Rattle.bx_terms.specs.Outcomes.{Gives};
+ghost use Rattle.bx_text.specs.Place.{place, place_in};
+ghost use Rattle.bx_text.specs.Forms.{takes_memory};
+ghost use Rattle.bx_text.specs.Tree.{span_of};
+ghost use Rattle.bx_listing.specs.Shape.{shape};
+ghost use Rattle.bx_listing.specs.Forms.{next_form, forms, last_line};
+ghost use Rattle.bx_listing.specs.Listing as listings;
+ghost use Rattle.bx_listing.specs.Reading.{Reads};
+
+use crate::code_form::{Export, Function, Listing};
+use crate::head_forms::{exports_form, is_attributes, is_labels, module_name};
+use crate::operands::name_atom;
+use crate::parts::part;
+use crate::shapes::shape_of;
+use bx_terms::{AtomId, Atoms, Fault};
+use bx_text::{Node, Reader};
+use std::alloc::Global;
+
+/// The next form and a reader behind it; `None` where only blanks follow.
+#[tactic(auto, unfolding(crate::specs::Forms::next_form))]
+fn next_form<'a>(alloc: Global, reader: Reader<'a>) -> Result<Option<(Node<'a>, Reader<'a>)>, Fault>
+    ensures form { Gives (takes_memory (place reader.entry)) (λ o. option_map (λ x. (x.0, place x.1)) o) result (next_form (place reader.entry)) }
+    ensures shorter { IfOk result (λ o. IfSome o (λ x. length x.1.rest.now < length reader.entry.rest.now)) }
+{
+    // That each form takes bytes bounds the number of forms.
+    match reader.next(alloc)? {
+        Some((form, after)) if after.rest.len() < reader.rest.len() => Ok(Some((form, after))),
+        _ => Ok(None),
+    }
+}
+
+/// The line in which a text ends.
+fn last_line(text: &[u8]) -> usize
+    ensures { result ≡ last_line text.now }
+{
+    1 + text.iter().filter(|byte| **byte == b'\n').count()
+}
+
+#[tactic(auto, using(crate::proofs::Forms::forms_next))]
+/// A form that must be there, and a reader behind it.
+fn head_form<'a>(
+    alloc: Global,
+    text: &[u8],
+    reader: Reader<'a>,
+) -> Result<(Node<'a>, Reader<'a>), Fault>
+    ensures { Gives (takes_memory (place reader.entry)) (λ x. listings.taken_at x.0 (place x.1)) result (listings.taken (last_line text.now) (forms (place reader.entry))) }
+{
+    match next_form(alloc, reader)? {
+        Some(form) => Ok(form),
+        None => Err(Fault::BadForm {
+            line: last_line(text),
+        }),
+    }
+}
+
+/// A reader behind `{labels,N}`, before which `{attributes,T}` may stand.
+fn behind_head<'a>(alloc: Global, text: &[u8], reader: Reader<'a>) -> Result<Reader<'a>, Fault>
+    ensures { Gives (Unit {0}) (λ r. forms (place r)) result (listings.behind_head (last_line text.now) (forms (place reader.entry))) }
+{
+    let (form, behind) = head_form(alloc, text, reader)?;
+    if is_attributes(shape_of(&form)) {
+        let (form, behind) = head_form(alloc, text, behind)?;
+        return behind_labels(form, behind);
+    }
+    behind_labels(form, behind)
+}
+
+/// The reader behind a form, which must be `{labels,N}`.
+fn behind_labels<'a>(form: Node<'a>, behind: Reader<'a>) -> Result<Reader<'a>, Fault>
+    ensures { Gives ⊥ (λ r. forms (place r)) result (listings.behind_labels (listings.taken_at form.entry (place behind.entry))) }
+{
+    if is_labels(shape_of(&form)) {
+        Ok(behind)
+    } else {
+        Err(Fault::BadForm {
+            line: form.span().line,
+        })
+    }
+}
+
+/// The functions, each with its items, up to the end of the text.
+fn functions(alloc: Global, atoms: &mut Atoms, reader: Reader) -> Result<Vec<Function>, Fault>
+    ensures { Reads (Unit {0}) (λ functions. functions.items) atoms.old atoms.new result (listings.functions [] (forms (place reader.entry))) }
+{
+    let mut functions = Vec::new(alloc);
+    let mut here = reader;
+    while let Some((form, behind)) = next_form(alloc, here)? {
+        take_form(alloc, atoms, &mut functions, form)?;
+        here = behind;
+    }
+    Ok(functions)
+}
+
+fn take_form(
+    alloc: Global,
+    atoms: &mut Atoms,
+    functions: &mut Vec<Function>,
+    form: Node,
+) -> Result<(), Fault>
+    ensures { Reads (Unit {0}) (λ done. functions.new.items) atoms.old atoms.new result (listings.part (span_of form.entry).line functions.old.items (shape form.entry)) }
+{
+    part(alloc, atoms, functions, form.span().line, shape_of(&form))
+}
+
+/// Reads a listing: the forms `{module,M}`, `{exports,[{F,A},..]}`, `{attributes,T}` (which may be missing) and
+/// `{labels,N}`, and then for each function `{function,F,A,Entry}` and its items, each form ended by a full stop.
+///
+/// The atoms of the code are numbered in `atoms`, in reading order; what is dropped (attributes, annotations `{'%',T}`,
+/// the types of registers, the operand of `line`, the number of `labels`) names none.
+///
+/// A refusal is the first fault in reading order, form by form, with the line on which its form begins, and stands for what
+/// comes before it: a form's text (3 to 7) before its place and shape (8), an instruction's name (9) before the number of its
+/// operands (10), and these before the operands, from left to right (1, 2, 9, 10, 11). The names before the fault stay.
+///
+/// Source: the listings that `erlc -S` writes, and `genop.tab` of Erlang/OTP.
+pub fn read_listing(alloc: Global, atoms: &mut Atoms, text: &[u8]) -> Result<Listing, Fault>
+    ensures { Reads (takes_memory (place_in text.now 0) ⊎ listings.IsNamed (forms (place_in text.now 0))) (λ listing. listing) atoms.old atoms.new result (listings.listing (last_line text.now) (forms (place_in text.now 0))) }
+{
+    let (form, behind) = head_form(alloc, text, Reader::at(text, 0))?;
+    let line = form.span().line;
+    match module_name(shape_of(&form)) {
+        Some(name) => named_listing(alloc, atoms, text, line, name, behind),
+        None => Err(Fault::BadForm { line }),
+    }
+}
+
+#[tactic(auto, using(crate::proofs::Readings::refuses_first))]
+fn named_listing(
+    alloc: Global,
+    atoms: &mut Atoms,
+    text: &[u8],
+    line: usize,
+    module: &str,
+    behind: Reader,
+) -> Result<Listing, Fault>
+    ensures { Reads (Unit {0}) (λ listing. listing) atoms.old atoms.new result (listings.named_listing (last_line text.now) line (forms (place behind.entry)) «module».now) }
+{
+    let name = name_atom(alloc, atoms, line, module)?;
+    behind_name(alloc, atoms, text, name, behind)
+}
+
+fn behind_name(
+    alloc: Global,
+    atoms: &mut Atoms,
+    text: &[u8],
+    name: AtomId,
+    behind: Reader,
+) -> Result<Listing, Fault>
+    ensures { Reads (Unit {0}) (λ listing. listing) atoms.old atoms.new result (listings.behind_name (last_line text.now) (forms (place behind.entry)) name) }
+{
+    let (form, behind) = head_form(alloc, text, behind)?;
+    exported(alloc, atoms, text, name, form, behind)
+}
+
+#[tactic(auto, using(crate::proofs::Readings::refuses_first))]
+fn exported(
+    alloc: Global,
+    atoms: &mut Atoms,
+    text: &[u8],
+    name: AtomId,
+    form: Node,
+    behind: Reader,
+) -> Result<Listing, Fault>
+    ensures { Reads (Unit {0}) (λ listing. listing) atoms.old atoms.new result (listings.exported (last_line text.now) name (listings.taken_at form.entry (place behind.entry))) }
+{
+    let exports = exports_form(alloc, atoms, form.span().line, shape_of(&form))?;
+    behind_exports(alloc, atoms, text, name, exports, behind)
+}
+
+fn behind_exports(
+    alloc: Global,
+    atoms: &mut Atoms,
+    text: &[u8],
+    name: AtomId,
+    exports: Vec<Export>,
+    behind: Reader,
+) -> Result<Listing, Fault>
+    ensures { Reads (Unit {0}) (λ listing. listing) atoms.old atoms.new result (listings.behind_exports (last_line text.now) name (forms (place behind.entry)) exports.items) }
+{
+    let behind = behind_head(alloc, text, behind)?;
+    listed(alloc, atoms, name, exports, behind)
+}
+
+#[tactic(auto, using(crate::proofs::Readings::refuses_first))]
+fn listed(
+    alloc: Global,
+    atoms: &mut Atoms,
+    name: AtomId,
+    exports: Vec<Export>,
+    behind: Reader,
+) -> Result<Listing, Fault>
+    ensures { Reads (Unit {0}) (λ listing. listing) atoms.old atoms.new result (listings.listed name exports.items (forms (place behind.entry))) }
+{
+    let functions = functions(alloc, atoms, behind)?;
+    Ok(Listing::new(name, exports, functions))
+}
