@@ -28,7 +28,7 @@ pub enum Source {
 }
 
 /// A function that is called by its name, in whichever module it stands.
-#[derive(Clone, Copy, Debug, PartialEq, Eq)]
+#[derive(Clone, Copy, Debug, PartialEq, Eq, Hash)]
 pub struct Import {
     pub module: AtomId,
     pub function: AtomId,

@@ -1,0 +1,6 @@
+pub mod Growing
+pub mod Imports
+pub mod Labels
+pub mod Numbering
+pub mod Rows
+pub mod Units

@@ -1,0 +1,100 @@
+-- The items of a unit, found by their numbers.
+use Rattle.std.proofs.Common.{◌≡◌, ℕ, zero, suc, ◌+◌, ◌<◌, ◌≤◌, List, [], ◌∷◌, ◌++◌, length, map, take, drop, get_or, refl, ap, sym, subst, ◌∙◌, arith, length-drop, length-append}
+use Rattle.std.specs.Prelude.{Option, Some, None, option_map, slice_get, IsSome, is_some, unwrap_or}
+use Rattle.std.specs.List.{All, flat_map}
+use Rattle.std.proofs.lemmas.List.{take-append-drop, take_all, length-map}
+use Rattle.std.proofs.lemmas.Option.{slice_get-map, slice_get-get_or, slice_get_past}
+use Rattle.bx_listing.specs.ListedCode.{ListedFunction}
+use Rattle.bx_listing.specs.declared.items.PlacedItem.{PlacedItem}
+use Rattle.bx_listing.specs.Code.{CodeFunction, function_code_of, items_of}
+use Rattle.bx_asm.specs.Drafts.{Spells, head_of, all_items}
+use Rattle.bx_listing.specs.declared.items.Item.{Item}
+use Rattle.bx_listing.specs.declared.items.Item.TheVariants.{Line}
+use Rattle.bx_asm.specs.declared.operands.NumberedItem.{NumberedItem}
+use Rattle.bx_asm.specs.declared.unit.Head.{Head}
+use Rattle.bx_asm.specs.Operands.{Tables}
+use Rattle.bx_asm.specs.Spelling.{spelled}
+use Rattle.bx_asm.specs.Unit.{functions, spelled_item, IsSpelled, IsUnit, total}
+
+-- shared out among the functions and taken together again, the items are what they were
+pub items-functions : (hs : List Head) (is : List Item) → total hs ≡ length is → flat_map (λ f. f.items) (functions hs is) ≡ is
+items-functions [] [] e = refl
+items-functions [] (i ∷ is) e = absurd (omega arith)
+items-functions (h ∷ hs) is e =
+    ap (λ (xs : List Item). take h.count is ++ xs) (items-functions hs (drop h.count is) (omega (arith, length-drop h.count is)))
+    ∙ take-append-drop h.count is
+
+some_or : (o : Option Item) → IsSome o → o ≡ Some (unwrap_or o Line)
+some_or (Some i) h = refl
+some_or None h = absurd (cc)
+
+spelled_here : (t : Tables) (i : NumberedItem) → IsSpelled t i → spelled t i.number i.operands.items ≡ Some (spelled_item t i)
+unfolding spelled_item
+spelled_here t i h = some_or (spelled t i.number i.operands.items) h
+
+-- what stands at a number spells the item of that number
+pub item_at : (t : Tables) (hs : List Head) (is : List NumberedItem) (k : ℕ) (i : NumberedItem) → IsUnit t hs is → k < length is → i ≡ get_or is k i
+    → slice_get (flat_map (λ f. f.items) (functions hs (map (spelled_item t) is))) k ≡ spelled t i.number i.operands.items
+item_at t hs is k i unit within here =
+    ap (λ xs. slice_get xs k) (items-functions hs (map (spelled_item t) is) (unit.shared_out ∙ sym (length-map is (spelled_item t))))
+    ∙ slice_get-map (spelled_item t) is k
+    ∙ ap (option_map (spelled_item t)) (slice_get-get_or is k i within ∙ ap Some (sym here))
+    ∙ sym (spelled_here t i (subst (IsSpelled t) (sym here) (unit.spelled k i within)))
+
+-- nothing stands past the last
+pub no_item_at : (t : Tables) (hs : List Head) (is : List NumberedItem) (k : ℕ) → IsUnit t hs is → length is ≤ k
+    → slice_get (flat_map (λ f. f.items) (functions hs (map (spelled_item t) is))) k ≡ None
+no_item_at t hs is k unit past =
+    ap (λ xs. slice_get xs k) (items-functions hs (map (spelled_item t) is) (unit.shared_out ∙ sym (length-map is (spelled_item t))))
+    ∙ slice_get_past _ k (omega (arith, length-map is (spelled_item t)))
+
+take_front : {A : Type 0} (xs ys : List A) → take (length xs) (xs ++ ys) ≡ xs
+take_front [] ys = refl
+take_front (x ∷ xs) ys = ap (λ (zs : List _). x ∷ zs) (take_front xs ys)
+
+drop_front : {A : Type 0} (xs ys : List A) → drop (length xs) (xs ++ ys) ≡ ys
+drop_front [] ys = refl
+drop_front (x ∷ xs) ys = drop_front xs ys
+
+-- what every item of a row spells is what the row spells
+unwrapped : (t : Tables) (ns : List NumberedItem) (is : List Item) → Spells t ns is → map (spelled_item t) ns ≡ is
+unfolding spelled_item
+unwrapped t [] [] e = refl
+unwrapped t [] (i ∷ is) e = absurd (cc)
+unwrapped t (n ∷ ns) [] e = absurd (cc)
+unwrapped t (n ∷ ns) (i ∷ is) e =
+    let here : spelled t n.number n.operands.items ≡ Some i = cc in
+    let rest : Spells t ns is = cc in
+    let head = ap (λ o. unwrap_or o Line) here in
+    let tail = unwrapped t ns is rest in
+    λ k. head k ∷ tail k
+
+all_spelled : (t : Tables) (ns : List NumberedItem) (is : List Item) → Spells t ns is → All (IsSpelled t) ns
+all_spelled t [] is e k d h = absurd (omega arith)
+all_spelled t (n ∷ ns) [] e k d h = absurd (cc)
+all_spelled t (n ∷ ns) (i ∷ is) e zero d h = let here : spelled t n.number n.operands.items ≡ Some i = cc in ap is_some here
+all_spelled t (n ∷ ns) (i ∷ is) e (suc k) d h = let rest : Spells t ns is = cc in all_spelled t ns is rest k d (omega arith)
+
+-- the items of each function are its own, and there are as many as there are items
+functions-of : (fs : List ListedFunction) → functions (map head_of fs) (all_items fs) ≡ map function_code_of fs
+functions-of [] = refl
+functions-of (f ∷ fs) =
+    let own : take (length f.items) (items_of f.items ++ all_items fs) ≡ items_of f.items =
+    ap (λ n. take n (items_of f.items ++ all_items fs)) (sym (length-map f.items (λ (q : PlacedItem). q.item))) ∙ take_front (items_of f.items) (all_items fs) in
+    let rest : drop (length f.items) (items_of f.items ++ all_items fs) ≡ all_items fs =
+    ap (λ n. drop n (items_of f.items ++ all_items fs)) (sym (length-map f.items (λ (q : PlacedItem). q.item))) ∙ drop_front (items_of f.items) (all_items fs) in
+    let tail = ap (functions (map head_of fs)) rest ∙ functions-of fs in
+    λ k. record { name = f.name; arity = f.arity; entry = f.entry; items = own k } ∷ tail k
+
+total-of : (fs : List ListedFunction) → total (map head_of fs) ≡ length (all_items fs)
+total-of [] = refl
+total-of (f ∷ fs) = omega (arith, total-of fs, length-append (items_of f.items) (all_items fs), length-map f.items (λ (q : PlacedItem). q.item))
+
+pub unit_of : (t : Tables) (ns : List NumberedItem) (fs : List ListedFunction) → Spells t ns (all_items fs) → IsUnit t (map head_of fs) ns
+unit_of t ns fs e = record {
+  spelled = all_spelled t ns (all_items fs) e;
+  shared_out = total-of fs ∙ ap length (sym (unwrapped t ns (all_items fs) e)) ∙ length-map ns (spelled_item t);
+}
+
+pub code_of_unit : (t : Tables) (ns : List NumberedItem) (fs : List ListedFunction) → Spells t ns (all_items fs) → functions (map head_of fs) (map (spelled_item t) ns) ≡ map function_code_of fs
+code_of_unit t ns fs e = ap (functions (map head_of fs)) (unwrapped t ns (all_items fs) e) ∙ functions-of fs

@@ -1,0 +1,13 @@
+//! Numbered code: a listing as opcode numbers with operands, and the tables that the operands name.
+#![tactic(auto)]
+
+mod assembling;
+mod drafts;
+mod instructions;
+mod limits;
+mod operands;
+mod unit;
+
+pub use assembling::assemble;
+pub use instructions::{CodeRegister, CodeSource, Instruction};
+pub use unit::Unit;
