@@ -2,7 +2,7 @@
 use Rattle.std.proofs.Common.{◌≡◌, ℕ, zero, suc, ◌+◌, ◌<◌, ◌≤◌, List, [], ◌∷◌, ◌++◌, length, map, take, drop, get_or, refl, ap, sym, subst, ◌∙◌, arith, length-drop, length-append}
 use Rattle.std.specs.Prelude.{Option, Some, None, option_map, slice_get, IsSome, is_some, unwrap_or}
 use Rattle.std.specs.List.{All, flat_map}
-use Rattle.std.proofs.lemmas.List.{take-append-drop, take_all, length-map}
+use Rattle.std.proofs.lemmas.List.{take-append-drop, take_all, length-take-le, length-map}
 use Rattle.std.proofs.lemmas.Option.{slice_get-map, slice_get-get_or, slice_get_past}
 use Rattle.bx_listing.specs.ListedCode.{ListedFunction}
 use Rattle.bx_listing.specs.declared.items.PlacedItem.{PlacedItem}
@@ -12,9 +12,10 @@ use Rattle.bx_listing.specs.declared.items.Item.{Item}
 use Rattle.bx_listing.specs.declared.items.Item.TheVariants.{Line}
 use Rattle.bx_asm.specs.declared.operands.NumberedItem.{NumberedItem}
 use Rattle.bx_asm.specs.declared.unit.Head.{Head}
+use Rattle.bx_asm.specs.Limits.{count}
 use Rattle.bx_asm.specs.Operands.{Tables}
 use Rattle.bx_asm.specs.Spelling.{spelled}
-use Rattle.bx_asm.specs.Unit.{functions, spelled_item, IsSpelled, IsUnit, total}
+use Rattle.bx_asm.specs.Unit.{functions, spelled_item, IsSpelled, IsUnit, total, code_head}
 
 -- shared out among the functions and taken together again, the items are what they were
 pub items-functions : (hs : List Head) (is : List Item) → total hs ≡ length is → flat_map (λ f. f.items) (functions hs is) ≡ is
@@ -47,6 +48,23 @@ pub no_item_at : (t : Tables) (hs : List Head) (is : List NumberedItem) (k : ℕ
 no_item_at t hs is k unit past =
     ap (λ xs. slice_get xs k) (items-functions hs (map (spelled_item t) is) (unit.shared_out ∙ sym (length-map is (spelled_item t))))
     ∙ slice_get_past _ k (omega (arith, length-map is (spelled_item t)))
+
+-- there are as many items as are stored
+pub length_of_items : (t : Tables) (hs : List Head) (is : List NumberedItem) → IsUnit t hs is → length (flat_map (λ f. f.items) (functions hs (map (spelled_item t) is))) ≡ length is
+length_of_items t hs is unit =
+    ap length (items-functions hs (map (spelled_item t) is) (unit.shared_out ∙ sym (length-map is (spelled_item t))))
+    ∙ length-map is (spelled_item t)
+
+heads-of : (hs : List Head) (is : List Item) → total hs ≡ length is → map code_head (functions hs is) ≡ hs
+heads-of [] is e = refl
+heads-of (h ∷ hs) is e =
+    let own : length (take h.count is) ≡ h.count = length-take-le h.count is (omega arith) in
+    let rest = heads-of hs (drop h.count is) (omega (arith, length-drop h.count is)) in
+    λ k. record { name = h.name; arity = h.arity; entry = h.entry; count = own k } ∷ rest k
+
+-- the stored heads are those of the functions
+pub heads_of_functions : (t : Tables) (hs : List Head) (is : List NumberedItem) → IsUnit t hs is → map code_head (functions hs (map (spelled_item t) is)) ≡ hs
+heads_of_functions t hs is unit = heads-of hs (map (spelled_item t) is) (unit.shared_out ∙ sym (length-map is (spelled_item t)))
 
 take_front : {A : Type 0} (xs ys : List A) → take (length xs) (xs ++ ys) ≡ xs
 take_front [] ys = refl
@@ -90,8 +108,13 @@ total-of : (fs : List ListedFunction) → total (map head_of fs) ≡ length (all
 total-of [] = refl
 total-of (f ∷ fs) = omega (arith, total-of fs, length-append (items_of f.items) (all_items fs), length-map f.items (λ (q : PlacedItem). q.item))
 
-pub unit_of : (t : Tables) (ns : List NumberedItem) (fs : List ListedFunction) → Spells t ns (all_items fs) → IsUnit t (map head_of fs) ns
-unit_of t ns fs e = record {
+count-of : (fs : List ListedFunction) → count fs ≡ length (all_items fs)
+count-of [] = refl
+count-of (f ∷ fs) = omega (arith, count-of fs, length-append (items_of f.items) (all_items fs), length-map f.items (λ (q : PlacedItem). q.item))
+
+pub unit_of : (t : Tables) (ns : List NumberedItem) (fs : List ListedFunction) → count fs ≤ 1000000 → Spells t ns (all_items fs) → IsUnit t (map head_of fs) ns
+unit_of t ns fs few e = record {
+  few = omega (arith, few, count-of fs, ap length (sym (unwrapped t ns (all_items fs) e)), length-map ns (spelled_item t));
   spelled = all_spelled t ns (all_items fs) e;
   shared_out = total-of fs ∙ ap length (sym (unwrapped t ns (all_items fs) e)) ∙ length-map ns (spelled_item t);
 }

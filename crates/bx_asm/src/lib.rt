@@ -10,4 +10,4 @@ mod unit;
 
 pub use assembling::assemble;
 pub use instructions::{CodeRegister, CodeSource, Instruction};
-pub use unit::Unit;
+pub use unit::{Head, Unit};

@@ -56,6 +56,8 @@ impl Model for Unit {
 }
 
 impl Unit {
+    ghost use Rattle.bx_asm.specs.Unit.{code_head};
+
     /// The numbered code of a listing whose sizes and registers are in range.
     pub(crate) fn of(alloc: Global, listing: &Listing) -> Result<Unit, AllocError>
         requires few { count listing.now.functions ≤ 1000000 }
@@ -93,6 +95,23 @@ impl Unit {
         ensures { result.now ≡ self.now.exports }
     {
         self.exports.as_slice()
+    }
+
+    /// Its functions, each with how many items are its own, in order.
+    #[tactic(auto, using(crate::proofs::Units::heads_of_functions))]
+    pub fn functions(&self) -> &[Head]
+        ensures { result.now ≡ map code_head self.now.functions }
+    {
+        self.heads.as_slice()
+    }
+
+    /// How many items its functions have, at most 1,000,000.
+    #[tactic(auto, using(crate::proofs::Units::length_of_items))]
+    pub fn item_count(&self) -> usize
+        ensures count { result ≡ length (items self.now) }
+        ensures few { result ≤ 1000000 }
+    {
+        self.items.len()
     }
 
     /// The item of this number, from 0, or none past the last.

@@ -1,5 +1,9 @@
 -- Registers that lie in a row by their numbers: what is read, and what a write makes of their map.
-use Rattle.std.proofs.Common.{◌≡◌, ℕ, zero, suc, ◌+◌, ◌==◌, ◌<◌, ◌≤◌, ◌≢◌, List, [], ◌∷◌, ◌++◌, length, refl, ap, sym, ◌∙◌, arith, cond, Bool, true, false, ltb, ◌↔◌}
+use Rattle.std.proofs.Common.{◌≡◌, ℕ, zero, suc, ◌+◌, ◌==◌, ◌<◌, ◌≤◌, ◌≢◌, List, [], ◌∷◌, ◌++◌, length, refl, ap, sym, ◌∙◌, arith, cond, Bool, true, false, ltb, ◌↔◌, get_or, take, map}
+use Rattle.std.proofs.lemmas.List.{take_more, map-append}
+use Rattle.bx_terms.specs.Tree.{Tree}
+use Rattle.bx_cells.specs.declared.values.Value.TheVariants.{Term}
+use Rattle.bx_cells.specs.Held.{all_held}
 use Rattle.std.specs.Prelude.{Option, Some, None, slice_get, slice_set}
 use Rattle.std.specs.Ordering.{nat_cmp, eq_by_cmp}
 use Rattle.std.specs.Cmp.{nat_cmp_total, unsigned_tied}
@@ -92,3 +96,7 @@ same_below xs ys n hx hy same k = go (ltb k n) refl
 -- a row has no register past its end
 pub nothing_past : {A : Type 0} (cells : List (Option A)) (k : ℕ) → length cells ≤ k → map.get (indexed 0 cells) k ≡ None
 nothing_past cells k h = get_indexed cells k ∙ cell_past cells k h
+
+-- one term more is one register more
+pub all_held_next : (terms : List Tree) (i : ℕ) (d : Tree) → i < length terms → all_held (take (i + 1) terms) ≡ all_held (take i terms) ++ Some (Term (get_or terms i d)) ∷ []
+all_held_next terms i d h = ap all_held (take_more terms i d h) ∙ map-append _ (take i terms) (get_or terms i d ∷ [])

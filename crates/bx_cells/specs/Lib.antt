@@ -1,3 +1,5 @@
 pub mod Indexed
+pub mod Held
 pub mod StackFrame
 pub mod Stack
+pub mod TopFrame

@@ -1,12 +1,13 @@
 //! The stack of a process.
 
-ghost use Rattle.std.specs.Prelude.{◌≡◌, ◌↔◌, ◌++◌, ◌∷◌, [], ◌<◌, ℕ, length, take, reverse, replicate, IfOk, OnOk, IfErr, IsTrue, None, Some, MatchOption};
+ghost use Rattle.std.specs.Prelude.{◌≡◌, ◌↔◌, ◌++◌, ◌∷◌, [], ◌<◌, ℕ, length, take, reverse, replicate, IfOk, OnOk, IfErr, IsTrue, None, Some, Ok, Err, MatchOption, MatchResult, option_map, slice_get};
 ghost use Rattle.bx_cells.specs.StackFrame.{StackFrame};
 ghost use Rattle.bx_cells.specs.Stack.{unwound, lowest_tag};
+ghost use Rattle.bx_cells.specs.TopFrame.{y_cell, there, with_y, with_cell};
 
 use crate::registers::same_held;
 use crate::values::Value;
-use bx_terms::Place;
+use bx_terms::{Place, Trap};
 use std::alloc::{AllocError, Global};
 use std::marker::Model;
 
@@ -49,6 +50,29 @@ impl Frame {
         ensures { IsTrue result ↔ (self.now ≡ other.now) }
     {
         self.return_to == other.return_to && same_rows(&self.cells, &other.cells)
+    }
+
+    /// What the register of this number holds, where it holds something. `FrameSize`: the frame has no such register.
+    #[inline]
+    fn get(&self, number: usize) -> Result<Option<&Value>, Trap>
+        ensures { MatchResult result (λ cell. there (slice_get self.now.cells number) ≡ Ok (option_map (λ v. v.now) cell)) (λ trap. there (slice_get self.now.cells number) ≡ Err trap) }
+    {
+        if number >= self.cells.len() {
+            return Err(Trap::FrameSize);
+        }
+        Ok(self.cells[number].as_ref())
+    }
+
+    /// Puts `value` into the register of this number. `FrameSize`: the frame has no such register, and nothing has changed.
+    #[inline]
+    fn set(&mut self, number: usize, value: Value) -> Result<(), Trap>
+        ensures { MatchResult result (λ done. with_cell number value self.old (slice_get self.old.cells number) ≡ Ok self.new) (λ trap. (with_cell number value self.old (slice_get self.old.cells number) ≡ Err trap) × (self.new ≡ self.old)) }
+    {
+        if number >= self.cells.len() {
+            return Err(Trap::FrameSize);
+        }
+        self.cells[number] = Some(value);
+        Ok(())
     }
 
     /// The place of the catch tag in the lowest register that holds one.
@@ -115,6 +139,34 @@ impl Frames {
             Ok(()) => Ok(()),
             Err(failed) => Err(failed.value),
         }
+    }
+
+    /// What the y register of this number holds, where it holds something. `NoFrame`: there is no frame; `FrameSize`: the
+    /// topmost frame has no such register.
+    #[inline]
+    #[tactic(auto, using(crate::proofs::Stacks::reverse_last))]
+    pub fn get(&self, number: u16) -> Result<Option<&Value>, Trap>
+        ensures { MatchResult result (λ cell. y_cell number self.now ≡ Ok (option_map (λ v. v.now) cell)) (λ trap. y_cell number self.now ≡ Err trap) }
+    {
+        let size = self.frames.len();
+        if size == 0 {
+            return Err(Trap::NoFrame);
+        }
+        self.frames[size - 1].get(number as usize)
+    }
+
+    /// Puts `value` into the y register of this number. `NoFrame`: there is no frame; `FrameSize`: the topmost frame has no
+    /// such register. Then nothing has changed.
+    #[inline]
+    #[tactic(auto, using(crate::proofs::Stacks::reverse_last, crate::proofs::Stacks::reverse_set_last))]
+    pub fn set(&mut self, number: u16, value: Value) -> Result<(), Trap>
+        ensures { MatchResult result (λ done. with_y number value self.old ≡ Ok self.new) (λ trap. (with_y number value self.old ≡ Err trap) × (self.new ≡ self.old)) }
+    {
+        let size = self.frames.len();
+        if size == 0 {
+            return Err(Trap::NoFrame);
+        }
+        self.frames[size - 1].set(number as usize, value)
     }
 
     /// Goes down to the topmost frame that holds a catch tag, and answers the place of that frame's lowest tag. Where

@@ -1,10 +1,12 @@
 //! The x registers of a process.
 
-ghost use Rattle.std.specs.Prelude.{◌≡◌, ◌↔◌, ◌<◌, ◌≤◌, ℕ, length, IfOk, OnOk, IfErr, OnErr, IsTrue, None, option_map};
+ghost use Rattle.std.specs.Prelude.{◌≡◌, ◌≢◌, ◌↔◌, ◌<◌, ◌≤◌, ℕ, [], length, IfOk, OnOk, IfErr, OnErr, IsTrue, None, option_map};
 ghost use Rattle.std.specs.FinMap as map;
 ghost use Rattle.bx_cells.specs.Indexed.{cell_at, indexed};
+ghost use Rattle.bx_cells.specs.Held.{all_held, holding};
 
 use crate::values::Value;
+use bx_terms::Term;
 use std::alloc::{AllocError, Global};
 use std::marker::Model;
 
@@ -42,6 +44,16 @@ impl Registers {
         Registers {
             cells: Vec::new(alloc),
         }
+    }
+
+    /// The registers from x0 on, each of which holds one of these terms. Terms are shared. Memory is taken only where
+    /// there is a term.
+    pub fn holding(alloc: Global, terms: &[Term]) -> Result<Registers, AllocError>
+        ensures held { IfOk result (λ r. r ≡ holding terms.now) }
+        ensures memory { OnErr result (terms.now ≢ []) }
+    {
+        let cells = all_held(alloc, terms)?;
+        Ok(Registers { cells })
     }
 
     /// What the register of this number holds.
@@ -84,6 +96,20 @@ impl Registers {
     {
         same_cells(&self.cells, &other.cells)
     }
+}
+
+/// A row of registers, one for each term.
+#[tactic(auto, using(crate::proofs::Cells::all_held_next))]
+fn all_held(alloc: Global, terms: &[Term]) -> Result<Vec<Option<Value>>, AllocError>
+    ensures held { IfOk result (λ cells. cells.items ≡ all_held terms.now) }
+    ensures memory { OnErr result (terms.now ≢ []) }
+{
+    let mut cells = Vec::new(alloc);
+    for term in terms {
+        let term = term.copy(alloc)?;
+        cells.push(Some(Value::Term(term)))?;
+    }
+    Ok(cells)
 }
 
 /// Makes the row long enough to have a register at `at`.

@@ -1,6 +1,7 @@
 //! What a register may hold.
 
-ghost use Rattle.std.specs.Prelude.{◌≡◌, ◌↔◌, IfOk, IsTrue};
+ghost use Rattle.std.specs.Prelude.{◌≡◌, ◌↔◌, ◌<◌, IfOk, OnErr, IsTrue};
+ghost use Rattle.bx_cells.specs.Held.{value_height};
 
 use bx_terms::{Class, Place, Term};
 use std::alloc::{AllocError, Global};
@@ -19,11 +20,17 @@ pub enum Value {
 }
 
 impl Value {
-    /// The same value. A term's content is shared.
-    pub fn copy(&self, _alloc: Global) -> Result<Value, AllocError>
-        ensures { IfOk result (λ v. v ≡ self.now) }
+    /// The same value. A term's content is shared. Want of memory is the answer only for a tuple or a list cell.
+    #[inline]
+    pub fn copy(&self, alloc: Global) -> Result<Value, AllocError>
+        ensures copied { IfOk result (λ v. v ≡ self.now) }
+        ensures memory { OnErr result (0 < value_height self.now) }
     {
-        self.clone()
+        Ok(match self {
+            Value::Term(term) => Value::Term(term.copy(alloc)?),
+            Value::Tag(place) => Value::Tag(*place),
+            Value::Trace(class) => Value::Trace(*class),
+        })
     }
 
     /// Whether the two values have the same content.

@@ -2,5 +2,23 @@
 #![tactic(auto)]
 
 mod choices;
+mod lanes;
+mod outcomes;
+mod procs;
+mod rows;
+mod runs;
+mod slots;
+mod texts;
+mod world;
 
-pub use choices::Choice;
+pub use bx_proc::Status;
+pub use choices::{Choice, Choices};
+pub use lanes::Lanes;
+pub use outcomes::{Outcome, Standing};
+pub use rows::{Output, Statuses};
+pub use runs::{RunEnd, advance};
+pub use texts::{choice_text, outcome_text};
+pub use world::{ArcWorld, RcWorld, World};
+
+#[cfg(test)]
+mod tests;

@@ -1,0 +1,3 @@
+pub mod Names
+pub mod Natives
+pub mod GuardNames

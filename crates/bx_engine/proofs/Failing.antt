@@ -1,0 +1,21 @@
+-- A failure behind a start that was read is that of the whole, and nothing is written.
+use Rattle.std.proofs.Common.{◌≡◌, ◌∙◌, ℕ, List, Option, Some, Result, Ok, Err, refl, sym, ap, subst}
+use Rattle.std.specs.Prelude.{IsSome}
+use Rattle.std.proofs.KnownBytes.{Keeps-refl}
+use Rattle.bx_terms.specs.declared.faults.Fault.TheVariants.{Memory}
+use Rattle.bx_engine.specs.Starts.{start_in}
+use Rattle.bx_engine.specs.Loads.{ClearUpTo}
+use Rattle.bx_engine.specs.Runs.{ClearStart, Names, Writes, or_start, run_behind, run_of}
+use Rattle.bx_engine.specs.Units.{◌>>=◌, FilesGive}
+use Rattle.bx_engine.specs.declared.failures.Failure.{Failure}
+use Rattle.bx_engine.specs.declared.failures.Failure.TheVariants.{Refused, Read, Write, Start}
+
+pub nothing_written : {X : Type 0} (all : X → List ℕ) (failure : Failure) (names : Names) (start : List ℕ) (given : List (List ℕ)) (planned : List ℕ) (w : Option (List ℕ))
+    → start_in start ≡ Some names → FilesGive all (Err failure) (ClearUpTo given) (run_behind names given planned)
+    → Writes w w (Err failure) (ClearStart start given) (run_of start given planned)
+nothing_written all (Refused Memory file) names start given planned w e h = Keeps-refl w
+nothing_written all (Refused fault file) names start given planned w e h =
+    (ap (λ (o : Option Names). or_start o >>= λ n. run_behind n given planned) e ∙ h, Keeps-refl w)
+nothing_written all (Read file) names start given planned w e h = ((subst IsSome (sym e) refl, h), Keeps-refl w)
+nothing_written all Write names start given planned w e h = absurd h
+nothing_written all Start names start given planned w e h = absurd h

@@ -1,0 +1,102 @@
+-- Files taken one after the other.
+use Rattle.std.proofs.Common.{◌≡◌, ◌∙◌, ◌<◌, ◌≤◌, ◌+◌, ◌-◌, ℕ, arith, zero, suc, List, [], ◌∷◌, ◌++◌, Option, Some, Result, Ok, Err, refl, sym, ap, subst, map, take, drop, length, take-append-drop, append-nil}
+use Rattle.std.proofs.Math.ListN.{get_or, set}
+use Rattle.std.proofs.lemmas.List.{drop_more, drop-map, drop-set-lt, drop-drop, length-map, take_all}
+use Rattle.bx_listing.specs.Code.{Code}
+use Rattle.bx_listing.specs.Reading.{Table}
+use Rattle.std.specs.Prelude.{IsOk}
+use Rattle.bx_terms.specs.declared.faults.Fault.TheVariants.{Memory}
+use Rattle.bx_engine.specs.declared.failures.Failure.TheVariants.{Refused, Read, Write, Start}
+use Rattle.bx_engine.specs.Units.{ClearBefore, FileGives, FilesGive, ◌>>=◌, unit_in, units_from, units_of}
+use Rattle.bx_engine.specs.declared.failures.Failure.{Failure}
+
+-- the bytes of the next file
+pub record Next (A : Type 0) (rem : A → Option (List ℕ)) (x : A) (k : ℕ) (given : List (List ℕ)) : Type 0 where
+  pub text : List ℕ
+  pub behind : List (List ℕ)
+  pub known : rem x ≡ Some text
+  pub next : (ys : List (List ℕ)) → take (k + 1) given ++ ys ≡ take k given ++ text ∷ ys
+  pub rest : take k given ++ text ∷ behind ≡ given
+
+one_more : (k : ℕ) (given : List (List ℕ)) (t : List ℕ) (ts : List (List ℕ)) → drop k given ≡ t ∷ ts
+    → (ys : List (List ℕ)) → take (k + 1) given ++ ys ≡ take k given ++ t ∷ ys
+one_more zero [] t ts e ys = absurd (cc)
+one_more zero (g ∷ gs) t ts e ys = ap (λ (f : List ℕ). f ∷ ys) (cc)
+one_more (suc k) [] t ts e ys = absurd (cc)
+one_more (suc k) (g ∷ gs) t ts e ys =
+    let counted : suc k + 1 ≡ suc (k + 1) = omega arith in
+    rw counted (ap (λ (r : List (List ℕ)). g ∷ r) (one_more k gs t ts e ys))
+
+known_next : {A : Type 0} (rem : A → Option (List ℕ)) (k : ℕ) (x : A) (given : List (List ℕ)) (more : List (Option (List ℕ))) (left : List (List ℕ))
+    → drop k given ≡ left → rem x ∷ more ≡ map (λ text. Some text) left → Next A rem x k given
+known_next rem k x given more [] at e = absurd (cc)
+known_next rem k x given more (t ∷ ts) at e = record {
+  text = t;
+  behind = ts;
+  known = cc;
+  next = one_more k given t ts at;
+  rest = ap (λ (r : List (List ℕ)). take k given ++ r) (sym at) ∙ take-append-drop k given;
+}
+
+-- two rows that agree on what is left agree on the next file
+pub next_file : {A : Type 0} (rem : A → Option (List ℕ)) (old now : List A) (k : ℕ) (x : A) (given : List (List ℕ))
+    → map rem old ≡ map (λ text. Some text) given → drop k now ≡ drop k old → k < length now → x ≡ get_or now k x
+    → Next A rem x k given
+next_file rem old now k x given all left short at =
+    let here = drop_more now k x short ∙ ap (λ y. y ∷ drop (k + 1) now) (sym at) in
+    let old_here = sym left ∙ here in
+    let known = ap (map rem) (sym old_here) ∙ sym (drop-map rem k old) ∙ ap (drop k) all ∙ drop-map (λ text. Some text) k given in
+    known_next rem k x given (map rem (drop (k + 1) now)) (drop k given) refl known
+
+-- the files before that number came to this, whatever follows
+abbrev pub SoFar : Table → ℕ → List (List ℕ) → Table → List Code → Type 0
+SoFar texts k given now done = (ys : List (List ℕ)) → units_from 0 texts [] (take k given ++ ys) ≡ units_from k now done ys
+
+-- one file more
+pub so_far_next : {A : Type 0} (rem : A → Option (List ℕ)) (x : A) (texts : Table) (k : ℕ) (given : List (List ℕ)) (now after : Table) (done : List Code) (code : Code)
+    → SoFar texts k given now done → (n : Next A rem x k given) → unit_in k now n.text ≡ Ok (after, code)
+    → SoFar texts (k + 1) given after (done ++ code ∷ [])
+so_far_next rem x texts k given now after done code before n e ys =
+    ap (units_from 0 texts []) (n.next ys) ∙ before (n.text ∷ ys) ∙ ap (λ r. r >>= λ u. units_from (k + 1) u.0 (done ++ u.1 ∷ []) ys) e
+
+-- a fault of the next file is the first
+pub first_fault : {A : Type 0} (rem : A → Option (List ℕ)) (x : A) (texts : Table) (k : ℕ) (given : List (List ℕ)) (now : Table) (done : List Code) (failure : Failure)
+    → SoFar texts k given now done → (n : Next A rem x k given) → unit_in k now n.text ≡ Err failure
+    → units_of texts given ≡ Err failure
+first_fault rem x texts k given now done failure before n e =
+    ap (units_from 0 texts []) (sym n.rest) ∙ before (n.text ∷ n.behind) ∙ ap (λ r. r >>= λ u. units_from (k + 1) u.0 (done ++ u.1 ∷ []) n.behind) e
+
+-- the files so far have no fault
+pub none_before : (texts : Table) (k : ℕ) (given : List (List ℕ)) (now : Table) (done : List Code) → SoFar texts k given now done → units_of texts (take k given) ≡ Ok (now, done)
+none_before texts k given now done before = ap (units_from 0 texts []) (sym (append-nil (take k given))) ∙ before []
+
+-- a fault of the next file, or that it can't be read, is what all files come to
+pub failed_files : {X Y A B : Type 0} (one : X → A) (all : Y → B) (k : ℕ) (failure : Failure) (said : Result A Failure) (clear : ℕ → Type 0) (whole : Result B Failure)
+    → FileGives one k (Err failure) said → (said ≡ Err failure → whole ≡ Err failure) → clear k → FilesGive all (Err failure) clear whole
+failed_files one all k (Refused Memory file) said clear whole gives on here = tt
+failed_files one all k (Refused fault file) said clear whole gives on here = on gives
+failed_files one all k (Read file) said clear whole gives on here = subst clear (sym gives) here
+failed_files one all k Write said clear whole gives on here = absurd gives
+failed_files one all k Start said clear whole gives on here = absurd gives
+
+same_length : {A : Type 0} (rem : A → Option (List ℕ)) (old : List A) (given : List (List ℕ)) → map rem old ≡ map (λ text. Some text) given → length given ≡ length old
+same_length rem old given known = sym (length-map given (λ text. Some text)) ∙ ap length (sym known) ∙ length-map old rem
+
+-- before the next file nothing is at fault
+pub clear_here : {A : Type 0} (rem : A → Option (List ℕ)) (old now : List A) (texts : Table) (k : ℕ) (given : List (List ℕ)) (table : Table) (done : List Code)
+    → map rem old ≡ map (λ text. Some text) given → length now ≡ length old → k < length now → SoFar texts k given table done → ClearBefore texts given k
+clear_here rem old now texts k given table done known same short before =
+    let counted : length given ≡ length now = same_length rem old given known ∙ sym same in
+    (rw counted short, subst IsOk (sym (none_before texts k given table done before)) refl)
+
+-- all files
+pub all_files : {A : Type 0} (rem : A → Option (List ℕ)) (old : List A) (texts : Table) (k : ℕ) (given : List (List ℕ)) (now : Table) (done : List Code)
+    → map rem old ≡ map (λ text. Some text) given → length old ≤ k → SoFar texts k given now done → units_of texts given ≡ Ok (now, done)
+all_files rem old texts k given now done known long before =
+    let counted : length given ≡ length old = same_length rem old given known in
+    ap (units_from 0 texts []) (sym (take_all k given (rw counted long))) ∙ none_before texts k given now done before
+
+pub left_after : {A : Type 0} (old now : List A) (k : ℕ) (x : A) → drop k now ≡ drop k old → drop (k + 1) (set now k x) ≡ drop (k + 1) old
+left_after old now k x left =
+    let past : k < k + 1 = omega arith in
+    drop-set-lt (k + 1) now k x past ∙ sym (drop-drop 1 k now) ∙ ap (drop 1) left ∙ drop-drop 1 k old

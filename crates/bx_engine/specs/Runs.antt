@@ -1,0 +1,79 @@
+-- What `run` writes: the report of the plan's schedules, each run alone from the start; or the first fault.
+use Rattle.std.specs.Prelude.{◌≡◌, ℕ, List, map, Option, Some, None, Result, Ok, Err, IsOk, IsSome, length}
+use Rattle.std.specs.Io.KnownBytes.{Appends, Keeps}
+use Rattle.bx_terms.specs.AtomTable.{number_of}
+use Rattle.bx_terms.specs.declared.atom_table.AtomId.{AtomId}
+use Rattle.bx_terms.specs.declared.faults.Fault.{Fault}
+use Rattle.bx_terms.specs.declared.faults.Fault.TheVariants.{NoEntry, Memory}
+use Rattle.bx_load.specs.Image.{Loaded}
+use Rattle.bx_plan.specs.Plans.{Named}
+use Rattle.bx_world.specs.World.{State, started}
+use Rattle.bx_world.specs.Running.{Ended, ran, unchosen}
+use Rattle.bx_world.specs.Seen.{seen}
+use Rattle.bx_board.specs.Texts.{report_lines}
+use Rattle.bx_board.specs.declared.reports.Scheduled.{Scheduled}
+use Rattle.bx_engine.specs.Starts.{start_in}
+use Rattle.bx_engine.specs.Units.{◌>>=◌}
+use Rattle.bx_engine.specs.Loads.{ClearUpTo, image_of, of_no_file, plan_in}
+use Rattle.bx_engine.specs.declared.failures.Failure.{Failure}
+use Rattle.bx_engine.specs.declared.failures.Failure.TheVariants as failures
+
+-- the names of a module and of a function of it
+abbrev pub Names : Type 0
+Names = List ℕ × List ℕ
+
+-- names that the loaded code does not hold name no export
+abbrev pub started_by : Loaded → Option ℕ → Option ℕ → Result State Fault
+started_by image (Some m) (Some f) = started image (record { 0 = m }) (record { 0 = f })
+started_by image m f = Err NoEntry
+
+abbrev pub world_at : Loaded → Names → Result State Fault
+world_at image names = started_by image (number_of image.atoms names.0) (number_of image.atoms names.1)
+
+-- what a run's end shows under a schedule's name
+abbrev pub told : List ℕ → Ended → Scheduled
+told name end = record { name = name; applied = end.applied; refused = end.refused; outcome = seen end.world }
+
+-- a schedule alone, from the start
+abbrev pub scheduled : Loaded → State → Named → Scheduled
+scheduled image start schedule = told schedule.0 (ran image schedule.1 (unchosen start))
+
+abbrev pub reported : Loaded → State → List Named → List Scheduled
+reported image start plan = map (scheduled image start) plan
+
+-- the text of the report
+abbrev pub report_in : Loaded → Names → List Named → Result (List ℕ) Fault
+report_in image names plan = world_at image names >>= λ start. Ok (report_lines image.atoms (reported image start plan))
+
+abbrev pub report_of : Loaded → Names → List Named → Result (List ℕ) Failure
+report_of image names plan = of_no_file (report_in image names plan)
+
+abbrev pub or_start : Option Names → Result Names Failure
+or_start (Some names) = Ok names
+or_start None = Err failures.Start
+
+-- the listings, then the plan, then what the start names
+abbrev pub run_behind : Names → List (List ℕ) → List ℕ → Result (List ℕ) Failure
+run_behind names given planned = do
+  image ← image_of given
+  plan ← plan_in (length given) planned
+  report_of image names plan
+
+-- the start first
+abbrev pub run_of : List ℕ → List (List ℕ) → List ℕ → Result (List ℕ) Failure
+run_of start given planned = or_start (start_in start) >>= λ names. run_behind names given planned
+
+-- nothing is at fault before the file of that number
+abbrev pub ClearStart : List ℕ → List (List ℕ) → ℕ → Type 0
+ClearStart start given n = IsSome (start_in start) × ClearUpTo given n
+
+-- What an engine wrote, of whose files the bytes are known: the whole text, or nothing; where the writer failed, nothing is said of how
+-- much of the text it took.
+abbrev pub Writes : Option (List ℕ) → Option (List ℕ) → Result (Unit {0}) Failure → (ℕ → Type 0) → Result (List ℕ) Failure → Type 0
+Writes old new (Ok done) clear (Ok text) = Appends old new text
+Writes old new (Ok done) clear (Err failure) = ⊥
+Writes old new (Err (failures.Refused Memory file)) clear said = Keeps old new
+Writes old new (Err (failures.Refused fault file)) clear said = (said ≡ Err (failures.Refused fault file)) × Keeps old new
+Writes old new (Err (failures.Read file)) clear said = clear file × Keeps old new
+Writes old new (Err failures.Write) clear said = IsOk said
+Writes old new (Err failures.Start) clear said = (said ≡ Err failures.Start) × Keeps old new

@@ -1,0 +1,48 @@
+//! The image of the listings, and the plan.
+
+ghost use Rattle.std.specs.Prelude.{◌≡◌, List, ℕ, Some, map};
+ghost use Rattle.bx_terms.specs.FixedAtoms.{fixed_atoms};
+ghost use Rattle.bx_plan.specs.Planned.{schedules};
+ghost use Rattle.bx_engine.specs.Units.{ClearBefore, FileGives, FilesGive};
+ghost use Rattle.bx_engine.specs.Loads.{image_of, plan_in};
+
+use crate::failures::Failure;
+use crate::units::{read_file, units_of};
+use bx_load::{Image, load};
+use bx_plan::{Plan, read_plan};
+use bx_terms::Atoms;
+use std::alloc::Global;
+use std::io::Read;
+
+/// The image of the listings' modules, loaded together once each is read and assembled, or the first fault.
+pub fn image_of<R: Read>(alloc: Global, listings: &mut [R]) -> Result<Image, Failure>
+    ensures { (given : List (List ℕ)) → map R.remaining listings.old ≡ map (λ text. Some text) given
+        → FilesGive (λ image. image) result (ClearBefore fixed_atoms given) (image_of given) }
+{
+    let mut atoms = match Atoms::new(alloc) {
+        Ok(atoms) => atoms,
+        Err(fault) => return Err(Failure::Refused(fault, None)),
+    };
+    let units = match units_of(alloc, &mut atoms, listings) {
+        Ok(units) => units,
+        Err(failure) => return Err(failure),
+    };
+    match load(alloc, atoms, units) {
+        Ok(image) => Ok(image),
+        Err(refused) => Err(Failure::Refused(refused.fault, None)),
+    }
+}
+
+/// The plan in the file of that number, read whole before it is looked at.
+pub fn plan_in<R: Read>(alloc: Global, file: usize, reader: &mut R) -> Result<Plan, Failure>
+    ensures { (text : List ℕ) → R.remaining reader.old ≡ Some text → FileGives (λ plan. schedules plan) file result (plan_in file text) }
+{
+    let text = match read_file(alloc, file, reader) {
+        Ok(text) => text,
+        Err(failure) => return Err(failure),
+    };
+    match read_plan(alloc, &text) {
+        Ok(plan) => Ok(plan),
+        Err(fault) => Err(Failure::Refused(fault, Some(file))),
+    }
+}

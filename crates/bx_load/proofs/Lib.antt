@@ -1,0 +1,3 @@
+pub mod BehindMarks
+pub mod FunctionHeads
+pub mod Rows

@@ -1,0 +1,81 @@
+//! The items of one module: marks, labels and the instructions behind them.
+
+ghost use Rattle.std.specs.Prelude.{◌≡◌, ◌≤◌, ◌<◌, length, option_map, option_and_then, slice_get};
+ghost use Rattle.bx_listing.specs.Code.{items};
+ghost use Rattle.bx_asm.specs.Decoded.{item_of};
+ghost use Rattle.bx_load.specs.Image.{is_mark, is_label, at, after_in, unmarked, target_in};
+ghost use Rattle.bx_load.specs.Items.{passes_at};
+
+use bx_asm::{Instruction, Unit};
+
+/// The instruction of that number; none past the last item and at a mark.
+#[inline]
+pub(crate) fn instruction_in(unit: &Unit, number: u32) -> Option<Instruction<'_>>
+    ensures { option_map item_of result ≡ option_and_then unmarked (slice_get (items unit.now) number) }
+{
+    match unit.instruction(number as usize)? {
+        Instruction::Label(_) | Instruction::Line => None,
+        instruction => Some(instruction),
+    }
+}
+
+#[inline]
+fn is_mark_at(unit: &Unit, number: u32) -> bool
+    ensures { result ≡ passes_at is_mark (items unit.now) number }
+{
+    matches!(
+        unit.instruction(number as usize),
+        Some(Instruction::Label(_) | Instruction::Line)
+    )
+}
+
+/// The number of the first item from that number on that is no mark, or else the number of items.
+#[inline]
+#[tactic(auto, using(crate::proofs::BehindMarks::at_mark, crate::proofs::BehindMarks::at_here, crate::proofs::BehindMarks::at_end))]
+pub(crate) fn at(unit: &Unit, from: u32) -> u32
+    requires { from ≤ length (items unit.now) }
+    ensures { result ≡ at (items unit.now) from }
+{
+    let count = unit.item_count() as u32;
+    for number in from..count {
+        if !is_mark_at(unit, number) {
+            return number;
+        }
+    }
+    count
+}
+
+/// The number of the item at which it goes on behind that one.
+#[inline]
+pub(crate) fn after_in(unit: &Unit, number: u32) -> u32
+    ensures { result ≡ after_in (items unit.now) number }
+{
+    if (number as usize) < unit.item_count() {
+        at(unit, number + 1)
+    } else {
+        number
+    }
+}
+
+fn is_label_at(unit: &Unit, number: u32, label: u32) -> bool
+    ensures { result ≡ passes_at (is_label label) (items unit.now) number }
+{
+    match unit.instruction(number as usize) {
+        Some(Instruction::Label(found)) => found == label,
+        _ => false,
+    }
+}
+
+/// Where a label leads to.
+#[tactic(auto, using(crate::proofs::BehindMarks::position_next, crate::proofs::BehindMarks::position_end))]
+pub(crate) fn target_in(unit: &Unit, label: u32) -> Option<u32>
+    ensures { result ≡ target_in (items unit.now) label }
+{
+    let count = unit.item_count() as u32;
+    for number in 0..count {
+        if is_label_at(unit, number, label) {
+            return Some(at(unit, number));
+        }
+    }
+    None
+}

@@ -1,0 +1,16 @@
+//! One process, and what a run of one instruction makes of it.
+#![tactic(auto)]
+
+mod faults;
+mod parts;
+mod process;
+mod reading;
+mod rows;
+mod stepping;
+mod stops;
+
+pub use parts::{Effect, Pending, Status};
+pub use process::Proc;
+
+#[cfg(test)]
+mod tests;

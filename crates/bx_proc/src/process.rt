@@ -1,0 +1,147 @@
+//! A process and its parts.
+
+ghost use Rattle.std.specs.Prelude.{◌≡◌, ◌↔◌, ◌≢◌, [], IfOk, IsTrue, Ok, option_map};
+ghost use Rattle.bx_terms.specs.Outcomes.{Gives};
+ghost use Rattle.bx_proc.specs.Process.{born, can_run, StandsAs};
+
+use crate::parts::{Pending, Status};
+use bx_cells::{Frames, Links, Registers};
+use bx_mail::Mailbox;
+use bx_share::Copied;
+use bx_terms::{Fault, Place, Term};
+use std::alloc::{AllocError, Global};
+use std::marker::Model;
+
+/// A process.
+///
+/// Source: The BEAM Book, "The Process".
+#[derive(Debug, Drop)]
+pub struct Proc {
+    pub(crate) x: Registers,
+    /// The continuation pointer.
+    pub(crate) cp: Option<Place>,
+    pub(crate) frames: Frames,
+    pub(crate) place: Option<Place>,
+    pub(crate) fault: Option<Pending>,
+    pub(crate) mailbox: Mailbox,
+    pub(crate) links: Links,
+    pub(crate) trap_exit: bool,
+    pub(crate) status: Status,
+}
+
+impl Model for Proc {
+    ghost use Rattle.bx_proc.specs.Process.{Process, process_code};
+    ghost use Rattle.bx_terms.specs.TreeCode.{tree_code};
+    ghost use Rattle.bx_terms.specs.contracts.places.Place as places;
+    ghost use Rattle.bx_cells.specs.contracts.values.Value as held;
+    ghost use Rattle.bx_proc.specs.contracts.parts.Pending as pending;
+    ghost use Rattle.bx_proc.specs.contracts.parts.Status as states;
+
+    ghost Value = { Process };
+
+    ghost coded = { process_code tree_code held.the_row.coded places.the_row.coded pending.the_row.coded states.the_row.coded };
+
+    ghost view = { λ a. record { x = a.x; cp = a.cp; frames = a.frames; place = a.place; fault = a.fault; mailbox = a.mailbox; links = a.links; trap_exit = a.trap_exit; status = a.status } };
+}
+
+impl Proc {
+    /// A process that stands at `place`, the beginning of its function, with its arguments in x0 on; without a place its
+    /// function is not there, which it finds at its first run. Memory is taken only where there are arguments.
+    pub fn new(alloc: Global, place: Option<Place>, arguments: &[Term]) -> Result<Proc, Fault>
+        ensures { Gives (arguments.now ≢ []) (λ p. p) result (Ok (born place arguments.now)) }
+    {
+        let x = Registers::holding(alloc, arguments)?;
+        Ok(Proc {
+            x,
+            cp: None,
+            frames: Frames::new(alloc),
+            place,
+            fault: None,
+            mailbox: Mailbox::new(alloc),
+            links: Links::new(alloc),
+            trap_exit: false,
+            status: Status::Ready,
+        })
+    }
+
+    /// Whether the process is ready, waits, or has ended.
+    #[inline]
+    pub fn status(&self) -> &Status
+        ensures { result.now ≡ self.now.status }
+    {
+        &self.status
+    }
+
+    /// The place at which the process stands, if its function was there.
+    #[inline]
+    pub fn place(&self) -> Option<Place>
+        ensures { result ≡ self.now.place }
+    {
+        self.place
+    }
+
+    /// Whether the process may run: it is ready, or it waits and has a message that it did not pass over.
+    pub fn can_run(&self) -> bool
+        ensures { result ≡ can_run self.now }
+    {
+        match &self.status {
+            Status::Ready => true,
+            Status::Waiting => self.mailbox.current().is_some(),
+            Status::Ended(_) => false,
+        }
+    }
+
+    /// Whether both are in the same state.
+    pub fn same(&self, other: &Proc) -> bool
+        ensures { IsTrue result ↔ (self.now ≡ other.now) }
+    {
+        self.stands_as(other)
+            && self.links.same(&other.links)
+            && self.x.same(&other.x)
+            && self.frames.same(&other.frames)
+            && self.mailbox.same(&other.mailbox)
+    }
+
+    /// Whether both stand at the same place in the same state, whatever they hold.
+    fn stands_as(&self, other: &Proc) -> bool
+        ensures { IsTrue result ↔ StandsAs self.now other.now }
+    {
+        self.cp == other.cp
+            && self.place == other.place
+            && self.trap_exit == other.trap_exit
+            && self.status.same(&other.status)
+            && same_fault(self.fault.as_ref(), other.fault.as_ref())
+    }
+}
+
+impl Copied for Proc {
+    /// The same process. Terms are shared.
+    fn copy(&self, alloc: Global) -> Result<Proc, AllocError> {
+        let fault = match &self.fault {
+            Some(fault) => Some(fault.copy(alloc)?),
+            None => None,
+        };
+        Ok(Proc {
+            x: self.x.copy(alloc)?,
+            cp: self.cp,
+            frames: self.frames.copy(alloc)?,
+            place: self.place,
+            fault,
+            mailbox: self.mailbox.copy(alloc)?,
+            links: self.links.copy(alloc)?,
+            trap_exit: self.trap_exit,
+            status: self.status.copy(alloc)?,
+        })
+    }
+}
+
+/// Whether both are the same fault, or neither is one.
+fn same_fault(one: Option<&Pending>, other: Option<&Pending>) -> bool
+    ensures { IsTrue result ↔ (option_map (λ f. f.now) one.entry ≡ option_map (λ f. f.now) other.entry) }
+{
+    match (one, other) {
+        (None, None) => true,
+        (Some(fault), Some(other)) => fault.same(other),
+        _ => false,
+    }
+}

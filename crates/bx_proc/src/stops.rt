@@ -1,0 +1,46 @@
+//! Why an instruction was not done.
+
+use bx_terms::Trap;
+use std::alloc::{AllocError, AllocFailed};
+
+/// Why an instruction was not done. Nothing has changed then.
+#[derive(Clone, Copy, Debug)]
+pub(crate) enum Stop {
+    /// It has no meaning here.
+    Trapped(Trap),
+    /// Memory ran out.
+    Memory,
+}
+
+impl From<AllocError> for Stop {
+    ghost use Rattle.std.specs.Prelude.{◌≡◌};
+    ghost use Rattle.bx_proc.specs.declared.stops.Stop.TheVariants.{Memory};
+
+    ghost from_gives = { λ _ s. s ≡ Memory };
+
+    fn from(_: AllocError) -> Stop {
+        Stop::Memory
+    }
+}
+
+impl<T: Drop> From<AllocFailed<T>> for Stop {
+    ghost use Rattle.std.specs.Prelude.{◌≡◌};
+    ghost use Rattle.bx_proc.specs.declared.stops.Stop.TheVariants.{Memory};
+
+    ghost from_gives = { λ _ s. s ≡ Memory };
+
+    fn from(_: AllocFailed<T>) -> Stop {
+        Stop::Memory
+    }
+}
+
+impl From<Trap> for Stop {
+    ghost use Rattle.std.specs.Prelude.{◌≡◌};
+    ghost use Rattle.bx_proc.specs.declared.stops.Stop.TheVariants.{Trapped};
+
+    ghost from_gives = { λ trap s. s ≡ Trapped trap };
+
+    fn from(trap: Trap) -> Stop {
+        Stop::Trapped(trap)
+    }
+}

@@ -1,0 +1,6 @@
+pub mod Compared
+pub mod Viewed
+pub mod Finding
+pub mod Changing
+pub mod Lifelines
+pub mod Applying

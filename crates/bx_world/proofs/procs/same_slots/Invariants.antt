@@ -1,0 +1,7 @@
+use Rattle.std.proofs.Common.{◌≡◌, take, map, length}
+use Rattle.bx_world.specs.Lives.{life}
+use Rattle.bx_world.proofs.procs.same_slots.Given as goal
+
+-- rows of one length that are seen the same so far
+abbrev pub invariant-loop-at : goal.invariant-loop-at
+invariant-loop-at g l = (length l.xs ≡ length l.ys) × (take l.at (map (life g.P.Hold.shown) l.xs) ≡ take l.at (map (life g.P.Hold.shown) l.ys))

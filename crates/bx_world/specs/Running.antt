@@ -1,0 +1,46 @@
+-- A list of choices in a world: how many were applied, and the one that was refused. Nothing more happens after a trap, nor after the
+-- first choice that is not enabled.
+use Rattle.std.specs.Prelude.{◌≡◌, IsTrue, ℕ, ◌+◌, List, [], ◌∷◌, Option, Some, None, is_some, ◌||◌, if◌then◌else◌, refl}
+use Rattle.std.specs.Coded.{Coded, code_by, coded×, coded_ℕ, coded_option}
+use Rattle.bx_load.specs.Image.{Loaded}
+use Rattle.bx_world.specs.declared.choices.Choice.{Choice}
+use Rattle.bx_world.specs.World.{State}
+use Rattle.bx_world.specs.Enabled.{can}
+use Rattle.bx_world.specs.Choosing.{chosen}
+
+pub record Ended : Type 0 where
+  pub world : State
+  pub applied : ℕ
+  pub refused : Option Choice
+
+-- a world in which nothing was chosen yet
+abbrev pub unchosen : State → Ended
+unchosen w = record { world = w; applied = 0; refused = None }
+
+-- a choice that is enabled is applied, and another is kept as the refused one
+abbrev pub tried : Loaded → Choice → Ended → Ended
+tried image choice end =
+    if can end.world choice
+    then record { world = chosen image choice end.world; applied = end.applied + 1; refused = None }
+    else record end { refused = Some choice }
+
+-- one choice more, where nothing has ended the run
+abbrev pub advanced : Loaded → Choice → Ended → Ended
+advanced image choice end = if is_some end.refused || is_some end.world.trap then end else tried image choice end
+
+-- a list of them, in order
+abbrev pub ran : Loaded → List Choice → Ended → Ended
+ran image [] end = end
+ran image (choice ∷ more) end = ran image more (advanced image choice end)
+
+-- what a proof tells two of them apart by
+abbrev pub ended_code : Coded State → Coded Choice → Coded Ended
+ended_code state choice =
+    code_by (State × (ℕ × Option Choice)) (coded× state (coded× coded_ℕ (coded_option choice)))
+    (λ e. (e.world, (e.applied, e.refused)))
+    (λ t. record { world = t.0; applied = t.1.0; refused = t.1.1 })
+    (λ _. refl)
+
+-- memory is taken only for a choice that is applied
+abbrev pub AdvanceTakes : Choice → Ended → Type 0
+AdvanceTakes choice end = (end.refused ≡ None) × IsTrue (can end.world choice)

@@ -1,0 +1,24 @@
+-- What can be seen of a world.
+use Rattle.std.specs.Prelude.{ℕ, List, [], ◌∷◌, map, Option, Some, None}
+use Rattle.bx_terms.specs.declared.kinds.Trap.{Trap}
+use Rattle.bx_proc.specs.declared.parts.Status.{Status}
+use Rattle.bx_proc.specs.declared.parts.Status.TheVariants as states
+use Rattle.bx_world.specs.declared.choices.Choice.{Choice}
+use Rattle.bx_world.specs.declared.outcomes.Outcome.{Outcome}
+use Rattle.bx_world.specs.declared.outcomes.Standing.{Standing}
+use Rattle.bx_world.specs.declared.outcomes.Standing.TheVariants.{Trapped, Quiet, Open}
+use Rattle.bx_world.specs.World.{Life, Live, Gone, State}
+use Rattle.bx_world.specs.Enabled.{enabled}
+
+abbrev pub status_of : Life → Status
+status_of (Live process) = process.status
+status_of (Gone reason) = states.Ended reason
+
+-- trapped, else quiet where no choice is enabled, else open with the choices that are
+abbrev pub standing_of : Option (Trap × ℕ) → List Choice → Standing
+standing_of (Some trap) choices = Trapped trap.0 trap.1
+standing_of None [] = Quiet
+standing_of None (choice ∷ more) = Open (choice ∷ more)
+
+abbrev pub seen : State → Outcome
+seen w = record { state = standing_of w.trap (enabled w); statuses = map status_of w.processes; output = w.output }

@@ -1,0 +1,63 @@
+//! Runs: what a list of choices leads to.
+
+ghost use Rattle.std.specs.Prelude.{◌≡◌, ◌<◌, Ok};
+ghost use Rattle.bx_terms.specs.Outcomes.{Does};
+ghost use Rattle.bx_world.specs.Running.{advanced, AdvanceTakes};
+
+use crate::choices::Choice;
+use crate::lanes::Lanes;
+use crate::world::World;
+use bx_load::Image;
+use bx_proc::Proc;
+use bx_share::Hold;
+use bx_terms::Fault;
+use std::alloc::Global;
+use std::marker::Model;
+
+/// Where a list of choices has led: the world, how many of the choices were applied, and the one that was refused, where one was.
+#[derive(Drop)]
+pub struct RunEnd<P: Hold<Proc>, C: Hold<Lanes>> {
+    pub world: World<P, C>,
+    pub applied: u64,
+    pub refused: Option<Choice>,
+}
+
+impl<P: Hold<Proc>, C: Hold<Lanes>> Model for RunEnd<P, C> {
+    ghost use Rattle.bx_terms.specs.TreeCode.{tree_code};
+    ghost use Rattle.bx_terms.specs.contracts.kinds.Trap as traps;
+    ghost use Rattle.bx_proc.specs.contracts.process.Proc as process;
+    ghost use Rattle.bx_world.specs.contracts.choices.Choice as choices;
+    ghost use Rattle.bx_world.specs.World.{state_code};
+    ghost use Rattle.bx_world.specs.Running.{Ended, ended_code};
+
+    ghost Value = { Ended };
+
+    ghost coded = { ended_code (state_code process.the_row.coded tree_code traps.the_row.coded) choices.the_row.coded };
+
+    ghost view = { λ a. record { world = a.world; applied = a.applied; refused = a.refused } };
+}
+
+/// One choice more: it is applied, the trapping one too, or it is kept as the refused one where it is not enabled. Once a
+/// choice was refused or the world has trapped, nothing changes.
+///
+/// Memory is all that it may lack, and then nothing has changed.
+pub fn advance<P: Hold<Proc>, C: Hold<Lanes>>(
+    alloc: Global,
+    end: &mut RunEnd<P, C>,
+    image: &Image,
+    choice: Choice,
+) -> Result<(), Fault>
+    requires { end.old.applied < u64.MAX }
+    ensures { Does (AdvanceTakes choice end.old) end.old end.new result (Ok (advanced image.now choice end.old, tt)) }
+{
+    if end.refused.is_some() {
+        return Ok(());
+    }
+    match end.world.apply(alloc, image, choice) {
+        Ok(()) => end.applied += 1,
+        Err(Fault::NotEnabled) => end.refused = Some(choice),
+        Err(Fault::Halted) => {}
+        Err(fault) => return Err(fault),
+    }
+    Ok(())
+}

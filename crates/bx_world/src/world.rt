@@ -1,0 +1,181 @@
+//! Worlds, stepped by one choice at a time.
+
+ghost use Rattle.std.specs.Prelude.{◌≡◌, ◌≢◌, ◌↔◌, [], IsTrue, IsSome, Ok};
+ghost use Rattle.bx_terms.specs.Outcomes.{Does, Gives};
+ghost use Rattle.bx_load.specs.Image.{export};
+ghost use Rattle.bx_world.specs.World.{started};
+ghost use Rattle.bx_world.specs.Enabled.{enabled, can};
+ghost use Rattle.bx_world.specs.Choosing.{applied};
+ghost use Rattle.bx_world.specs.Seen.{seen, standing_of};
+
+use crate::choices::{Choice, Choices};
+use crate::lanes::Lanes;
+use crate::outcomes::{Outcome, Standing};
+use crate::procs::Procs;
+use bx_load::Image;
+use bx_proc::{Effect, Proc};
+use bx_share::{ArcHold, Hold, RcHold};
+use bx_terms::{AtomId, Fault, Trap};
+use std::alloc::Global;
+use std::marker::Model;
+
+/// Processes and what they share, by a holder for each. A snapshot shares all of it, and a choice copies what it changes
+/// where that is shared.
+#[derive(Drop)]
+pub struct World<P: Hold<Proc>, C: Hold<Lanes>> {
+    procs: Procs<P>,
+    lanes: C,
+    trap: Option<(Trap, u32)>,
+}
+
+/// A world that stays in one thread.
+pub type RcWorld = World<RcHold<Proc>, RcHold<Lanes>>;
+
+/// A world whose parts may be shared between threads.
+pub type ArcWorld = World<ArcHold<Proc>, ArcHold<Lanes>>;
+
+impl<P: Hold<Proc>, C: Hold<Lanes>> Model for World<P, C> {
+    ghost use Rattle.bx_terms.specs.TreeCode.{tree_code};
+    ghost use Rattle.bx_terms.specs.contracts.kinds.Trap as traps;
+    ghost use Rattle.bx_proc.specs.contracts.process.Proc as process;
+    ghost use Rattle.bx_world.specs.World.{State, state_code};
+
+    ghost Value = { State };
+
+    ghost coded = { state_code process.the_row.coded tree_code traps.the_row.coded };
+
+    ghost view = { λ w. record { processes = w.procs; output = (C.shown w.lanes).output; trap = w.trap } };
+}
+
+impl<P: Hold<Proc>, C: Hold<Lanes>> World<P, C> {
+    /// The world of one process, at the beginning of that exported function of no arguments.
+    ///
+    /// `NoEntry` exactly where the module does not export it; memory is taken only where it does.
+    pub fn start(
+        alloc: Global,
+        image: &Image,
+        module: AtomId,
+        function: AtomId,
+    ) -> Result<World<P, C>, Fault>
+        ensures { Gives (IsSome (export image.now «module» function 0)) (λ w. w) result (started image.now «module» function) }
+    {
+        let Some(place) = image.entry(module, function, 0) else {
+            return Err(Fault::NoEntry);
+        };
+        let first = Proc::new(alloc, Some(place), &[])?;
+        let procs = Procs::new(alloc, first)?;
+        let lanes = C::put(alloc, Lanes::new(alloc))?;
+        Ok(World {
+            procs,
+            lanes,
+            trap: None,
+        })
+    }
+
+    /// The choices that are enabled: a run of each process that can run, by rising pid; none once the world has trapped.
+    ///
+    /// Memory is all that it may lack, and none is taken where no choice is enabled.
+    pub fn enabled(&self, alloc: Global) -> Result<Vec<Choice>, Fault>
+        ensures { Gives (enabled self.now ≢ []) (λ choices. choices.items) result (Ok (enabled self.now)) }
+    {
+        if self.trap.is_some() {
+            return Ok(Vec::new(alloc));
+        }
+        let choices = self.procs.runs(alloc)?;
+        Ok(choices)
+    }
+
+    /// Whether a choice is among those that are enabled. It is looked up, in a time that doesn't depend on how many there are.
+    #[inline]
+    pub fn can(&self, choice: Choice) -> bool
+        ensures { result ≡ can self.now choice }
+    {
+        match choice {
+            Choice::Run(pid) => self.trap.is_none() && self.procs.may_run(pid),
+            Choice::Deliver(_, _) => false,
+        }
+    }
+
+    /// Applies a choice.
+    ///
+    /// `Halted` exactly where the world has trapped, else `NotEnabled` exactly where the choice is not enabled. After any
+    /// refusal nothing has changed.
+    pub fn apply(&mut self, alloc: Global, image: &Image, choice: Choice) -> Result<(), Fault>
+        ensures { Does (IsTrue (can self.old choice)) self.old self.new result (applied image.now choice self.old) }
+    {
+        if self.trap.is_some() {
+            return Err(Fault::Halted);
+        }
+        match choice {
+            Choice::Run(pid) => self.run(alloc, image, pid),
+            Choice::Deliver(_, _) => Err(Fault::NotEnabled),
+        }
+    }
+
+    /// Runs one instruction of that process, in a world that has not trapped.
+    #[inline]
+    fn run(&mut self, alloc: Global, image: &Image, pid: u32) -> Result<(), Fault>
+        requires { self.old.trap ≡ None }
+        ensures { Does (IsTrue (can self.old (Choice.Run pid))) self.old self.new result (applied image.now (Choice.Run pid) self.old) }
+    {
+        match self.procs.step(alloc, image, pid)? {
+            Effect::Ran => {}
+            Effect::Ended(reason) => self.procs.end(pid, reason),
+            Effect::Trap(kind) => self.trap = Some((kind, pid)),
+        }
+        Ok(())
+    }
+
+    /// An equal world, which later choices in this one do not change.
+    ///
+    /// Memory is all that it may lack.
+    pub fn snapshot(&self, alloc: Global) -> Result<World<P, C>, Fault>
+        ensures { Gives (Unit {0}) (λ w. w) result (Ok self.now) }
+    {
+        let procs = self.procs.share(alloc)?;
+        let lanes = self.lanes.share(alloc)?;
+        Ok(World {
+            procs,
+            lanes,
+            trap: self.trap,
+        })
+    }
+
+    /// What can be seen of the world.
+    ///
+    /// Memory is all that it may lack.
+    pub fn outcome(&self, alloc: Global) -> Result<Outcome, Fault>
+        ensures { Gives (Unit {0}) (λ o. o) result (Ok (seen self.now)) }
+    {
+        let state = self.standing(alloc)?;
+        let statuses = self.procs.statuses(alloc)?;
+        let output = self.lanes.see().output().copy(alloc)?;
+        Ok(Outcome {
+            state,
+            statuses,
+            output,
+        })
+    }
+
+    fn standing(&self, alloc: Global) -> Result<Standing, Fault>
+        ensures { Gives (Unit {0}) (λ s. s) result (Ok (standing_of self.now.trap (enabled self.now))) }
+    {
+        if let Some((kind, pid)) = self.trap {
+            return Ok(Standing::Trapped(kind, pid));
+        }
+        let choices = self.procs.runs(alloc)?;
+        if choices.is_empty() {
+            return Ok(Standing::Quiet);
+        }
+        Ok(Standing::Open(Choices::of(choices)))
+    }
+
+    /// Whether both are equal.
+    pub fn same(&self, other: &World<P, C>) -> bool
+        ensures { IsTrue result ↔ (self.now ≡ other.now) }
+    {
+        self.trap == other.trap
+            && self.procs.same(&other.procs)
+            && self.lanes.see().output().same(other.lanes.see().output())
+    }
+}

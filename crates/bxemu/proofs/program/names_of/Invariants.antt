@@ -1,0 +1,5 @@
+use Rattle.std.proofs.Common.{◌≡◌, map, string_bytes, take}
+use Rattle.bxemu.proofs.program.names_of.Given as goal
+
+abbrev pub invariant-loop-file : goal.invariant-loop-file
+invariant-loop-file l = map string_bytes l.names.items ≡ map (λ file. file.now) (take l.file-index l.files)

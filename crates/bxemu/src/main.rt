@@ -1,0 +1,14 @@
+//! `bxemu`: runs Erlang assembly listings under schedules that the user writes.
+#![tactic(auto)]
+
+mod commands;
+mod laws;
+mod program;
+
+use std::process::ExitCode;
+
+fn main(rt: HostRuntime) -> ExitCode {
+    let mut output = rt.stdout();
+    let mut errors = rt.stderr();
+    ExitCode::from(program::status_of_run(&rt, &mut output, &mut errors))
+}

@@ -1,0 +1,135 @@
+//! The program over a runtime: its words, its files, and the status that it ends with.
+ghost use Rattle.std.specs.Prelude.{◌≡◌, ◌≢◌, ◌⊎◌, ◌++◌, ◌∷◌, [], IfOk, map, string_bytes};
+ghost use Rattle.std.specs.IoError.{error_kind};
+ghost use Rattle.std.specs.declared.io.ErrorKind.TheVariants.{OutOfMemory};
+ghost use Rattle.clap.specs.Words.{kind_of};
+ghost use Rattle.bx_terms.specs.declared.faults.Fault.TheVariants.{Memory};
+
+use crate::commands::{Order, command_of};
+use bx_engine::{Failure, fault_line, run_text, start_of};
+use bx_terms::Fault;
+use clap::Error;
+use clap::error::ErrorKind;
+use std::alloc::{AllocError, Global};
+use std::io::Write;
+use std::rt::{Env, Files};
+use std::{env, fs, io};
+
+/// Does what the command line orders, with its text on `output` and lines on `errors`, and gives the status to end with.
+pub fn status_of_run<R, O, W>(rt: &R, output: &mut O, errors: &mut W) -> u8
+where
+    R: Files + Env + Print + Eprint + AllocGlobal,
+    O: Write,
+    W: Write,
+{
+    let words = match words_of(rt) {
+        Ok(words) => words,
+        Err(error) => return refuse_words(&error, errors),
+    };
+    match command_of(rt.alloc(), words.as_slice()) {
+        Ok(Order::Run { start, plan, files }) => {
+            let names = match names_of(rt.alloc(), files.as_slice(), plan) {
+                Ok(names) => names,
+                Err(_) => return fault_line(&memory(), &[], errors),
+            };
+            match run(rt, start, names.as_slice(), output) {
+                Ok(()) => 0,
+                Err(failure) => fault_line(&failure, names.as_slice(), errors),
+            }
+        }
+        Err(error) => explain(rt, &error, errors),
+    }
+}
+
+/// The words of the command line, the program's name first.
+fn words_of<R: Env + AllocGlobal>(rt: &R) -> io::Result<Vec<String>> {
+    Ok(env::args(rt)?.collect(rt.alloc())?)
+}
+
+/// Answers words that can't be had, as they are no UTF-8 or memory ran out.
+fn refuse_words<W: Write>(error: &io::Error, errors: &mut W) -> u8
+    ensures memory { error_kind error.now ≡ OutOfMemory → result ≡ 3 }
+    ensures other { error_kind error.now ≢ OutOfMemory → result ≡ 2 }
+{
+    if error.kind() == io::ErrorKind::OutOfMemory {
+        return fault_line(&memory(), &[], errors);
+    }
+    let _ = errors.write_all(b"error: invalid UTF-8 was detected in one or more arguments\n");
+    2
+}
+
+/// Shows a usage fault, or the help that was asked for.
+fn explain<R: Print + Eprint, W: Write>(rt: &R, error: &Error, errors: &mut W) -> u8
+    ensures memory { kind_of error.now ≡ ErrorKind.OutOfMemory → result ≡ 3 }
+    ensures shown { (kind_of error.now ≡ ErrorKind.DisplayHelp)
+        ⊎ (kind_of error.now ≡ ErrorKind.DisplayVersion) → (result ≡ 0) ⊎ (result ≡ 4) }
+    ensures mistake { kind_of error.now ≢ ErrorKind.OutOfMemory
+        → kind_of error.now ≢ ErrorKind.DisplayHelp
+        → kind_of error.now ≢ ErrorKind.DisplayVersion → result ≡ 2 }
+{
+    if error.kind() == ErrorKind::OutOfMemory {
+        return fault_line(&memory(), &[], errors);
+    }
+    let printed = error.print(rt);
+    if error.use_stderr() {
+        return 2;
+    }
+    match printed {
+        Ok(()) => 0,
+        Err(_) => fault_line(&Failure::Write, &[], errors),
+    }
+}
+
+/// Want of memory, which is no file's fault.
+fn memory() -> Failure
+    ensures { result ≡ Failure.Refused Memory None }
+{
+    Failure::Refused(Fault::Memory, None)
+}
+
+/// The files' names in the order by which a failure numbers them: the listings, and then the plan.
+fn names_of(alloc: Global, files: &[&str], plan: &str) -> Result<Vec<String>, AllocError>
+    ensures { IfOk result (λ names. map string_bytes names.items
+        ≡ map (λ file. file.now) files.now ++ plan.now ∷ []) }
+{
+    let mut names = Vec::new(alloc);
+    for file in files {
+        names.push(String::from_str(alloc, file)?)?;
+    }
+    names.push(String::from_str(alloc, plan)?)?;
+    Ok(names)
+}
+
+/// Looks at the start, opens all the files, the plan last, and then writes the report of the run.
+fn run<R, W>(rt: &R, start: &str, names: &[String], writer: &mut W) -> Result<(), Failure>
+where
+    R: Files + AllocGlobal,
+    W: Write,
+{
+    let _ = start_of(rt.alloc(), start)?;
+    let mut inputs = open_all(rt, names)?;
+    match inputs.split_last_mut() {
+        Some((plan, listings)) => run_text(rt.alloc(), listings, start, plan, writer),
+        None => Ok(()),
+    }
+}
+
+/// Opens each file, the first that can't be opened being the failure.
+fn open_all<R>(rt: &R, names: &[String]) -> Result<Vec<R::File>, Failure>
+where
+    R: Files + AllocGlobal,
+{
+    let mut opened = Vec::new(rt.alloc());
+    for (i, name) in names.iter().enumerate() {
+        let Ok(file) = fs::open(rt, name.as_str()) else {
+            return Err(Failure::Read(i));
+        };
+        if opened.push(file).is_err() {
+            return Err(memory());
+        }
+    }
+    Ok(opened)
+}
+
+#[cfg(test)]
+mod tests;
