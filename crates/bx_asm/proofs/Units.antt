@@ -66,11 +66,11 @@ heads-of (h ∷ hs) is e =
 pub heads_of_functions : (t : Tables) (hs : List Head) (is : List NumberedItem) → IsUnit t hs is → map code_head (functions hs (map (spelled_item t) is)) ≡ hs
 heads_of_functions t hs is unit = heads-of hs (map (spelled_item t) is) (unit.shared_out ∙ sym (length-map is (spelled_item t)))
 
-take_front : {A : Type 0} (xs ys : List A) → take (length xs) (xs ++ ys) ≡ xs
+pub take_front : {A : Type 0} (xs ys : List A) → take (length xs) (xs ++ ys) ≡ xs
 take_front [] ys = refl
 take_front (x ∷ xs) ys = ap (λ (zs : List _). x ∷ zs) (take_front xs ys)
 
-drop_front : {A : Type 0} (xs ys : List A) → drop (length xs) (xs ++ ys) ≡ ys
+pub drop_front : {A : Type 0} (xs ys : List A) → drop (length xs) (xs ++ ys) ≡ ys
 drop_front [] ys = refl
 drop_front (x ∷ xs) ys = drop_front xs ys
 

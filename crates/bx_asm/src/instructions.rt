@@ -59,7 +59,7 @@ pub(crate) struct Lookup<'a> {
     pub imports: &'a IndexSet<Import>,
 }
 
-const LABEL: u32 = Op::Label as u32;
+pub(crate) const LABEL: u32 = Op::Label as u32;
 
 const FUNC_INFO: u32 = Op::FuncInfo as u32;
 
@@ -71,7 +71,7 @@ const MOVE: u32 = Op::Move as u32;
 
 const CALL_EXT_ONLY: u32 = Op::CallExtOnly as u32;
 
-const LINE: u32 = Op::Line as u32;
+pub(crate) const LINE: u32 = Op::Line as u32;
 
 impl<'a> Lookup<'a> {
     /// What an item spells.

@@ -6,6 +6,7 @@ mod drafts;
 mod instructions;
 mod limits;
 mod operands;
+mod sameness;
 mod unit;
 
 pub use assembling::assemble;

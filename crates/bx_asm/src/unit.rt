@@ -1,14 +1,16 @@
 //! A module's numbered code.
 
-ghost use Rattle.std.specs.Prelude.{◌≡◌, ◌≤◌, ◌+◌, ◌++◌, IfOk, OnOk, None, map, length, option_map, slice_get};
+ghost use Rattle.std.specs.Prelude.{◌||◌, ◌==◌, ◌≡◌, ◌≤◌, ◌+◌, ◌++◌, ◌↔◌, IsTrue, IfOk, OnOk, None, map, length, option_map, slice_get};
 ghost use Rattle.bx_asm.specs.Decoded.{item_of};
+ghost use Rattle.bx_asm.specs.Marks.{mark_at};
 ghost use Rattle.bx_asm.specs.Drafts.{IsFit, Grows, all_items, head_of};
 ghost use Rattle.bx_listing.specs.Code.{items, code};
 ghost use Rattle.bx_asm.specs.Limits.{first, register_fault, register_faults, count};
 
 use crate::drafts::Draft;
-use crate::instructions::{Instruction, Lookup};
+use crate::instructions::{Instruction, LABEL, LINE, Lookup};
 use crate::operands::NumberedItem;
+use crate::sameness::{same_exports, same_heads, same_items};
 use bx_listing::{Export, Function, Import, Listing};
 use bx_terms::{AtomId, Term};
 use indexmap::IndexSet;
@@ -16,7 +18,7 @@ use std::alloc::{AllocError, Global};
 use std::marker::Model;
 
 /// A function of a unit: its items are the next `count` of the unit's.
-#[derive(Clone, Copy, Debug)]
+#[derive(Clone, Copy, Debug, PartialEq, Eq)]
 pub struct Head {
     pub name: AtomId,
     pub arity: u32,
@@ -114,6 +116,17 @@ impl Unit {
         self.items.len()
     }
 
+    /// Whether both hold the same code: the names, the exports, the functions and what their items spell.
+    #[tactic(auto, using(crate::proofs::SameCode::same_code))]
+    pub fn same(&self, other: &Unit) -> bool
+        ensures { IsTrue result ↔ (self.now ≡ other.now) }
+    {
+        self.name() == other.name()
+            && same_exports(self.exports(), other.exports())
+            && same_heads(self.functions(), other.functions())
+            && same_items(self, other)
+    }
+
     /// The item of this number, from 0, or none past the last.
     #[inline]
     #[tactic(auto, using(crate::proofs::Units::item_at, crate::proofs::Units::no_item_at))]
@@ -129,6 +142,27 @@ impl Unit {
         };
         lookup.instruction(&self.items[number])
     }
+
+    /// Whether there is an item of this number, from 0, and it is a mark: a label or a line, and no instruction. It is told
+    /// by the opcode's number alone.
+    #[inline]
+    #[tactic(auto, using(crate::proofs::Marks::mark_here, crate::proofs::Marks::no_mark))]
+    pub fn is_mark(&self, number: usize) -> bool
+        ensures { result ≡ mark_at (items self.now) number }
+    {
+        if number >= self.items.len() {
+            return false;
+        }
+        marks(self.items[number].number)
+    }
+}
+
+/// Whether items of this opcode are marks.
+#[inline]
+fn marks(opcode: u32) -> bool
+    ensures { result ≡ (opcode == 1 || opcode == 153) }
+{
+    opcode == LABEL || opcode == LINE
 }
 
 /// Numbers the items of all functions, and notes how many each has.

@@ -1,1 +1,10 @@
 pub mod FixedNames
+pub mod Integers
+pub mod TwosComplement
+pub mod Powers
+pub mod Lists
+pub mod IntegerLaws
+pub mod BitLaws
+pub mod TermLaws
+pub mod NameLaws
+pub mod Arities

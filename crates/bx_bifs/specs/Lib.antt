@@ -1,3 +1,10 @@
 pub mod Names
 pub mod Natives
 pub mod GuardNames
+pub mod Given
+pub mod Bits
+pub mod Shifts
+pub mod Arithmetic
+pub mod Kinds
+pub mod Parts
+pub mod Guards

@@ -1,10 +1,22 @@
 //! The built-in functions: the guard BIFs with what they give, and the names of the natives.
 #![tactic(auto)]
 
+mod arithmetic;
+mod given;
 mod guard_names;
+mod guards;
+mod kinds;
+pub mod laws;
 mod native_names;
 mod natives;
+mod parts;
+mod shifts;
 
+pub use given::Given;
 pub use guard_names::{guard_bif, is_guard};
+pub use guards::{guard, guard_named, guard_of_one, guard_of_two};
 pub use native_names::native;
 pub use natives::Native;
+
+#[cfg(test)]
+mod tests;

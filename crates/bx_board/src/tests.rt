@@ -42,9 +42,18 @@ fn schedules_in_order(rt: HostRuntime) -> Result<(), Fail> {
 
     let normal = Status::Ended(Term::atom(fixed::NORMAL));
     let mut outcome = alone(alloc, Standing::Quiet, normal)?;
-    outcome.statuses.push(Status::Waiting).map_err(|_| AllocError)?;
-    outcome.output.push(0, Term::int(-7)).map_err(|_| AllocError)?;
-    outcome.output.push(1, Term::pid(0)).map_err(|_| AllocError)?;
+    outcome
+        .statuses
+        .push(Status::Waiting)
+        .map_err(|_| AllocError)?;
+    outcome
+        .output
+        .push(0, Term::int(-7))
+        .map_err(|_| AllocError)?;
+    outcome
+        .output
+        .push(1, Term::pid(0))
+        .map_err(|_| AllocError)?;
     let first = scheduled(alloc, "a", 2, None, outcome)?;
     report.push(first).map_err(|_| AllocError)?;
 
@@ -66,6 +75,9 @@ fn schedules_in_order(rt: HostRuntime) -> Result<(), Fail> {
         .map_err(|_| AllocError)?;
 
     let text = report_text(alloc, &atoms, &report)?;
-    assert_eq!(rt; text.as_str(), "schedule a\napplied 2\nstate quiet\nprocess <0.0.0> ended normal\nprocess <0.1.0> waiting\noutput <0.0.0> -7\noutput <0.1.0> <0.0.0>\nend\nschedule b_-9Z\napplied 0\nstate open r0 d1>0\nprocess <0.0.0> ready\nend\nschedule c\napplied 14\nstate stopped d0>12\nprocess <0.0.0> ready\nend\nschedule d\napplied 1\nstate trapped Unset <0.0.0>\nprocess <0.0.0> ready\nend\n");
+    assert_eq!(rt;
+        text.as_str(),
+        "schedule a\napplied 2\nstate quiet\nprocess <0.0.0> ended normal\nprocess <0.1.0> waiting\noutput <0.0.0> -7\noutput <0.1.0> <0.0.0>\nend\nschedule b_-9Z\napplied 0\nstate open r0 d1>0\nprocess <0.0.0> ready\nend\nschedule c\napplied 14\nstate stopped d0>12\nprocess <0.0.0> ready\nend\nschedule d\napplied 1\nstate trapped Unset <0.0.0>\nprocess <0.0.0> ready\nend\n"
+    );
     Ok(())
 }

@@ -20,10 +20,10 @@ ties q n e = unsigned_tied q n ∙ grind (arith, nat_tests)
 parts : (q n : ℕ) → q ≢ n → eq_by_cmp nat_cmp q n ≡ false
 parts q n e = unsigned_tied q n ∙ grind (arith, nat_tests)
 
-put_here : {A : Type 0} (m : map.FinMap nat_cmp A) (n q : ℕ) (v : A) → q ≡ n → map.get (map.insert m n v) q ≡ Some v
+pub put_here : {A : Type 0} (m : map.FinMap nat_cmp A) (n q : ℕ) (v : A) → q ≡ n → map.get (map.insert m n v) q ≡ Some v
 put_here m n q v e = get-insert nat_cmp_total m n v q ∙ ap (λ b. cond b (Some v) (map.get m q)) (ties q n e)
 
-put_elsewhere : {A : Type 0} (m : map.FinMap nat_cmp A) (n q : ℕ) (v : A) → q ≢ n → map.get (map.insert m n v) q ≡ map.get m q
+pub put_elsewhere : {A : Type 0} (m : map.FinMap nat_cmp A) (n q : ℕ) (v : A) → q ≢ n → map.get (map.insert m n v) q ≡ map.get m q
 put_elsewhere m n q v e = get-insert nat_cmp_total m n v q ∙ ap (λ b. cond b (Some v) (map.get m q)) (parts q n e)
 
 -- a row that begins at n holds nothing below n

@@ -1,2 +1,4 @@
 pub mod Cells
 pub mod Stacks
+pub mod Catching
+pub mod Writing

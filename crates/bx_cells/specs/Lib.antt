@@ -3,3 +3,4 @@ pub mod Held
 pub mod StackFrame
 pub mod Stack
 pub mod TopFrame
+pub mod Tags

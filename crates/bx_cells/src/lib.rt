@@ -2,6 +2,7 @@
 #![tactic(auto)]
 
 mod frames;
+pub mod laws;
 mod links;
 mod registers;
 mod values;

@@ -1,3 +1,11 @@
 pub mod BehindMarks
+pub mod ExportSteps
 pub mod FunctionHeads
+pub mod LabelRows
+pub mod LoadLaws
+pub mod NameTests
+pub mod PlaceLaws
 pub mod Rows
+pub mod SameRows
+pub mod TableRows
+pub mod TargetSteps

@@ -1,5 +1,9 @@
 pub mod Image
 pub mod Heads
 pub mod Items
+pub mod Labels
+pub mod Exports
 pub mod Linking
 pub mod Loading
+pub mod Names
+pub mod Standing

@@ -1,10 +1,18 @@
 //! Loaded code: the modules of a program, the places in them, and where calls and jumps lead.
 #![tactic(auto)]
 
-mod functions;
+mod by_name;
+mod exports;
 mod image;
+mod labels;
+pub mod laws;
 mod loading;
 mod marks;
+mod modules;
+mod tables;
 
 pub use image::Image;
 pub use loading::{LoadRefused, load};
+
+#[cfg(test)]
+mod tests;

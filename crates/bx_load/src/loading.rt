@@ -1,15 +1,14 @@
 //! Modules into an image.
 
-ghost use Rattle.std.specs.Prelude.{◌≡◌, ◌≤◌, ◌<◌, Ok, MatchResult, IfErr, length, map};
+ghost use Rattle.std.specs.Prelude.{◌≡◌, Ok, MatchResult, IfErr};
 ghost use Rattle.std.specs.List.{list_any};
 ghost use Rattle.bx_terms.specs.Outcomes.{Refuses};
-ghost use Rattle.bx_load.specs.Heads.{is_head};
 ghost use Rattle.bx_load.specs.Image.{is_atom};
-ghost use Rattle.bx_load.specs.Loading.{has_twice, is_missing, lacks_export, loaded, TakesMemory};
+ghost use Rattle.bx_load.specs.Loading.{has_twice, loaded, TakesMemory};
 
 use crate::image::Image;
-use bx_asm::{Head, Unit};
-use bx_listing::Export;
+use crate::tables::tables_of;
+use bx_asm::Unit;
 use bx_terms::{AtomId, Atoms, Fault};
 use std::alloc::Global;
 
@@ -28,7 +27,7 @@ pub struct LoadRefused {
 /// then R17 for two of one name, then R18 for an export that names no function of its module.
 ///
 /// The atoms are those of the units' listings. Memory is wanting only once there is a module and neither R19 nor R17 holds.
-pub fn load(_alloc: Global, atoms: Atoms, units: Vec<Unit>) -> Result<Image, LoadRefused>
+pub fn load(alloc: Global, atoms: Atoms, units: Vec<Unit>) -> Result<Image, LoadRefused>
     ensures answer { MatchResult result (λ image. loaded atoms units.items ≡ Ok image) (λ refused. Refuses (TakesMemory units.items) refused.fault (loaded atoms units.items)) }
     ensures handed_back { IfErr result (λ refused. (refused.atoms ≡ atoms) × (refused.units ≡ units)) }
 {
@@ -36,10 +35,12 @@ pub fn load(_alloc: Global, atoms: Atoms, units: Vec<Unit>) -> Result<Image, Loa
         Fault::TooManyModules
     } else if has_twice(&units) {
         Fault::ModuleTwice
-    } else if lack_export(&units) {
-        Fault::ExportMissing
     } else {
-        return Ok(Image::new(atoms, units));
+        match tables_of(alloc, &units) {
+            Ok(Some(tables)) => return Ok(Image::new(atoms, units, tables)),
+            Ok(None) => Fault::ExportMissing,
+            Err(_) => Fault::Memory,
+        }
     };
     Err(LoadRefused {
         fault,
@@ -65,31 +66,4 @@ fn has_twice(units: &[Unit]) -> bool
         }
     }
     false
-}
-
-fn is_named(functions: &[Head], export: &Export) -> bool
-    ensures { result ≡ list_any (is_head export.now.function export.now.arity) functions.now }
-{
-    functions.iter().any(|head| head.name == export.function && head.arity == export.arity)
-}
-
-/// Whether no function of the module is the one that is exported.
-#[tactic(auto, using(crate::proofs::FunctionHeads::missing_by_heads))]
-fn is_missing(unit: &Unit, export: &Export) -> bool
-    ensures { result ≡ is_missing unit.now.functions export.now }
-{
-    !is_named(unit.functions(), export)
-}
-
-/// Whether an export names no function of its module.
-fn lacks_export(unit: &Unit) -> bool
-    ensures { result ≡ lacks_export unit.now }
-{
-    unit.exports().iter().any(|export| is_missing(unit, export))
-}
-
-fn lack_export(units: &[Unit]) -> bool
-    ensures { result ≡ list_any lacks_export units.now }
-{
-    units.iter().any(|unit| lacks_export(unit))
 }

@@ -3,7 +3,8 @@
 ghost use Rattle.std.specs.Prelude.{◌≡◌, ◌≤◌, ◌<◌, length, option_map, option_and_then, slice_get};
 ghost use Rattle.bx_listing.specs.Code.{items};
 ghost use Rattle.bx_asm.specs.Decoded.{item_of};
-ghost use Rattle.bx_load.specs.Image.{is_mark, is_label, at, after_in, unmarked, target_in};
+ghost use Rattle.bx_asm.specs.Limits.{label_of};
+ghost use Rattle.bx_load.specs.Image.{is_mark, at, after_in, unmarked};
 ghost use Rattle.bx_load.specs.Items.{passes_at};
 
 use bx_asm::{Instruction, Unit};
@@ -20,13 +21,10 @@ pub(crate) fn instruction_in(unit: &Unit, number: u32) -> Option<Instruction<'_>
 }
 
 #[inline]
-fn is_mark_at(unit: &Unit, number: u32) -> bool
+pub(crate) fn is_mark_at(unit: &Unit, number: u32) -> bool
     ensures { result ≡ passes_at is_mark (items unit.now) number }
 {
-    matches!(
-        unit.instruction(number as usize),
-        Some(Instruction::Label(_) | Instruction::Line)
-    )
+    unit.is_mark(number as usize)
 }
 
 /// The number of the first item from that number on that is no mark, or else the number of items.
@@ -57,25 +55,12 @@ pub(crate) fn after_in(unit: &Unit, number: u32) -> u32
     }
 }
 
-fn is_label_at(unit: &Unit, number: u32, label: u32) -> bool
-    ensures { result ≡ passes_at (is_label label) (items unit.now) number }
+/// The label that the item of that number is.
+pub(crate) fn label_at(unit: &Unit, number: u32) -> Option<u32>
+    ensures { result ≡ option_and_then label_of (slice_get (items unit.now) number) }
 {
-    match unit.instruction(number as usize) {
-        Some(Instruction::Label(found)) => found == label,
-        _ => false,
+    match unit.instruction(number as usize)? {
+        Instruction::Label(label) => Some(label),
+        _ => None,
     }
-}
-
-/// Where a label leads to.
-#[tactic(auto, using(crate::proofs::BehindMarks::position_next, crate::proofs::BehindMarks::position_end))]
-pub(crate) fn target_in(unit: &Unit, label: u32) -> Option<u32>
-    ensures { result ≡ target_in (items unit.now) label }
-{
-    let count = unit.item_count() as u32;
-    for number in 0..count {
-        if is_label_at(unit, number, label) {
-            return Some(at(unit, number));
-        }
-    }
-    None
 }

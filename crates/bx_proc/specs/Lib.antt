@@ -4,3 +4,4 @@ pub mod Reading
 pub mod Faults
 pub mod Rows
 pub mod Stepping
+pub mod Changes

@@ -1,10 +1,10 @@
 -- A run of one process, in its world.
-use Rattle.std.proofs.Common.{◌≡◌, ℕ, List, Option, Some, None, Result, Ok, Err, Bool, true, false, refl, sym, ap, subst, ◌∙◌}
+use Rattle.std.proofs.Common.{◌≡◌, ℕ, List, Option, Some, None, Result, Ok, Err, Bool, true, false, refl, sym, ap, ◌∙◌}
 use Rattle.std.specs.Prelude.{IsTrue, ◌&&◌, if◌then◌else◌, is_some, is_none, slice_get, slice_set}
 use Rattle.std.proofs.Math.ListN.{set}
-use Rattle.std.proofs.lemmas.List.{set-set}
+use Rattle.std.proofs.lemmas.List.{set-set, set-get_or}
+use Rattle.std.proofs.lemmas.Option.{get_or_from_slice_get}
 use Rattle.bx_terms.specs.Outcomes.{◌>>=◌}
-use Rattle.bx_terms.specs.Tree.{Tree}
 use Rattle.bx_terms.specs.declared.faults.Fault.{Fault}
 use Rattle.bx_terms.specs.declared.faults.Fault.TheVariants.{NotEnabled, Halted}
 use Rattle.bx_terms.specs.declared.kinds.Trap.{Trap}
@@ -13,11 +13,12 @@ use Rattle.bx_proc.specs.declared.parts.Effect.{Effect}
 use Rattle.bx_proc.specs.declared.parts.Effect.TheVariants as effects
 use Rattle.bx_proc.specs.Process.{Process, can_run}
 use Rattle.bx_proc.specs.Stepping.{stepped}
+use Rattle.bx_proc.proofs.Keeping.{Tells, tells_so}
 use Rattle.bx_world.specs.declared.choices.Choice.TheVariants.{Run}
 use Rattle.bx_world.specs.World.{Life, Live, Gone, State}
 use Rattle.bx_world.specs.Enabled.{can, runs_at}
-use Rattle.bx_world.specs.Lifetimes.{alive, life_run, found_run, lives_run}
-use Rattle.bx_world.specs.Choosing.{with_life, turned, run_of, unless_refused, applied}
+use Rattle.bx_world.specs.Lifetimes.{alive, found_run, lives_run}
+use Rattle.bx_world.specs.Choosing.{turned, run_of, unless_refused, applied}
 
 -- the world as a run has left its processes, and what is still to do
 abbrev pub finished : ℕ → State → List Life → Effect → State
@@ -25,10 +26,16 @@ finished p w lives effects.Ran = record w { processes = lives }
 finished p w lives (effects.Ended reason) = record w { processes = slice_set lives p (Gone reason) }
 finished p w lives (effects.Trap kind) = record w { processes = lives; trap = Some (kind, p) }
 
-turned_is : (p : ℕ) (w : State) (process : Process) (effect : Effect) → turned p w (process, effect) ≡ finished p w (slice_set w.processes p (Live process)) effect
-turned_is p w process effects.Ran = refl
-turned_is p w process (effects.Ended reason) = ap (λ lives. record w { processes = lives }) (sym (set-set w.processes p (Live process) (Gone reason)))
-turned_is p w process (effects.Trap kind) = refl
+-- what stood at a place, put there again
+set_back : {A : Type 0} (xs : List A) (p : ℕ) (x : A) → slice_get xs p ≡ Some x → slice_set xs p x ≡ xs
+set_back xs p x at = ap (λ y. set xs p y) (sym (get_or_from_slice_get xs p x x at)) ∙ set-get_or xs p x
+
+turned_is : (p : ℕ) (w : State) (q process : Process) (effect : Effect) → slice_get w.processes p ≡ Some (Live q) → Tells q process effect
+    → turned p w (process, effect) ≡ finished p w (slice_set w.processes p (Live process)) effect
+turned_is p w q process effects.Ran at told = refl
+turned_is p w q process (effects.Ended reason) at told = ap (λ lives. record w { processes = lives }) (sym (set-set w.processes p (Live process) (Gone reason)))
+turned_is p w q process (effects.Trap kind) at told =
+    ap (λ lives. record w { processes = lives; trap = Some (kind, p) }) (sym (ap (λ x. slice_set w.processes p (Live x)) told ∙ set_back w.processes p (Live q) at))
 
 -- what is answered, by the trap and the life of that pid
 answer : Loaded → ℕ → State → Option (Trap × ℕ) → Option Life → Result (State × Unit {0}) Fault
@@ -45,27 +52,28 @@ pair_is : {A B E : Type 0} (x y : A × B) → ◌≡◌ {A = Result (A × B) E} 
 pair_is x y e = let both : x ≡ y = cc in (ap (λ p. p.0) both, ap (λ p. p.1) both)
 
 -- a process that can run
-able : (image : Loaded) (p : ℕ) (w : State) (q : Process) (b : Bool) (lives : List Life) (effect : Effect) → can_run q ≡ b
+able : (image : Loaded) (p : ℕ) (w : State) (q : Process) (b : Bool) (lives : List Life) (effect : Effect) → slice_get w.processes p ≡ Some (Live q) → can_run q ≡ b
     → ((if b then Ok (alive (stepped image p q)) else Err NotEnabled) >>= put_back p w.processes) ≡ Ok (lives, effect)
     → answer image p w None (Some (Live q)) ≡ Ok (finished p w lives effect, tt)
 unfolding answer put_back
-able image p w q true lives effect free is =
+able image p w q true lives effect at free is =
     let parts = pair_is (slice_set w.processes p (Live (stepped image p q).0), (stepped image p q).1) (lives, effect) is in
+    let told = tells_so image p q (stepped image p q).0 (stepped image p q).1 refl in
     ap (λ b. unless_refused (if b then None else Some NotEnabled) (turned p w (stepped image p q))) free
-    ∙ ap (λ done. Ok (done, tt)) (turned_is p w (stepped image p q).0 (stepped image p q).1 ∙ ap (λ more. finished p w more (stepped image p q).1) parts.0 ∙ ap (finished p w lives) parts.1)
-able image p w q false lives effect free is = cc
+    ∙ ap (λ done. Ok (done, tt)) (turned_is p w q (stepped image p q).0 (stepped image p q).1 at told ∙ ap (λ more. finished p w more (stepped image p q).1) parts.0 ∙ ap (finished p w lives) parts.1)
+able image p w q false lives effect at free is = cc
 
-there : (image : Loaded) (p : ℕ) (w : State) (o : Option Life) (lives : List Life) (effect : Effect)
+there : (image : Loaded) (p : ℕ) (w : State) (o : Option Life) (lives : List Life) (effect : Effect) → slice_get w.processes p ≡ o
     → (found_run image p o >>= put_back p w.processes) ≡ Ok (lives, effect) → answer image p w None o ≡ Ok (finished p w lives effect, tt)
-there image p w None lives effect is = cc
-there image p w (Some (Gone reason)) lives effect is = cc
-there image p w (Some (Live q)) lives effect is = able image p w q (can_run q) lives effect refl is
+there image p w None lives effect at is = cc
+there image p w (Some (Gone reason)) lives effect at is = cc
+there image p w (Some (Live q)) lives effect at is = able image p w q (can_run q) lives effect at refl is
 
 -- a run that was done is what the choice makes of the world
 pub run_done : (image : Loaded) (p : ℕ) (w : State) (lives : List Life) (effect : Effect) → w.trap ≡ None
     → lives_run image p w.processes ≡ Ok (lives, effect) → applied image (Run p) w ≡ Ok (finished p w lives effect, tt)
 unfolding put_back
-run_done image p w lives effect free is = answered image p w (slice_get w.processes p) free refl ∙ there image p w (slice_get w.processes p) lives effect is
+run_done image p w lives effect free is = answered image p w (slice_get w.processes p) free refl ∙ there image p w (slice_get w.processes p) lives effect refl is
 
 unable : (image : Loaded) (p : ℕ) (w : State) (q : Process) (b : Bool) (fault : Fault) → can_run q ≡ b
     → ((if b then Ok (alive (stepped image p q)) else Err NotEnabled) >>= put_back p w.processes) ≡ Err fault

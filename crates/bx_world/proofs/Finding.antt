@@ -1,8 +1,8 @@
 -- The runs that are found from a place on.
-use Rattle.std.proofs.Common.{◌≡◌, ◌≢◌, ℕ, ◌+◌, ◌<◌, List, [], ◌∷◌, ◌++◌, true, false, length, get_or, drop, map, refl, sym, ap, ◌∙◌, append_assoc}
+use Rattle.std.proofs.Common.{◌≡◌, ◌≢◌, ℕ, ◌+◌, ◌<◌, List, [], ◌∷◌, ◌++◌, true, false, length, get_or, drop, map, sym, ap, ◌∙◌, append_assoc}
 use Rattle.std.specs.Prelude.{if◌then◌else◌}
 use Rattle.bx_world.specs.declared.choices.Choice.{Choice}
-use Rattle.bx_world.specs.declared.choices.Choice.TheVariants.{Run, Deliver}
+use Rattle.bx_world.specs.declared.choices.Choice.TheVariants.{Run}
 use Rattle.bx_world.specs.World.{Life}
 use Rattle.bx_world.specs.Enabled.{may_run, runs_from}
 use Rattle.bx_world.proofs.Viewed.{rest_seen, goes_on}

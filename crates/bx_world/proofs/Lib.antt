@@ -4,3 +4,5 @@ pub mod Finding
 pub mod Changing
 pub mod Lifelines
 pub mod Applying
+pub mod Lawful
+pub mod Members

@@ -1,5 +1,5 @@
 -- What a choice makes of a world.
-use Rattle.std.specs.Prelude.{ℕ, List, Bool, true, false, Option, Some, None, Result, Ok, Err, is_some, if◌then◌else◌, slice_get, slice_set}
+use Rattle.std.specs.Prelude.{ℕ, Option, Some, None, Result, Ok, Err, is_some, if◌then◌else◌, slice_get, slice_set}
 use Rattle.bx_terms.specs.declared.faults.Fault.{Fault}
 use Rattle.bx_terms.specs.declared.faults.Fault.TheVariants.{NotEnabled, Halted}
 use Rattle.bx_load.specs.Image.{Loaded}
@@ -17,10 +17,11 @@ abbrev pub with_life : ℕ → Life → State → State
 with_life p one w = record w { processes = slice_set w.processes p one }
 
 -- what a run of process p was, and what it made of the process: of one that ended the reason alone stays, and a trap halts the world
+-- and leaves all else as it was
 abbrev pub turned : ℕ → State → Process × Effect → State
 turned p w (process, effects.Ran) = with_life p (Live process) w
 turned p w (process, effects.Ended reason) = with_life p (Gone reason) w
-turned p w (process, effects.Trap kind) = record (with_life p (Live process) w) { trap = Some (kind, p) }
+turned p w (process, effects.Trap kind) = record w { trap = Some (kind, p) }
 
 abbrev pub run_of : Loaded → ℕ → State → Option Life → State
 run_of image p w (Some (Live process)) = turned p w (stepped image p process)

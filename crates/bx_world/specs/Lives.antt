@@ -1,5 +1,4 @@
 -- Where the processes of a world are kept.
-use Rattle.bx_terms.specs.Tree.{Tree}
 use Rattle.bx_proc.specs.Process.{Process}
 use Rattle.bx_world.specs.declared.slots.Slot.{Slot}
 use Rattle.bx_world.specs.declared.slots.Slot.TheVariants as slots

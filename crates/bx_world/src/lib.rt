@@ -3,6 +3,7 @@
 
 mod choices;
 mod lanes;
+pub mod laws;
 mod outcomes;
 mod procs;
 mod rows;

@@ -13,7 +13,8 @@ use std::test::Fail;
 
 /// A module `m` whose one function `f` has no arguments and these items behind its head.
 fn loaded(alloc: Global, items: &str) -> Result<Image, Fail> {
-    let head = "{module,m}. {exports,[{f,0}]}. {attributes,[]}. {labels,9}. {function,f,0,2}. {label,1}. {func_info,{atom,m},{atom,f},0}. {label,2}. ";
+    let head =
+        "{module,m}. {exports,[{f,0}]}. {attributes,[]}. {labels,9}. {function,f,0,2}. {label,1}. {func_info,{atom,m},{atom,f},0}. {label,2}. ";
     let mut text = String::from_str(alloc, head)?;
     text.push_str(items)?;
     let mut atoms = Atoms::new(alloc)?;
@@ -31,7 +32,8 @@ fn started<P: Hold<Proc>, C: Hold<Lanes>>(
     image: &Image,
     function: &str,
 ) -> Result<World<P, C>, Fault> {
-    let (Some(module), Some(function)) = (image.atoms().find("m"), image.atoms().find(function)) else {
+    let (Some(module), Some(function)) = (image.atoms().find("m"), image.atoms().find(function))
+    else {
         return Err(Fault::NoEntry);
     };
     World::start(alloc, image, module, function)
@@ -80,15 +82,60 @@ fn shows<P: Hold<Proc>, C: Hold<Lanes>>(
 
 const OWN: Choice = Choice::Run(0);
 
-fn runs_are_as_written<P: Hold<Proc>, C: Hold<Lanes>>(rt: &impl Abort, alloc: Global) -> Result<(), Fail> {
+fn runs_are_as_written<P: Hold<Proc>, C: Hold<Lanes>>(
+    rt: &impl Abort,
+    alloc: Global,
+) -> Result<(), Fail> {
     let normal = "{move,{atom,ok},{x,0}}. return.";
-    shows::<P, C>(rt, alloc, normal, &[], "applied 0\nstate open r0\nprocess <0.0.0> ready\nend\n")?;
-    shows::<P, C>(rt, alloc, normal, &[OWN, OWN], "applied 2\nstate quiet\nprocess <0.0.0> ended normal\nend\n")?;
-    shows::<P, C>(rt, alloc, normal, &[OWN, OWN, OWN, OWN], "applied 2\nstate stopped r0\nprocess <0.0.0> ended normal\nend\n")?;
-    shows::<P, C>(rt, alloc, normal, &[OWN, Choice::Run(1), OWN], "applied 1\nstate stopped r1\nprocess <0.0.0> ready\nend\n")?;
-    shows::<P, C>(rt, alloc, normal, &[Choice::Deliver(0, 0)], "applied 0\nstate stopped d0>0\nprocess <0.0.0> ready\nend\n")?;
-    shows::<P, C>(rt, alloc, "{jump,{f,1}}.", &[OWN, OWN], "applied 2\nstate quiet\nprocess <0.0.0> ended {function_clause,[]}\nend\n")?;
-    shows::<P, C>(rt, alloc, "{move,{x,5},{x,0}}.", &[OWN, OWN], "applied 1\nstate trapped Unset <0.0.0>\nprocess <0.0.0> ready\nend\n")?;
+    shows::<P, C>(
+        rt,
+        alloc,
+        normal,
+        &[],
+        "applied 0\nstate open r0\nprocess <0.0.0> ready\nend\n",
+    )?;
+    shows::<P, C>(
+        rt,
+        alloc,
+        normal,
+        &[OWN, OWN],
+        "applied 2\nstate quiet\nprocess <0.0.0> ended normal\nend\n",
+    )?;
+    shows::<P, C>(
+        rt,
+        alloc,
+        normal,
+        &[OWN, OWN, OWN, OWN],
+        "applied 2\nstate stopped r0\nprocess <0.0.0> ended normal\nend\n",
+    )?;
+    shows::<P, C>(
+        rt,
+        alloc,
+        normal,
+        &[OWN, Choice::Run(1), OWN],
+        "applied 1\nstate stopped r1\nprocess <0.0.0> ready\nend\n",
+    )?;
+    shows::<P, C>(
+        rt,
+        alloc,
+        normal,
+        &[Choice::Deliver(0, 0)],
+        "applied 0\nstate stopped d0>0\nprocess <0.0.0> ready\nend\n",
+    )?;
+    shows::<P, C>(
+        rt,
+        alloc,
+        "{jump,{f,1}}.",
+        &[OWN, OWN],
+        "applied 2\nstate quiet\nprocess <0.0.0> ended {function_clause,[]}\nend\n",
+    )?;
+    shows::<P, C>(
+        rt,
+        alloc,
+        "{move,{x,5},{x,0}}.",
+        &[OWN, OWN],
+        "applied 1\nstate trapped Unset <0.0.0>\nprocess <0.0.0> ready\nend\n",
+    )?;
     Ok(())
 }
 
@@ -105,12 +152,18 @@ fn applied<P: Hold<Proc>, C: Hold<Lanes>>(
     }
 }
 
-fn refusals_are_exact<P: Hold<Proc>, C: Hold<Lanes>>(rt: &impl Abort, alloc: Global) -> Result<(), Fail> {
+fn refusals_are_exact<P: Hold<Proc>, C: Hold<Lanes>>(
+    rt: &impl Abort,
+    alloc: Global,
+) -> Result<(), Fail> {
     let image = loaded(alloc, "{move,{atom,ok},{x,0}}. {move,{x,5},{x,0}}.")?;
     assert!(rt; matches!(started::<P, C>(alloc, &image, "ok"), Err(Fault::NoEntry)));
     let mut world = started::<P, C>(alloc, &image, "f")?;
     assert_eq!(rt; applied(alloc, &image, &mut world, Choice::Run(1)), 20);
-    assert_eq!(rt; applied(alloc, &image, &mut world, Choice::Deliver(0, 0)), 20);
+    assert_eq!(rt;
+        applied(alloc, &image, &mut world, Choice::Deliver(0, 0)),
+        20
+    );
     assert!(rt; world.can(OWN) && !world.can(Choice::Run(1)) && !world.can(Choice::Deliver(0, 0)));
     assert_eq!(rt; world.enabled(alloc)?.as_slice(), [OWN].as_slice());
     let start = world.snapshot(alloc)?;
@@ -156,12 +209,21 @@ fn a_snapshot_shows_what_it_did(rt: HostRuntime) -> Result<(), Fail> {
         advance(alloc, &mut end, &image, OWN)?;
     }
     let text_then = text(alloc, &image, &end)?;
-    assert_eq!(rt; text_then.as_str(), "applied 2\nstate quiet\nprocess <0.0.0> ended normal\nend\n");
+    assert_eq!(rt;
+        text_then.as_str(),
+        "applied 2\nstate quiet\nprocess <0.0.0> ended normal\nend\n"
+    );
     let shared: ArcWorld = started(alloc, &image, "f")?;
     assert!(rt; shared.outcome(alloc)?.same(&start.outcome(alloc)?));
     let outcome = start.outcome(alloc)?;
     let text_now = outcome_text(alloc, image.atoms(), 0, None, &outcome)?;
-    assert_eq!(rt; text_now.as_str(), "applied 0\nstate open r0\nprocess <0.0.0> ready\nend\n");
-    assert_eq!(rt; choice_text(alloc, Choice::Deliver(12, 0))?.as_str(), "d12>0");
+    assert_eq!(rt;
+        text_now.as_str(),
+        "applied 0\nstate open r0\nprocess <0.0.0> ready\nend\n"
+    );
+    assert_eq!(rt;
+        choice_text(alloc, Choice::Deliver(12, 0))?.as_str(),
+        "d12>0"
+    );
     Ok(())
 }

@@ -169,12 +169,7 @@ fn push_output(
     Ok(())
 }
 
-fn push_term(
-    alloc: Global,
-    out: &mut String,
-    atoms: &Atoms,
-    term: &Term,
-) -> Result<(), AllocError>
+fn push_term(alloc: Global, out: &mut String, atoms: &Atoms, term: &Term) -> Result<(), AllocError>
     ensures { OnOk result (string_bytes out.new ≡ string_bytes out.old ++ printed atoms.now term.now) }
 {
     let text = print(alloc, atoms, term)?;

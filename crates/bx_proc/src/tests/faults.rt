@@ -45,7 +45,9 @@ fn each_class_has_its_reason(rt: HostRuntime) -> Result<(), Fail> {
 }
 
 #[test]
-fn a_fault_goes_to_the_lowest_tag_of_the_topmost_frame_with_one(rt: HostRuntime) -> Result<(), Fail> {
+fn a_fault_goes_to_the_lowest_tag_of_the_topmost_frame_with_one(
+    rt: HostRuntime,
+) -> Result<(), Fail> {
     let alloc = rt.alloc();
     let mut process = process(alloc, 1)?;
     for tags in [[9, 8], [7, 6]] {
@@ -63,8 +65,17 @@ fn a_fault_goes_to_the_lowest_tag_of_the_topmost_frame_with_one(rt: HostRuntime)
     let value = Term::atom(fixed::FUNCTION_CLAUSE);
     let class = Class::Error;
     let pending = Pending { class, value };
-    assert!(rt; process.fault.as_ref().is_some_and(|fault| fault.same(&pending)));
-    let pending = run_of(alloc, &mut process, "return. return. return. return. return.")?;
+    assert!(rt;
+        process
+            .fault
+            .as_ref()
+            .is_some_and(|fault| fault.same(&pending))
+    );
+    let pending = run_of(
+        alloc,
+        &mut process,
+        "return. return. return. return. return.",
+    )?;
     assert_eq!(rt; pending.as_str(), "trap NoTag at 7");
     let past = run_of(alloc, &mut process, "return.")?;
     assert_eq!(rt; past.as_str(), "trap BadPlace at 7");

@@ -11,7 +11,9 @@ use std::test::Fail;
 
 /// Module `m` with `f/0`, which is exported and has these items from item 3 on.
 pub fn loaded(alloc: Global, items: &str) -> Result<Image, Fail> {
-    let text = format!(in alloc; "{{module,m}}. {{exports,[{{f,0}}]}}. {{attributes,[]}}. {{labels,9}}. {{function,f,0,2}}. {{label,1}}. {{func_info,{{atom,m}},{{atom,f}},0}}. {{label,2}}. {items}")?;
+    let text = format!(in alloc;
+        "{{module,m}}. {{exports,[{{f,0}}]}}. {{attributes,[]}}. {{labels,9}}. {{function,f,0,2}}. {{label,1}}. {{func_info,{{atom,m}},{{atom,f}},0}}. {{label,2}}. {items}"
+    )?;
     let mut atoms = Atoms::new(alloc)?;
     let listing = read_listing(alloc, &mut atoms, text.as_bytes())?;
     let mut units = Vec::new(alloc);

@@ -15,13 +15,13 @@ loop-pid-preserved g c =
     let here : c.loop-pid.pid < length slots = omega arith in
     let left = runs_from (c.loop-pid.pid + 1) (drop (c.loop-pid.pid + 1) (map seen slots)) in
     elim c.if-slot_may_run.branch [
-      then-slot_may_run+in_ok-push w ↦
-        let can : may_run (seen c.index.result.now) ≡ true = sym c.slot_may_run.ensures ∙ w.if-slot_may_run.true in
-        let one_more : c.if-slot_may_run.choices.items ≡ c.loop-pid.choices.items ++ Run c.loop-pid.pid ∷ [] = ap (λ v. v.items) w.choices-is ∙ w.in_ok-push.ensures.items in
-        ap (λ found. found ++ left) one_more ∙ run_found seen slots c.loop-pid.pid c.index.result.now c.loop-pid.choices.items (runs_from 0 (map seen slots)) here c.index.ensures can c.loop-pid.invariant
-    | else-slot_may_run w ↦
-        let can : may_run (seen c.index.result.now) ≡ false = sym c.slot_may_run.ensures ∙ w.if-slot_may_run.false in
-        ap (λ v. v.items ++ left) w.choices-is ∙ run_passed seen slots c.loop-pid.pid c.index.result.now c.loop-pid.choices.items (runs_from 0 (map seen slots)) here c.index.ensures can c.loop-pid.invariant
+      | then-slot_may_run+in_ok-push w ↦
+          let can : may_run (seen c.index.result.now) ≡ true = sym c.slot_may_run.ensures ∙ w.if-slot_may_run.true in
+          let one_more : c.if-slot_may_run.choices.items ≡ c.loop-pid.choices.items ++ Run c.loop-pid.pid ∷ [] = ap (λ v. v.items) w.choices-is ∙ w.in_ok-push.ensures.items in
+          ap (λ found. found ++ left) one_more ∙ run_found seen slots c.loop-pid.pid c.index.result.now c.loop-pid.choices.items (runs_from 0 (map seen slots)) here c.index.ensures can c.loop-pid.invariant
+      | else-slot_may_run w ↦
+          let can : may_run (seen c.index.result.now) ≡ false = sym c.slot_may_run.ensures ∙ w.if-slot_may_run.false in
+          ap (λ v. v.items ++ left) w.choices-is ∙ run_passed seen slots c.loop-pid.pid c.index.result.now c.loop-pid.choices.items (runs_from 0 (map seen slots)) here c.index.ensures can c.loop-pid.invariant
     ]
 
 pub returns-in_err-push-clause-err : goal.returns-in_err-push-clause-err

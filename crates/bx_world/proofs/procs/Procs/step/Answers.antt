@@ -1,4 +1,4 @@
-use Rattle.std.proofs.Common.{◌≡◌, ◌<◌, Result, length, map, sym, subst, arith}
+use Rattle.std.proofs.Common.{◌<◌, length, map, subst, arith}
 use Rattle.std.specs.Prelude.{List, IsTrue, slice_get}
 use Rattle.std.proofs.Math.ListN.{set}
 use Rattle.bx_terms.specs.Outcomes.{Does}

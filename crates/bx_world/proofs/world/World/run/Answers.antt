@@ -1,4 +1,4 @@
-use Rattle.std.proofs.Common.{◌≡◌, None, Ok, refl, sym, ap, subst, ◌∙◌}
+use Rattle.std.proofs.Common.{◌≡◌, None, Ok, sym, ap, ◌∙◌}
 use Rattle.bx_world.specs.declared.choices.Choice.TheVariants.{Run}
 use Rattle.bx_world.specs.World.{State}
 use Rattle.bx_world.specs.Choosing.{applied}
@@ -13,7 +13,7 @@ returns g c =
     let done = run_done c.args.image.now c.args.pid before c.step.new.self c.in_ok-step.field-0 free c.in_ok-step.ensures in
     let was = ap (applied c.args.image.now (Run c.args.pid)) (sym c.self.view_is) in
     was ∙ done ∙ ap (λ w. Ok (w, tt)) (elim c.match-branch-2.branch [
-      in-Ran w ↦ ap (finished c.args.pid before c.step.new.self) w.in-Ran.is ∙ sym w.self-is
-    | in-Ended w ↦ ap (finished c.args.pid before c.step.new.self) w.in-Ended.is ∙ ap (λ lives. record before { processes = lives }) (sym w.end.ensures) ∙ sym w.self-is
-    | in-Trap w ↦ ap (finished c.args.pid before c.step.new.self) w.in-Trap.is ∙ sym w.self-is
+      | in-Ran w ↦ ap (finished c.args.pid before c.step.new.self) w.in-Ran.is ∙ sym w.self-is
+      | in-Ended w ↦ ap (finished c.args.pid before c.step.new.self) w.in-Ended.is ∙ ap (λ lives. record before { processes = lives }) (sym w.end.ensures) ∙ sym w.self-is
+      | in-Trap w ↦ ap (finished c.args.pid before c.step.new.self) w.in-Trap.is ∙ sym w.self-is
     ])

@@ -1,0 +1,47 @@
+-- When two modules' code is the same.
+use Rattle.std.proofs.Common.{◌≡◌, ℕ, ◌+◌, ◌<◌, ◌≤◌, List, [], ◌∷◌, ◌++◌, length, map, take, drop, get_or, refl, ap, sym, ◌∙◌}
+use Rattle.std.specs.Prelude.{slice_get, unwrap_or}
+use Rattle.std.specs.List.{flat_map}
+use Rattle.std.proofs.lemmas.List.{take_more_same, take_all}
+use Rattle.std.proofs.lemmas.Option.{unwrap_or-slice_get}
+use Rattle.bx_listing.specs.declared.items.Item.{Item}
+use Rattle.bx_listing.specs.declared.items.Item.TheVariants.{Line}
+use Rattle.bx_listing.specs.Code.{Code, CodeFunction, items}
+use Rattle.bx_asm.specs.Unit.{code_head}
+use Rattle.bx_asm.proofs.Units.{take_front, drop_front}
+
+-- rows that were the same so far, and whose next elements are, are the same one further
+pub same_element : {A : Type 0} (xs ys : List A) (i : ℕ) (d : A) → i < length xs → i < length ys → take i xs ≡ take i ys → get_or xs i d ≡ get_or ys i d → take (i + 1) xs ≡ take (i + 1) ys
+same_element xs ys i d = take_more_same xs ys i d
+
+pub same_so_far : (xs ys : List Item) (i : ℕ) → i < length xs → i < length ys → take i xs ≡ take i ys → slice_get xs i ≡ slice_get ys i → take (i + 1) xs ≡ take (i + 1) ys
+same_so_far xs ys i hx hy so_far next =
+    take_more_same xs ys i Line hx hy so_far (sym (unwrap_or-slice_get xs i Line) ∙ ap (λ o. unwrap_or o Line) next ∙ unwrap_or-slice_get ys i Line)
+
+-- rows of one length that are the same as far as they go are the same
+pub same_whole : {A : Type 0} (xs ys : List A) (i : ℕ) → length xs ≤ i → length ys ≤ i → take i xs ≡ take i ys → xs ≡ ys
+same_whole xs ys i hx hy e = sym (take_all i xs hx) ∙ e ∙ take_all i ys hy
+
+abbrev flat : List CodeFunction → List Item
+flat fs = flat_map (λ f. f.items) fs
+
+-- functions are told apart by their heads and by all items in a row
+same_functions : (fs gs : List CodeFunction) → map code_head fs ≡ map code_head gs → flat fs ≡ flat gs → fs ≡ gs
+same_functions [] [] heads all = refl
+same_functions [] (g ∷ gs) heads all = absurd (cc)
+same_functions (f ∷ fs) [] heads all = absurd (cc)
+same_functions (f ∷ fs) (g ∷ gs) heads all =
+    let head : code_head f ≡ code_head g = cc in
+    let others : map code_head fs ≡ map code_head gs = cc in
+    let count : length f.items ≡ length g.items = λ k. (head k).count in
+    let own : f.items ≡ g.items =
+    sym (take_front f.items (flat fs)) ∙ ap (take (length f.items)) all ∙ ap (λ n. take n (g.items ++ flat gs)) count ∙ take_front g.items (flat gs) in
+    let rest : flat fs ≡ flat gs =
+    sym (drop_front f.items (flat fs)) ∙ ap (drop (length f.items)) all ∙ ap (λ n. drop n (g.items ++ flat gs)) count ∙ drop_front g.items (flat gs) in
+    let tail = same_functions fs gs others rest in
+    λ k. record { name = (head k).name; arity = (head k).arity; entry = (head k).entry; items = own k } ∷ tail k
+
+pub same_code : (c d : Code) → c.name ≡ d.name → c.exports ≡ d.exports → map code_head c.functions ≡ map code_head d.functions → items c ≡ items d → c ≡ d
+same_code c d name exports heads all =
+    let functions = same_functions c.functions d.functions heads all in
+    λ k. record { name = name k; exports = exports k; functions = functions k }

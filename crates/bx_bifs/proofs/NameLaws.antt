@@ -1,0 +1,77 @@
+-- The laws of the look-ups by name.
+use Rattle.std.proofs.Common.{◌≡◌, ◌↔◌, ℕ, suc, Bool, true, false, ◌==◌, ◌&&◌, cond, List, [], ◌∷◌, Option, Some, None, option_map, option_and_then, slice_get, bytes_eq, codes, refl, sym, ap, ◌∙◌, arith, if◌then◌else◌}
+use Rattle.std.specs.List.{find, Contains}
+use Rattle.std.specs.Option.{option_map_or}
+use Rattle.std.proofs.lemmas.Bool.{and_parts}
+use Rattle.std.proofs.lemmas.Bool.Decides.{Decides-eqb}
+use Rattle.std.proofs.lemmas.Slice.Eq.{bytes_eq-Decides}
+use Rattle.bx_terms.specs.declared.atom_table.AtomId.{AtomId}
+use Rattle.bx_ops.specs.declared.guard_bif.Bif.{Bif}
+use Rattle.bx_ops.specs.GuardBifs.{guard_bif, guard_bif_with}
+use Rattle.bx_ops.proofs.GuardBifLemmas.{guard_bif_finds}
+use Rattle.bx_bifs.specs.declared.natives.Native.{Native}
+use Rattle.bx_bifs.specs.Natives.{NativeRow, native_rows, native_named, native_of}
+use Rattle.bx_bifs.specs.GuardNames.{guard_of}
+
+pub guards_found : (texts : List (List ℕ)) (name : AtomId) (arity : ℕ) (bif : Bif) → (guard_of texts name arity ≡ Some bif)
+    ↔ ((slice_get texts name.0 ≡ Some (guard_bif bif).name) × ((guard_bif bif).arity ≡ arity))
+unfolding guard_of
+guards_found texts name arity bif = by (slice_get texts name.0)
+  where
+    by : (o : Option (List ℕ)) → (option_and_then (λ text. guard_bif_with text arity) o ≡ Some bif) ↔ ((o ≡ Some (guard_bif bif).name) × ((guard_bif bif).arity ≡ arity))
+    by (Some text) =
+        let found = guard_bif_finds text arity bif in
+        ((λ e. (ap Some (sym (found.0 e).0), (found.0 e).1)), (λ h. let same : (guard_bif bif).name ≡ text = cc (h.0) in found.1 (same, h.1)))
+    by None = ((λ e. cc), (λ h. let no = h.0 in cc))
+
+-- what is found is in the list and passes the test
+find_finds : {X : Type 0} (test : X → Bool) (xs : List X) (x : X) → find test xs ≡ Some x → Contains xs x × (test x ≡ true)
+find_finds test [] x e = cc
+find_finds {X} test (y ∷ ys) x e = by (find_finds test ys x) (test y) refl e
+  where
+    by : (find test ys ≡ Some x → Contains ys x × (test x ≡ true)) → (b : Bool) → test y ≡ b → cond b (Some y) (find test ys) ≡ Some x → Contains (y ∷ ys) x × (test x ≡ true)
+    by rest true passes is =
+        let same : y ≡ x = cc in
+        ((0, omega arith, same), ap test (sym same) ∙ passes)
+    by rest false fails is =
+        let later = rest is in
+        ((suc later.0.0, omega (arith, later.0.1), later.0.2), later.1)
+
+pub rows_alone : (name : List ℕ) (arity : ℕ) (native : Native) → native_named name arity ≡ Some native
+    → (r : NativeRow) × Contains native_rows r × (r.name ≡ name) × (r.arity ≡ arity) × (r.native ≡ native)
+unfolding native_named
+rows_alone name arity native = by (find test native_rows) refl
+  where
+    test : NativeRow → Bool
+    test r = (r.arity == arity) && bytes_eq r.name name
+
+    by : (o : Option NativeRow) → find test native_rows ≡ o → option_map (λ (r : NativeRow). r.native) o ≡ Some native
+        → (r : NativeRow) × Contains native_rows r × (r.name ≡ name) × (r.arity ≡ arity) × (r.native ≡ native)
+    by (Some r) found is =
+        let finds = find_finds test native_rows r found in
+        let passes = and_parts (r.arity == arity) (bytes_eq r.name name) finds.1 in
+        let same : r.native ≡ native = cc in
+        (r, finds.0, (bytes_eq-Decides r.name name).0 passes.1, (Decides-eqb r.arity arity).0 passes.0, same)
+    by None found is = cc
+
+pub natives_by_text : (texts : List (List ℕ)) (home function : AtomId) (arity : ℕ) (native : Native) → (native_of texts home function arity ≡ Some native)
+    ↔ ((slice_get texts home.0 ≡ Some (codes "erlang")) × ((name : List ℕ) × (slice_get texts function.0 ≡ Some name) × (native_named name arity ≡ Some native)))
+unfolding native_of
+natives_by_text texts home function arity native = by (slice_get texts home.0) (slice_get texts function.0)
+  where
+    by : (o p : Option (List ℕ)) → ((if option_map_or (bytes_eq (codes "erlang")) o false then option_and_then (λ name. native_named name arity) p else None) ≡ Some native)
+        ↔ ((o ≡ Some (codes "erlang")) × ((name : List ℕ) × (p ≡ Some name) × (native_named name arity ≡ Some native)))
+    by None p = ((λ e. cc), (λ h. let no = h.0 in cc))
+    by (Some text) p = at (bytes_eq (codes "erlang") text) refl p
+      where
+        at : (b : Bool) → bytes_eq (codes "erlang") text ≡ b → (q : Option (List ℕ)) → ((if b then option_and_then (λ name. native_named name arity) q else None) ≡ Some native)
+            ↔ ((Some text ≡ Some (codes "erlang")) × ((name : List ℕ) × (q ≡ Some name) × (native_named name arity ≡ Some native)))
+        at true same (Some name) = ((λ e. (ap Some (sym ((bytes_eq-Decides (codes "erlang") text).0 same)), (name, refl, e))), (λ h. let is : name ≡ h.1.0 = cc (h.1.1) in ap (λ t. native_named t arity) is ∙ h.1.2))
+        at true same None = ((λ e. cc), (λ h. let no = h.1.1 in cc))
+        at false other q = (
+          (λ e. cc),
+          (λ h.
+              let is : codes "erlang" ≡ text = cc (h.0) in
+              let yes = (bytes_eq-Decides (codes "erlang") text).1 is in
+              cc),
+        )

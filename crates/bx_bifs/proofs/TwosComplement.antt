@@ -1,0 +1,151 @@
+-- Bitwise operators on 64 bits are those on integers of any size.
+use Rattle.std.proofs.Common.{◌≡◌, ℕ, suc, ◌+◌, ◌-◌, ◌<◌, ◌^◌, ℤ, pos, negsuc, Some, refl, ap, ◌∙◌, arith, bit_and, bit_or, bit_xor}
+use Rattle.std.specs.Prelude.{FitsSigned}
+use Rattle.std.specs.Int.{w64, cast_signed, cast_unsigned, int_bit_and, int_bit_or, int_bit_xor, int_bit_not}
+use Rattle.std.specs.Int.Bits.{or_add_and, xor_add_and}
+use Rattle.std.proofs.lemmas.Int.{to_z-of_z}
+use Rattle.std.proofs.lemmas.Nat.{and-not, and_comm, and_le_l, and_le_r, or_lt, xor_lt}
+use Rattle.bx_bifs.specs.Given.{integer, computed}
+use Rattle.bx_bifs.specs.Bits.{bits_and, bits_or, bits_xor, bits_not}
+use Rattle.bx_bifs.proofs.Integers.{given}
+
+-- the bits of `negsuc n` in 64 bits
+abbrev turned : ℕ → ℕ
+turned n = 2 ^ 64 - suc n
+
+and_turned : (m n : ℕ) → m < 2 ^ 64 → n < 2 ^ 64 → bit_and (turned m) n + bit_and m n ≡ n
+and_turned m n hm hn =
+    let same : turned m ≡ 2 ^ 64 - 1 - m = omega arith in
+    rw same (and-not 64 m n hm hn)
+
+and_both_turned : (m n : ℕ) → m < 2 ^ 64 → n < 2 ^ 64 → bit_and (turned m) (turned n) ≡ turned (bit_or m n)
+and_both_turned m n hm hn =
+    let below : turned n < 2 ^ 64 = omega arith in
+    let one = and_turned m (turned n) hm below in
+    let two = and_turned n m hn hm in
+    let three = or_add_and m n in
+    let four = and_comm n m in
+    let five = and_comm m (turned n) in
+    omega arith
+
+and_bits : (x y : ℤ) → FitsSigned w64 x → FitsSigned w64 y → bit_and (cast_unsigned w64 x) (cast_unsigned w64 y) ≡ cast_unsigned w64 (bits_and x y)
+and_bits (pos m) (pos n) p q = refl
+and_bits (pos m) (negsuc n) p q =
+    let hm = p.sfits in
+    let hn = q.sfits in
+    let one = and_turned n m (omega arith) (omega arith) in
+    let two = and_comm n m in
+    let three = and_comm m (turned n) in
+    omega arith
+and_bits (negsuc m) (pos n) p q =
+    let hm = p.sfits in
+    let hn = q.sfits in
+    let one = and_turned m n (omega arith) (omega arith) in
+    omega arith
+and_bits (negsuc m) (negsuc n) p q =
+    let hm = p.sfits in
+    let hn = q.sfits in
+    and_both_turned m n (omega arith) (omega arith)
+
+or_bits : (x y : ℤ) → FitsSigned w64 x → FitsSigned w64 y → bit_or (cast_unsigned w64 x) (cast_unsigned w64 y) ≡ cast_unsigned w64 (bits_or x y)
+or_bits (pos m) (pos n) p q = refl
+or_bits (pos m) (negsuc n) p q =
+    let hm = p.sfits in
+    let hn = q.sfits in
+    let one = and_bits (pos m) (negsuc n) p q in
+    let two = or_add_and m (turned n) in
+    let three = and_le_r m n in
+    let four = and_le_l m n in
+    omega arith
+or_bits (negsuc m) (pos n) p q =
+    let hm = p.sfits in
+    let hn = q.sfits in
+    let one = and_bits (negsuc m) (pos n) p q in
+    let two = or_add_and (turned m) n in
+    let three = and_le_r m n in
+    let four = and_le_l m n in
+    omega arith
+or_bits (negsuc m) (negsuc n) p q =
+    let hm = p.sfits in
+    let hn = q.sfits in
+    let one = and_bits (negsuc m) (negsuc n) p q in
+    let two = or_add_and (turned m) (turned n) in
+    let three = or_add_and m n in
+    let four = or_lt 63 m n hm hn in
+    omega arith
+
+xor_bits : (x y : ℤ) → FitsSigned w64 x → FitsSigned w64 y → bit_xor (cast_unsigned w64 x) (cast_unsigned w64 y) ≡ cast_unsigned w64 (bits_xor x y)
+xor_bits (pos m) (pos n) p q = refl
+xor_bits (pos m) (negsuc n) p q =
+    let hm = p.sfits in
+    let hn = q.sfits in
+    let one = and_bits (pos m) (negsuc n) p q in
+    let two = xor_add_and m (turned n) in
+    let three = xor_add_and m n in
+    let four = and_le_r m n in
+    let five = and_le_l m n in
+    omega arith
+xor_bits (negsuc m) (pos n) p q =
+    let hm = p.sfits in
+    let hn = q.sfits in
+    let one = and_bits (negsuc m) (pos n) p q in
+    let two = xor_add_and (turned m) n in
+    let three = xor_add_and m n in
+    let four = and_le_r m n in
+    let five = and_le_l m n in
+    omega arith
+xor_bits (negsuc m) (negsuc n) p q =
+    let hm = p.sfits in
+    let hn = q.sfits in
+    let one = and_bits (negsuc m) (negsuc n) p q in
+    let two = xor_add_and (turned m) (turned n) in
+    let three = xor_add_and m n in
+    let four = or_add_and m n in
+    let five = or_lt 63 m n hm hn in
+    omega arith
+
+pub and_fits : (x y : ℤ) → FitsSigned w64 x → FitsSigned w64 y → FitsSigned w64 (bits_and x y)
+and_fits (pos m) (pos n) p q = let hm = p.sfits in let le = and_le_l m n in record { sfits = omega arith }
+and_fits (pos m) (negsuc n) p q = let hm = p.sfits in record { sfits = omega arith }
+and_fits (negsuc m) (pos n) p q = let hn = q.sfits in record { sfits = omega arith }
+and_fits (negsuc m) (negsuc n) p q = record { sfits = or_lt 63 m n p.sfits q.sfits }
+
+pub or_fits : (x y : ℤ) → FitsSigned w64 x → FitsSigned w64 y → FitsSigned w64 (bits_or x y)
+or_fits (pos m) (pos n) p q = record { sfits = or_lt 63 m n p.sfits q.sfits }
+or_fits (pos m) (negsuc n) p q = let hn = q.sfits in record { sfits = omega arith }
+or_fits (negsuc m) (pos n) p q = let hm = p.sfits in record { sfits = omega arith }
+or_fits (negsuc m) (negsuc n) p q = let hm = p.sfits in let le = and_le_l m n in record { sfits = omega arith }
+
+pub xor_fits : (x y : ℤ) → FitsSigned w64 x → FitsSigned w64 y → FitsSigned w64 (bits_xor x y)
+xor_fits (pos m) (pos n) p q = record { sfits = xor_lt 63 m n p.sfits q.sfits }
+xor_fits (pos m) (negsuc n) p q = record { sfits = xor_lt 63 m n p.sfits q.sfits }
+xor_fits (negsuc m) (pos n) p q = record { sfits = xor_lt 63 m n p.sfits q.sfits }
+xor_fits (negsuc m) (negsuc n) p q = record { sfits = xor_lt 63 m n p.sfits q.sfits }
+
+pub both_bits_given : (x y : ℤ) → FitsSigned w64 x → FitsSigned w64 y → computed (Some (int_bit_and w64 x y)) ≡ integer (bits_and x y)
+both_bits_given x y p q =
+    let fit = and_fits x y p q in
+    ap (λ n. computed (Some (cast_signed w64 n))) (and_bits x y p q) ∙ ap (λ z. computed (Some z)) (to_z-of_z w64 (bits_and x y) fit) ∙ given (bits_and x y) fit
+
+pub either_bits_given : (x y : ℤ) → FitsSigned w64 x → FitsSigned w64 y → computed (Some (int_bit_or w64 x y)) ≡ integer (bits_or x y)
+either_bits_given x y p q =
+    let fit = or_fits x y p q in
+    ap (λ n. computed (Some (cast_signed w64 n))) (or_bits x y p q) ∙ ap (λ z. computed (Some z)) (to_z-of_z w64 (bits_or x y) fit) ∙ given (bits_or x y) fit
+
+pub differing_bits_given : (x y : ℤ) → FitsSigned w64 x → FitsSigned w64 y → computed (Some (int_bit_xor w64 x y)) ≡ integer (bits_xor x y)
+differing_bits_given x y p q =
+    let fit = xor_fits x y p q in
+    ap (λ n. computed (Some (cast_signed w64 n))) (xor_bits x y p q) ∙ ap (λ z. computed (Some z)) (to_z-of_z w64 (bits_xor x y) fit) ∙ given (bits_xor x y) fit
+
+not_bits : (x : ℤ) → FitsSigned w64 x → 2 ^ 64 - 1 - cast_unsigned w64 x ≡ cast_unsigned w64 (bits_not x)
+not_bits (pos m) p = let hm = p.sfits in omega arith
+not_bits (negsuc m) p = let hm = p.sfits in omega arith
+
+pub not_fits : (x : ℤ) → FitsSigned w64 x → FitsSigned w64 (bits_not x)
+not_fits (pos m) p = record { sfits = p.sfits }
+not_fits (negsuc m) p = record { sfits = p.sfits }
+
+pub turned_bits_given : (x : ℤ) → FitsSigned w64 x → computed (Some (int_bit_not w64 x)) ≡ integer (bits_not x)
+turned_bits_given x p =
+    let fit = not_fits x p in
+    ap (λ n. computed (Some (cast_signed w64 n))) (not_bits x p) ∙ ap (λ z. computed (Some z)) (to_z-of_z w64 (bits_not x) fit) ∙ given (bits_not x) fit

@@ -1,0 +1,48 @@
+//! Kinds of terms, and truth values.
+
+ghost use Rattle.std.specs.Prelude.{◌≡◌};
+ghost use Rattle.bx_bifs.specs.Kinds.{is_atom as atom_kind, is_integer as integer_kind, is_list as list_kind, is_pid as pid_kind, is_tuple as tuple_kind, truth as truth_of};
+
+use bx_terms::{Term, View, fixed};
+
+pub(crate) fn is_atom(term: &Term) -> bool
+    ensures { result ≡ atom_kind term.now }
+{
+    matches!(term.view(), View::Atom(_))
+}
+
+pub(crate) fn is_integer(term: &Term) -> bool
+    ensures { result ≡ integer_kind term.now }
+{
+    matches!(term.view(), View::Int(_))
+}
+
+/// Also an improper list, whose last tail is no list.
+pub(crate) fn is_list(term: &Term) -> bool
+    ensures { result ≡ list_kind term.now }
+{
+    matches!(term.view(), View::Nil | View::Cons(_, _))
+}
+
+pub(crate) fn is_pid(term: &Term) -> bool
+    ensures { result ≡ pid_kind term.now }
+{
+    matches!(term.view(), View::Pid(_))
+}
+
+pub(crate) fn is_tuple(term: &Term) -> bool
+    ensures { result ≡ tuple_kind term.now }
+{
+    matches!(term.view(), View::Tuple(_))
+}
+
+/// What the atoms `true` and `false` stand for, and `None` for any other term.
+pub(crate) fn truth(term: &Term) -> Option<bool>
+    ensures { result ≡ truth_of term.now }
+{
+    match term.view() {
+        View::Atom(fixed::TRUE) => Some(true),
+        View::Atom(fixed::FALSE) => Some(false),
+        _ => None,
+    }
+}

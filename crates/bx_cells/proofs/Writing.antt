@@ -1,0 +1,53 @@
+-- Registers from arguments, and a written y register.
+use Rattle.std.proofs.Common.{◌≡◌, ℕ, zero, suc, ◌≢◌, List, [], ◌∷◌, refl, ap, sym, ◌∙◌}
+use Rattle.std.specs.Prelude.{Option, Some, None, Result, Ok, Err, slice_get, slice_set, option_map}
+use Rattle.std.specs.FinMap as map
+use Rattle.bx_terms.specs.Tree.{Tree}
+use Rattle.bx_cells.specs.declared.values.Value.{Value}
+use Rattle.bx_cells.specs.declared.values.Value.TheVariants.{Term}
+use Rattle.bx_cells.specs.StackFrame.{StackFrame}
+use Rattle.bx_cells.specs.Indexed.{cell_at}
+use Rattle.bx_cells.specs.Held.{all_held, holding}
+use Rattle.bx_cells.specs.TopFrame.{y_cell, with_y, with_cell, there, on_top}
+use Rattle.bx_cells.proofs.Cells.{get_indexed}
+
+held_at : (terms : List Tree) (n : ℕ) → cell_at (all_held terms) n ≡ option_map Term (slice_get terms n)
+held_at [] n = refl
+held_at (t ∷ terms) zero = refl
+held_at (t ∷ terms) (suc n) = held_at terms n
+
+pub held_terms : (terms : List Tree) (n : ℕ) → map.get (holding terms) n ≡ option_map Term (slice_get terms n)
+held_terms terms n = get_indexed (all_held terms) n ∙ held_at terms n
+
+-- what a write in a row makes of the row's elements
+get_set : {A : Type 0} (xs : List A) (n : ℕ) (x y : A) → slice_get xs n ≡ Some x → slice_get (slice_set xs n y) n ≡ Some y
+get_set [] n x y e = cc
+get_set (z ∷ xs) zero x y e = refl
+get_set (z ∷ xs) (suc n) x y e = get_set xs n x y e
+
+get_set_other : {A : Type 0} (xs : List A) (n k : ℕ) (y : A) → k ≢ n → slice_get (slice_set xs n y) k ≡ slice_get xs k
+get_set_other [] n k y e = refl
+get_set_other (z ∷ xs) zero zero y e = absurd (e refl)
+get_set_other (z ∷ xs) zero (suc k) y e = refl
+get_set_other (z ∷ xs) (suc n) zero y e = refl
+get_set_other (z ∷ xs) (suc n) (suc k) y e = get_set_other xs n k y (λ same. e (ap (λ m. suc m) same))
+
+pub written_y : (n : ℕ) (v : Value) (frames after : List StackFrame) → with_y n v frames ≡ Ok after → y_cell n after ≡ Ok (Some v)
+written_y n v [] after e = cc
+written_y n v (f ∷ frames) after e = go (slice_get f.cells n) refl e
+  where
+    go : (o : Option (Option Value)) → slice_get f.cells n ≡ o → on_top frames (with_cell n v f o) ≡ Ok after → y_cell n after ≡ Ok (Some v)
+    go None past e = cc
+    go (Some c) at e =
+        let same : after ≡ record f { cells = slice_set f.cells n (Some v) } ∷ frames = cc in
+        ap (y_cell n) same ∙ ap there (get_set f.cells n c (Some v) at)
+
+pub other_y : (n k : ℕ) (v : Value) (frames after : List StackFrame) → with_y n v frames ≡ Ok after → k ≢ n → y_cell k after ≡ y_cell k frames
+other_y n k v [] after e ne = cc
+other_y n k v (f ∷ frames) after e ne = go (slice_get f.cells n) e
+  where
+    go : (o : Option (Option Value)) → on_top frames (with_cell n v f o) ≡ Ok after → y_cell k after ≡ y_cell k (f ∷ frames)
+    go None e = cc
+    go (Some c) e =
+        let same : after ≡ record f { cells = slice_set f.cells n (Some v) } ∷ frames = cc in
+        ap (y_cell k) same ∙ ap there (get_set_other f.cells n k (Some v) ne)

@@ -1,0 +1,46 @@
+//! Laws of the definitions: the functions do nothing, and their clauses are the laws.
+
+ghost use Rattle.std.specs.Prelude.{◌≡◌, ◌↔◌, ◌+◌, ◌≤◌, ◌++◌, ℕ, List, [], length, false, None, Some, IsTrue, IsSome, Contains};
+ghost use Rattle.bx_load.specs.Image.{Loaded};
+ghost use Rattle.bx_terms.specs.declared.kinds.Trap.{Trap};
+ghost use Rattle.bx_world.specs.declared.choices.Choice.{Choice};
+ghost use Rattle.bx_world.specs.World.{State};
+ghost use Rattle.bx_world.specs.Enabled.{enabled, can};
+ghost use Rattle.bx_world.specs.Choosing.{chosen};
+ghost use Rattle.bx_world.specs.Running.{Ended, advanced, ran};
+
+/// What is looked up of a choice is whether it is among those that are enabled.
+pub fn a_choice_can_be_made_where_it_is_enabled()
+    ensures { (w : State) (choice : Choice) → IsTrue (can w choice) ↔ Contains (enabled w) choice }
+{}
+
+/// After a trap no choice is enabled.
+pub fn nothing_is_enabled_after_a_trap()
+    ensures { (w : State) → IsSome w.trap → enabled w ≡ [] }
+{}
+
+/// A choice that traps leaves all but the trap as it was.
+pub fn a_trap_changes_nothing_else()
+    ensures { (image : Loaded) (choice : Choice) (w : State) (trap : Trap × ℕ) → w.trap ≡ None → (chosen image choice w).trap ≡ Some trap → chosen image choice w ≡ record w { trap = Some trap } }
+{}
+
+/// A choice that is not enabled changes nothing of the world, and is not counted.
+pub fn a_refused_choice_changes_nothing()
+    ensures { (image : Loaded) (choice : Choice) (end : Ended) → can end.world choice ≡ false → ((advanced image choice end).world ≡ end.world) × ((advanced image choice end).applied ≡ end.applied) }
+{}
+
+/// After a refused choice, and after a trap, nothing happens any more.
+pub fn nothing_happens_after_the_end()
+    ensures refused { (image : Loaded) (choices : List Choice) (end : Ended) → IsSome end.refused → ran image choices end ≡ end }
+    ensures trapped { (image : Loaded) (choices : List Choice) (end : Ended) → IsSome end.world.trap → ran image choices end ≡ end }
+{}
+
+/// The run of choices that are followed by others is the run of those others from where the first led.
+pub fn runs_go_on_where_they_stopped()
+    ensures { (image : Loaded) (first more : List Choice) (end : Ended) → ran image (first ++ more) end ≡ ran image more (ran image first end) }
+{}
+
+/// No more choices are applied than there are.
+pub fn each_choice_is_applied_once_at_most()
+    ensures { (image : Loaded) (choices : List Choice) (end : Ended) → (ran image choices end).applied ≤ end.applied + length choices }
+{}
