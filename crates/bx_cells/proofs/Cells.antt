@@ -1,16 +1,16 @@
 -- Registers that lie in a row by their numbers: what is read, and what a write makes of their map.
-use Rattle.std.proofs.Common.{◌≡◌, ℕ, zero, suc, ◌+◌, ◌==◌, ◌<◌, ◌≤◌, ◌≢◌, List, [], ◌∷◌, ◌++◌, length, refl, ap, sym, ◌∙◌, arith, cond, Bool, true, false, ltb, ◌↔◌, get_or, take, map}
+use Rattle.std.proofs.Common.{◌≡◌, ℕ, zero, suc, ◌+◌, ◌==◌, ◌<◌, ◌≤◌, ◌≢◌, List, [], ◌∷◌, ◌++◌, length, refl, ap, sym, ◌∙◌, arith, cond, Bool, true, false, ltb, ◌↔◌, get_or, take}
 use Rattle.std.proofs.lemmas.List.{take_more, map-append}
 use Rattle.bx_terms.specs.Tree.{Tree}
 use Rattle.bx_cells.specs.declared.values.Value.TheVariants.{Term}
 use Rattle.bx_cells.specs.Held.{all_held}
-use Rattle.std.specs.Prelude.{Option, Some, None, slice_get, slice_set}
+use Rattle.std.specs.Prelude.{Option, Some, None, slice_set}
 use Rattle.std.specs.Ordering.{nat_cmp, eq_by_cmp}
 use Rattle.std.specs.Cmp.{nat_cmp_total, unsigned_tied}
 use Rattle.std.proofs.lemmas.Option.{slice_get_past}
 use Rattle.std.proofs.lemmas.Bool.Decides.{nat_tests}
 use Rattle.std.specs.FinMap as map
-use Rattle.std.specs.FinMap.{gets, get-insert, get-empty, same_map, nat_cmp-IsAntisymmetric, insert, empty}
+use Rattle.std.specs.FinMap.{get-insert, get-empty, same_map, nat_cmp-IsAntisymmetric, insert}
 use Rattle.bx_cells.specs.Indexed.{indexed, cell_at, held_in}
 
 -- two numbers tie exactly where they are equal

@@ -1,9 +1,8 @@
 -- Frames in a row, the topmost last, and the registers of one frame.
-use Rattle.std.proofs.Common.{◌≡◌, ℕ, ◌+◌, ◌-◌, ◌<◌, ◌≤◌, List, [], ◌∷◌, ◌++◌, length, get_or, take, drop, reverse, refl, ap, sym, ◌∙◌, arith, ◌↔◌, add-one, drop-cons, get_or-set_same}
+use Rattle.std.proofs.Common.{◌≡◌, ℕ, ◌+◌, ◌<◌, ◌≤◌, List, [], ◌∷◌, length, get_or, take, drop, reverse, ap, sym, ◌∙◌, arith, ◌↔◌, add-one, drop-cons, get_or-set_same}
 use Rattle.std.proofs.Math.ListN.{set, length-set}
 use Rattle.std.proofs.lemmas.List.{take-set, take_more, take_more_same, take_all, reverse-append, reverse-reverse}
-use Rattle.std.specs.Prelude.{Option, Some, None}
-use Rattle.bx_terms.specs.declared.places.Place.{Place}
+use Rattle.std.specs.Prelude.{Option}
 use Rattle.bx_cells.specs.declared.values.Value.{Value}
 use Rattle.bx_cells.specs.Stack.{lowest_tag}
 

@@ -1,6 +1,6 @@
 -- Registers from arguments, and a written y register.
-use Rattle.std.proofs.Common.{◌≡◌, ℕ, zero, suc, ◌≢◌, List, [], ◌∷◌, refl, ap, sym, ◌∙◌}
-use Rattle.std.specs.Prelude.{Option, Some, None, Result, Ok, Err, slice_get, slice_set, option_map}
+use Rattle.std.proofs.Common.{◌≡◌, ℕ, zero, suc, ◌≢◌, List, [], ◌∷◌, refl, ap, ◌∙◌}
+use Rattle.std.specs.Prelude.{Option, Some, None, Ok, slice_get, slice_set, option_map}
 use Rattle.std.specs.FinMap as map
 use Rattle.bx_terms.specs.Tree.{Tree}
 use Rattle.bx_cells.specs.declared.values.Value.{Value}

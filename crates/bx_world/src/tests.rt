@@ -39,7 +39,7 @@ fn started<P: Hold<Proc>, C: Hold<Lanes>>(
     World::start(alloc, image, module, function)
 }
 
-/// The text of the outcome of a run of process 0, that many times, by any holders.
+/// The text of the outcome of a run, by any holders.
 fn text_of_runs<P: Hold<Proc>, C: Hold<Lanes>>(
     alloc: Global,
     image: &Image,
@@ -67,75 +67,56 @@ fn text<P: Hold<Proc>, C: Hold<Lanes>>(
     outcome_text(alloc, image.atoms(), end.applied, end.refused, &outcome)
 }
 
-fn shows<P: Hold<Proc>, C: Hold<Lanes>>(
-    rt: &impl Abort,
-    alloc: Global,
-    items: &str,
-    choices: &[Choice],
-    want: &str,
-) -> Result<(), Fail> {
-    let image = loaded(alloc, items)?;
-    let text = text_of_runs::<P, C>(alloc, &image, choices)?;
-    assert_eq!(rt; text.as_str(), want);
-    Ok(())
-}
-
 const OWN: Choice = Choice::Run(0);
+
+const TWO: &str = "{move,{atom,ok},{x,0}}. return.";
 
 fn runs_are_as_written<P: Hold<Proc>, C: Hold<Lanes>>(
     rt: &impl Abort,
     alloc: Global,
 ) -> Result<(), Fail> {
-    let normal = "{move,{atom,ok},{x,0}}. return.";
-    shows::<P, C>(
-        rt,
-        alloc,
-        normal,
-        &[],
-        "applied 0\nstate open r0\nprocess <0.0.0> ready\nend\n",
-    )?;
-    shows::<P, C>(
-        rt,
-        alloc,
-        normal,
-        &[OWN, OWN],
-        "applied 2\nstate quiet\nprocess <0.0.0> ended normal\nend\n",
-    )?;
-    shows::<P, C>(
-        rt,
-        alloc,
-        normal,
-        &[OWN, OWN, OWN, OWN],
-        "applied 2\nstate stopped r0\nprocess <0.0.0> ended normal\nend\n",
-    )?;
-    shows::<P, C>(
-        rt,
-        alloc,
-        normal,
-        &[OWN, Choice::Run(1), OWN],
-        "applied 1\nstate stopped r1\nprocess <0.0.0> ready\nend\n",
-    )?;
-    shows::<P, C>(
-        rt,
-        alloc,
-        normal,
-        &[Choice::Deliver(0, 0)],
-        "applied 0\nstate stopped d0>0\nprocess <0.0.0> ready\nend\n",
-    )?;
-    shows::<P, C>(
-        rt,
-        alloc,
-        "{jump,{f,1}}.",
-        &[OWN, OWN],
-        "applied 2\nstate quiet\nprocess <0.0.0> ended {function_clause,[]}\nend\n",
-    )?;
-    shows::<P, C>(
-        rt,
-        alloc,
-        "{move,{x,5},{x,0}}.",
-        &[OWN, OWN],
-        "applied 1\nstate trapped Unset <0.0.0>\nprocess <0.0.0> ready\nend\n",
-    )?;
+    let cases: [(&str, &[Choice], &str); 7] = [
+        (
+            TWO,
+            &[],
+            "applied 0\nstate open r0\nprocess <0.0.0> ready\nend\n",
+        ),
+        (
+            TWO,
+            &[OWN, OWN],
+            "applied 2\nstate quiet\nprocess <0.0.0> ended normal\nend\n",
+        ),
+        (
+            TWO,
+            &[OWN, OWN, OWN, OWN],
+            "applied 2\nstate stopped r0\nprocess <0.0.0> ended normal\nend\n",
+        ),
+        (
+            TWO,
+            &[OWN, Choice::Run(1), OWN],
+            "applied 1\nstate stopped r1\nprocess <0.0.0> ready\nend\n",
+        ),
+        (
+            TWO,
+            &[Choice::Deliver(0, 0)],
+            "applied 0\nstate stopped d0>0\nprocess <0.0.0> ready\nend\n",
+        ),
+        (
+            "{jump,{f,1}}.",
+            &[OWN, OWN],
+            "applied 2\nstate quiet\nprocess <0.0.0> ended {function_clause,[]}\nend\n",
+        ),
+        (
+            "{move,{x,5},{x,0}}.",
+            &[OWN, OWN],
+            "applied 1\nstate trapped Unset <0.0.0>\nprocess <0.0.0> ready\nend\n",
+        ),
+    ];
+    for (items, choices, want) in cases {
+        let image = loaded(alloc, items)?;
+        let text = text_of_runs::<P, C>(alloc, &image, choices)?;
+        assert_eq!(rt; text.as_str(), want);
+    }
     Ok(())
 }
 

@@ -100,6 +100,7 @@ impl<P: Hold<Proc>, C: Hold<Lanes>> World<P, C> {
     ///
     /// `Halted` exactly where the world has trapped, else `NotEnabled` exactly where the choice is not enabled. After any
     /// refusal nothing has changed.
+    #[inline]
     pub fn apply(&mut self, alloc: Global, image: &Image, choice: Choice) -> Result<(), Fault>
         ensures { Does (IsTrue (can self.old choice)) self.old self.new result (applied image.now choice self.old) }
     {

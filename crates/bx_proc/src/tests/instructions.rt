@@ -1,147 +1,177 @@
 //! Each instruction on its own.
 
-use super::listings::{int, item, last_of, process, push_frame, run_of};
+use super::listings::{ends_so, int, item, process, runs_so};
 use bx_cells::Value;
 use bx_terms::Class;
-use std::test::Fail;
 
 #[test]
-fn moves_from_each_kind_of_source(rt: HostRuntime) -> Result<(), Fail> {
-    let alloc = rt.alloc();
-    let rows = [
-        (1, "{move,{integer,-5},{x,0}}.", "ran at 4 x0 -5"),
-        (1, "{move,{atom,ok},{x,0}}.", "ran at 4 x0 ok"),
-        (1, "{move,nil,{x,0}}.", "ran at 4 x0 []"),
-        (
+fn moves_from_each_kind_of_source(rt: HostRuntime) {
+    assert!(rt; ends_so(&rt, 1, "{move,{integer,-5},{x,0}}.", ("ran", 4, "-5")));
+    assert!(rt; ends_so(&rt, 1, "{move,{atom,ok},{x,0}}.", ("ran", 4, "ok")));
+    assert!(rt;
+        ends_so(
+            &rt,
+            1,
+            "{move,nil,{x,0}}. {label,3}. {line,[]}.",
+            ("ran", 6, "[]")
+        )
+    );
+    assert!(rt;
+        ends_so(
+            &rt,
             1,
             "{move,{literal,{a,[1|b]}},{x,0}}.",
-            "ran at 4 x0 {a,[1|b]}",
-        ),
-        (
+            ("ran", 4, "{a,[1|b]}")
+        )
+    );
+    assert!(rt;
+        ends_so(
+            &rt,
             2,
-            "{move,{integer,2},{x,9}}. {line,[]}. {move,{x,9},{x,0}}.",
-            "ran at 6 x0 2",
-        ),
-        (
+            "{move,{atom,a},{x,9}}. {move,{x,9},{x,0}}.",
+            ("ran", 5, "a")
+        )
+    );
+    assert!(rt;
+        ends_so(
+            &rt,
             2,
-            "{move,nil,{x,0}}. {move,{atom,ok},{x,0}}. {label,3}. {line,[]}.",
-            "ran at 7 x0 ok",
-        ),
-        (1, "{move,{x,5},{x,0}}.", "trap Unset at 3"),
-        (1, "{move,{y,0},{x,0}}.", "trap NoFrame at 3"),
-        (1, "{move,nil,{y,0}}.", "trap NoFrame at 3"),
-        (1, "{move,{x,5},{y,0}}.", "trap Unset at 3"),
-    ];
-    for (runs, items, expected) in rows {
-        let shown = last_of(alloc, runs, items)?;
-        assert_eq!(rt; shown.as_str(), expected, "{items}");
-    }
-    Ok(())
+            "{move,nil,{x,0}}. {move,{atom,b},{x,0}}.",
+            ("ran", 5, "b")
+        )
+    );
 }
 
 #[test]
-fn moves_from_and_to_the_topmost_frame(rt: HostRuntime) -> Result<(), Fail> {
-    let alloc = rt.alloc();
-    let mut process = process(alloc, 3)?;
-    push_frame(alloc, &mut process, 3)?;
-    push_frame(alloc, &mut process, 2)?;
-    let unset = run_of(alloc, &mut process, "{move,{y,1},{x,0}}.")?;
-    assert_eq!(rt; unset.as_str(), "trap Unset at 3");
-    let past = run_of(alloc, &mut process, "{move,{y,2},{x,0}}.")?;
-    assert_eq!(rt; past.as_str(), "trap FrameSize at 3");
-    let past = run_of(alloc, &mut process, "{move,nil,{y,2}}.")?;
-    assert_eq!(rt; past.as_str(), "trap FrameSize at 3");
-    let written = run_of(alloc, &mut process, "{move,{integer,8},{y,1}}.")?;
-    assert_eq!(rt; written.as_str(), "ran at 4");
-    let read = run_of(alloc, &mut process, "{line,[]}. {move,{y,1},{x,0}}.")?;
-    assert_eq!(rt; read.as_str(), "ran at 5 x0 8");
-    Ok(())
+fn what_cannot_be_moved(rt: HostRuntime) {
+    assert!(rt; ends_so(&rt, 1, "{move,{x,5},{x,0}}.", ("Unset", 3, "nothing")));
+    assert!(rt; ends_so(&rt, 1, "{move,{x,5},{y,0}}.", ("Unset", 3, "nothing")));
+    assert!(rt; ends_so(&rt, 1, "{move,{y,0},{x,0}}.", ("NoFrame", 3, "nothing")));
+    assert!(rt; ends_so(&rt, 1, "{move,nil,{y,0}}.", ("NoFrame", 3, "nothing")));
 }
 
 #[test]
-fn moves_carry_traces_and_no_tags(rt: HostRuntime) -> Result<(), Fail> {
-    let alloc = rt.alloc();
-    let mut process = process(alloc, 3)?;
-    push_frame(alloc, &mut process, 2)?;
-    assert!(rt; process.frames.set(0, Value::Tag(item(5))).is_ok());
-    assert!(rt; process.frames.set(1, Value::Trace(Class::Exit)).is_ok());
-    let tag = run_of(alloc, &mut process, "{move,{y,0},{x,0}}.")?;
-    assert_eq!(rt; tag.as_str(), "trap NotATerm at 3");
-    let trace = run_of(alloc, &mut process, "{move,{y,1},{x,0}}.")?;
-    assert_eq!(rt; trace.as_str(), "ran at 4 x0 trace");
-    Ok(())
+fn y_registers_are_those_of_the_topmost_frame(rt: HostRuntime) {
+    let Ok(mut p) = process(rt.alloc(), 3, &[3, 2]) else {
+        panic!(rt; "no memory")
+    };
+    assert!(rt; runs_so(&rt, &mut p, "{move,{y,1},{x,0}}.", ("Unset", 3, "nothing")));
+    assert!(rt;
+        runs_so(
+            &rt,
+            &mut p,
+            "{move,{y,2},{x,0}}.",
+            ("FrameSize", 3, "nothing")
+        )
+    );
+    assert!(rt;
+        runs_so(
+            &rt,
+            &mut p,
+            "{move,nil,{y,2}}.",
+            ("FrameSize", 3, "nothing")
+        )
+    );
+    assert!(rt;
+        runs_so(
+            &rt,
+            &mut p,
+            "{move,{integer,8},{y,1}}.",
+            ("ran", 4, "nothing")
+        )
+    );
+    assert!(rt; runs_so(&rt, &mut p, "return. {move,{y,1},{x,0}}.", ("ran", 5, "8")));
 }
 
 #[test]
-fn jumps_and_returns(rt: HostRuntime) -> Result<(), Fail> {
-    let alloc = rt.alloc();
-    let rows = [
-        (
+fn moves_carry_traces_and_no_tags(rt: HostRuntime) {
+    let Ok(mut p) = process(rt.alloc(), 3, &[2]) else {
+        panic!(rt; "no memory")
+    };
+    assert!(rt; p.frames.set(0, Value::Tag(item(5))).is_ok());
+    assert!(rt; p.frames.set(1, Value::Trace(Class::Exit)).is_ok());
+    assert!(rt;
+        runs_so(
+            &rt,
+            &mut p,
+            "{move,{y,0},{x,0}}.",
+            ("NotATerm", 3, "nothing")
+        )
+    );
+    assert!(rt; runs_so(&rt, &mut p, "{move,{y,1},{x,0}}.", ("ran", 4, "a trace")));
+}
+
+#[test]
+fn jumps(rt: HostRuntime) {
+    assert!(rt;
+        ends_so(
+            &rt,
             1,
-            "{jump,{f,3}}. return. {label,3}. {label,4}. {line,[]}. return.",
-            "ran at 8",
-        ),
-        (1, "{jump,{f,3}}. {label,3}.", "ran at 5"),
-        (2, "{jump,{f,3}}. {label,3}.", "trap BadPlace at 5"),
-        (1, "{jump,{f,1}}.", "ran at 1"),
-        (1, "return.", "ended normal at 3"),
-        (1, "", "trap BadPlace at 3"),
-    ];
-    for (runs, items, expected) in rows {
-        let shown = last_of(alloc, runs, items)?;
-        assert_eq!(rt; shown.as_str(), expected, "{items}");
-    }
-    let mut process = process(alloc, 3)?;
-    process.cp = Some(item(6));
-    let back = run_of(alloc, &mut process, "return.")?;
-    assert_eq!(rt; back.as_str(), "ran at 6");
-    assert_eq!(rt; process.cp, Some(item(6)));
-    Ok(())
+            "{jump,{f,3}}. {label,3}. {line,[]}. return.",
+            ("ran", 6, "nothing")
+        )
+    );
+    assert!(rt; ends_so(&rt, 1, "{jump,{f,1}}.", ("ran", 1, "nothing")));
+    assert!(rt; ends_so(&rt, 1, "{jump,{f,3}}. {label,3}.", ("ran", 5, "nothing")));
+    assert!(rt;
+        ends_so(
+            &rt,
+            2,
+            "{jump,{f,3}}. {label,3}.",
+            ("BadPlace", 5, "nothing")
+        )
+    );
+    assert!(rt; ends_so(&rt, 1, "", ("BadPlace", 3, "nothing")));
 }
 
 #[test]
-fn calls_by_name(rt: HostRuntime) -> Result<(), Fail> {
-    let alloc = rt.alloc();
-    let rows = [
-        ("{call_ext_only,0,{extfunc,m,f,0}}.", "ran at 3"),
-        (
-            "{call_ext_only,1,{extfunc,m,f,1}}.",
-            "ended {undef,[]} at 3",
-        ),
-        (
-            "{call_ext_only,0,{extfunc,other,f,0}}.",
-            "ended {undef,[]} at 3",
-        ),
-        (
+fn returns(rt: HostRuntime) {
+    assert!(rt; ends_so(&rt, 1, "return.", ("ended normal", 3, "nothing")));
+    let Ok(mut p) = process(rt.alloc(), 3, &[]) else {
+        panic!(rt; "no memory")
+    };
+    p.cp = Some(item(6));
+    assert!(rt; runs_so(&rt, &mut p, "return.", ("ran", 6, "nothing")));
+    assert_eq!(rt; p.cp, Some(item(6)));
+}
+
+#[test]
+fn calls_by_name(rt: HostRuntime) {
+    let Ok(mut p) = process(rt.alloc(), 4, &[]) else {
+        panic!(rt; "no memory")
+    };
+    p.cp = Some(item(6));
+    assert!(rt; p.x.set(0, int(1)).is_ok());
+    let call = "return. {call_ext_only,0,{extfunc,m,f,0}}.";
+    assert!(rt; runs_so(&rt, &mut p, call, ("ran", 3, "1")));
+    assert_eq!(rt; p.cp, Some(item(6)));
+    let undef = ("ended {undef,[]}", 3, "nothing");
+    assert!(rt; ends_so(&rt, 1, "{call_ext_only,1,{extfunc,m,f,1}}.", undef));
+    assert!(rt; ends_so(&rt, 1, "{call_ext_only,0,{extfunc,n,f,0}}.", undef));
+    assert!(rt; ends_so(&rt, 1, "{call_ext_only,2,{extfunc,m,'+',2}}.", undef));
+    assert!(rt;
+        ends_so(
+            &rt,
+            1,
             "{call_ext_only,1,{extfunc,erlang,get_module_info,1}}.",
-            "ended {undef,[]} at 3",
-        ),
-        (
+            undef
+        )
+    );
+    let unsupported = ("Unsupported", 3, "nothing");
+    assert!(rt;
+        ends_so(
+            &rt,
+            1,
             "{call_ext_only,1,{extfunc,erlang,display,1}}.",
-            "trap Unsupported at 3",
-        ),
-        (
+            unsupported
+        )
+    );
+    assert!(rt;
+        ends_so(
+            &rt,
+            1,
             "{call_ext_only,2,{extfunc,erlang,'+',2}}.",
-            "trap Unsupported at 3",
-        ),
-        (
-            "{call_ext_only,2,{extfunc,m,'+',2}}.",
-            "ended {undef,[]} at 3",
-        ),
-    ];
-    for (items, expected) in rows {
-        let shown = last_of(alloc, 1, items)?;
-        assert_eq!(rt; shown.as_str(), expected, "{items}");
-    }
-    let mut process = process(alloc, 4)?;
-    process.cp = Some(item(6));
-    assert!(rt; process.x.set(0, int(1)).is_ok());
-    let called = run_of(
-        alloc,
-        &mut process,
-        "return. {call_ext_only,0,{extfunc,m,f,0}}.",
-    )?;
-    assert_eq!(rt; called.as_str(), "ran at 3 x0 1");
-    assert_eq!(rt; process.cp, Some(item(6)));
-    Ok(())
+            unsupported
+        )
+    );
 }

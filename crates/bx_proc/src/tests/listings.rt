@@ -1,27 +1,35 @@
 //! Listings by hand, and what a run of them shows.
 
 use crate::{Effect, Proc};
-use bx_asm::assemble;
+use bx_asm::{Unit, assemble};
 use bx_cells::{Frame, Value};
 use bx_listing::read_listing;
 use bx_load::{Image, load};
-use bx_terms::{AtomId, Atoms, Fault, Place, Term, print};
+use bx_terms::{Atoms, Fault, Place, Term, print};
 use std::alloc::Global;
-use std::test::Fail;
 
-/// Module `m` with `f/0`, which is exported and has these items from item 3 on.
-pub fn loaded(alloc: Global, items: &str) -> Result<Image, Fail> {
-    let text = format!(in alloc;
-        "{{module,m}}. {{exports,[{{f,0}}]}}. {{attributes,[]}}. {{labels,9}}. {{function,f,0,2}}. {{label,1}}. {{func_info,{{atom,m}},{{atom,f}},0}}. {{label,2}}. {items}"
-    )?;
+/// Module `m` with `f/0`, which is exported; what follows are its items from item 3 on.
+const HEAD: &str =
+    "{module,m}. {exports,[{f,0}]}. {attributes,[]}. {labels,9}. {function,f,0,2}. {label,1}. {func_info,{atom,m},{atom,f},0}. {label,2}. ";
+
+fn listing(alloc: Global, items: &str) -> Result<String, Fault> {
+    let mut text = String::from_str(alloc, HEAD)?;
+    text.push_str(items)?;
+    Ok(text)
+}
+
+fn unit(alloc: Global, atoms: &mut Atoms, text: &str) -> Result<Unit, Fault> {
+    let listing = read_listing(alloc, atoms, text.as_bytes())?;
+    assemble(alloc, &listing)
+}
+
+pub fn loaded(alloc: Global, items: &str) -> Result<Image, Fault> {
+    let text = listing(alloc, items)?;
     let mut atoms = Atoms::new(alloc)?;
-    let listing = read_listing(alloc, &mut atoms, text.as_bytes())?;
+    let unit = unit(alloc, &mut atoms, text.as_str())?;
     let mut units = Vec::new(alloc);
-    units.push(assemble(alloc, &listing)?)?;
-    match load(alloc, atoms, units) {
-        Ok(image) => Ok(image),
-        Err(refused) => Err(refused.fault)?,
-    }
+    units.push(unit)?;
+    load(alloc, atoms, units).map_err(|refused| refused.fault)
 }
 
 /// The place of that item of the first module.
@@ -29,78 +37,99 @@ pub fn item(item: u32) -> Place {
     Place { module: 0, item }
 }
 
-/// The atom of that text.
-pub fn atom(image: &Image, text: &str) -> Result<AtomId, Fault> {
-    image.atoms().find(text).ok_or(Fault::NoEntry)
+pub fn int(value: i64) -> Value {
+    Value::Term(Term::int(value))
 }
 
-/// A process without arguments that stands at that item.
-pub fn process(alloc: Global, at: u32) -> Result<Proc, Fault> {
-    Proc::new(alloc, Some(item(at)), &[])
-}
-
-/// A frame of `size` registers goes on top.
-pub fn push_frame(alloc: Global, process: &mut Proc, size: u16) -> Result<(), Fail> {
-    let frame = Frame::new(alloc, size, None)?;
-    match process.frames.push(frame) {
-        Ok(()) => Ok(()),
-        Err(_) => Err(Fault::Memory)?,
+/// A process without arguments that stands at that item, with a frame of each of these sizes, the last one on top.
+pub fn process(alloc: Global, at: u32, sizes: &[u16]) -> Result<Proc, Fault> {
+    let mut process = Proc::new(alloc, Some(item(at)), &[])?;
+    for size in sizes {
+        let frame = Frame::new(alloc, *size, None)?;
+        if process.frames.push(frame).is_err() {
+            return Err(Fault::Memory);
+        }
     }
+    Ok(process)
 }
 
-/// What a run was, then where the process stands and what x0 holds, where there is something to be said.
-pub fn shown(
-    alloc: Global,
-    image: &Image,
-    process: &Proc,
-    effect: &Effect,
-) -> Result<String, Fail> {
-    let mut text = match effect {
-        Effect::Ran => String::from_str(alloc, "ran")?,
+fn effect_text(alloc: Global, atoms: &Atoms, effect: &Effect) -> Result<String, Fault> {
+    let mut text = String::new(alloc);
+    match effect {
+        Effect::Ran => text.push_str("ran")?,
         Effect::Ended(reason) => {
-            let reason = print(alloc, image.atoms(), reason)?;
-            format!(in alloc; "ended {reason}")?
+            text.push_str("ended ")?;
+            text.push_str(print(alloc, atoms, reason)?.as_str())?;
         }
-        Effect::Trap(trap) => {
-            let name = trap.name();
-            format!(in alloc; "trap {name}")?
-        }
-    };
-    if let Some(place) = process.place {
-        let number = place.item;
-        write!(text, " at {number}")?;
-    }
-    match process.x.get(0) {
-        Some(Value::Term(term)) => {
-            let term = print(alloc, image.atoms(), term)?;
-            write!(text, " x0 {term}")?;
-        }
-        Some(Value::Tag(_)) => text.push_str(" x0 tag")?,
-        Some(Value::Trace(_)) => text.push_str(" x0 trace")?,
-        None => {}
+        Effect::Trap(trap) => text.push_str(trap.name())?,
     }
     Ok(text)
 }
 
-/// What the last of `runs` runs shows of a process that begins at `m:f/0`.
-pub fn last_of(alloc: Global, runs: u32, items: &str) -> Result<String, Fail> {
-    let image = loaded(alloc, items)?;
-    let entry = image.entry(atom(&image, "m")?, atom(&image, "f")?, 0);
-    let mut process = Proc::new(alloc, entry, &[])?;
+fn held_text(alloc: Global, atoms: &Atoms, value: Option<&Value>) -> Result<String, Fault> {
+    match value {
+        Some(Value::Term(term)) => Ok(print(alloc, atoms, term)?),
+        Some(Value::Tag(_)) => Ok(String::from_str(alloc, "a tag")?),
+        Some(Value::Trace(_)) => Ok(String::from_str(alloc, "a trace")?),
+        None => Ok(String::from_str(alloc, "nothing")?),
+    }
+}
+
+/// Whether that is what a run was, where the process stands after it, and what x0 holds.
+pub fn is_so(
+    alloc: Global,
+    image: &Image,
+    process: &Proc,
+    effect: &Effect,
+    expected: (&str, u32, &str),
+) -> bool {
+    let Ok(effect) = effect_text(alloc, image.atoms(), effect) else {
+        return false;
+    };
+    let Ok(held) = held_text(alloc, image.atoms(), process.x.get(0)) else {
+        return false;
+    };
+    effect.as_str() == expected.0
+        && process.place == Some(item(expected.1))
+        && held.as_str() == expected.2
+}
+
+/// Whether one run of `process` over these items is as expected.
+pub fn runs_so(
+    rt: &HostRuntime,
+    process: &mut Proc,
+    items: &str,
+    expected: (&str, u32, &str),
+) -> bool {
+    let alloc = rt.alloc();
+    let Ok(image) = loaded(alloc, items) else {
+        return false;
+    };
+    match process.step(alloc, 7, &image) {
+        Ok(effect) => is_so(alloc, &image, process, &effect, expected),
+        Err(_) => false,
+    }
+}
+
+fn last_run(alloc: Global, image: &Image, process: &mut Proc, runs: u32) -> Result<Effect, Fault> {
     let mut effect = Effect::Ran;
     for _ in 0..runs {
-        effect = process.step(alloc, 7, &image)?;
+        effect = process.step(alloc, 7, image)?;
     }
-    shown(alloc, &image, &process, &effect)
+    Ok(effect)
 }
 
-/// What one run of `process` shows, over these items.
-pub fn run_of(alloc: Global, process: &mut Proc, items: &str) -> Result<String, Fail> {
-    let image = loaded(alloc, items)?;
-    let effect = process.step(alloc, 7, &image)?;
-    shown(alloc, &image, process, &effect)
-}
-
-pub fn int(value: i64) -> Value {
-    Value::Term(Term::int(value))
+/// Whether the last of `runs` runs of a new process, from item 3 on, is as expected.
+pub fn ends_so(rt: &HostRuntime, runs: u32, items: &str, expected: (&str, u32, &str)) -> bool {
+    let alloc = rt.alloc();
+    let Ok(image) = loaded(alloc, items) else {
+        return false;
+    };
+    let Ok(mut process) = process(alloc, 3, &[]) else {
+        return false;
+    };
+    match last_run(alloc, &image, &mut process, runs) {
+        Ok(effect) => is_so(alloc, &image, &process, &effect, expected),
+        Err(_) => false,
+    }
 }

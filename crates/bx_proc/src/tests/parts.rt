@@ -1,39 +1,43 @@
 //! New processes, copies and comparisons, with ample memory.
 
-use super::listings::{int, item};
-use crate::{Pending, Proc, Status};
+use super::listings::{int, item, process};
+use crate::{Proc, Status};
 use bx_share::{ArcHold, Copied, Hold};
-use bx_terms::{Class, Term};
-use std::test::Fail;
+use bx_terms::Term;
 
 #[test]
-fn a_new_process_has_its_arguments(rt: HostRuntime) -> Result<(), Fail> {
-    let alloc = rt.alloc();
+fn a_new_process_has_its_arguments(rt: HostRuntime) {
     let arguments = [Term::int(4), Term::nil()];
-    let process = Proc::new(alloc, Some(item(5)), &arguments)?;
-    assert!(rt; process.x.get(0).is_some_and(|value| value.same(&int(4))));
-    assert!(rt; process.x.get(1).is_some());
-    assert!(rt; process.x.get(2).is_none());
-    assert_eq!(rt; process.place(), Some(item(5)));
-    assert_eq!(rt; process.cp, None);
-    assert!(rt; !process.trap_exit);
-    assert!(rt; process.can_run());
-    Ok(())
+    let Ok(p) = Proc::new(rt.alloc(), Some(item(5)), &arguments) else {
+        panic!(rt; "no memory")
+    };
+    assert!(rt; p.x.get(0).is_some_and(|value| value.same(&int(4))));
+    assert!(rt; p.x.get(1).is_some());
+    assert!(rt; p.x.get(2).is_none());
+    assert_eq!(rt; p.place(), Some(item(5)));
+    assert!(rt; p.can_run());
 }
 
 #[test]
-fn copies_are_the_same_until_one_changes(rt: HostRuntime) -> Result<(), Fail> {
-    let alloc = rt.alloc();
-    let mut first = ArcHold::put(alloc, Proc::new(alloc, None, &[Term::int(4)])?)?;
-    let other = first.share(alloc)?;
+fn copies_are_the_same_until_one_changes(rt: HostRuntime) {
+    let Ok(p) = process(rt.alloc(), 3, &[2]) else {
+        panic!(rt; "no memory")
+    };
+    let Ok(mut first) = ArcHold::put(rt.alloc(), p) else {
+        panic!(rt; "no memory")
+    };
+    let Ok(other) = first.share(rt.alloc()) else {
+        panic!(rt; "no memory")
+    };
     assert!(rt; first.see().same(other.see()));
-    let process = first.edit(alloc)?;
-    process.status = Status::Ended(Term::nil());
-    let value = Term::int(1);
-    let class = Class::Throw;
-    process.fault = Some(Pending { class, value });
-    assert!(rt; process.copy(alloc)?.same(process));
-    assert!(rt; !process.same(other.see()));
+    match first.edit(rt.alloc()) {
+        Ok(p) => p.status = Status::Ended(Term::nil()),
+        Err(_) => panic!(rt; "no memory"),
+    }
+    assert!(rt; !first.see().same(other.see()));
     assert!(rt; matches!(other.see().status(), Status::Ready));
-    Ok(())
+    let Ok(copy) = first.see().copy(rt.alloc()) else {
+        panic!(rt; "no memory")
+    };
+    assert!(rt; copy.same(first.see()));
 }
