@@ -11,9 +11,18 @@ use std::time::Instant;
 /// Runs one process so many choices long, on each of a few loops.
 pub fn measure(rt: &HostRuntime, rounds: u32) -> Result<(), Trouble> {
     let loops = [
-        ("move of an integer and jump", "{label,3}. {move,{integer,1},{x,0}}. {jump,{f,3}}."),
-        ("move of a register and jump", "{move,nil,{x,1}}. {label,3}. {move,{x,1},{x,0}}. {jump,{f,3}}."),
-        ("move of a tuple and jump", "{label,3}. {move,{literal,{a,b}},{x,0}}. {jump,{f,3}}."),
+        (
+            "move of an integer and jump",
+            "{label,3}. {move,{integer,1},{x,0}}. {jump,{f,3}}.",
+        ),
+        (
+            "move of a register and jump",
+            "{move,nil,{x,1}}. {label,3}. {move,{x,1},{x,0}}. {jump,{f,3}}.",
+        ),
+        (
+            "move of a tuple and jump",
+            "{label,3}. {move,{literal,{a,b}},{x,0}}. {jump,{f,3}}.",
+        ),
         ("jump", "{label,3}. {jump,{f,3}}."),
     ];
     for (name, items) in loops {

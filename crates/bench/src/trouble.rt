@@ -2,8 +2,7 @@
 
 use bx_terms::Fault;
 use std::alloc::{AllocError, AllocFailed};
-use std::fmt;
-use std::io;
+use std::{fmt, io};
 
 /// Why a measure was not taken.
 #[derive(Debug, Drop)]
