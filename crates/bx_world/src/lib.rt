@@ -20,6 +20,3 @@ pub use rows::{Output, Statuses};
 pub use runs::{RunEnd, advance};
 pub use texts::{choice_text, outcome_text};
 pub use world::{ArcWorld, RcWorld, World};
-
-#[cfg(test)]
-mod tests;
