@@ -7,6 +7,3 @@ mod texts;
 
 pub use reports::{Report, ScheduleName, Scheduled};
 pub use texts::report_text;
-
-#[cfg(test)]
-mod tests;

@@ -130,6 +130,3 @@ where
     }
     Ok(opened)
 }
-
-#[cfg(test)]
-mod tests;
