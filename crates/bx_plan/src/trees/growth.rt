@@ -1,9 +1,10 @@
 //! Steps as keys, the look-up of a node's children, and growing along choices.
 
-ghost use Rattle.std.specs.Prelude.{◌≡◌, ◌+◌, ◌<◌, ◌≤◌, ◌++◌, ◌∷◌, [], false, length, MatchOption, IfOk, OnErr};
+ghost use Rattle.std.specs.Prelude.{◌≡◌, ◌+◌, ◌<◌, ◌≤◌, ◌++◌, ◌∷◌, [], false, length, MatchOption, IfOk, OnOk, OnErr};
 ghost use Rattle.bx_plan.specs.Nodes.{has_node};
 ghost use Rattle.bx_plan.specs.Trees.{path, grown, tree_of, IsTree};
-ghost use Rattle.bx_plan.specs.Edges.{edge, steps_view};
+ghost use Rattle.bx_plan.specs.Edges.{edge, steps_view, IsNext, Notes};
+ghost use Rattle.std.specs.BTreeMap.{IsUnchanged};
 ghost use Rattle.bx_plan.specs.Walks.{Steps, Walks};
 
 use super::{Edge, Growing, MOST_NODES, Step};
@@ -27,6 +28,24 @@ fn edge(parent: usize, choice: Choice) -> Edge
             second: Some(second),
         },
     }
+}
+
+/// Notes the edge to a new node. A node right behind its parent needs none, and most are: a schedule goes on where it ends.
+fn note(
+    children: &mut BTreeMap<Edge, usize>,
+    at: usize,
+    choice: Choice,
+    node: usize,
+) -> Result<(), AllocError>
+    requires { at < node }
+    ensures ok { OnOk result (Notes at choice node children.old children.new) }
+    ensures err { OnErr result (IsUnchanged children.old children.new) }
+{
+    if node == at + 1 {
+        return Ok(());
+    }
+    children.insert(edge(at, choice), node)?;
+    Ok(())
 }
 
 impl Growing {
@@ -60,7 +79,23 @@ impl Growing {
         requires { at < length self.now.paths }
         ensures { MatchOption result (has_node self.now.paths (path self.now at ++ choice ∷ []) ≡ false) (λ node. (node < length self.now.paths) × (path self.now node ≡ path self.now at ++ choice ∷ [])) }
     {
+        if let Some(node) = self.next(at, choice) {
+            return Some(node);
+        }
         self.children.get(&edge(at, choice)).copied()
+    }
+
+    /// The node right behind this one, where it is its child by the choice.
+    fn next(&self, at: usize, choice: Choice) -> Option<usize>
+        ensures next { MatchOption result (IsNext self.now at choice → ⊥) (λ node. (node ≡ at + 1) × IsNext self.now at choice) }
+        ensures tree { IsTree self.now }
+    {
+        let step = self.steps.get(at)?;
+        if step.parent == at && step.choice == choice {
+            Some(at + 1)
+        } else {
+            None
+        }
     }
 
     /// A new child of a node.
@@ -72,7 +107,7 @@ impl Growing {
     {
         let node = self.steps.len() + 1;
         self.steps.reserve(1)?;
-        self.children.insert(edge(at, choice), node)?;
+        note(&mut self.children, at, choice, node)?;
         let step = Step { parent: at, choice };
         match self.steps.push(step) {
             Ok(()) => Ok(node),
