@@ -42,7 +42,8 @@ impl Failure {
     /// The status that the program ends with: 1 for a refused input, 2 for a bad start, 3 for want
     /// of memory, 4 for a file or a stream.
     fn status(&self) -> u8
-        ensures { result ≡ status_of self.now }
+        ensures status { result ≡ status_of self.now }
+        ensures few { (1 ≤ result) × (result ≤ 4) }
     {
         match self {
             Failure::Refused(fault, _) => match title(fault) {
@@ -58,9 +59,10 @@ impl Failure {
 /// Writes a failure's line to standard error, and gives the status that the program ends with.
 ///
 /// `names` are the files' names as the user gave them, in the order by which a failure numbers them.
-/// The status is the same where the line can't be written.
+/// The status, 1 to 4, is the same where the line can't be written.
 pub fn fault_line<W: Write>(failure: &Failure, names: &[String], writer: &mut W) -> u8
-    ensures { result ≡ status_of failure.now }
+    ensures status { result ≡ status_of failure.now }
+    ensures few { (1 ≤ result) × (result ≤ 4) }
 {
     let _ = write_failure(failure, names, writer);
     failure.status()

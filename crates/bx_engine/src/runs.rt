@@ -1,6 +1,7 @@
 //! `run`: the report of a plan's schedules, each run alone from the start.
 
-ghost use Rattle.std.specs.Prelude.{⊤, ◌≡◌, ◌++◌, ◌∷◌, [], List, ℕ, Ok, OnOk, Some, map, option_map, slice_get, string_bytes};
+ghost use Rattle.std.specs.Prelude.{⊤, ◌≡◌, ◌⊎◌, ◌++◌, ◌∷◌, [], List, ℕ, Ok, OnOk, IfErr, Some, map, option_map, slice_get, string_bytes};
+ghost use Rattle.std.specs.Io.KnownBytes.{Keeps};
 ghost use Rattle.bx_terms.specs.Outcomes.{Gives};
 ghost use Rattle.bx_plan.specs.Planned.{schedules};
 ghost use Rattle.bx_world.specs.Running.{ran, unchosen};
@@ -157,7 +158,7 @@ fn text_of<R: Read>(
 ///
 /// The failure is the first of these: the start is no such thing; a listing, in the order given, can't be read or is refused when it
 /// is read or assembled; the listings can't be loaded together; the plan can't be read or is refused; `NoEntry`, where the module
-/// does not export that function of no arguments. Nothing is written then. Want of memory may come at any time before the text is
+/// does not export that function of no arguments. Nothing is written then, whatever the readers are. Want of memory may come at any time before the text is
 /// whole, and only where memory was refused.
 pub fn run_text<R: Read, W: Write>(
     alloc: Global,
@@ -166,8 +167,9 @@ pub fn run_text<R: Read, W: Write>(
     plan: &mut R,
     writer: &mut W,
 ) -> Result<(), Failure>
-    ensures { (given : List (List ℕ)) → (planned : List ℕ) → map R.remaining listings.old ≡ map (λ text. Some text) given → R.remaining plan.old ≡ Some planned
+    ensures written { (given : List (List ℕ)) → (planned : List ℕ) → map R.remaining listings.old ≡ map (λ text. Some text) given → R.remaining plan.old ≡ Some planned
         → Writes (W.contents writer.old) (W.contents writer.new) result (ClearStart start.now given) (run_of start.now given planned) }
+    ensures unwritten { IfErr result (λ failure. (failure ≡ Failure.Write) ⊎ Keeps (W.contents writer.old) (W.contents writer.new)) }
 {
     let start = match start_of(alloc, start) {
         Ok(start) => start,

@@ -1,5 +1,6 @@
 //! The program over a runtime: its words, its files, and the status that it ends with.
-ghost use Rattle.std.specs.Prelude.{◌≡◌, ◌≢◌, ◌⊎◌, ◌++◌, ◌∷◌, [], IfOk, map, string_bytes};
+ghost use Rattle.std.specs.Prelude.{◌≡◌, ◌≢◌, ◌≤◌, ◌⊎◌, ◌++◌, ◌∷◌, [], IfErr, IfOk, map, string_bytes};
+ghost use Rattle.std.specs.Io.KnownBytes.{Keeps};
 ghost use Rattle.std.specs.IoError.{error_kind};
 ghost use Rattle.std.specs.declared.io.ErrorKind.TheVariants.{OutOfMemory};
 ghost use Rattle.clap.specs.Words.{kind_of};
@@ -15,12 +16,15 @@ use std::io::Write;
 use std::rt::{Env, Files};
 use std::{env, fs, io};
 
-/// Does what the command line orders, with its text on `output` and lines on `errors`, and gives the status to end with.
+/// Does what the command line orders, with its text on `output` and lines on `errors`, and gives the status to end with,
+/// 0 to 4. Where it is none of 0 and 4, nothing was written to `output`.
 pub fn status_of_run<R, O, W>(rt: &R, output: &mut O, errors: &mut W) -> u8
 where
     R: Files + Env + Print + Eprint + AllocGlobal,
     O: Write,
     W: Write,
+    ensures few { result ≤ 4 }
+    ensures unwritten { (result ≡ 0) ⊎ (result ≡ 4) ⊎ Keeps (O.contents output.old) (O.contents output.new) }
 {
     let words = match words_of(rt) {
         Ok(words) => words,
@@ -50,6 +54,7 @@ fn words_of<R: Env + AllocGlobal>(rt: &R) -> io::Result<Vec<String>> {
 fn refuse_words<W: Write>(error: &io::Error, errors: &mut W) -> u8
     ensures memory { error_kind error.now ≡ OutOfMemory → result ≡ 3 }
     ensures other { error_kind error.now ≢ OutOfMemory → result ≡ 2 }
+    ensures few { result ≤ 4 }
 {
     if error.kind() == io::ErrorKind::OutOfMemory {
         return fault_line(&memory(), &[], errors);
@@ -66,6 +71,7 @@ fn explain<R: Print + Eprint, W: Write>(rt: &R, error: &Error, errors: &mut W) -
     ensures mistake { kind_of error.now ≢ ErrorKind.OutOfMemory
         → kind_of error.now ≢ ErrorKind.DisplayHelp
         → kind_of error.now ≢ ErrorKind.DisplayVersion → result ≡ 2 }
+    ensures few { result ≤ 4 }
 {
     if error.kind() == ErrorKind::OutOfMemory {
         return fault_line(&memory(), &[], errors);
@@ -105,6 +111,7 @@ fn run<R, W>(rt: &R, start: &str, names: &[String], writer: &mut W) -> Result<()
 where
     R: Files + AllocGlobal,
     W: Write,
+    ensures { IfErr result (λ failure. (failure ≡ Failure.Write) ⊎ Keeps (W.contents writer.old) (W.contents writer.new)) }
 {
     let _ = start_of(rt.alloc(), start)?;
     let mut inputs = open_all(rt, names)?;
