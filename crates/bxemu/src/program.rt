@@ -130,3 +130,6 @@ where
     }
     Ok(opened)
 }
+
+#[cfg(test)]
+mod tests;
