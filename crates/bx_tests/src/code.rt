@@ -190,22 +190,22 @@ fn number_and_detail(fault: &Fault) -> Option<(u8, usize)> {
     Some((fault.number()?, detail))
 }
 
-/// The refusal of numbering what was read.
-fn refusal(alloc: Global, text: &str) -> Option<(u8, usize)> {
-    let (_, listing) = read(alloc, text).ok()?;
+/// The refusal of numbering what was read; 0 where it is numbered.
+fn refusal(alloc: Global, text: &str) -> Result<(u8, usize), Fault> {
+    let (_, listing) = read(alloc, text)?;
     match assemble(alloc, &listing) {
-        Ok(_) => None,
-        Err(fault) => number_and_detail(&fault),
+        Ok(_) => Ok((0, 0)),
+        Err(fault) => number_and_detail(&fault).ok_or(fault),
     }
 }
 
-fn refusal_of_items(alloc: Global, items: &str) -> Option<(u8, usize)> {
-    let text = module(alloc, items).ok()?;
+fn refusal_of_items(alloc: Global, items: &str) -> Result<(u8, usize), Fault> {
+    let text = module(alloc, items)?;
     refusal(alloc, text.as_str())
 }
 
 #[test]
-fn items_over_a_limit(rt: HostRuntime) {
+fn items_over_a_limit(rt: HostRuntime) -> Result<(), Fail> {
     let rows = [
         ("return. {label,2}.", 12, 2),
         ("{jump,{f,9}}.", 13, 9),
@@ -216,15 +216,21 @@ fn items_over_a_limit(rt: HostRuntime) {
         ("{call_ext_only,256,{extfunc,m,f,256}}.", 16, 0),
     ];
     for (items, number, detail) in rows {
-        assert!(rt;
-            refusal_of_items(rt.alloc(), items) == Some((number, detail)),
-            "{items}"
-        );
+        let refused = refusal_of_items(rt.alloc(), items)?;
+        assert!(rt; refused == (number, detail), "{items}");
     }
+    Ok(())
+}
+
+/// The refusal of a module with these functions.
+fn refusal_of_functions(alloc: Global, functions: &str) -> Result<(u8, usize), Fault> {
+    let mut text = String::from_str(alloc, "{module,m}. {exports,[]}. {labels,3}. ")?;
+    text.push_str(functions)?;
+    refusal(alloc, text.as_str())
 }
 
 #[test]
-fn functions_over_a_limit(rt: HostRuntime) {
+fn functions_over_a_limit(rt: HostRuntime) -> Result<(), Fail> {
     let rows = [
         (
             "{function,f,0,1}. {label,2}. {function,g,0,2}. {label,1}.",
@@ -243,13 +249,8 @@ fn functions_over_a_limit(rt: HostRuntime) {
         ),
     ];
     for (functions, number, detail) in rows {
-        let refused = refusal_of_functions(rt.alloc(), functions);
-        assert!(rt; refused == Some((number, detail)), "{functions}");
+        let refused = refusal_of_functions(rt.alloc(), functions)?;
+        assert!(rt; refused == (number, detail), "{functions}");
     }
-}
-
-fn refusal_of_functions(alloc: Global, functions: &str) -> Option<(u8, usize)> {
-    let mut text = String::from_str(alloc, "{module,m}. {exports,[]}. {labels,3}. ").ok()?;
-    text.push_str(functions).ok()?;
-    refusal(alloc, text.as_str())
+    Ok(())
 }

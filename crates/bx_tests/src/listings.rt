@@ -169,7 +169,6 @@ fn functions_of_a_listing(rt: HostRuntime) -> Result<(), Fail> {
 /// The number of a refusal, and the line that it names.
 fn number_and_line(fault: &Fault) -> Option<(u8, usize)> {
     let line = match fault {
-        Fault::AtomTooLong { line } => (*line)?,
         Fault::Truncated { line }
         | Fault::BadForm { line }
         | Fault::Unsupported { line, .. }
@@ -180,15 +179,16 @@ fn number_and_line(fault: &Fault) -> Option<(u8, usize)> {
     Some((fault.number()?, line))
 }
 
-fn refusal(alloc: Global, text: &str) -> Option<(u8, usize)> {
+/// The refusal of a text; 0 where it is read.
+fn refusal(alloc: Global, text: &str) -> Result<(u8, usize), Fault> {
     match read(alloc, text) {
-        Ok(_) => None,
-        Err(fault) => number_and_line(&fault),
+        Ok(_) => Ok((0, 0)),
+        Err(fault) => number_and_line(&fault).ok_or(fault),
     }
 }
 
 #[test]
-fn forms_out_of_order(rt: HostRuntime) {
+fn forms_out_of_order(rt: HostRuntime) -> Result<(), Fail> {
     let rows = [
         ("", 1),
         ("\n{module,m}. {exports,[]}.\n", 3),
@@ -200,18 +200,19 @@ fn forms_out_of_order(rt: HostRuntime) {
         ("{module,m}. {exports,[]}. {labels,2}. \n[return].", 2),
     ];
     for (text, line) in rows {
-        assert!(rt; refusal(rt.alloc(), text) == Some((8, line)), "{text}");
+        assert!(rt; refusal(rt.alloc(), text)? == (8, line), "{text}");
     }
+    Ok(())
 }
 
 /// The refusal of a module with these items.
-fn refusal_of_items(alloc: Global, items: &str) -> Option<(u8, usize)> {
-    let text = module(alloc, items).ok()?;
+fn refusal_of_items(alloc: Global, items: &str) -> Result<(u8, usize), Fault> {
+    let text = module(alloc, items)?;
     refusal(alloc, text.as_str())
 }
 
 #[test]
-fn items_that_are_refused(rt: HostRuntime) {
+fn items_that_are_refused(rt: HostRuntime) -> Result<(), Fail> {
     let rows = [
         ("return. {labels,3}.", 8, 9),
         ("\n{swamp,{x,0},{x,1}}.", 9, 10),
@@ -225,9 +226,8 @@ fn items_that_are_refused(rt: HostRuntime) {
         ("return.\nreturn", 6, 10),
     ];
     for (items, number, line) in rows {
-        assert!(rt;
-            refusal_of_items(rt.alloc(), items) == Some((number, line)),
-            "{items}"
-        );
+        let refused = refusal_of_items(rt.alloc(), items)?;
+        assert!(rt; refused == (number, line), "{items}");
     }
+    Ok(())
 }

@@ -1,8 +1,8 @@
 //! Two modules that are loaded together, and modules that can't be. Items were counted in the texts by hand.
 
-use crate::samples::loaded;
+use crate::samples::{atom, image, loaded};
 use bx_load::Image;
-use bx_terms::{AtomId, Fault, Place};
+use bx_terms::{Fault, Place};
 use std::alloc::{AllocError, Global};
 use std::test::Fail;
 
@@ -13,14 +13,6 @@ const M: &str = "{module,m}. {exports,[{f,0}]}. {attributes,[]}. {labels,3}.
 const N: &str = "{module,n}. {exports,[{g,1},{h,0}]}. {labels,5}.
 {function,g,1,2}. {label,1}. {func_info,{atom,n},{atom,g},1}. {label,2}. return.
 {function,h,0,4}. {label,3}. {func_info,{atom,n},{atom,h},0}. {label,4}. {line,[]}. {jump,{f,2}}.";
-
-fn both(alloc: Global) -> Result<Image, Fault> {
-    loaded(alloc, &[M, N])?.map_err(|refused| refused.fault)
-}
-
-fn atom(image: &Image, text: &str) -> AtomId {
-    image.atoms().find(text).unwrap_or(AtomId(u32::MAX))
-}
 
 fn at(module: u32, item: u32) -> Option<Place> {
     Some(Place { module, item })
@@ -33,7 +25,7 @@ fn entry(image: &Image, module: &str, function: &str, arity: u32) -> Option<Plac
 
 #[test]
 fn exported_functions(rt: HostRuntime) -> Result<(), Fail> {
-    let image = both(rt.alloc())?;
+    let image = image(rt.alloc(), &[M, N])?;
     let rows = [
         ("m", "f", 0, at(0, 3)),
         ("n", "g", 1, at(1, 3)),
@@ -53,7 +45,7 @@ fn exported_functions(rt: HostRuntime) -> Result<(), Fail> {
 
 #[test]
 fn instructions_by_place(rt: HostRuntime) -> Result<(), Fail> {
-    let image = both(rt.alloc())?;
+    let image = image(rt.alloc(), &[M, N])?;
     let n = atom(&image, "n");
     assert!(rt; image.place(n, 5) == at(1, 5));
     assert!(rt; image.place(n, 7).is_none(), "a line");
@@ -65,10 +57,9 @@ fn instructions_by_place(rt: HostRuntime) -> Result<(), Fail> {
 
 /// Whether the modules of both rows are loaded as the same image.
 fn are_same(alloc: Global, one: &[&str], other: &[&str]) -> Result<bool, Fault> {
-    match (loaded(alloc, one)?, loaded(alloc, other)?) {
-        (Ok(one), Ok(other)) => Ok(one.same(&other)),
-        _ => Ok(false),
-    }
+    let one = image(alloc, one)?;
+    let other = image(alloc, other)?;
+    Ok(one.same(&other))
 }
 
 #[test]
@@ -79,11 +70,14 @@ fn sameness_of_images(rt: HostRuntime) -> Result<(), Fail> {
     Ok(())
 }
 
-/// The number of the refusal of these modules, and how many were handed back.
-fn refusal(alloc: Global, texts: &[&str]) -> Option<(u8, usize)> {
-    match loaded(alloc, texts) {
-        Ok(Err(refused)) => Some((refused.fault.number()?, refused.units.len())),
-        _ => None,
+/// The number of the refusal of these modules, and how many were handed back; 0 where they are loaded.
+fn refusal(alloc: Global, texts: &[&str]) -> Result<(u8, usize), Fault> {
+    match loaded(alloc, texts)? {
+        Ok(_) => Ok((0, 0)),
+        Err(refused) => {
+            let number = refused.fault.number().ok_or(Fault::Memory)?;
+            Ok((number, refused.units.len()))
+        }
     }
 }
 
@@ -102,11 +96,11 @@ fn repeated(
 #[test]
 fn modules_that_cannot_be_loaded(rt: HostRuntime) -> Result<(), Fail> {
     let missing = "{module,o}. {exports,[{f,1}]}. {labels,2}. {function,f,0,1}. {label,1}.";
-    assert!(rt; refusal(rt.alloc(), &[missing]) == Some((18, 1)));
-    assert!(rt; refusal(rt.alloc(), &[missing, M, missing]) == Some((17, 3)));
+    assert!(rt; refusal(rt.alloc(), &[missing])? == (18, 1));
+    assert!(rt; refusal(rt.alloc(), &[missing, M, missing])? == (17, 3));
     let most = repeated(rt.alloc(), M, 64)?;
-    assert!(rt; refusal(rt.alloc(), &most) == Some((17, 64)));
+    assert!(rt; refusal(rt.alloc(), &most)? == (17, 64));
     let over = repeated(rt.alloc(), M, 65)?;
-    assert!(rt; refusal(rt.alloc(), &over) == Some((19, 65)));
+    assert!(rt; refusal(rt.alloc(), &over)? == (19, 65));
     Ok(())
 }

@@ -3,7 +3,7 @@
 use bx_asm::{Unit, assemble};
 use bx_listing::{Listing, read_listing};
 use bx_load::{Image, LoadRefused, load};
-use bx_terms::{Atoms, Fault};
+use bx_terms::{AtomId, Atoms, Fault};
 use std::alloc::{AllocError, Global};
 
 /// Module `m` with `f/0`, which is exported. The items that are given stand behind these, from line 9 and item 3 on.
@@ -31,36 +31,40 @@ pub fn read(alloc: Global, text: &str) -> Result<(Atoms, Listing), Fault> {
     Ok((atoms, listing))
 }
 
-/// The numbered code of a listing, with its atoms.
-pub fn unit(alloc: Global, text: &str) -> Result<(Atoms, Unit), Fault> {
-    let (atoms, listing) = read(alloc, text)?;
-    let unit = assemble(alloc, &listing)?;
-    Ok((atoms, unit))
-}
-
 fn next_unit(alloc: Global, atoms: &mut Atoms, text: &str) -> Result<Unit, Fault> {
     let listing = read_listing(alloc, atoms, text.as_bytes())?;
     assemble(alloc, &listing)
 }
 
-/// The numbered code of each of these listings, with the atoms of all.
-pub fn units(alloc: Global, texts: &[&str]) -> Result<(Atoms, Vec<Unit>), Fault> {
+/// The numbered code of a listing, with its atoms.
+pub fn unit(alloc: Global, text: &str) -> Result<(Atoms, Unit), Fault> {
+    let mut atoms = Atoms::new(alloc)?;
+    let unit = next_unit(alloc, &mut atoms, text)?;
+    Ok((atoms, unit))
+}
+
+/// The image of these listings, or how loading them was refused.
+pub fn loaded(alloc: Global, texts: &[&str]) -> Result<Result<Image, LoadRefused>, Fault> {
     let mut atoms = Atoms::new(alloc)?;
     let mut units = Vec::new(alloc);
     for text in texts {
         units.push(next_unit(alloc, &mut atoms, text)?)?;
     }
-    Ok((atoms, units))
-}
-
-/// The image of these listings, or how loading them was refused.
-pub fn loaded(alloc: Global, texts: &[&str]) -> Result<Result<Image, LoadRefused>, Fault> {
-    let (atoms, units) = units(alloc, texts)?;
     Ok(load(alloc, atoms, units))
 }
 
+/// The image of these listings.
+pub fn image(alloc: Global, texts: &[&str]) -> Result<Image, Fault> {
+    loaded(alloc, texts)?.map_err(|refused| refused.fault)
+}
+
 /// The image of a module `m` whose `f/0` has these items.
-pub fn image(alloc: Global, items: &str) -> Result<Image, Fault> {
+pub fn image_of_items(alloc: Global, items: &str) -> Result<Image, Fault> {
     let text = module(alloc, items)?;
-    loaded(alloc, &[text.as_str()])?.map_err(|refused| refused.fault)
+    image(alloc, &[text.as_str()])
+}
+
+/// The atom that a text spells; one that no table has, where the image's has none.
+pub fn atom(image: &Image, text: &str) -> AtomId {
+    image.atoms().find(text).unwrap_or(AtomId(u32::MAX))
 }

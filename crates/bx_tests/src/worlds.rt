@@ -1,10 +1,10 @@
 //! Worlds over holders of both kinds. What is expected was worked out by hand from the meaning of each instruction.
 
-use crate::samples::image;
+use crate::samples::{atom, image_of_items};
 use bx_load::Image;
 use bx_proc::Proc;
 use bx_share::{ArcHold, Hold, RcHold};
-use bx_terms::{AtomId, Fault};
+use bx_terms::Fault;
 use bx_world::{Choice, Lanes, RunEnd, World, advance, choice_text, outcome_text};
 use std::alloc::Global;
 use std::process::Abort;
@@ -17,10 +17,6 @@ const TWO: &str = "{move,{atom,ok},{x,0}}. return.";
 
 /// A move, and one that traps, since x5 holds nothing.
 const TRAPS: &str = "{move,{atom,ok},{x,0}}. {move,{x,5},{x,0}}.";
-
-fn atom(image: &Image, text: &str) -> AtomId {
-    image.atoms().find(text).unwrap_or(AtomId(u32::MAX))
-}
 
 /// The world at the start of that function of `m`.
 fn started<P: Hold<Proc>, C: Hold<Lanes>>(
@@ -56,7 +52,7 @@ fn text_of_run<P: Hold<Proc>, C: Hold<Lanes>>(
     items: &str,
     choices: &[Choice],
 ) -> Result<String, Fault> {
-    let image = image(alloc, items)?;
+    let image = image_of_items(alloc, items)?;
     let end = run::<P, C>(alloc, &image, choices)?;
     let outcome = end.world.outcome(alloc)?;
     outcome_text(alloc, image.atoms(), end.applied, end.refused, &outcome)
@@ -108,13 +104,13 @@ fn last_answer<P: Hold<Proc>, C: Hold<Lanes>>(
     items: &str,
     choices: &[Choice],
 ) -> Result<u8, Fault> {
-    let image = image(alloc, items)?;
+    let image = image_of_items(alloc, items)?;
     let mut world = started::<P, C>(alloc, &image, "f")?;
     let mut answer = 0;
     for choice in choices {
         answer = match world.apply(alloc, &image, *choice) {
             Ok(()) => 0,
-            Err(fault) => fault.number().unwrap_or(u8::MAX),
+            Err(fault) => fault.number().ok_or(fault)?,
         };
     }
     Ok(answer)
@@ -147,7 +143,7 @@ fn opens<P: Hold<Proc>, C: Hold<Lanes>>(
     choices: &[Choice],
     own: bool,
 ) -> Result<bool, Fault> {
-    let image = image(alloc, items)?;
+    let image = image_of_items(alloc, items)?;
     let world = run::<P, C>(alloc, &image, choices)?.world;
     let enabled = world.enabled(alloc)?;
     let want: &[Choice] = if own { &[OWN] } else { &[] };
@@ -182,10 +178,10 @@ fn assert_snapshots<P: Hold<Proc>, C: Hold<Lanes>>(
     alloc: Global,
 ) -> Result<(), Fail> {
     for items in [TWO, "return.", "{jump,{f,1}}."] {
-        let image = image(alloc, items)?;
+        let image = image_of_items(alloc, items)?;
         assert!(rt; snapshot_stays::<P, C>(alloc, &image)?, "{items}");
     }
-    let image = image(alloc, TWO)?;
+    let image = image_of_items(alloc, TWO)?;
     assert!(rt; matches!(started::<P, C>(alloc, &image, "ok"), Err(Fault::NoEntry)));
     Ok(())
 }
