@@ -54,7 +54,21 @@ fn run<'a>(
     run_text(alloc, readers.as_mut_slice(), start, &mut plan, written)
 }
 
-/// What a run writes, and behind it the line of its failure, where it fails.
+/// What was written, and behind it the line of the failure, where the run failed.
+fn with_line(
+    alloc: Global,
+    ended: Result<(), Failure>,
+    listings: usize,
+    mut written: Vec<u8>,
+) -> Result<String, Fail> {
+    if let Err(failure) = ended {
+        let names = names(alloc, listings)?;
+        fault_line(&failure, &names, &mut written);
+    }
+    Ok(String::from_utf8(written).ok().ok_or("text")?)
+}
+
+/// What a run writes, and behind it the line of its failure.
 fn told<'a>(
     alloc: Global,
     listings: &[&'a str],
@@ -62,11 +76,8 @@ fn told<'a>(
     plan: &'a str,
 ) -> Result<String, Fail> {
     let mut written = Vec::new(alloc);
-    if let Err(failure) = run(alloc, listings, start, plan, &mut written) {
-        let names = names(alloc, listings.len())?;
-        fault_line(&failure, &names, &mut written);
-    }
-    Ok(String::from_utf8(written).ok().ok_or("text")?)
+    let ended = run(alloc, listings, start, plan, &mut written);
+    with_line(alloc, ended, listings.len(), written)
 }
 
 #[test]
@@ -146,26 +157,28 @@ impl Read for FailBehind<'_> {
     }
 }
 
-/// The failure of a run over `M` and this plan, where the listing's reader or the plan's fails.
-fn failure_of_readers(plan: &str, alloc: Global, listing_fails: bool) -> Option<Failure> {
+/// What a run over `M` and a plan that is refused tells, where the listing's reader fails, or else the plan's.
+fn told_of_readers(alloc: Global, listing_fails: bool) -> Result<String, Fail> {
     let mut listings = [FailBehind {
         text: M.as_bytes(),
         fails: listing_fails,
     }];
     let mut plan = FailBehind {
-        text: plan.as_bytes(),
+        text: b"a r0",
         fails: !listing_fails,
     };
-    let mut written: Vec<u8> = Vec::new(alloc);
-    run_text(alloc, &mut listings, "m:f", &mut plan, &mut written).err()
+    let mut written = Vec::new(alloc);
+    let ended = run_text(alloc, &mut listings, "m:f", &mut plan, &mut written);
+    with_line(alloc, ended, 1, written)
 }
 
 #[test]
-fn readers_that_fail(rt: HostRuntime) {
-    let listing = failure_of_readers("a r0", rt.alloc(), true);
-    assert!(rt; matches!(listing, Some(Failure::Read(0))));
-    let plan = failure_of_readers("a r0", rt.alloc(), false);
-    assert!(rt; matches!(plan, Some(Failure::Read(1))));
+fn readers_that_fail(rt: HostRuntime) -> Result<(), Fail> {
+    let listing = told_of_readers(rt.alloc(), true)?;
+    assert!(rt; listing.as_str() == "bxemu: read a.S\n", "{listing}");
+    let plan = told_of_readers(rt.alloc(), false)?;
+    assert!(rt; plan.as_str() == "bxemu: read plan\n", "{plan}");
+    Ok(())
 }
 
 /// A writer that takes one byte at a time, and fails once there is no room.
@@ -191,20 +204,21 @@ impl Write for Narrow {
     }
 }
 
-/// How a run goes whose report has 61 bytes, where there is room for so many.
-fn run_in(alloc: Global, room: usize) -> Result<(), Failure> {
+/// The line of a run whose report has 61 bytes, where there is room for so many; nothing where it does not fail.
+fn told_of_writer(alloc: Global, room: usize) -> Result<String, Fail> {
     let mut writer = Narrow { room };
     let mut plan = b"b:".as_slice();
-    run_text(alloc, &mut [M.as_bytes()], "m:f", &mut plan, &mut writer)
+    let ended = run_text(alloc, &mut [M.as_bytes()], "m:f", &mut plan, &mut writer);
+    with_line(alloc, ended, 1, Vec::new(alloc))
 }
 
 #[test]
-fn writers_that_fail(rt: HostRuntime) {
-    for room in 0..61 {
-        assert!(rt;
-            matches!(run_in(rt.alloc(), room), Err(Failure::Write)),
-            "{room}"
-        );
+fn writers_that_fail(rt: HostRuntime) -> Result<(), Fail> {
+    for room in [0, 1, 60] {
+        let line = told_of_writer(rt.alloc(), room)?;
+        assert!(rt; line.as_str() == "bxemu: write\n", "{room}: {line}");
     }
-    assert!(rt; run_in(rt.alloc(), 61).is_ok());
+    let line = told_of_writer(rt.alloc(), 61)?;
+    assert!(rt; line.as_str() == "", "{line}");
+    Ok(())
 }
