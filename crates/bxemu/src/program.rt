@@ -137,3 +137,6 @@ where
     }
     Ok(opened)
 }
+
+#[cfg(test)]
+mod tests;
