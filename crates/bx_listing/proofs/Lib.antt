@@ -7,3 +7,10 @@ pub mod Functions
 pub mod Forms
 pub mod FormLoop
 pub mod Heads
+pub mod Worded
+pub mod GoodReadings
+pub mod ListedOperands
+pub mod ListedItems
+pub mod ListedForms
+pub mod ListedHeads
+pub mod Listed

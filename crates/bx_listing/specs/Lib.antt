@@ -11,3 +11,4 @@ pub mod ItemForms
 pub mod Forms
 pub mod HeadForms
 pub mod Listing
+pub mod Listed
