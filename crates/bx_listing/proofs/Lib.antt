@@ -9,6 +9,8 @@ pub mod FormLoop
 pub mod Heads
 pub mod Worded
 pub mod GoodReadings
+pub mod Written
+pub mod ListedTerms
 pub mod ListedOperands
 pub mod ListedItems
 pub mod ListedForms

@@ -8,7 +8,8 @@ use Rattle.bx_text.specs.Tree.{Tree}
 use Rattle.bx_listing.specs.declared.code_form.Export.{Export}
 use Rattle.bx_listing.specs.Reading.{Table, read, and_then, ◌>>=◌, give, named, from_result}
 use Rattle.bx_listing.specs.Shape.{shape}
-use Rattle.bx_listing.specs.Forms.{Forms, ends, broken, form}
+use Rattle.bx_text.specs.Place.{place_in}
+use Rattle.bx_listing.specs.Forms.{Forms, ends, broken, form, forms, last_line}
 use Rattle.bx_listing.specs.HeadForms.{head, module_name, exports_form, is_attributes, is_labels}
 use Rattle.bx_listing.specs.ListedCode.{ListedFunction, ListedModule}
 use Rattle.bx_listing.specs.Listing.{taken, and_so, behind_labels, behind_head, functions, listed, behind_exports, behind_name, named_listing, listing}
@@ -16,6 +17,7 @@ use Rattle.bx_listing.specs.Listed.{IsModule, IsExports, IsAttributes, IsLabels,
 use Rattle.bx_listing.proofs.GoodReadings.{given, after_read, after_wanted, after_result}
 use Rattle.bx_listing.proofs.ListedOperands.{names_are, names_read}
 use Rattle.bx_listing.proofs.ListedHeads.{module_is, module_test, exports_are, exports_read, attributes_are, attributes_test, labels_are, labels_test}
+use Rattle.bx_listing.proofs.Written.{FormsWritten, forms_written}
 use Rattle.bx_listing.proofs.ListedForms.{functions_are, functions_read}
 
 -- `{labels,N}`, before which `{attributes,T}` may stand
@@ -58,16 +60,20 @@ whole : {b c d e : Table} {i j : ℕ} {m x : Tree} {all rest : Forms} {name : At
 whole m x (alone l) fs = plain m x l fs
 whole m x (after_attributes a l) fs = with_attributes m x a l fs
 
-listing_is : (last : ℕ) (forms : Forms) (code : ListedModule) (b e : Table) → (listing last forms).run b ≡ read e code → IsListing b forms code e
-listing_is last ends code b e h = absurd (cc)
-listing_is last (broken fault) code b e h = absurd (cc)
-listing_is last (form i m ends) code b e h =
+head_written : {all rest : Forms} → IsHead all rest → FormsWritten all → FormsWritten rest
+head_written (alone l) w = w.1
+head_written (after_attributes a l) w = w.1.1
+
+listing_is : (last : ℕ) (forms : Forms) (code : ListedModule) (b e : Table) → FormsWritten forms → (listing last forms).run b ≡ read e code → IsListing b forms code e
+listing_is last ends code b e w h = absurd (cc)
+listing_is last (broken fault) code b e w h = absurd (cc)
+listing_is last (form i m ends) code b e w h =
     after_wanted (faults.BadForm i) (module_name (shape m)) (named_listing last i ends) b e code (λ text e1.
     after_read ((named i text).run b) (behind_name last ends) e code (λ c name e2 h2. absurd (cc h2))) h
-listing_is last (form i m (broken fault)) code b e h =
+listing_is last (form i m (broken fault)) code b e w h =
     after_wanted (faults.BadForm i) (module_name (shape m)) (named_listing last i (broken fault)) b e code (λ text e1.
     after_read ((named i text).run b) (behind_name last (broken fault)) e code (λ c name e2 h2. absurd (cc h2))) h
-listing_is last (form i m (form j x all)) code b e h =
+listing_is last (form i m (form j x all)) code b e w h =
     after_wanted (faults.BadForm i) (module_name (shape m)) (named_listing last i (form j x all)) b e code (λ text e1.
     after_read ((named i text).run b) (behind_name last (form j x all)) e code (λ c name e2.
     after_read ((exports_form j (shape x)).run c) (behind_exports last name all) e code (λ d exports e3.
@@ -75,23 +81,25 @@ listing_is last (form i m (form j x all)) code b e h =
     after_read ((functions [] rest).run d) (λ fs. give (record { name = name; exports = exports; functions = fs })) e code (λ g fs e5 h5.
     let found = module_is m text e1 in
     given (IsListing b (form i m (form j x all))) (record { name = name; exports = exports; functions = fs }) code g e h5
-    (whole (found.0, found.1, (text, found.2, names_are i text b c name e2)) (exports_are j x c d exports e3) (head_is last all rest e4) (functions_are rest d g fs e5))))))) h
+    (whole (found.0, found.1, (text, found.2, names_are i text b c name e2)) (exports_are j x c d exports e3) (head_is last all rest e4) (functions_are rest d g fs (head_written (head_is last all rest e4) w.1.1) e5))))))) h
 
 read_whole : (last : ℕ) (b c d e : Table) (i j : ℕ) (m x : Tree) (all rest : Forms) (name : AtomId) (exports : List Export) (fs : List ListedFunction)
-    → IsModule b m name c → IsExports c x exports d → IsHead all rest → AreFunctions d rest fs e
+    → IsModule b m name c → IsExports c x exports d → IsHead all rest → AreFunctions d rest fs e → FormsWritten all
     → (listing last (form i m (form j x all))).run b ≡ read e (record { name = name; exports = exports; functions = fs })
-read_whole last b c d e i j m x all rest name exports fs (u, is, (text, at, names)) xs hs are =
+read_whole last b c d e i j m x all rest name exports fs (u, is, (text, at, names)) xs hs are w =
     ap (λ o. (head i o >>= named_listing last i (form j x all)).run b) (module_test m u text is at)
     ∙ ap (λ o. and_then o (behind_name last (form j x all))) (names_read i text b c name names)
     ∙ ap (λ o. and_then o (behind_exports last name all)) (exports_read j x c d exports xs)
     ∙ ap (λ r. (from_result r >>= listed name exports).run d) (head_read last hs)
-    ∙ ap (λ o. and_then o (λ fs. give (record { name = name; exports = exports; functions = fs }))) (functions_read are)
+    ∙ ap (λ o. and_then o (λ fs. give (record { name = name; exports = exports; functions = fs }))) (functions_read are (head_written hs w))
 
-listing_read : {forms : Forms} {code : ListedModule} {b e : Table} → (last : ℕ) → IsListing b forms code e → (listing last forms).run b ≡ read e code
-listing_read last (plain {before = b} {named = c} {exported = d} {behind = e} {i = i} {j = j} {k = k} {m = m} {e = x} {l = l} {rest = rest} {name = name} {exports = exports} {fs = fs} is xs ls are) =
-    read_whole last b c d e i j m x (form k l rest) rest name exports fs is xs (alone ls) are
-listing_read last (with_attributes {before = b} {named = c} {exported = d} {behind = e} {i = i} {j = j} {h = h} {k = k} {m = m} {e = x} {a = a} {l = l} {rest = rest} {name = name} {exports = exports} {fs = fs} is xs ats ls are) =
-    read_whole last b c d e i j m x (form h a (form k l rest)) rest name exports fs is xs (after_attributes ats ls) are
+listing_read : {forms : Forms} {code : ListedModule} {b e : Table} → (last : ℕ) → IsListing b forms code e → FormsWritten forms → (listing last forms).run b ≡ read e code
+listing_read last (plain {before = b} {named = c} {exported = d} {behind = e} {i = i} {j = j} {k = k} {m = m} {e = x} {l = l} {rest = rest} {name = name} {exports = exports} {fs = fs} is xs ls are) w =
+    read_whole last b c d e i j m x (form k l rest) rest name exports fs is xs (alone ls) are w.1.1
+listing_read last (with_attributes {before = b} {named = c} {exported = d} {behind = e} {i = i} {j = j} {h = h} {k = k} {m = m} {e = x} {a = a} {l = l} {rest = rest} {name = name} {exports = exports} {fs = fs} is xs ats ls are) w =
+    read_whole last b c d e i j m x (form h a (form k l rest)) rest name exports fs is xs (after_attributes ats ls) are w.1.1
 
-pub listings_are : (last : ℕ) (forms : Forms) (code : ListedModule) (before behind : Table) → ((listing last forms).run before ≡ read behind code) ↔ IsListing before forms code behind
-listings_are last forms code before behind = (λ h. listing_is last forms code before behind h, λ h. listing_read last h)
+pub listings_are : (text : List ℕ) (code : ListedModule) (before behind : Table)
+    → ((listing (last_line text) (forms (place_in text 0))).run before ≡ read behind code) ↔ IsListing before (forms (place_in text 0)) code behind
+listings_are text code before behind =
+    (λ h. listing_is (last_line text) (forms (place_in text 0)) code before behind (forms_written (place_in text 0)) h, λ h. listing_read (last_line text) h (forms_written (place_in text 0)))

@@ -17,6 +17,7 @@ use Rattle.bx_listing.specs.ListedCode.{ListedFunction}
 use Rattle.bx_listing.specs.Listing.{with_item, with_optional, with_form_item, with_form, part_of, part, functions}
 use Rattle.bx_listing.specs.Listed.{Tuple, IsItem, IsFunction, AreItems, no_more, an_annotation, an_item, AreFunctions, no_function, a_function}
 use Rattle.bx_listing.proofs.GoodReadings.{given, after_read}
+use Rattle.bx_listing.proofs.Written.{Written, FormsWritten}
 use Rattle.bx_listing.proofs.Worded.{IsFormWord, form_word_is}
 use Rattle.bx_listing.proofs.ListedOperands.{at_word, names_are, names_read}
 use Rattle.bx_listing.proofs.ListedItems.{IsPassed, item_is, item_read, note_read}
@@ -34,7 +35,7 @@ placed line i = record { line = line; item = i }
 -- what a form adds to functions
 data Adds (line : ℕ) (before : Table) (t : Tree) (front : List ListedFunction) (f : ListedFunction) : List ListedFunction → Table → Type 0 where
   passed : {note : Tree} → Tuple t (codes "%") (note ∷ []) → Adds line before t front f (front ++ f ∷ []) before
-  added : {i : Item} {behind : Table} → IsItem line before t i behind → Adds line before t front f (front ++ extended f (placed line i ∷ []) ∷ []) behind
+  added : {i : Item} {behind : Table} → IsItem before t i behind → Adds line before t front f (front ++ extended f (placed line i ∷ []) ∷ []) behind
   began : {name : AtomId} {arity entry : ℕ} {behind : Table} → IsFunction before t name arity entry behind → Adds line before t front f ((front ++ f ∷ []) ++ started name arity entry ∷ []) behind
 
 -- a form that begins the first one
@@ -68,17 +69,17 @@ function_is line t b c f text (n ∷ a ∷ []) is at P p h = absurd (cc)
 function_is line t b c f text (n ∷ a ∷ e ∷ d ∷ more) is at P p h = absurd (cc)
 
 part_is : (line : ℕ) (t : Tree) (b c : Table) (front : List ListedFunction) (f : ListedFunction) (out : List ListedFunction)
-    → (part line (front ++ f ∷ []) (shape t)).run b ≡ read c out → Adds line b t front f out c
-part_is line t b c front f out h = by (shape t) refl h
+    → Written t → (part line (front ++ f ∷ []) (shape t)).run b ≡ read c out → Adds line b t front f out c
+part_is line t b c front f out w h = by (shape t) refl h
   where
-    of_item : (i : Option Item) (d : Table) → IsPassed line b t i d → (give (with_optional line i (front ++ f ∷ []))).run d ≡ read c out → Adds line b t front f out c
+    of_item : (i : Option Item) (d : Table) → IsPassed b t i d → (give (with_optional line i (front ++ f ∷ []))).run d ≡ read c out → Adds line b t front f out c
     of_item (Some i) d is h = given (Adds line b t front f) (with_item line i (front ++ f ∷ [])) out d c h (rw (with_last line i front f) (added is))
     of_item None d is h = given (Adds line b t front f) (front ++ f ∷ []) out d c h (rw (sym is.2) (passed is.1))
 
     as_item : (s : Shape) → shape t ≡ s → (with_form line (front ++ f ∷ []) s).run b ≡ read c out → Adds line b t front f out c
     as_item s e h =
         after_read ((item line (shape t)).run b) (λ i. give (with_optional line i (front ++ f ∷ []))) c out (λ d i e1 h1.
-        of_item i d (item_is line t b d i e1) h1) (ap (λ s. (with_form_item line (front ++ f ∷ []) s).run b) e ∙ (sym (ap (λ r. r.run b) (with_some line front f s)) ∙ h))
+        of_item i d (item_is line t b d i w e1) h1) (ap (λ s. (with_form_item line (front ++ f ∷ []) s).run b) e ∙ (sym (ap (λ r. r.run b) (with_some line front f s)) ∙ h))
 
     of_word : (text : List ℕ) (k : FormWord) (parts : List Tree) → IsFormWord text k → shape t ≡ tagged text parts → (part_of line (front ++ f ∷ []) text parts k).run b ≡ read c out → Adds line b t front f out c
     of_word text words.Function parts is e h =
@@ -118,12 +119,12 @@ extended_none : (f : ListedFunction) → extended f [] ≡ f
 extended_none f = ap (λ all. record f { items = all }) (append-nil f.items)
 
 behind_is : (forms : Forms) (b d : Table) (front : List ListedFunction) (f : ListedFunction) (out : List ListedFunction)
-    → (functions (front ++ f ∷ []) forms).run b ≡ read d out → GoesOn b forms front f out d
-behind_is ends b d front f out h =
+    → FormsWritten forms → (functions (front ++ f ∷ []) forms).run b ≡ read d out → GoesOn b forms front f out d
+behind_is ends b d front f out w h =
     given (GoesOn b ends front f) (front ++ f ∷ []) out b d h ([], b, ends, [], no_more, no_function, ap (λ g. front ++ g ∷ []) (sym (extended_none f)))
-behind_is (broken fault) b d front f out h = absurd (cc)
-behind_is (form line t rest) b d front f out h =
-    after_read ((part line (front ++ f ∷ []) (shape t)).run b) (λ done. functions done rest) d out (λ c done e1 h1. by (behind_is rest) done c (part_is line t b c front f done e1) h1) h
+behind_is (broken fault) b d front f out w h = absurd (cc)
+behind_is (form line t rest) b d front f out w h =
+    after_read ((part line (front ++ f ∷ []) (shape t)).run b) (λ done. functions done rest) d out (λ c done e1 h1. by (λ c d front f out h. behind_is rest c d front f out w.1 h) done c (part_is line t b c front f done w.0 e1) h1) h
   where
     by : ((c d : Table) (front : List ListedFunction) (f : ListedFunction) (out : List ListedFunction) → (functions (front ++ f ∷ []) rest).run c ≡ read d out → GoesOn c rest front f out d)
         → (done : List ListedFunction) (c : Table) → Adds line b t front f done c → (functions done rest).run c ≡ read d out → GoesOn b (form line t rest) front f out d
@@ -144,15 +145,15 @@ behind_is (form line t rest) b d front f out h =
           same ∙ (append_assoc front (f ∷ []) (extended (started name arity entry) is ∷ fs) ∙ ap (λ g. front ++ g ∷ (extended (started name arity entry) is ∷ fs)) (sym (extended_none f))),
         )
 
-pub functions_are : (forms : Forms) (b d : Table) (out : List ListedFunction) → (functions [] forms).run b ≡ read d out → AreFunctions b forms out d
-functions_are ends b d out h = given (AreFunctions b ends) [] out b d h no_function
-functions_are (broken fault) b d out h = absurd (cc)
-functions_are (form line t rest) b d out h =
+pub functions_are : (forms : Forms) (b d : Table) (out : List ListedFunction) → FormsWritten forms → (functions [] forms).run b ≡ read d out → AreFunctions b forms out d
+functions_are ends b d out w h = given (AreFunctions b ends) [] out b d h no_function
+functions_are (broken fault) b d out w h = absurd (cc)
+functions_are (form line t rest) b d out w h =
     after_read ((part line [] (shape t)).run b) (λ done. functions done rest) d out (λ c done e1 h1. by done c (first_is line t b c done e1) h1) h
   where
     by : (done : List ListedFunction) (c : Table) → Begins b t done c → (functions done rest).run c ≡ read d out → AreFunctions b (form line t rest) out d
     by _ _ (first {name = name} {arity = arity} {entry = entry} {behind = c} a) h1 =
-        let (is, m, past, fs, items, more, same) = behind_is rest c d [] (started name arity entry) out h1 in
+        let (is, m, past, fs, items, more, same) = behind_is rest c d [] (started name arity entry) out w.1 h1 in
         rw same (a_function a items more)
 
 -- a form that is no function goes to the last one
@@ -182,24 +183,29 @@ function_begun line t b c done name arity entry (n, a, e, is, (w, at, named_w), 
     ∙ ap (λ o. (begun line (Some w) (Some arity) o >>= λ g. give (done ++ g ∷ [])).run b) r
     ∙ ap (λ o. and_then (and_then o (λ name. give (started name arity entry))) (λ g. give (done ++ g ∷ []))) (names_read line w b c name named_w)
 
-items_go : {b c : Table} {forms rest : Forms} {is : List PlacedItem} → AreItems b forms is c rest
+items_go : {b c : Table} {forms rest : Forms} {is : List PlacedItem} → AreItems b forms is c rest → FormsWritten forms
     → (front : List ListedFunction) (f : ListedFunction) → (functions (front ++ f ∷ []) forms).run b ≡ (functions (front ++ extended f is ∷ []) rest).run c
-items_go (no_more {before = b} {rest = rest}) front f = ap (λ g. (functions (front ++ g ∷ []) rest).run b) (sym (extended_none f))
-items_go (an_annotation {before = b} {line = line} {t = t} {note = note} {forms = forms} e g) front f =
-    ap (λ o. and_then o (λ done. functions done forms)) (item_added line t b b front f None (note_read line t note b e)) ∙ items_go g front f
-items_go (an_item {before = b} {between = c} {behind = d} {line = line} {t = t} {i = i} {forms = forms} {rest = rest} {is = is} a g) front f =
-    ap (λ o. and_then o (λ done. functions done forms)) (item_added line t b c front f (Some i) (item_read a))
+items_go (no_more {before = b} {rest = rest}) w front f = ap (λ g. (functions (front ++ g ∷ []) rest).run b) (sym (extended_none f))
+items_go (an_annotation {before = b} {line = line} {t = t} {note = note} {forms = forms} e g) w front f =
+    ap (λ o. and_then o (λ done. functions done forms)) (item_added line t b b front f None (note_read line t note b e)) ∙ items_go g w.1 front f
+items_go (an_item {before = b} {between = c} {behind = d} {line = line} {t = t} {i = i} {forms = forms} {rest = rest} {is = is} a g) w front f =
+    ap (λ o. and_then o (λ done. functions done forms)) (item_added line t b c front f (Some i) (item_read line a w.0))
     ∙ ap (λ done. (functions done forms).run c) (with_last line i front f)
-    ∙ items_go g front (extended f (placed line i ∷ []))
+    ∙ items_go g w.1 front (extended f (placed line i ∷ []))
     ∙ ap (λ g. (functions (front ++ g ∷ []) rest).run d) (extended_twice f (placed line i ∷ []) is)
 
-functions_go : {b d : Table} {forms : Forms} {fs : List ListedFunction} → AreFunctions b forms fs d → (done : List ListedFunction) → (functions done forms).run b ≡ read d (done ++ fs)
-functions_go (no_function {before = b}) done = ap (read b) (sym (append-nil done))
-functions_go (a_function {before = b} {named = c} {between = m} {behind = d} {line = line} {t = t} {name = name} {arity = arity} {entry = entry} {forms = forms} {rest = rest} {is = is} {fs = fs} a items more) done =
+items_written : {b c : Table} {forms rest : Forms} {is : List PlacedItem} → AreItems b forms is c rest → FormsWritten forms → FormsWritten rest
+items_written no_more w = w
+items_written (an_annotation e g) w = items_written g w.1
+items_written (an_item a g) w = items_written g w.1
+
+functions_go : {b d : Table} {forms : Forms} {fs : List ListedFunction} → AreFunctions b forms fs d → FormsWritten forms → (done : List ListedFunction) → (functions done forms).run b ≡ read d (done ++ fs)
+functions_go (no_function {before = b}) w done = ap (read b) (sym (append-nil done))
+functions_go (a_function {before = b} {named = c} {between = m} {behind = d} {line = line} {t = t} {name = name} {arity = arity} {entry = entry} {forms = forms} {rest = rest} {is = is} {fs = fs} a items more) w done =
     ap (λ o. and_then o (λ done. functions done forms)) (function_begun line t b c done name arity entry a)
-    ∙ items_go items done (started name arity entry)
-    ∙ functions_go more (done ++ extended (started name arity entry) is ∷ [])
+    ∙ items_go items w.1 done (started name arity entry)
+    ∙ functions_go more (items_written items w.1) (done ++ extended (started name arity entry) is ∷ [])
     ∙ ap (read d) (append_assoc done (extended (started name arity entry) is ∷ []) fs)
 
-pub functions_read : {b d : Table} {forms : Forms} {fs : List ListedFunction} → AreFunctions b forms fs d → (functions [] forms).run b ≡ read d fs
-functions_read are = functions_go are []
+pub functions_read : {b d : Table} {forms : Forms} {fs : List ListedFunction} → AreFunctions b forms fs d → FormsWritten forms → (functions [] forms).run b ≡ read d fs
+functions_read are w = functions_go are w []

@@ -21,9 +21,12 @@ use Rattle.bx_listing.specs.Shape.{Shape, bare, tagged, other, shape, elements, 
 use Rattle.bx_listing.specs.Words.{operand_word}
 use Rattle.bx_listing.specs.Literals.{literal}
 use Rattle.bx_listing.specs.Operands.{operand, untyped, untyped_of, register_of, plain_register, register, label_of, label_in, label, bad_operand, same_arity, import_of, import_in, import, atom_word, atom_of, atom_in, atom_operand, integer_source, source_of, word_source, source_in, source, within_height}
-use Rattle.bx_listing.specs.Listed.{Tuple, Names, Atom, AtomOperand, Target, IsRegister, in_x, in_y, in_typed, in_64_bits, IsSource, a_register, an_integer, an_atom, a_nil, a_literal, IsImport}
+use Rattle.bx_listing.specs.Listed.{Tuple, Atom, AtomOperand, Target, IsRegister, in_x, in_y, in_typed, IsSource, a_register, an_integer, an_atom, a_nil, a_literal, IsImport}
+use Rattle.bx_listing.specs.ListedTerms.{Names}
 use Rattle.bx_listing.proofs.Rows.{untyped_tagged}
 use Rattle.bx_listing.proofs.GoodReadings.{given, after_read, after_wanted, wanted_read, outcome_read, mapped}
+use Rattle.bx_listing.proofs.Written.{Written, parts_written}
+use Rattle.bx_listing.proofs.ListedTerms.{term_is, term_read}
 use Rattle.bx_listing.proofs.Worded.{IsOperandWord, operand_word_is}
 
 -- a tuple that begins with a word, by what the word is
@@ -166,41 +169,41 @@ import_read line t b c i h =
     ∙ ap (λ o. (operand line o >>= λ count. same_arity line i.arity (record { «module» = i.«module»; function = i.function; arity = count })).run c) count
     ∙ ap (λ (yes : Bool). (if yes then give i else bad_operand line).run c) ((Decides-eqb i.arity i.arity).1 refl)
 
-pub source_is : (line : ℕ) (t : Tree) (b c : Table) (x : Source) → (source line t).run b ≡ read c x → IsSource line b t x c
-source_is line t b c x h = by (shape t) refl h
+pub source_is : (line : ℕ) (t : Tree) (b c : Table) (x : Source) → Written t → (source line t).run b ≡ read c x → IsSource b t x c
+source_is line t b c x w h = by (shape t) refl h
   where
-    whole : (n : ℤ) (large : Bool) → is_large n ≡ large → ((if large then refuse (faults.LiteralRange line) else give n) >>= λ n. give (sources.Integer n)).run b ≡ read c x → (is_large n ≡ false → IsSource line b t (sources.Integer n) b) → IsSource line b t x c
+    whole : (n : ℤ) (large : Bool) → is_large n ≡ large → ((if large then refuse (faults.LiteralRange line) else give n) >>= λ n. give (sources.Integer n)).run b ≡ read c x → (is_large n ≡ false → IsSource b t (sources.Integer n) b) → IsSource b t x c
     whole n true is h k = absurd (cc)
-    whole n false is h k = given (IsSource line b t) (sources.Integer n) x b c h (k is)
+    whole n false is h k = given (IsSource b t) (sources.Integer n) x b c h (k is)
 
-    of_integer : (n : Tree) → Tuple t (codes "integer") (n ∷ []) → (integer_source line n).run b ≡ read c x → IsSource line b t x c
-    of_integer (integer s n) e h = whole n (is_large n) refl h (λ small_n. an_integer e (in_64_bits small_n))
+    of_integer : (n : Tree) → Tuple t (codes "integer") (n ∷ []) → (integer_source line n).run b ≡ read c x → IsSource b t x c
+    of_integer (integer s n) e h = whole n (is_large n) refl h (λ small_n. an_integer e small_n)
     of_integer _ e h = absurd (cc)
 
-    kept : (u : Tree) (d : Table) (o : Option term.Tree) → (literal line u).run b ≡ read d o → Tuple t (codes "literal") (u ∷ []) → (within_height line o).run d ≡ read c x → IsSource line b t x c
-    kept u d (Some y) l e h = given (IsSource line b t) (sources.Literal y) x d c h (a_literal e l)
+    kept : (u : Tree) (d : Table) (o : Option term.Tree) → (literal line u).run b ≡ read d o → Tuple t (codes "literal") (u ∷ []) → (within_height line o).run d ≡ read c x → IsSource b t x c
+    kept u d (Some y) l e h = let found = term_is line u b d y (parts_written w (codes "literal") (u ∷ []) e).0 l in given (IsSource b t) (sources.Literal y) x d c h (a_literal e found.0 found.1)
     kept u d None l e h = absurd (cc)
 
-    as_register : (operand line (option_map sources.Register (register t))).run b ≡ read c x → IsSource line b t x c
+    as_register : (operand line (option_map sources.Register (register t))).run b ≡ read c x → IsSource b t x c
     as_register h =
-        wanted_read (IsSource line b t) (faults.BadOperand line) (option_map sources.Register (register t)) b c x h (λ y e.
-        mapped (λ y. IsSource line b t y b) sources.Register (register t) y e (λ q at. a_register (register_is t q at)))
+        wanted_read (IsSource b t) (faults.BadOperand line) (option_map sources.Register (register t)) b c x h (λ y e.
+        mapped (λ y. IsSource b t y b) sources.Register (register t) y e (λ q at. a_register (register_is t q at)))
 
-    of_word : (text : List ℕ) (k : OperandWord) (parts : List Tree) → IsOperandWord text k → shape t ≡ tagged text parts → (source_of line t k parts).run b ≡ read c x → IsSource line b t x c
+    of_word : (text : List ℕ) (k : OperandWord) (parts : List Tree) → IsOperandWord text k → shape t ≡ tagged text parts → (source_of line t k parts).run b ≡ read c x → IsSource b t x c
     of_word text words.Integer (n ∷ []) is e h = of_integer n (at_word t e is) h
     of_word text words.Atom (a ∷ []) is e h =
         after_read ((atom_word line a).run b) (λ a. give (sources.Atom a)) c x (λ d y e1 h1.
-        given (IsSource line b t) (sources.Atom y) x d c h1 (an_atom (a, at_word t e is, atom_is line a b d y e1))) h
+        given (IsSource b t) (sources.Atom y) x d c h1 (an_atom (a, at_word t e is, atom_is line a b d y e1))) h
     of_word text words.Literal (u ∷ []) is e h =
         after_read ((literal line u).run b) (within_height line) c x (λ d o e1 h1. kept u d o e1 (at_word t e is) h1) h
     of_word text words.Float (f ∷ []) is e h = absurd (cc)
     of_word text k parts is e h = as_register h
 
-    of_bare : (text : List ℕ) (k : OperandWord) → IsOperandWord text k → shape t ≡ bare text → (word_source line k).run b ≡ read c x → IsSource line b t x c
-    of_bare text words.Nil is e h = given (IsSource line b t) sources.Nil x b c h (a_nil (bare_word t text e ∙ ap Some is))
+    of_bare : (text : List ℕ) (k : OperandWord) → IsOperandWord text k → shape t ≡ bare text → (word_source line k).run b ≡ read c x → IsSource b t x c
+    of_bare text words.Nil is e h = given (IsSource b t) sources.Nil x b c h (a_nil (bare_word t text e ∙ ap Some is))
     of_bare text k is e h = absurd (cc)
 
-    by : (s : Shape) → shape t ≡ s → (source_in line t s).run b ≡ read c x → IsSource line b t x c
+    by : (s : Shape) → shape t ≡ s → (source_in line t s).run b ≡ read c x → IsSource b t x c
     by (tagged text parts) e h = of_word text (operand_word text) parts (operand_word_is text) e h
     by (bare text) e h = of_bare text (operand_word text) (operand_word_is text) e h
     by other e h = absurd (cc)
@@ -211,14 +214,14 @@ register_tuple line (in_x {t = t} e h) = ap (source_in line t) e
 register_tuple line (in_y {t = t} e h) = ap (source_in line t) e
 register_tuple line (in_typed {t = t} e h) = ap (source_in line t) e
 
-pub source_read : {line : ℕ} {b c : Table} {t : Tree} {x : Source} → IsSource line b t x c → (source line t).run b ≡ read c x
-source_read {line = line} {b = b} (a_register {t = t} {r = r} q) =
+pub source_read : (line : ℕ) {b c : Table} {t : Tree} {x : Source} → IsSource b t x c → Written t → (source line t).run b ≡ read c x
+source_read line {b = b} (a_register {t = t} {r = r} q) w =
     ap (λ s. s.run b) (register_tuple line q) ∙ ap (λ o. (operand line (option_map sources.Register o)).run b) (register_read q)
-source_read {line = line} {b = b} (an_integer {t = t} e (in_64_bits {s = s} {n = n} is)) =
+source_read line {b = b} (an_integer {t = t} {s = s} {n = n} e is) w =
     ap (λ u. (source_in line t u).run b) e
     ∙ ap (λ (large : Bool). ((if large then refuse (faults.LiteralRange line) else give n) >>= λ n. give (sources.Integer n)).run b) is
-source_read {line = line} {b = b} (an_atom {t = t} {a = a} {behind = c} (u, e, h)) =
+source_read line {b = b} (an_atom {t = t} {a = a} {behind = c} (u, e, h)) w =
     ap (λ u. (source_in line t u).run b) e ∙ ap (λ o. and_then o (λ a. give (sources.Atom a))) (atom_read line u b c a h)
-source_read {line = line} {b = b} (a_nil {t = t} e) = ap (λ u. (source_in line t u).run b) (word_bare t (codes "nil") e)
-source_read {line = line} {b = b} (a_literal {t = t} {u = u} {x = x} {behind = c} e l) =
-    ap (λ u. (source_in line t u).run b) e ∙ ap (λ o. and_then o (within_height line)) l
+source_read line {b = b} (a_nil {t = t} e) w = ap (λ u. (source_in line t u).run b) (word_bare t (codes "nil") e)
+source_read line {b = b} (a_literal {t = t} {u = u} {x = x} {behind = c} e l low) w =
+    ap (λ u. (source_in line t u).run b) e ∙ ap (λ o. and_then o (within_height line)) (term_read line u b c x (parts_written w (codes "literal") (u ∷ []) e).0 l low)

@@ -11,4 +11,5 @@ pub mod ItemForms
 pub mod Forms
 pub mod HeadForms
 pub mod Listing
+pub mod ListedTerms
 pub mod Listed

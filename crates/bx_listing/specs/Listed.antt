@@ -1,8 +1,7 @@
 -- Which forms are a listing of which code, by cases: how each part is written, and what it stands for. Atoms are numbered in
 -- reading order, so each part has the table of atoms before it and the one behind it.
-use Rattle.std.specs.Prelude.{◌≡◌, ℕ, ℤ, false, List, [], ◌∷◌, Some, Ok, codes}
+use Rattle.std.specs.Prelude.{◌≡◌, ℕ, ℤ, ◌≤◌, false, List, [], ◌∷◌, Some, codes}
 use Rattle.bx_terms.specs.declared.atom_table.AtomId.{AtomId}
-use Rattle.bx_terms.specs.Naming.{naming}
 use Rattle.bx_terms.specs.Tree as term
 use Rattle.bx_text.specs.declared.node.Span.{Span}
 use Rattle.bx_text.specs.Number.{is_large}
@@ -17,9 +16,9 @@ use Rattle.bx_listing.specs.declared.items.Register.{Register}
 use Rattle.bx_listing.specs.declared.items.Register.TheVariants as registers
 use Rattle.bx_listing.specs.declared.items.Source.{Source}
 use Rattle.bx_listing.specs.declared.items.Source.TheVariants as sources
-use Rattle.bx_listing.specs.Reading.{Table, read}
+use Rattle.bx_listing.specs.Reading.{Table}
 use Rattle.bx_listing.specs.Shape.{tagged, shape, number, word, list_elements}
-use Rattle.bx_listing.specs.Literals.{literal}
+use Rattle.bx_listing.specs.ListedTerms.{Names, IsTerm}
 use Rattle.bx_listing.specs.Forms.{Forms, ends, form}
 use Rattle.bx_listing.specs.ListedCode.{ListedFunction, ListedModule}
 
@@ -30,10 +29,6 @@ Tuple t text parts = shape t ≡ tagged text parts
 -- a number from 0 to 4294967295
 abbrev pub Number : Tree → ℕ → Type 0
 Number t n = number t ≡ Some n
-
--- the atom of a text: the table that holds the text stays, another gets it at its end
-abbrev pub Names : Table → List ℕ → AtomId → Table → Type 0
-Names before text atom behind = naming before text ≡ Ok (behind, atom)
 
 -- `A`
 abbrev pub Atom : Table → Tree → AtomId → Table → Type 0
@@ -53,20 +48,17 @@ pub data IsRegister : Tree → Register → Type 0 where
   in_y : {t n : Tree} {k : ℕ} → Tuple t (codes "y") (n ∷ []) → Number n k → IsRegister t (registers.Y k)
   in_typed : {t inner type : Tree} {r : Register} → Tuple t (codes "tr") (inner ∷ type ∷ []) → IsRegister inner r → IsRegister t r
 
-abbrev pub IsLiteral : ℕ → Table → Tree → term.Tree → Table → Type 0
-IsLiteral line before t x behind = (literal line t).run before ≡ read behind (Some x)
-
--- an integer of 64 bits
-pub data IsInteger : Tree → ℤ → Type 0 where
-  in_64_bits : {s : Span} {n : ℤ} → is_large n ≡ false → IsInteger (integer s n) n
-
--- what an instruction reads: a register, `{integer,I}` of 64 bits, `{atom,A}`, `nil` or `{literal,T}`
-pub data IsSource (line : ℕ) (before : Table) : Tree → Source → Table → Type 0 where
-  a_register : {t : Tree} {r : Register} → IsRegister t r → IsSource line before t (sources.Register r) before
-  an_integer : {t i : Tree} {n : ℤ} → Tuple t (codes "integer") (i ∷ []) → IsInteger i n → IsSource line before t (sources.Integer n) before
-  an_atom : {t : Tree} {a : AtomId} {behind : Table} → AtomOperand before t a behind → IsSource line before t (sources.Atom a) behind
-  a_nil : {t : Tree} → word t ≡ Some (codes "nil") → IsSource line before t sources.Nil before
-  a_literal : {t u : Tree} {x : term.Tree} {behind : Table} → Tuple t (codes "literal") (u ∷ []) → IsLiteral line before u x behind → IsSource line before t (sources.Literal x) behind
+-- what an instruction reads
+pub data IsSource (before : Table) : Tree → Source → Table → Type 0 where
+  a_register : {t : Tree} {r : Register} → IsRegister t r → IsSource before t (sources.Register r) before
+  -- `{integer,I}` of 64 bits
+  an_integer : {t : Tree} {s : Span} {n : ℤ} → Tuple t (codes "integer") (integer s n ∷ []) → is_large n ≡ false → IsSource before t (sources.Integer n) before
+  an_atom : {t : Tree} {a : AtomId} {behind : Table} → AtomOperand before t a behind → IsSource before t (sources.Atom a) behind
+  -- `nil`
+  a_nil : {t : Tree} → word t ≡ Some (codes "nil") → IsSource before t sources.Nil before
+  -- `{literal,T}`, which is not too high
+  a_literal : {t u : Tree} {x : term.Tree} {behind : Table} → Tuple t (codes "literal") (u ∷ []) → IsTerm before u x behind → term.height x ≤ 10000
+      → IsSource before t (sources.Literal x) behind
 
 -- `{extfunc,M,F,A}`
 abbrev pub IsImport : Table → Tree → Import → Table → Type 0
@@ -75,24 +67,24 @@ IsImport before t i behind =
     × Tuple t (codes "extfunc") (m ∷ f ∷ a ∷ []) × Atom before m i.«module» between × Atom between f i.function behind × Number a i.arity
 
 -- an instruction, a label or a line mark
-pub data IsItem (line : ℕ) (before : Table) : Tree → Item → Table → Type 0 where
+pub data IsItem (before : Table) : Tree → Item → Table → Type 0 where
   -- `{label,N}`
-  a_label : {t l : Tree} {n : ℕ} → Tuple t (codes "label") (l ∷ []) → Number l n → IsItem line before t (items.Label n) before
+  a_label : {t l : Tree} {n : ℕ} → Tuple t (codes "label") (l ∷ []) → Number l n → IsItem before t (items.Label n) before
   -- `{line,T}`
-  a_line : {t mark : Tree} → Tuple t (codes "line") (mark ∷ []) → IsItem line before t items.Line before
+  a_line : {t mark : Tree} → Tuple t (codes "line") (mark ∷ []) → IsItem before t items.Line before
   -- `{func_info,{atom,M},{atom,F},A}`
   a_func_info : {t m f a : Tree} {owner function : AtomId} {arity : ℕ} {between behind : Table} → Tuple t (codes "func_info") (m ∷ f ∷ a ∷ [])
-      → AtomOperand before m owner between → AtomOperand between f function behind → Number a arity → IsItem line before t (items.FuncInfo owner function arity) behind
+      → AtomOperand before m owner between → AtomOperand between f function behind → Number a arity → IsItem before t (items.FuncInfo owner function arity) behind
   -- `{move,S,D}`
   a_move : {t s d : Tree} {from : Source} {to : Register} {behind : Table} → Tuple t (codes "move") (s ∷ d ∷ [])
-      → IsSource line before s from behind → IsRegister d to → IsItem line before t (items.Move from to) behind
+      → IsSource before s from behind → IsRegister d to → IsItem before t (items.Move from to) behind
   -- `{jump,{f,L}}`
-  a_jump : {t l : Tree} {label : ℕ} → Tuple t (codes "jump") (l ∷ []) → Target l label → IsItem line before t (items.Jump label) before
+  a_jump : {t l : Tree} {label : ℕ} → Tuple t (codes "jump") (l ∷ []) → Target l label → IsItem before t (items.Jump label) before
   -- `return`
-  a_return : {t : Tree} → word t ≡ Some (codes "return") → IsItem line before t items.Return before
+  a_return : {t : Tree} → word t ≡ Some (codes "return") → IsItem before t items.Return before
   -- `{call_ext_only,A,{extfunc,M,F,A}}`
   a_call_ext_only : {t a e : Tree} {callee : Import} {behind : Table} → Tuple t (codes "call_ext_only") (a ∷ e ∷ [])
-      → Number a callee.arity → IsImport before e callee behind → IsItem line before t (items.CallExt kinds.Only callee) behind
+      → Number a callee.arity → IsImport before e callee behind → IsItem before t (items.CallExt kinds.Only callee) behind
 
 -- `{function,F,A,Entry}`
 abbrev pub IsFunction : Table → Tree → AtomId → ℕ → ℕ → Table → Type 0
@@ -104,7 +96,7 @@ pub data AreItems : Table → Forms → List PlacedItem → Table → Forms → 
   no_more : {before : Table} {rest : Forms} → AreItems before rest [] before rest
   an_annotation : {before behind : Table} {line : ℕ} {t note : Tree} {forms rest : Forms} {is : List PlacedItem} → Tuple t (codes "%") (note ∷ [])
       → AreItems before forms is behind rest → AreItems before (form line t forms) is behind rest
-  an_item : {before between behind : Table} {line : ℕ} {t : Tree} {i : Item} {forms rest : Forms} {is : List PlacedItem} → IsItem line before t i between
+  an_item : {before between behind : Table} {line : ℕ} {t : Tree} {i : Item} {forms rest : Forms} {is : List PlacedItem} → IsItem before t i between
       → AreItems between forms is behind rest → AreItems before (form line t forms) (record { line = line; item = i } ∷ is) behind rest
 
 -- functions, each with its items behind it
