@@ -64,7 +64,7 @@ head_written : {all rest : Forms} → IsHead all rest → FormsWritten all → F
 head_written (alone l) w = w.1
 head_written (after_attributes a l) w = w.1.1
 
-listing_is : (last : ℕ) (forms : Forms) (code : ListedModule) (b e : Table) → FormsWritten forms → (listing last forms).run b ≡ read e code → IsListing b forms code e
+pub listing_is : (last : ℕ) (forms : Forms) (code : ListedModule) (b e : Table) → FormsWritten forms → (listing last forms).run b ≡ read e code → IsListing b forms code e
 listing_is last ends code b e w h = absurd (cc)
 listing_is last (broken fault) code b e w h = absurd (cc)
 listing_is last (form i m ends) code b e w h =
@@ -84,22 +84,22 @@ listing_is last (form i m (form j x all)) code b e w h =
     (whole (found.0, found.1, (text, found.2, names_are i text b c name e2)) (exports_are j x c d exports e3) (head_is last all rest e4) (functions_are rest d g fs (head_written (head_is last all rest e4) w.1.1) e5))))))) h
 
 read_whole : (last : ℕ) (b c d e : Table) (i j : ℕ) (m x : Tree) (all rest : Forms) (name : AtomId) (exports : List Export) (fs : List ListedFunction)
-    → IsModule b m name c → IsExports c x exports d → IsHead all rest → AreFunctions d rest fs e → FormsWritten all
+    → IsModule b m name c → IsExports c x exports d → IsHead all rest → AreFunctions d rest fs e
     → (listing last (form i m (form j x all))).run b ≡ read e (record { name = name; exports = exports; functions = fs })
-read_whole last b c d e i j m x all rest name exports fs (u, is, (text, at, names)) xs hs are w =
+read_whole last b c d e i j m x all rest name exports fs (u, is, (text, at, names)) xs hs are =
     ap (λ o. (head i o >>= named_listing last i (form j x all)).run b) (module_test m u text is at)
     ∙ ap (λ o. and_then o (behind_name last (form j x all))) (names_read i text b c name names)
     ∙ ap (λ o. and_then o (behind_exports last name all)) (exports_read j x c d exports xs)
     ∙ ap (λ r. (from_result r >>= listed name exports).run d) (head_read last hs)
-    ∙ ap (λ o. and_then o (λ fs. give (record { name = name; exports = exports; functions = fs }))) (functions_read are (head_written hs w))
+    ∙ ap (λ o. and_then o (λ fs. give (record { name = name; exports = exports; functions = fs }))) (functions_read are)
 
-listing_read : {forms : Forms} {code : ListedModule} {b e : Table} → (last : ℕ) → IsListing b forms code e → FormsWritten forms → (listing last forms).run b ≡ read e code
-listing_read last (plain {before = b} {named = c} {exported = d} {behind = e} {i = i} {j = j} {k = k} {m = m} {e = x} {l = l} {rest = rest} {name = name} {exports = exports} {fs = fs} is xs ls are) w =
-    read_whole last b c d e i j m x (form k l rest) rest name exports fs is xs (alone ls) are w.1.1
-listing_read last (with_attributes {before = b} {named = c} {exported = d} {behind = e} {i = i} {j = j} {h = h} {k = k} {m = m} {e = x} {a = a} {l = l} {rest = rest} {name = name} {exports = exports} {fs = fs} is xs ats ls are) w =
-    read_whole last b c d e i j m x (form h a (form k l rest)) rest name exports fs is xs (after_attributes ats ls) are w.1.1
+pub listing_read : {forms : Forms} {code : ListedModule} {b e : Table} → (last : ℕ) → IsListing b forms code e → (listing last forms).run b ≡ read e code
+listing_read last (plain {before = b} {named = c} {exported = d} {behind = e} {i = i} {j = j} {k = k} {m = m} {e = x} {l = l} {rest = rest} {name = name} {exports = exports} {fs = fs} is xs ls are) =
+    read_whole last b c d e i j m x (form k l rest) rest name exports fs is xs (alone ls) are
+listing_read last (with_attributes {before = b} {named = c} {exported = d} {behind = e} {i = i} {j = j} {h = h} {k = k} {m = m} {e = x} {a = a} {l = l} {rest = rest} {name = name} {exports = exports} {fs = fs} is xs ats ls are) =
+    read_whole last b c d e i j m x (form h a (form k l rest)) rest name exports fs is xs (after_attributes ats ls) are
 
 pub listings_are : (text : List ℕ) (code : ListedModule) (before behind : Table)
     → ((listing (last_line text) (forms (place_in text 0))).run before ≡ read behind code) ↔ IsListing before (forms (place_in text 0)) code behind
 listings_are text code before behind =
-    (λ h. listing_is (last_line text) (forms (place_in text 0)) code before behind (forms_written (place_in text 0)) h, λ h. listing_read (last_line text) h (forms_written (place_in text 0)))
+    (λ h. listing_is (last_line text) (forms (place_in text 0)) code before behind (forms_written (place_in text 0)) h, λ h. listing_read (last_line text) h)

@@ -183,29 +183,24 @@ function_begun line t b c done name arity entry (n, a, e, is, (w, at, named_w), 
     ∙ ap (λ o. (begun line (Some w) (Some arity) o >>= λ g. give (done ++ g ∷ [])).run b) r
     ∙ ap (λ o. and_then (and_then o (λ name. give (started name arity entry))) (λ g. give (done ++ g ∷ []))) (names_read line w b c name named_w)
 
-items_go : {b c : Table} {forms rest : Forms} {is : List PlacedItem} → AreItems b forms is c rest → FormsWritten forms
+items_go : {b c : Table} {forms rest : Forms} {is : List PlacedItem} → AreItems b forms is c rest
     → (front : List ListedFunction) (f : ListedFunction) → (functions (front ++ f ∷ []) forms).run b ≡ (functions (front ++ extended f is ∷ []) rest).run c
-items_go (no_more {before = b} {rest = rest}) w front f = ap (λ g. (functions (front ++ g ∷ []) rest).run b) (sym (extended_none f))
-items_go (an_annotation {before = b} {line = line} {t = t} {note = note} {forms = forms} e g) w front f =
-    ap (λ o. and_then o (λ done. functions done forms)) (item_added line t b b front f None (note_read line t note b e)) ∙ items_go g w.1 front f
-items_go (an_item {before = b} {between = c} {behind = d} {line = line} {t = t} {i = i} {forms = forms} {rest = rest} {is = is} a g) w front f =
-    ap (λ o. and_then o (λ done. functions done forms)) (item_added line t b c front f (Some i) (item_read line a w.0))
+items_go (no_more {before = b} {rest = rest}) front f = ap (λ g. (functions (front ++ g ∷ []) rest).run b) (sym (extended_none f))
+items_go (an_annotation {before = b} {line = line} {t = t} {note = note} {forms = forms} e g) front f =
+    ap (λ o. and_then o (λ done. functions done forms)) (item_added line t b b front f None (note_read line t note b e)) ∙ items_go g front f
+items_go (an_item {before = b} {between = c} {behind = d} {line = line} {t = t} {i = i} {forms = forms} {rest = rest} {is = is} a g) front f =
+    ap (λ o. and_then o (λ done. functions done forms)) (item_added line t b c front f (Some i) (item_read line a))
     ∙ ap (λ done. (functions done forms).run c) (with_last line i front f)
-    ∙ items_go g w.1 front (extended f (placed line i ∷ []))
+    ∙ items_go g front (extended f (placed line i ∷ []))
     ∙ ap (λ g. (functions (front ++ g ∷ []) rest).run d) (extended_twice f (placed line i ∷ []) is)
 
-items_written : {b c : Table} {forms rest : Forms} {is : List PlacedItem} → AreItems b forms is c rest → FormsWritten forms → FormsWritten rest
-items_written no_more w = w
-items_written (an_annotation e g) w = items_written g w.1
-items_written (an_item a g) w = items_written g w.1
-
-functions_go : {b d : Table} {forms : Forms} {fs : List ListedFunction} → AreFunctions b forms fs d → FormsWritten forms → (done : List ListedFunction) → (functions done forms).run b ≡ read d (done ++ fs)
-functions_go (no_function {before = b}) w done = ap (read b) (sym (append-nil done))
-functions_go (a_function {before = b} {named = c} {between = m} {behind = d} {line = line} {t = t} {name = name} {arity = arity} {entry = entry} {forms = forms} {rest = rest} {is = is} {fs = fs} a items more) w done =
+functions_go : {b d : Table} {forms : Forms} {fs : List ListedFunction} → AreFunctions b forms fs d → (done : List ListedFunction) → (functions done forms).run b ≡ read d (done ++ fs)
+functions_go (no_function {before = b}) done = ap (read b) (sym (append-nil done))
+functions_go (a_function {before = b} {named = c} {between = m} {behind = d} {line = line} {t = t} {name = name} {arity = arity} {entry = entry} {forms = forms} {rest = rest} {is = is} {fs = fs} a items more) done =
     ap (λ o. and_then o (λ done. functions done forms)) (function_begun line t b c done name arity entry a)
-    ∙ items_go items w.1 done (started name arity entry)
-    ∙ functions_go more (items_written items w.1) (done ++ extended (started name arity entry) is ∷ [])
+    ∙ items_go items done (started name arity entry)
+    ∙ functions_go more (done ++ extended (started name arity entry) is ∷ [])
     ∙ ap (read d) (append_assoc done (extended (started name arity entry) is ∷ []) fs)
 
-pub functions_read : {b d : Table} {forms : Forms} {fs : List ListedFunction} → AreFunctions b forms fs d → FormsWritten forms → (functions [] forms).run b ≡ read d fs
-functions_read are w = functions_go are w []
+pub functions_read : {b d : Table} {forms : Forms} {fs : List ListedFunction} → AreFunctions b forms fs d → (functions [] forms).run b ≡ read d fs
+functions_read are = functions_go are []

@@ -75,23 +75,23 @@ item_is line t b c i w h = by (shape t) refl h
     by (bare text) e h = bare_item_is line t b c i text (form_word text) (form_word_is text) e h
     by other e h = absurd (cc)
 
-pub item_read : (line : ℕ) {b c : Table} {t : Tree} {i : Item} → IsItem b t i c → Written t → (item line (shape t)).run b ≡ read c (Some i)
-item_read line {b = b} (a_label {t = t} {l = l} e n) w =
+pub item_read : (line : ℕ) {b c : Table} {t : Tree} {i : Item} → IsItem b t i c → (item line (shape t)).run b ≡ read c (Some i)
+item_read line {b = b} (a_label {t = t} {l = l} e n) =
     ap (λ s. (item line s).run b) e ∙ ap (λ o. (some_item (operand line (option_map items.Label o))).run b) n
-item_read line {b = b} (a_line {t = t} e) w = ap (λ s. (item line s).run b) e
-item_read line {b = b} (a_func_info {t = t} {m = m} {f = f} {a = a} {owner = owner} {function = function} {arity = arity} {between = d} {behind = c} e x y n) w =
+item_read line {b = b} (a_line {t = t} e) = ap (λ s. (item line s).run b) e
+item_read line {b = b} (a_func_info {t = t} {m = m} {f = f} {a = a} {owner = owner} {function = function} {arity = arity} {between = d} {behind = c} e x y n) =
     ap (λ s. (item line s).run b) e
     ∙ ap (λ o. and_then (and_then o (λ owner. atom_operand line f >>= λ function. operand line (number a) >>= λ arity. give (items.FuncInfo owner function arity))) (λ i. give (Some i))) (atom_operand_read line m b d owner x)
     ∙ ap (λ o. and_then (and_then o (λ function. operand line (number a) >>= λ arity. give (items.FuncInfo owner function arity))) (λ i. give (Some i))) (atom_operand_read line f d c function y)
     ∙ ap (λ o. (some_item (operand line o >>= λ arity. give (items.FuncInfo owner function arity))).run c) n
-item_read line {b = b} (a_move {t = t} {s = s} {d = d} {from = from} {to = to} {behind = c} e x q) w =
+item_read line {b = b} (a_move {t = t} {s = s} {d = d} {from = from} {to = to} {behind = c} e x q) =
     ap (λ s. (item line s).run b) e
-    ∙ ap (λ o. and_then (and_then o (λ from. operand line (register d) >>= λ to. give (items.Move from to))) (λ i. give (Some i))) (source_read line x (parts_written w (codes "move") (s ∷ d ∷ []) e).0)
+    ∙ ap (λ o. and_then (and_then o (λ from. operand line (register d) >>= λ to. give (items.Move from to))) (λ i. give (Some i))) (source_read line x)
     ∙ ap (λ o. (some_item (operand line o >>= λ to. give (items.Move from to))).run c) (register_read q)
-item_read line {b = b} (a_jump {t = t} {l = l} {label = n} e h) w =
+item_read line {b = b} (a_jump {t = t} {l = l} {label = n} e h) =
     ap (λ s. (item line s).run b) e ∙ ap (λ o. (some_item (operand line (option_map items.Jump o))).run b) (target_read l n h)
-item_read line {b = b} (a_return {t = t} e) w = ap (λ s. (item line s).run b) (word_bare t (codes "return") e)
-item_read line {b = b} (a_call_ext_only {t = t} {a = a} {e = f} {callee = callee} {behind = c} e n h) w =
+item_read line {b = b} (a_return {t = t} e) = ap (λ s. (item line s).run b) (word_bare t (codes "return") e)
+item_read line {b = b} (a_call_ext_only {t = t} {a = a} {e = f} {callee = callee} {behind = c} e n h) =
     ap (λ s. (item line s).run b) e
     ∙ ap (λ o. (some_item (operand line o >>= λ arity. import line arity f >>= λ callee. give (items.CallExt kinds.Only callee))).run b) n
     ∙ ap (λ o. and_then (and_then o (λ callee. give (items.CallExt kinds.Only callee))) (λ i. give (Some i))) (import_read line f b c callee h)

@@ -214,14 +214,14 @@ register_tuple line (in_x {t = t} e h) = ap (source_in line t) e
 register_tuple line (in_y {t = t} e h) = ap (source_in line t) e
 register_tuple line (in_typed {t = t} e h) = ap (source_in line t) e
 
-pub source_read : (line : ℕ) {b c : Table} {t : Tree} {x : Source} → IsSource b t x c → Written t → (source line t).run b ≡ read c x
-source_read line {b = b} (a_register {t = t} {r = r} q) w =
+pub source_read : (line : ℕ) {b c : Table} {t : Tree} {x : Source} → IsSource b t x c → (source line t).run b ≡ read c x
+source_read line {b = b} (a_register {t = t} {r = r} q) =
     ap (λ s. s.run b) (register_tuple line q) ∙ ap (λ o. (operand line (option_map sources.Register o)).run b) (register_read q)
-source_read line {b = b} (an_integer {t = t} {s = s} {n = n} e is) w =
+source_read line {b = b} (an_integer {t = t} {s = s} {n = n} e is) =
     ap (λ u. (source_in line t u).run b) e
     ∙ ap (λ (large : Bool). ((if large then refuse (faults.LiteralRange line) else give n) >>= λ n. give (sources.Integer n)).run b) is
-source_read line {b = b} (an_atom {t = t} {a = a} {behind = c} (u, e, h)) w =
+source_read line {b = b} (an_atom {t = t} {a = a} {behind = c} (u, e, h)) =
     ap (λ u. (source_in line t u).run b) e ∙ ap (λ o. and_then o (λ a. give (sources.Atom a))) (atom_read line u b c a h)
-source_read line {b = b} (a_nil {t = t} e) w = ap (λ u. (source_in line t u).run b) (word_bare t (codes "nil") e)
-source_read line {b = b} (a_literal {t = t} {u = u} {x = x} {behind = c} e l low) w =
-    ap (λ u. (source_in line t u).run b) e ∙ ap (λ o. and_then o (within_height line)) (term_read line u b c x (parts_written w (codes "literal") (u ∷ []) e).0 l low)
+source_read line {b = b} (a_nil {t = t} e) = ap (λ u. (source_in line t u).run b) (word_bare t (codes "nil") e)
+source_read line {b = b} (a_literal {t = t} {u = u} {x = x} {behind = c} e l low) =
+    ap (λ u. (source_in line t u).run b) e ∙ ap (λ o. and_then o (within_height line)) (term_read line u b c x l low)

@@ -11,7 +11,7 @@ use Rattle.bx_text.specs.Number.{is_large}
 use Rattle.bx_text.specs.Tree.{Tree, integer, atom, tuple, list, nil, cons}
 use Rattle.bx_listing.specs.Reading.{Table, read, and_then, ◌>>=◌, give, refuse, named, outcome}
 use Rattle.bx_listing.specs.Literals.{kept, kept_cons, kept_before, kept_list, kept_tuple, with_first, Row, ended, longer, parts, literal}
-use Rattle.bx_listing.specs.ListedTerms.{IsTerm, an_int, a_name, a_tuple, a_list, IsRow, an_end, a_tail, an_element}
+use Rattle.bx_listing.specs.ListedTerms.{IsTerm, an_int, a_name, a_tuple, a_list, AreElements, no_element, an_element, IsRow, an_end, a_tail, a_cell}
 use Rattle.bx_listing.proofs.GoodReadings.{given, after_read, outcome_read}
 use Rattle.bx_listing.proofs.Written.{Written, an_integer_term, an_atom_term, a_tuple_term, a_list_term, Elements, no_elements, an_element_first, Rest, no_rest, a_last, a_first}
 
@@ -37,7 +37,7 @@ IsLow b t (Some x) c = IsTerm b t x c × (height x ≤ 10000)
 
 abbrev HasElements : Table → Tree → Option (List term.Tree) → Table → Type 0
 HasElements b row None c = Unit {0}
-HasElements b row (Some ts) c = IsRow b row (listed ts) c
+HasElements b row (Some ts) c = AreElements b row (listed ts) c
 
 abbrev IsLowRow : Table → Tree → Option term.Tree → Table → Type 0
 IsLowRow b row None c = Unit {0}
@@ -56,7 +56,7 @@ row_alone line an_atom_term = refl
 row_alone line (a_tuple_term e) = refl
 row_alone line (a_list_term e) = refl
 
-tuple_low : (b c : Table) (t : Tree) (row : Tree) (o : Option (List term.Tree)) → HasElements b row o c → ((x : term.Tree) → IsRow b row x c → IsTerm b t (term.tuple x) c) → IsLow b t (kept_tuple o) c
+tuple_low : (b c : Table) (t : Tree) (row : Tree) (o : Option (List term.Tree)) → HasElements b row o c → ((x : term.Tree) → AreElements b row x c → IsTerm b t (term.tuple x) c) → IsLow b t (kept_tuple o) c
 tuple_low b c t row None h make = tt
 tuple_low b c t row (Some ts) h make = kept_so (λ o. IsLow b t o c) (term.tuple (listed ts)) tt (λ low. (make (listed ts) h, low))
 
@@ -75,7 +75,7 @@ first_low b c d t rest (Some x) (Some ts) tail h g = by (kept_before ts tail) g
   where
     by : (z : Option term.Tree) → IsLowRow c rest z d → IsLowRow b (cons t rest) (kept_cons x z) d
     by None g = tt
-    by (Some y) g = kept_so (λ o. IsLowRow b (cons t rest) o d) (term.cons x y) tt (λ low. (an_element h.0 g.0, low))
+    by (Some y) g = kept_so (λ o. IsLowRow b (cons t rest) o d) (term.cons x y) tt (λ low. (a_cell h.0 g.0, low))
 first_low b c d t rest (Some x) None tail h g = tt
 first_low b c d t rest None ts tail h g = tt
 
@@ -102,7 +102,7 @@ mutual
       given (IsLow b (list s row)) (kept_list r.elements r.tail) o d c h1 (list_low b d (list s row) row (kept_list r.elements r.tail) (rest_is line w b d r e1) (λ x is. a_list is))) h
 
   elements_are : (line : ℕ) {row : Tree} → Elements row → (b c : Table) (r : Row) → (parts line row).row.run b ≡ read c r → HasElements b row r.elements c
-  elements_are line no_elements b c r h = given (λ r c. HasElements b nil r.elements c) (ended (Some term.nil)) r b c h an_end
+  elements_are line no_elements b c r h = given (λ r c. HasElements b nil r.elements c) (ended (Some term.nil)) r b c h no_element
   elements_are line (an_element_first {t = t} {rest = rest} w ws) b c r h =
       after_read ((literal line t).run b) (λ x. (parts line rest).row >>= λ r. give (longer x r)) c r (λ d x e1.
       after_read ((parts line rest).row.run d) (λ r. give (longer x r)) c r (λ m q e2 h2.
@@ -123,19 +123,6 @@ mutual
 pub term_is : (line : ℕ) (t : Tree) (b c : Table) (x : term.Tree) → Written t → (literal line t).run b ≡ read c (Some x) → IsTerm b t x c × (height x ≤ 10000)
 term_is line t b c x w h = alone_is line w b c (Some x) h
 
--- a row is no term
-not_nil : {C : Type 0} {b c : Table} {x : term.Tree} → IsTerm b nil x c → C
-not_nil h = elim h [ ]
-
-not_cons : {C : Type 0} {b c : Table} {t u : Tree} {x : term.Tree} → IsTerm b (cons t u) x c → C
-not_cons h = elim h [ ]
-
-nil_written : {C : Type 0} → Written nil → C
-nil_written h = elim h [ ]
-
-cons_written : {C : Type 0} {t u : Tree} → Written (cons t u) → C
-cons_written h = elim h [ ]
-
 abbrev ReadsElements : ℕ → Table → Tree → term.Tree → Table → Type 0
 ReadsElements line b row x c = (r : Row) × (ts : List term.Tree) × ((parts line row).row.run b ≡ read c r) × (r.elements ≡ Some ts) × (listed ts ≡ x)
 
@@ -147,40 +134,40 @@ row_steps : (line : ℕ) (b d c : Table) (t rest : Tree) (x : term.Tree) (r : Ro
 row_steps line b d c t rest x r e1 e2 =
     ap (λ o. and_then o (λ x. (parts line rest).row >>= λ r. give (longer x r))) e1 ∙ ap (λ o. and_then o (λ r. give (longer (Some x) r))) e2
 
+term_alone : (line : ℕ) {b c : Table} {t : Tree} {x : term.Tree} → IsTerm b t x c → (parts line t).row ≡ (parts line t).alone >>= λ x. give (ended x)
+term_alone line (an_int is) = refl
+term_alone line (a_name e) = refl
+term_alone line (a_tuple is) = refl
+term_alone line (a_list is) = refl
+
 mutual
-  alone_read : (line : ℕ) {b c : Table} {t : Tree} {x : term.Tree} → IsTerm b t x c → Written t → height x ≤ 10000 → (literal line t).run b ≡ read c (Some x)
-  alone_read line (an_int {before = b} {n = n} is) w low =
+  alone_read : (line : ℕ) {b c : Table} {t : Tree} {x : term.Tree} → IsTerm b t x c → height x ≤ 10000 → (literal line t).run b ≡ read c (Some x)
+  alone_read line (an_int {before = b} {n = n} is) low =
       ap (λ (large : Bool). ((if large then refuse (faults.LiteralRange line) else give n) >>= λ n. give (Some (term.int n))).run b) is
-  alone_read line (a_name {before = b} {text = text} e) w low = ap (λ o. and_then o (λ a. give (Some (term.atom a.0)))) (ap (outcome (at_line line) b) e)
-  alone_read line (a_tuple {before = b} {behind = c} {s = s} {row = row} {x = x} is) (a_tuple_term w) low =
-      let (r, ts, e, els, same) = elements_read line is w (omega arith) in
+  alone_read line (a_name {before = b} {text = text} e) low = ap (λ o. and_then o (λ a. give (Some (term.atom a.0)))) (ap (outcome (at_line line) b) e)
+  alone_read line (a_tuple {before = b} {behind = c} {s = s} {row = row} {x = x} is) low =
+      let (r, ts, e, els, same) = elements_read line is (omega arith) in
       ap (λ o. and_then o (λ r. give (kept_tuple r.elements))) e
       ∙ ap (λ o. read c (kept_tuple o)) els
       ∙ ap (λ y. read c (kept (term.tuple y))) same
       ∙ ap (read c) (kept_low (term.tuple x) low)
-  alone_read line (a_list {before = b} {behind = c} {s = s} {row = row} {x = x} is) (a_list_term w) low =
-      let (r, ts, e, els, same) = rest_read line is w low in
+  alone_read line (a_list {before = b} {behind = c} {s = s} {row = row} {x = x} is) low =
+      let (r, ts, e, els, same) = row_read line is low in
       ap (λ o. and_then o (λ r. give (kept_list r.elements r.tail))) e ∙ ap (λ o. read c (kept_list o r.tail)) els ∙ ap (read c) same
 
-  elements_read : (line : ℕ) {b c : Table} {row : Tree} {x : term.Tree} → IsRow b row x c → Elements row → highest x ≤ 10000 → ReadsElements line b row x c
-  elements_read line an_end w low = (ended (Some term.nil), [], refl, refl, refl)
-  elements_read line (a_tail h) no_elements low = not_nil h
-  elements_read line (a_tail h) (an_element_first w ws) low = not_cons h
-  elements_read line (an_element {before = b} {between = d} {behind = c} {t = t} {rest = rest} {x = x} {y = y} h hs) (an_element_first w ws) low =
-      let (r, ts, e, els, same) = elements_read line hs ws (omega arith) in
-      (longer (Some x) r, x ∷ ts, row_steps line b d c t rest x r (alone_read line h w (omega arith)) e, ap (with_first (Some x)) els, ap (term.cons x) same)
+  elements_read : (line : ℕ) {b c : Table} {row : Tree} {x : term.Tree} → AreElements b row x c → highest x ≤ 10000 → ReadsElements line b row x c
+  elements_read line no_element low = (ended (Some term.nil), [], refl, refl, refl)
+  elements_read line (an_element {before = b} {between = d} {behind = c} {t = t} {rest = rest} {x = x} {y = y} h hs) low =
+      let (r, ts, e, els, same) = elements_read line hs (omega arith) in
+      (longer (Some x) r, x ∷ ts, row_steps line b d c t rest x r (alone_read line h (omega arith)) e, ap (with_first (Some x)) els, ap (term.cons x) same)
 
-  rest_read : (line : ℕ) {b c : Table} {row : Tree} {x : term.Tree} → IsRow b row x c → Rest row → height x ≤ 10000 → ReadsRow line b row x c
-  rest_read line an_end no_rest low = (ended (Some term.nil), [], refl, refl, refl)
-  rest_read line an_end (a_last w) low = nil_written w
-  rest_read line (a_tail h) no_rest low = not_nil h
-  rest_read line (a_tail h) (a_first w ws) low = not_cons h
-  rest_read line (a_tail {before = b} {t = t} {x = x} h) (a_last w) low =
-      (ended (Some x), [], ap (λ q. q.run b) (row_alone line w) ∙ ap (λ o. and_then o (λ x. give (ended x))) (alone_read line h w low), refl, refl)
-  rest_read line (an_element h hs) (a_last w) low = cons_written w
-  rest_read line (an_element {before = b} {between = d} {behind = c} {t = t} {rest = rest} {x = x} {y = y} h hs) (a_first w ws) low =
-      let (r, ts, e, els, same) = rest_read line hs ws (omega arith) in
-      (longer (Some x) r, x ∷ ts, row_steps line b d c t rest x r (alone_read line h w (omega arith)) e, ap (with_first (Some x)) els, ap (kept_cons x) same ∙ kept_low (term.cons x y) low)
+  row_read : (line : ℕ) {b c : Table} {row : Tree} {x : term.Tree} → IsRow b row x c → height x ≤ 10000 → ReadsRow line b row x c
+  row_read line an_end low = (ended (Some term.nil), [], refl, refl, refl)
+  row_read line (a_tail {before = b} {t = t} {x = x} h) low =
+      (ended (Some x), [], ap (λ q. q.run b) (term_alone line h) ∙ ap (λ o. and_then o (λ x. give (ended x))) (alone_read line h low), refl, refl)
+  row_read line (a_cell {before = b} {between = d} {behind = c} {t = t} {rest = rest} {x = x} {y = y} h hs) low =
+      let (r, ts, e, els, same) = row_read line hs (omega arith) in
+      (longer (Some x) r, x ∷ ts, row_steps line b d c t rest x r (alone_read line h (omega arith)) e, ap (with_first (Some x)) els, ap (kept_cons x) same ∙ kept_low (term.cons x y) low)
 
-pub term_read : (line : ℕ) (t : Tree) (b c : Table) (x : term.Tree) → Written t → IsTerm b t x c → height x ≤ 10000 → (literal line t).run b ≡ read c (Some x)
-term_read line t b c x w is low = alone_read line is w low
+pub term_read : (line : ℕ) (t : Tree) (b c : Table) (x : term.Tree) → IsTerm b t x c → height x ≤ 10000 → (literal line t).run b ≡ read c (Some x)
+term_read line t b c x is low = alone_read line is low

@@ -17,12 +17,18 @@ mutual
   pub data IsTerm : Table → Tree → term.Tree → Table → Type 0 where
     an_int : {before : Table} {s : Span} {n : ℤ} → is_large n ≡ false → IsTerm before (integer s n) (term.int n) before
     a_name : {before behind : Table} {s : Span} {text : List ℕ} {a : AtomId} → Names before text a behind → IsTerm before (atom s text) (term.atom a.0) behind
-    a_tuple : {before behind : Table} {s : Span} {row : Tree} {x : term.Tree} → IsRow before row x behind → IsTerm before (tuple s row) (term.tuple x) behind
+    a_tuple : {before behind : Table} {s : Span} {row : Tree} {x : term.Tree} → AreElements before row x behind → IsTerm before (tuple s row) (term.tuple x) behind
     a_list : {before behind : Table} {s : Span} {row : Tree} {x : term.Tree} → IsRow before row x behind → IsTerm before (list s row) x behind
 
-  -- elements, and the empty list or the term behind them
+  -- the elements of a tuple
+  pub data AreElements : Table → Tree → term.Tree → Table → Type 0 where
+    no_element : {before : Table} → AreElements before nil term.nil before
+    an_element : {before between behind : Table} {t rest : Tree} {x y : term.Tree} → IsTerm before t x between → AreElements between rest y behind
+        → AreElements before (cons t rest) (term.cons x y) behind
+
+  -- the cells of a list, and the empty list or the term behind them
   pub data IsRow : Table → Tree → term.Tree → Table → Type 0 where
     an_end : {before : Table} → IsRow before nil term.nil before
     a_tail : {before behind : Table} {t : Tree} {x : term.Tree} → IsTerm before t x behind → IsRow before t x behind
-    an_element : {before between behind : Table} {t rest : Tree} {x y : term.Tree} → IsTerm before t x between → IsRow between rest y behind
+    a_cell : {before between behind : Table} {t rest : Tree} {x y : term.Tree} → IsTerm before t x between → IsRow between rest y behind
         → IsRow before (cons t rest) (term.cons x y) behind
