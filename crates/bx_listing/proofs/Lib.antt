@@ -16,3 +16,5 @@ pub mod ListedItems
 pub mod ListedForms
 pub mod ListedHeads
 pub mod Listed
+pub mod OnLines
+pub mod FirstFaults

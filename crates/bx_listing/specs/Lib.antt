@@ -13,3 +13,4 @@ pub mod HeadForms
 pub mod Listing
 pub mod ListedTerms
 pub mod Listed
+pub mod Refused
