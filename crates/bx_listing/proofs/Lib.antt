@@ -8,6 +8,7 @@ pub mod Forms
 pub mod FormLoop
 pub mod Heads
 pub mod Worded
+pub mod FormsOf
 pub mod GoodReadings
 pub mod Written
 pub mod ListedTerms

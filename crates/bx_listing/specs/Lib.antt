@@ -9,6 +9,7 @@ pub mod LiteralRows
 pub mod Operands
 pub mod ItemForms
 pub mod Forms
+pub mod FormsOf
 pub mod HeadForms
 pub mod Listing
 pub mod ListedTerms

@@ -3,13 +3,20 @@
 ghost use Rattle.std.specs.Prelude.{◌≡◌, ◌↔◌, ℕ, List};
 ghost use Rattle.bx_terms.specs.declared.faults.Fault.{Fault};
 ghost use Rattle.bx_terms.specs.AtomTable.{IsAtomTable};
-ghost use Rattle.bx_text.specs.Place.{place_in};
+ghost use Rattle.bx_text.specs.Place.{Place, place_in};
 ghost use Rattle.bx_listing.specs.Reading.{Table, read, refused};
-ghost use Rattle.bx_listing.specs.Forms.{forms, last_line};
+ghost use Rattle.bx_listing.specs.Forms.{Forms, forms, last_line};
+ghost use Rattle.bx_listing.specs.FormsOf.{AreForms};
 ghost use Rattle.bx_listing.specs.ListedCode.{ListedModule};
 ghost use Rattle.bx_listing.specs.Listing.{listing};
 ghost use Rattle.bx_listing.specs.Listed.{IsListing};
 ghost use Rattle.bx_listing.specs.Refused.{IsFirstFault};
+
+/// The forms from a place on are those of the grammar, up to the first fault of the text, and no others.
+#[tactic(auto, using(crate::proofs::FormsOf::forms_are_those))]
+pub fn forms_are_the_grammar()
+    ensures { (p : Place) (fs : Forms) → (forms p ≡ fs) ↔ AreForms p fs }
+{}
 
 /// The forms of a text are read as code where they are a listing of it, and nowhere else.
 #[tactic(auto, using(crate::proofs::Listed::listings_are))]
