@@ -7,3 +7,15 @@ pub mod Functions
 pub mod Forms
 pub mod FormLoop
 pub mod Heads
+pub mod Worded
+pub mod FormsOf
+pub mod GoodReadings
+pub mod Written
+pub mod ListedTerms
+pub mod ListedOperands
+pub mod ListedItems
+pub mod ListedForms
+pub mod ListedHeads
+pub mod Listed
+pub mod OnLines
+pub mod FirstFaults

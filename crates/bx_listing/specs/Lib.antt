@@ -9,5 +9,9 @@ pub mod LiteralRows
 pub mod Operands
 pub mod ItemForms
 pub mod Forms
+pub mod FormsOf
 pub mod HeadForms
 pub mod Listing
+pub mod ListedTerms
+pub mod Listed
+pub mod Refused

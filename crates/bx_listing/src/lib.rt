@@ -5,6 +5,7 @@ mod code_form;
 mod head_forms;
 mod item_forms;
 mod items;
+pub mod laws;
 mod literals;
 mod operands;
 mod parts;

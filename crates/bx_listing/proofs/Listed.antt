@@ -1,0 +1,105 @@
+-- What is read as a listing is one, and what is one is read so.
+use Rattle.std.proofs.Common.{◌≡◌, ℕ, Bool, true, false, List, [], Result, Ok, Err, refl, ap, ◌∙◌, if◌then◌else◌}
+use Rattle.std.specs.Prelude.{◌↔◌}
+use Rattle.bx_terms.specs.declared.atom_table.AtomId.{AtomId}
+use Rattle.bx_terms.specs.declared.faults.Fault.{Fault}
+use Rattle.bx_terms.specs.declared.faults.Fault.TheVariants as faults
+use Rattle.bx_text.specs.Tree.{Tree}
+use Rattle.bx_listing.specs.declared.code_form.Export.{Export}
+use Rattle.bx_listing.specs.Reading.{Table, read, and_then, ◌>>=◌, give, named, from_result}
+use Rattle.bx_listing.specs.Shape.{shape}
+use Rattle.bx_text.specs.Place.{place_in}
+use Rattle.bx_listing.specs.Forms.{Forms, ends, broken, form, forms, last_line}
+use Rattle.bx_listing.specs.HeadForms.{head, module_name, exports_form, is_attributes, is_labels}
+use Rattle.bx_listing.specs.ListedCode.{ListedFunction, ListedModule}
+use Rattle.bx_listing.specs.Listing.{taken, and_so, behind_labels, behind_head, functions, listed, behind_exports, behind_name, named_listing, listing}
+use Rattle.bx_listing.specs.Listed.{IsModule, IsExports, IsAttributes, IsLabels, AreFunctions, IsListing, plain, with_attributes}
+use Rattle.bx_listing.proofs.GoodReadings.{given, after_read, after_wanted, after_result}
+use Rattle.bx_listing.proofs.ListedOperands.{names_are, names_read}
+use Rattle.bx_listing.proofs.ListedHeads.{module_is, module_test, exports_are, exports_read, attributes_are, attributes_test, labels_are, labels_test}
+use Rattle.bx_listing.proofs.Written.{FormsWritten, forms_written}
+use Rattle.bx_listing.proofs.ListedForms.{functions_are, functions_read}
+
+-- `{labels,N}`, before which `{attributes,T}` may stand
+data IsHead : Forms → Forms → Type 0 where
+  alone : {k : ℕ} {l : Tree} {rest : Forms} → IsLabels l → IsHead (form k l rest) rest
+  after_attributes : {h k : ℕ} {a l : Tree} {rest : Forms} → IsAttributes a → IsLabels l → IsHead (form h a (form k l rest)) rest
+
+labels_behind : (k : ℕ) (l : Tree) (after rest : Forms) → behind_labels (record { line = k; tree = l; rest = after }) ≡ Ok rest → IsLabels l × (after ≡ rest)
+labels_behind k l after rest h = by (is_labels (shape l)) refl h
+  where
+    by : (yes : Bool) → is_labels (shape l) ≡ yes → ◌≡◌ {A = Result Forms Fault} (if yes then Ok after else Err (faults.BadForm k)) (Ok rest) → IsLabels l × (after ≡ rest)
+    by true e h = (labels_are l e, cc)
+    by false e h = absurd (cc)
+
+head_is : (last : ℕ) (all rest : Forms) → behind_head last all ≡ Ok rest → IsHead all rest
+head_is last ends rest h = absurd (cc)
+head_is last (broken fault) rest h = absurd (cc)
+head_is last (form k l after) rest h = by (is_attributes (shape l)) refl h
+  where
+    second : (all : Forms) → IsAttributes l → and_so (taken last all) behind_labels ≡ Ok rest → IsHead (form k l all) rest
+    second ends a h = absurd (cc)
+    second (broken fault) a h = absurd (cc)
+    second (form j m past) a h = let found = labels_behind j m past rest h in rw found.1 (after_attributes a found.0)
+
+    by : (yes : Bool) → is_attributes (shape l) ≡ yes
+        → (if yes then and_so (taken last after) behind_labels else behind_labels (record { line = k; tree = l; rest = after })) ≡ Ok rest → IsHead (form k l after) rest
+    by true e h = second after (attributes_are l e) h
+    by false e h = let found = labels_behind k l after rest h in rw found.1 (alone found.0)
+
+head_read : (last : ℕ) {all rest : Forms} → IsHead all rest → behind_head last all ≡ Ok rest
+head_read last (alone {k = k} {l = l} {rest = rest} is) =
+    ap (λ (yes : Bool). if yes then and_so (taken last rest) behind_labels else behind_labels (record { line = k; tree = l; rest = rest })) (labels_test l is).1
+    ∙ ap (λ (yes : Bool). if yes then Ok rest else Err (faults.BadForm k)) (labels_test l is).0
+head_read last (after_attributes {h = h} {k = k} {a = a} {l = l} {rest = rest} attributes is) =
+    ap (λ (yes : Bool). if yes then behind_labels (record { line = k; tree = l; rest = rest }) else behind_labels (record { line = h; tree = a; rest = form k l rest })) (attributes_test a attributes)
+    ∙ ap (λ (yes : Bool). if yes then Ok rest else Err (faults.BadForm k)) (labels_test l is).0
+
+whole : {b c d e : Table} {i j : ℕ} {m x : Tree} {all rest : Forms} {name : AtomId} {exports : List Export} {fs : List ListedFunction}
+    → IsModule b m name c → IsExports c x exports d → IsHead all rest → AreFunctions d rest fs e → IsListing b (form i m (form j x all)) (record { name = name; exports = exports; functions = fs }) e
+whole m x (alone l) fs = plain m x l fs
+whole m x (after_attributes a l) fs = with_attributes m x a l fs
+
+head_written : {all rest : Forms} → IsHead all rest → FormsWritten all → FormsWritten rest
+head_written (alone l) w = w.1
+head_written (after_attributes a l) w = w.1.1
+
+pub listing_is : (last : ℕ) (forms : Forms) (code : ListedModule) (b e : Table) → FormsWritten forms → (listing last forms).run b ≡ read e code → IsListing b forms code e
+listing_is last ends code b e w h = absurd (cc)
+listing_is last (broken fault) code b e w h = absurd (cc)
+listing_is last (form i m ends) code b e w h =
+    after_wanted (faults.BadForm i) (module_name (shape m)) (named_listing last i ends) b e code (λ text e1.
+    after_read ((named i text).run b) (behind_name last ends) e code (λ c name e2 h2. absurd (cc h2))) h
+listing_is last (form i m (broken fault)) code b e w h =
+    after_wanted (faults.BadForm i) (module_name (shape m)) (named_listing last i (broken fault)) b e code (λ text e1.
+    after_read ((named i text).run b) (behind_name last (broken fault)) e code (λ c name e2 h2. absurd (cc h2))) h
+listing_is last (form i m (form j x all)) code b e w h =
+    after_wanted (faults.BadForm i) (module_name (shape m)) (named_listing last i (form j x all)) b e code (λ text e1.
+    after_read ((named i text).run b) (behind_name last (form j x all)) e code (λ c name e2.
+    after_read ((exports_form j (shape x)).run c) (behind_exports last name all) e code (λ d exports e3.
+    after_result (behind_head last all) (listed name exports) d e code (λ rest e4.
+    after_read ((functions [] rest).run d) (λ fs. give (record { name = name; exports = exports; functions = fs })) e code (λ g fs e5 h5.
+    let found = module_is m text e1 in
+    given (IsListing b (form i m (form j x all))) (record { name = name; exports = exports; functions = fs }) code g e h5
+    (whole (found.0, found.1, (text, found.2, names_are i text b c name e2)) (exports_are j x c d exports e3) (head_is last all rest e4) (functions_are rest d g fs (head_written (head_is last all rest e4) w.1.1) e5))))))) h
+
+read_whole : (last : ℕ) (b c d e : Table) (i j : ℕ) (m x : Tree) (all rest : Forms) (name : AtomId) (exports : List Export) (fs : List ListedFunction)
+    → IsModule b m name c → IsExports c x exports d → IsHead all rest → AreFunctions d rest fs e
+    → (listing last (form i m (form j x all))).run b ≡ read e (record { name = name; exports = exports; functions = fs })
+read_whole last b c d e i j m x all rest name exports fs (u, is, (text, at, names)) xs hs are =
+    ap (λ o. (head i o >>= named_listing last i (form j x all)).run b) (module_test m u text is at)
+    ∙ ap (λ o. and_then o (behind_name last (form j x all))) (names_read i text b c name names)
+    ∙ ap (λ o. and_then o (behind_exports last name all)) (exports_read j x c d exports xs)
+    ∙ ap (λ r. (from_result r >>= listed name exports).run d) (head_read last hs)
+    ∙ ap (λ o. and_then o (λ fs. give (record { name = name; exports = exports; functions = fs }))) (functions_read are)
+
+pub listing_read : {forms : Forms} {code : ListedModule} {b e : Table} → (last : ℕ) → IsListing b forms code e → (listing last forms).run b ≡ read e code
+listing_read last (plain {before = b} {named = c} {exported = d} {behind = e} {i = i} {j = j} {k = k} {m = m} {e = x} {l = l} {rest = rest} {name = name} {exports = exports} {fs = fs} is xs ls are) =
+    read_whole last b c d e i j m x (form k l rest) rest name exports fs is xs (alone ls) are
+listing_read last (with_attributes {before = b} {named = c} {exported = d} {behind = e} {i = i} {j = j} {h = h} {k = k} {m = m} {e = x} {a = a} {l = l} {rest = rest} {name = name} {exports = exports} {fs = fs} is xs ats ls are) =
+    read_whole last b c d e i j m x (form h a (form k l rest)) rest name exports fs is xs (after_attributes ats ls) are
+
+pub listings_are : (text : List ℕ) (code : ListedModule) (before behind : Table)
+    → ((listing (last_line text) (forms (place_in text 0))).run before ≡ read behind code) ↔ IsListing before (forms (place_in text 0)) code behind
+listings_are text code before behind =
+    (λ h. listing_is (last_line text) (forms (place_in text 0)) code before behind (forms_written (place_in text 0)) h, λ h. listing_read (last_line text) h)
