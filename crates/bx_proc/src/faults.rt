@@ -13,6 +13,7 @@ use std::alloc::Global;
 
 impl Proc {
     /// Raises a fault: it is caught in the stack, or the process ends.
+    #[inline(always)]
     pub(crate) fn raise(&mut self, alloc: Global, class: Class, value: Term) -> Result<Effect, Stop>
         ensures { Makes (RaisingTakes class value self.old) self.old self.new result (raised class value self.old) }
     {
@@ -26,6 +27,7 @@ impl Proc {
     }
 
     /// Ends the process.
+    #[inline(always)]
     pub(crate) fn end(&mut self, alloc: Global, reason: Term) -> Result<Effect, Stop>
         ensures { Makes (0 < height reason) self.old self.new result (Ok (ended reason self.old)) }
     {

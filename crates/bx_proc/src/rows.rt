@@ -14,7 +14,7 @@ use std::alloc::Global;
 
 impl Proc {
     /// `move`.
-    #[inline]
+    #[inline(always)]
     #[tactic(auto, unfolding(crate::specs::Rows::move_row, crate::specs::Rows::MoveTakes))]
     pub(crate) fn copy_to(
         &mut self,
@@ -32,7 +32,7 @@ impl Proc {
     }
 
     /// `jump`.
-    #[inline]
+    #[inline(always)]
     pub(crate) fn go_to(&mut self, target: Option<Place>) -> Result<(), Stop>
         ensures { Turns ⊥ self.old self.new result (jump_row target self.old) }
     {
@@ -44,7 +44,7 @@ impl Proc {
     }
 
     /// `return`.
-    #[inline]
+    #[inline(always)]
     pub(crate) fn go_back(&mut self, alloc: Global) -> Result<Effect, Stop>
         ensures { Makes ⊥ self.old self.new result (Ok (return_row self.old.cp self.old)) }
     {
@@ -56,7 +56,7 @@ impl Proc {
     }
 
     /// `call_ext_only` of a function that was loaded, or of none.
-    #[inline]
+    #[inline(always)]
     pub(crate) fn call_by_name(
         &mut self,
         alloc: Global,
