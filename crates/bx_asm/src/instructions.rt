@@ -100,8 +100,8 @@ impl<'a> Lookup<'a> {
         let [from, to] = operands else {
             return None;
         };
-        let source = self.source(*from)?;
         let destination = register(*to)?;
+        let source = self.source(*from)?;
         Some(Instruction::Move {
             source,
             destination,

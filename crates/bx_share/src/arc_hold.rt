@@ -27,7 +27,7 @@ impl<T: Drop> Hold<T> for ArcHold<T> {
         Ok(ArcHold { inner })
     }
 
-    #[inline]
+    #[inline(always)]
     fn see(&self) -> &T {
         &self.inner
     }
@@ -37,7 +37,7 @@ impl<T: Drop> Hold<T> for ArcHold<T> {
         Ok(ArcHold { inner })
     }
 
-    #[inline]
+    #[inline(always)]
     fn edit(&mut self, alloc: Global) -> Result<&mut T, AllocError>
     where
         T: Copied,
@@ -51,7 +51,7 @@ impl<T: Drop> Hold<T> for ArcHold<T> {
 }
 
 // Leaves `inner` the only owner of its value, or of a copy where the value has other owners.
-#[inline]
+#[inline(always)]
 fn own<T: Copied>(alloc: Global, inner: &mut Arc<T>) -> Result<(), AllocError>
     ensures { arc_value inner.new ≡ arc_value inner.old }
 {

@@ -26,7 +26,7 @@ impl<T: Drop> Hold<T> for RcHold<T> {
         Ok(RcHold { inner })
     }
 
-    #[inline]
+    #[inline(always)]
     fn see(&self) -> &T {
         &self.inner
     }
@@ -36,7 +36,7 @@ impl<T: Drop> Hold<T> for RcHold<T> {
         Ok(RcHold { inner })
     }
 
-    #[inline]
+    #[inline(always)]
     fn edit(&mut self, alloc: Global) -> Result<&mut T, AllocError>
     where
         T: Copied,
@@ -50,7 +50,7 @@ impl<T: Drop> Hold<T> for RcHold<T> {
 }
 
 // Leaves `inner` the only owner of its value, or of a copy where the value has other owners.
-#[inline]
+#[inline(always)]
 fn own<T: Copied>(alloc: Global, inner: &mut Rc<T>) -> Result<(), AllocError>
     ensures { inner.new.value ≡ inner.old.value }
 {
