@@ -74,7 +74,7 @@ impl Registers {
         ensures err { IfErr result (λ v. (v ≡ value) × (self.new ≡ self.old) × (map.get self.old number ≡ None)) }
     {
         let at = number as usize;
-        if grow(&mut self.cells, at).is_err() {
+        if at >= self.cells.len() && grow(&mut self.cells, at).is_err() {
             return Err(value);
         }
         write(&mut self.cells, at, value);
@@ -113,7 +113,7 @@ fn all_held(alloc: Global, terms: &[Term]) -> Result<Vec<Option<Value>>, AllocEr
 }
 
 /// Makes the row long enough to have a register at `at`.
-#[inline]
+#[inline(never)]
 #[tactic(auto, using(crate::proofs::Cells::indexed_more))]
 fn grow(cells: &mut Vec<Option<Value>>, at: usize) -> Result<(), AllocError>
     requires { at < 65536 }

@@ -14,10 +14,10 @@ use bx_asm::{Instruction, Unit};
 pub(crate) fn instruction_in(unit: &Unit, number: u32) -> Option<Instruction<'_>>
     ensures { option_map item_of result ≡ option_and_then unmarked (slice_get (items unit.now) number) }
 {
-    match unit.instruction(number as usize)? {
-        Instruction::Label(_) | Instruction::Line => None,
-        instruction => Some(instruction),
+    if is_mark_at(unit, number) {
+        return None;
     }
+    unit.instruction(number as usize)
 }
 
 #[inline(always)]
