@@ -75,7 +75,7 @@ pub(crate) const LINE: u32 = Op::Line as u32;
 
 impl<'a> Lookup<'a> {
     /// What an item spells.
-    #[inline]
+    #[inline(always)]
     #[tactic(auto, unfolding(crate::specs::Spelling::spelled))]
     pub fn instruction(self, item: &'a NumberedItem) -> Option<Instruction<'a>>
         ensures { option_map item_of result ≡ spelled (record { literals = self.entry.literals.now; imports = self.entry.imports.now.keys }) item.now.number item.now.operands.items }
@@ -93,22 +93,22 @@ impl<'a> Lookup<'a> {
         }
     }
 
-    #[inline]
+    #[inline(always)]
     fn as_move(self, operands: &[Operand]) -> Option<Instruction<'a>>
         ensures { option_map item_of result ≡ as_move (record { literals = self.entry.literals.now; imports = self.entry.imports.now.keys }) operands.now }
     {
         let [from, to] = operands else {
             return None;
         };
-        let source = self.source(*from)?;
         let destination = register(*to)?;
+        let source = self.source(*from)?;
         Some(Instruction::Move {
             source,
             destination,
         })
     }
 
-    #[inline]
+    #[inline(always)]
     fn as_call_ext_only(self, operands: &[Operand]) -> Option<Instruction<'a>>
         ensures { option_map item_of result ≡ as_call_ext_only (record { literals = self.entry.literals.now; imports = self.entry.imports.now.keys }) operands.now }
     {
@@ -125,7 +125,7 @@ impl<'a> Lookup<'a> {
         })
     }
 
-    #[inline]
+    #[inline(always)]
     fn source(self, operand: Operand) -> Option<CodeSource<'a>>
         ensures { option_map source_of result ≡ source (record { literals = self.entry.literals.now; imports = self.entry.imports.now.keys }) operand }
     {
@@ -140,7 +140,7 @@ impl<'a> Lookup<'a> {
         })
     }
 
-    #[inline]
+    #[inline(always)]
     fn import(self, operand: Operand) -> Option<Import>
         ensures { result ≡ import (record { literals = self.entry.literals.now; imports = self.entry.imports.now.keys }) operand }
     {
@@ -152,7 +152,7 @@ impl<'a> Lookup<'a> {
     }
 }
 
-#[inline]
+#[inline(always)]
 fn as_label<'a>(operands: &[Operand]) -> Option<Instruction<'a>>
     ensures { option_map item_of result ≡ as_label operands.now }
 {
@@ -162,7 +162,7 @@ fn as_label<'a>(operands: &[Operand]) -> Option<Instruction<'a>>
     Some(Instruction::Label(*number))
 }
 
-#[inline]
+#[inline(always)]
 fn as_line<'a>(operands: &[Operand]) -> Option<Instruction<'a>>
     ensures { option_map item_of result ≡ as_line operands.now }
 {
@@ -172,7 +172,7 @@ fn as_line<'a>(operands: &[Operand]) -> Option<Instruction<'a>>
     Some(Instruction::Line)
 }
 
-#[inline]
+#[inline(always)]
 fn as_func_info<'a>(operands: &[Operand]) -> Option<Instruction<'a>>
     ensures { option_map item_of result ≡ as_func_info operands.now }
 {
@@ -191,7 +191,7 @@ fn as_func_info<'a>(operands: &[Operand]) -> Option<Instruction<'a>>
     })
 }
 
-#[inline]
+#[inline(always)]
 fn as_jump<'a>(operands: &[Operand]) -> Option<Instruction<'a>>
     ensures { option_map item_of result ≡ as_jump operands.now }
 {
@@ -201,7 +201,7 @@ fn as_jump<'a>(operands: &[Operand]) -> Option<Instruction<'a>>
     Some(Instruction::Jump(*label))
 }
 
-#[inline]
+#[inline(always)]
 fn as_return<'a>(operands: &[Operand]) -> Option<Instruction<'a>>
     ensures { option_map item_of result ≡ as_return operands.now }
 {
@@ -211,7 +211,7 @@ fn as_return<'a>(operands: &[Operand]) -> Option<Instruction<'a>>
     Some(Instruction::Return)
 }
 
-#[inline]
+#[inline(always)]
 fn element<T>(table: &[T], number: u32) -> Option<&T>
     ensures { option_map (λ x. x.now) result ≡ slice_get table.now number }
 {
@@ -223,7 +223,7 @@ fn element<T>(table: &[T], number: u32) -> Option<&T>
     }
 }
 
-#[inline]
+#[inline(always)]
 fn register(operand: Operand) -> Option<CodeRegister>
     ensures { option_map register_of result ≡ register operand }
 {

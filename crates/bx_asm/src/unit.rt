@@ -128,7 +128,7 @@ impl Unit {
     }
 
     /// The item of this number, from 0, or none past the last.
-    #[inline]
+    #[inline(always)]
     #[tactic(auto, using(crate::proofs::Units::item_at, crate::proofs::Units::no_item_at))]
     pub fn instruction(&self, number: usize) -> Option<Instruction<'_>>
         ensures { option_map item_of result ≡ slice_get (items self.now) number }
@@ -145,7 +145,7 @@ impl Unit {
 
     /// Whether there is an item of this number, from 0, and it is a mark: a label or a line, and no instruction. It is told
     /// by the opcode's number alone.
-    #[inline]
+    #[inline(always)]
     #[tactic(auto, using(crate::proofs::Marks::mark_here, crate::proofs::Marks::no_mark))]
     pub fn is_mark(&self, number: usize) -> bool
         ensures { result ≡ mark_at (items self.now) number }
@@ -158,7 +158,7 @@ impl Unit {
 }
 
 /// Whether items of this opcode are marks.
-#[inline]
+#[inline(always)]
 fn marks(opcode: u32) -> bool
     ensures { result ≡ (opcode == 1 || opcode == 153) }
 {

@@ -57,7 +57,7 @@ impl Registers {
     }
 
     /// What the register of this number holds.
-    #[inline]
+    #[inline(always)]
     #[tactic(auto, using(crate::proofs::Cells::get_indexed))]
     pub fn get(&self, number: u16) -> Option<&Value>
         ensures { option_map (λ v. v.now) result ≡ map.get self.now number }
@@ -67,14 +67,14 @@ impl Registers {
 
     /// Puts `value` into the register of this number, or hands it back where memory ran out, and then nothing has
     /// changed. Memory is taken only where that register holds nothing.
-    #[inline]
+    #[inline(always)]
     #[tactic(auto, using(crate::proofs::Cells::nothing_past))]
     pub fn set(&mut self, number: u16, value: Value) -> Result<(), Value>
         ensures ok { OnOk result (self.new ≡ map.insert self.old number value) }
         ensures err { IfErr result (λ v. (v ≡ value) × (self.new ≡ self.old) × (map.get self.old number ≡ None)) }
     {
         let at = number as usize;
-        if grow(&mut self.cells, at).is_err() {
+        if at >= self.cells.len() && grow(&mut self.cells, at).is_err() {
             return Err(value);
         }
         write(&mut self.cells, at, value);
@@ -113,6 +113,7 @@ fn all_held(alloc: Global, terms: &[Term]) -> Result<Vec<Option<Value>>, AllocEr
 }
 
 /// Makes the row long enough to have a register at `at`.
+#[inline(never)]
 #[tactic(auto, using(crate::proofs::Cells::indexed_more))]
 fn grow(cells: &mut Vec<Option<Value>>, at: usize) -> Result<(), AllocError>
     requires { at < 65536 }
@@ -127,6 +128,7 @@ fn grow(cells: &mut Vec<Option<Value>>, at: usize) -> Result<(), AllocError>
 }
 
 /// Writes into a register that the row has.
+#[inline(always)]
 #[tactic(auto, using(crate::proofs::Cells::indexed_set))]
 fn write(cells: &mut Vec<Option<Value>>, at: usize, value: Value)
     requires { at < length cells.old.items }
@@ -160,7 +162,7 @@ pub(crate) fn same_held(one: Option<&Value>, other: Option<&Value>) -> bool
 }
 
 /// What stands at `at`, where something does.
-#[inline]
+#[inline(always)]
 fn cell(cells: &[Option<Value>], at: usize) -> Option<&Value>
     ensures { option_map (λ v. v.now) result ≡ cell_at cells.now at }
 {

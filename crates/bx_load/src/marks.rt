@@ -10,17 +10,17 @@ ghost use Rattle.bx_load.specs.Items.{passes_at};
 use bx_asm::{Instruction, Unit};
 
 /// The instruction of that number; none past the last item and at a mark.
-#[inline]
+#[inline(always)]
 pub(crate) fn instruction_in(unit: &Unit, number: u32) -> Option<Instruction<'_>>
     ensures { option_map item_of result ≡ option_and_then unmarked (slice_get (items unit.now) number) }
 {
-    match unit.instruction(number as usize)? {
-        Instruction::Label(_) | Instruction::Line => None,
-        instruction => Some(instruction),
+    if is_mark_at(unit, number) {
+        return None;
     }
+    unit.instruction(number as usize)
 }
 
-#[inline]
+#[inline(always)]
 pub(crate) fn is_mark_at(unit: &Unit, number: u32) -> bool
     ensures { result ≡ passes_at is_mark (items unit.now) number }
 {
@@ -28,7 +28,7 @@ pub(crate) fn is_mark_at(unit: &Unit, number: u32) -> bool
 }
 
 /// The number of the first item from that number on that is no mark, or else the number of items.
-#[inline]
+#[inline(always)]
 #[tactic(auto, using(crate::proofs::BehindMarks::at_mark, crate::proofs::BehindMarks::at_here, crate::proofs::BehindMarks::at_end))]
 pub(crate) fn at(unit: &Unit, from: u32) -> u32
     requires { from ≤ length (items unit.now) }
@@ -44,7 +44,7 @@ pub(crate) fn at(unit: &Unit, from: u32) -> u32
 }
 
 /// The number of the item at which it goes on behind that one.
-#[inline]
+#[inline(always)]
 pub(crate) fn after_in(unit: &Unit, number: u32) -> u32
     ensures { result ≡ after_in (items unit.now) number }
 {

@@ -2,8 +2,9 @@
 
 ghost use Rattle.std.specs.Prelude.{◌≡◌, ◌<◌, ◌∷◌, [], Ok};
 ghost use Rattle.bx_terms.specs.Tree.{height, tuple, listed};
-ghost use Rattle.bx_proc.specs.Faults.{reason, within_height, ended, raised, RaisingTakes};
-ghost use Rattle.bx_proc.specs.Stops.{Reads, Makes};
+ghost use Rattle.bx_proc.specs.declared.parts.Effect.TheVariants as effects;
+ghost use Rattle.bx_proc.specs.Faults.{reason, within_height, ended, raised, effect_of, RaisingTakes};
+ghost use Rattle.bx_proc.specs.Stops.{Reads, Makes, Shows};
 
 use crate::parts::{Effect, Pending, Status};
 use crate::process::Proc;
@@ -13,25 +14,48 @@ use std::alloc::Global;
 
 impl Proc {
     /// Raises a fault: it is caught in the stack, or the process ends.
+    #[inline(always)]
     pub(crate) fn raise(&mut self, alloc: Global, class: Class, value: Term) -> Result<Effect, Stop>
         ensures { Makes (RaisingTakes class value self.old) self.old self.new result (raised class value self.old) }
     {
+        match self.settle(alloc, class, value)? {
+            Some(reason) => Ok(Effect::Ended(reason)),
+            None => Ok(Effect::Ran),
+        }
+    }
+
+    /// Raises a fault, and hands out the reason with which the process ended, where it did.
+    #[inline(never)]
+    fn settle(&mut self, alloc: Global, class: Class, value: Term) -> Result<Option<Term>, Stop>
+        ensures { Shows (RaisingTakes class value self.old) effect_of self.old self.new result (raised class value self.old) }
+    {
         let Some(place) = self.frames.unwind() else {
             let reason = reason(alloc, class, value)?;
-            return self.end(alloc, reason);
+            let told = self.close(alloc, reason)?;
+            return Ok(Some(told));
         };
         self.place = Some(place);
         self.fault = Some(Pending { class, value });
-        Ok(Effect::Ran)
+        Ok(None)
     }
 
     /// Ends the process.
+    #[inline(always)]
     pub(crate) fn end(&mut self, alloc: Global, reason: Term) -> Result<Effect, Stop>
         ensures { Makes (0 < height reason) self.old self.new result (Ok (ended reason self.old)) }
     {
+        let told = self.close(alloc, reason)?;
+        Ok(Effect::Ended(told))
+    }
+
+    /// Ends the process, and hands out the reason.
+    #[inline(never)]
+    fn close(&mut self, alloc: Global, reason: Term) -> Result<Term, Stop>
+        ensures { Shows (0 < height reason) effects.Ended self.old self.new result (Ok (ended reason self.old)) }
+    {
         let told = reason.copy(alloc)?;
         self.status = Status::Ended(reason);
-        Ok(Effect::Ended(told))
+        Ok(told)
     }
 }
 

@@ -81,6 +81,7 @@ impl Proc {
     }
 
     /// Whether the process may run: it is ready, or it waits and has a message that it did not pass over.
+    #[inline(always)]
     pub fn can_run(&self) -> bool
         ensures { result ≡ can_run self.now }
     {

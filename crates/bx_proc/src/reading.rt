@@ -15,7 +15,7 @@ use std::alloc::Global;
 
 impl Proc {
     /// What a source gives, to be kept. Want of memory is the answer only for a tuple or a list cell.
-    #[inline]
+    #[inline(always)]
     pub(crate) fn value_of(&self, alloc: Global, source: CodeSource<'_>) -> Result<Value, Stop>
         ensures { Reads (IsOkAnd (value_at (source_of source.entry) self.now) Shares) (λ v. v) result (value_at (source_of source.entry) self.now) }
     {
@@ -29,7 +29,7 @@ impl Proc {
     }
 
     /// What a register holds.
-    #[inline]
+    #[inline(always)]
     fn held(&self, register: CodeRegister) -> Result<&Value, Trap>
         ensures { MatchResult result (λ v. held_in (register_of register) self.now ≡ Ok v.now) (λ trap. held_in (register_of register) self.now ≡ Err trap) }
     {
@@ -44,7 +44,7 @@ impl Proc {
     }
 
     /// Puts `value` into a register. Memory is taken only for an x register that holds nothing.
-    #[inline]
+    #[inline(always)]
     pub(crate) fn write(&mut self, register: CodeRegister, value: Value) -> Result<(), Stop>
         ensures { Turns (Fills (register_of register) self.old) self.old self.new result (written (register_of register) value self.old) }
     {
@@ -62,7 +62,7 @@ impl Proc {
 }
 
 /// A copy of what an instruction may carry from one register to another.
-#[inline]
+#[inline(always)]
 fn carried(alloc: Global, value: &Value) -> Result<Value, Stop>
     ensures { Reads (Shares value.now) (λ v. v) result (carried value.now) }
 {

@@ -2,7 +2,7 @@
 
 ghost use Rattle.std.specs.Prelude.{◌≡◌, Ok};
 ghost use Rattle.bx_asm.specs.Decoded.{source_of, register_of};
-ghost use Rattle.bx_proc.specs.Rows.{move_row, jump_row, return_row, call_row, MoveTakes, CallTakes};
+ghost use Rattle.bx_proc.specs.Rows.{copied, jump_row, return_row, call_row, MoveTakes, CallTakes};
 ghost use Rattle.bx_proc.specs.Stops.{Turns, Makes};
 
 use crate::parts::Effect;
@@ -13,26 +13,23 @@ use bx_terms::{Class, Place, Term, Trap, fixed};
 use std::alloc::Global;
 
 impl Proc {
-    /// `move`.
-    #[inline]
-    #[tactic(auto, unfolding(crate::specs::Rows::move_row, crate::specs::Rows::MoveTakes))]
+    /// `move`, but for the place.
+    #[inline(always)]
+    #[tactic(auto, unfolding(crate::specs::Rows::MoveTakes))]
     pub(crate) fn copy_to(
         &mut self,
         alloc: Global,
         source: CodeSource<'_>,
         destination: CodeRegister,
-        next: Place,
     ) -> Result<(), Stop>
-        ensures { Turns (MoveTakes (source_of source.entry) (register_of destination) self.old) self.old self.new result (move_row (source_of source.entry) (register_of destination) next self.old) }
+        ensures { Turns (MoveTakes (source_of source.entry) (register_of destination) self.old) self.old self.new result (copied (source_of source.entry) (register_of destination) self.old) }
     {
         let value = self.value_of(alloc, source)?;
-        self.write(destination, value)?;
-        self.place = Some(next);
-        Ok(())
+        self.write(destination, value)
     }
 
     /// `jump`.
-    #[inline]
+    #[inline(always)]
     pub(crate) fn go_to(&mut self, target: Option<Place>) -> Result<(), Stop>
         ensures { Turns ⊥ self.old self.new result (jump_row target self.old) }
     {
@@ -44,7 +41,7 @@ impl Proc {
     }
 
     /// `return`.
-    #[inline]
+    #[inline(always)]
     pub(crate) fn go_back(&mut self, alloc: Global) -> Result<Effect, Stop>
         ensures { Makes ⊥ self.old self.new result (Ok (return_row self.old.cp self.old)) }
     {
@@ -56,7 +53,7 @@ impl Proc {
     }
 
     /// `call_ext_only` of a function that was loaded, or of none.
-    #[inline]
+    #[inline(always)]
     pub(crate) fn call_by_name(
         &mut self,
         alloc: Global,

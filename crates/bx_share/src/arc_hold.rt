@@ -27,6 +27,7 @@ impl<T: Drop> Hold<T> for ArcHold<T> {
         Ok(ArcHold { inner })
     }
 
+    #[inline(always)]
     fn see(&self) -> &T {
         &self.inner
     }
@@ -36,6 +37,7 @@ impl<T: Drop> Hold<T> for ArcHold<T> {
         Ok(ArcHold { inner })
     }
 
+    #[inline(always)]
     fn edit(&mut self, alloc: Global) -> Result<&mut T, AllocError>
     where
         T: Copied,
@@ -49,11 +51,22 @@ impl<T: Drop> Hold<T> for ArcHold<T> {
 }
 
 // Leaves `inner` the only owner of its value, or of a copy where the value has other owners.
+#[inline(always)]
 fn own<T: Copied>(alloc: Global, inner: &mut Arc<T>) -> Result<(), AllocError>
     ensures { arc_value inner.new ≡ arc_value inner.old }
 {
     if let None = Arc::get_mut(inner) {
-        *inner = Arc::new(alloc, inner.copy(alloc)?)?;
+        part(alloc, inner)?;
     }
+    Ok(())
+}
+
+// Puts a copy in the value's place. It stands apart so that the edit of a value that isn't shared stays short.
+#[cold]
+#[inline(never)]
+fn part<T: Copied>(alloc: Global, inner: &mut Arc<T>) -> Result<(), AllocError>
+    ensures { arc_value inner.new ≡ arc_value inner.old }
+{
+    *inner = Arc::new(alloc, inner.copy(alloc)?)?;
     Ok(())
 }

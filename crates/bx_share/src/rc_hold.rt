@@ -26,6 +26,7 @@ impl<T: Drop> Hold<T> for RcHold<T> {
         Ok(RcHold { inner })
     }
 
+    #[inline(always)]
     fn see(&self) -> &T {
         &self.inner
     }
@@ -35,6 +36,7 @@ impl<T: Drop> Hold<T> for RcHold<T> {
         Ok(RcHold { inner })
     }
 
+    #[inline(always)]
     fn edit(&mut self, alloc: Global) -> Result<&mut T, AllocError>
     where
         T: Copied,
@@ -48,11 +50,22 @@ impl<T: Drop> Hold<T> for RcHold<T> {
 }
 
 // Leaves `inner` the only owner of its value, or of a copy where the value has other owners.
+#[inline(always)]
 fn own<T: Copied>(alloc: Global, inner: &mut Rc<T>) -> Result<(), AllocError>
     ensures { inner.new.value ≡ inner.old.value }
 {
     if let None = Rc::get_mut(inner) {
-        *inner = Rc::new(alloc, inner.copy(alloc)?)?;
+        part(alloc, inner)?;
     }
+    Ok(())
+}
+
+// Puts a copy in the value's place. It stands apart so that the edit of a value that isn't shared stays short.
+#[cold]
+#[inline(never)]
+fn part<T: Copied>(alloc: Global, inner: &mut Rc<T>) -> Result<(), AllocError>
+    ensures { inner.new.value ≡ inner.old.value }
+{
+    *inner = Rc::new(alloc, inner.copy(alloc)?)?;
     Ok(())
 }

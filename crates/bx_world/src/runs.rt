@@ -41,7 +41,7 @@ impl<P: Hold<Proc>, C: Hold<Lanes>> Model for RunEnd<P, C> {
 /// choice was refused or the world has trapped, nothing changes.
 ///
 /// Memory is all that it may lack, and then nothing has changed.
-#[inline]
+#[inline(always)]
 pub fn advance<P: Hold<Proc>, C: Hold<Lanes>>(
     alloc: Global,
     end: &mut RunEnd<P, C>,

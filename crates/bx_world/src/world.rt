@@ -86,7 +86,7 @@ impl<P: Hold<Proc>, C: Hold<Lanes>> World<P, C> {
     }
 
     /// Whether a choice is among those that are enabled. It is looked up, in a time that doesn't depend on how many there are.
-    #[inline]
+    #[inline(always)]
     pub fn can(&self, choice: Choice) -> bool
         ensures { result ≡ can self.now choice }
     {
@@ -100,7 +100,7 @@ impl<P: Hold<Proc>, C: Hold<Lanes>> World<P, C> {
     ///
     /// `Halted` exactly where the world has trapped, else `NotEnabled` exactly where the choice is not enabled. After any
     /// refusal nothing has changed.
-    #[inline]
+    #[inline(always)]
     pub fn apply(&mut self, alloc: Global, image: &Image, choice: Choice) -> Result<(), Fault>
         ensures { Does (IsTrue (can self.old choice)) self.old self.new result (applied image.now choice self.old) }
     {
@@ -114,7 +114,7 @@ impl<P: Hold<Proc>, C: Hold<Lanes>> World<P, C> {
     }
 
     /// Runs one instruction of that process, in a world that has not trapped.
-    #[inline]
+    #[inline(always)]
     fn run(&mut self, alloc: Global, image: &Image, pid: u32) -> Result<(), Fault>
         requires { self.old.trap ≡ None }
         ensures { Does (IsTrue (can self.old (Choice.Run pid))) self.old self.new result (applied image.now (Choice.Run pid) self.old) }
