@@ -1,5 +1,5 @@
 //! The start of a run, as the command line writes it.
-ghost use Rattle.std.specs.Prelude.{◌≡◌, ◌≤◌, IfErr, IfOk, IsOkAnd, IsSome, OnErr, Some, length, option_map, slice_get, string_bytes};
+ghost use Rattle.std.specs.Prelude.{◌≡◌, ◌↔◌, ◌≤◌, IfErr, IfOk, IsOkAnd, IsSome, IsTrue, OnErr, Some, length, option_map, slice_get, string_bytes};
 ghost use Rattle.bx_text.specs.Forms.{atom_in};
 ghost use Rattle.bx_engine.specs.Starts.{IsNoStart, start_in, token_in};
 
@@ -37,6 +37,13 @@ impl Start {
         ensures { result.now ≡ self.now.1 }
     {
         self.function.as_str()
+    }
+
+    /// Whether both name the same function of the same module.
+    pub fn same(&self, other: &Start) -> bool
+        ensures { IsTrue result ↔ (self.now ≡ other.now) }
+    {
+        self.module() == other.module() && self.function() == other.function()
     }
 }
 

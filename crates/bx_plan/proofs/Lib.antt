@@ -16,3 +16,4 @@ pub mod Looking
 pub mod Pushing
 pub mod Upward
 pub mod Beginnings
+pub mod SamePlans

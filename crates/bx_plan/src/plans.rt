@@ -8,6 +8,7 @@ ghost use Rattle.bx_plan.specs.Reading.{parts_of};
 
 mod building;
 mod readers;
+mod sameness;
 
 use crate::parts::Parts;
 use crate::trees::{Growing, Step};

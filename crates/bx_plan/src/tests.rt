@@ -138,3 +138,25 @@ fn a_million_nodes_and_no_more(rt: HostRuntime) {
         assert_eq!(rt; got.1, want.1, "{last}");
     }
 }
+
+/// Whether two texts are plans that are the same; false where one is refused.
+fn same_plans(rt: &HostRuntime, one: &[u8], other: &[u8]) -> bool {
+    match (read_plan(rt.alloc(), one), read_plan(rt.alloc(), other)) {
+        (Ok(one), Ok(other)) => one.same(&other),
+        _ => false,
+    }
+}
+
+#[test]
+fn plans_are_compared_by_names_ends_and_nodes(rt: HostRuntime) {
+    let rows: [(&[u8], &[u8], bool); 5] = [
+        (b"a: r0*2\nb:", b"# again\na: r0 r0\n\nb:\n", true),
+        (b"a: r0", b"b: r0", false),
+        (b"a: r0", b"a: r0 r0", false),
+        (b"a: r0 r0\nb: r0", b"b: r0\na: r0 r0", false),
+        (b"a: d0>1", b"a: d1>0", false),
+    ];
+    for (number, (one, other, same)) in rows.iter().enumerate() {
+        assert!(rt; same_plans(&rt, one, other) == *same, "row {number}");
+    }
+}

@@ -81,3 +81,17 @@ pub enum Effect {
     /// It could not run: nothing has changed.
     Trap(Trap),
 }
+
+impl Effect {
+    /// Whether both are the same, with the same reason.
+    pub fn same(&self, other: &Effect) -> bool
+        ensures { IsTrue result ↔ (self.now ≡ other.now) }
+    {
+        match (self, other) {
+            (Effect::Ran, Effect::Ran) => true,
+            (Effect::Ended(reason), Effect::Ended(other)) => reason.same(other),
+            (Effect::Trap(kind), Effect::Trap(other)) => *kind == *other,
+            _ => false,
+        }
+    }
+}

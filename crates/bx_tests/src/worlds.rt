@@ -186,6 +186,21 @@ fn assert_snapshots<P: Hold<Proc>, C: Hold<Lanes>>(
     Ok(())
 }
 
+fn assert_ends<P: Hold<Proc>, C: Hold<Lanes>>(rt: &impl Abort, alloc: Global) -> Result<(), Fail> {
+    let image = image_of_items(alloc, TWO)?;
+    let one = run::<P, C>(alloc, &image, &[OWN])?;
+    let rows: [(&[Choice], bool); 3] = [
+        (&[OWN], true),
+        (&[], false),
+        (&[OWN, Choice::Deliver(0, 1)], false),
+    ];
+    for (choices, same) in rows {
+        let other = run::<P, C>(alloc, &image, choices)?;
+        assert!(rt; one.same(&other) == same);
+    }
+    Ok(())
+}
+
 fn assert_worlds<P: Hold<Proc>, C: Hold<Lanes>>(
     rt: &impl Abort,
     alloc: Global,
@@ -193,6 +208,7 @@ fn assert_worlds<P: Hold<Proc>, C: Hold<Lanes>>(
     assert_runs::<P, C>(rt, alloc)?;
     assert_answers::<P, C>(rt, alloc)?;
     assert_enabled::<P, C>(rt, alloc)?;
+    assert_ends::<P, C>(rt, alloc)?;
     assert_snapshots::<P, C>(rt, alloc)
 }
 

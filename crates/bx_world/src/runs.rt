@@ -1,6 +1,6 @@
 //! Runs: what a list of choices leads to.
 
-ghost use Rattle.std.specs.Prelude.{◌≡◌, ◌<◌, Ok};
+ghost use Rattle.std.specs.Prelude.{◌≡◌, ◌↔◌, ◌<◌, IsTrue, Ok};
 ghost use Rattle.bx_terms.specs.Outcomes.{Does};
 ghost use Rattle.bx_world.specs.Running.{advanced, AdvanceTakes};
 
@@ -35,6 +35,17 @@ impl<P: Hold<Proc>, C: Hold<Lanes>> Model for RunEnd<P, C> {
     ghost coded = { ended_code (state_code process.the_row.coded tree_code traps.the_row.coded) choices.the_row.coded };
 
     ghost view = { λ a. record { world = a.world; applied = a.applied; refused = a.refused } };
+}
+
+impl<P: Hold<Proc>, C: Hold<Lanes>> RunEnd<P, C> {
+    /// Whether both have led to equal worlds, by as many choices, and the same choice was refused, or none.
+    pub fn same(&self, other: &RunEnd<P, C>) -> bool
+        ensures { IsTrue result ↔ (self.now ≡ other.now) }
+    {
+        self.applied == other.applied
+            && self.refused == other.refused
+            && self.world.same(&other.world)
+    }
 }
 
 /// One choice more: it is applied, the trapping one too, or it is kept as the refused one where it is not enabled. Once a

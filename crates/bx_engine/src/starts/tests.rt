@@ -29,3 +29,13 @@ fn refuses_all_else(rt: HostRuntime) {
         assert!(rt; matches!(refused, Err(Failure::Start)), "{text}");
     }
 }
+
+#[test]
+fn starts_are_compared_by_both_names(rt: HostRuntime) -> Result<(), Fail> {
+    let one = start_of(rt.alloc(), "m:f")?;
+    for (text, same) in [("'m':f", true), ("m:g", false), ("n:f", false)] {
+        let other = start_of(rt.alloc(), text)?;
+        assert!(rt; one.same(&other) == same, "{text}");
+    }
+    Ok(())
+}

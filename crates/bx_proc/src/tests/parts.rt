@@ -1,9 +1,9 @@
 //! New processes, copies and comparisons, with ample memory.
 
 use super::listings::{int, item, process};
-use crate::{Proc, Status};
+use crate::{Effect, Proc, Status};
 use bx_share::{ArcHold, Copied, Hold};
-use bx_terms::Term;
+use bx_terms::{Term, Trap};
 
 #[test]
 fn a_new_process_has_its_arguments(rt: HostRuntime) {
@@ -40,4 +40,14 @@ fn copies_are_the_same_until_one_changes(rt: HostRuntime) {
         panic!(rt; "no memory")
     };
     assert!(rt; copy.same(first.see()));
+}
+
+#[test]
+fn effects_are_the_same_with_the_same_reason(rt: HostRuntime) {
+    let ended = Effect::Ended(Term::int(1));
+    assert!(rt; ended.same(&Effect::Ended(Term::int(1))));
+    assert!(rt; !ended.same(&Effect::Ended(Term::int(2))));
+    assert!(rt; !ended.same(&Effect::Ran));
+    assert!(rt; Effect::Trap(Trap::Unset).same(&Effect::Trap(Trap::Unset)));
+    assert!(rt; !Effect::Trap(Trap::Unset).same(&Effect::Trap(Trap::NoTag)));
 }
