@@ -1,6 +1,6 @@
 //! A listing that was read: a module's code as it was written, with the line of each item.
 
-ghost use Rattle.std.specs.Prelude.{◌≡◌, ◌++◌, ◌∷◌, [], OnOk};
+ghost use Rattle.std.specs.Prelude.{◌≡◌, ◌↔◌, ◌++◌, ◌∷◌, [], OnOk, IsTrue};
 
 use crate::items::PlacedItem;
 use bx_terms::AtomId;
@@ -83,6 +83,31 @@ impl Function {
     {
         self.items.as_slice()
     }
+
+    /// Whether both have the same name, arity and entry, and the same items on the same lines.
+    pub fn same(&self, other: &Function) -> bool
+        ensures { IsTrue result ↔ (self.now ≡ other.now) }
+    {
+        self.name == other.name
+            && self.arity == other.arity
+            && self.entry == other.entry
+            && same_items(&self.items, &other.items)
+    }
+}
+
+#[tactic(auto, using(crate::proofs::Compared::same_so_far, crate::proofs::Compared::same_whole))]
+fn same_items(xs: &[PlacedItem], ys: &[PlacedItem]) -> bool
+    ensures { IsTrue result ↔ (xs.now ≡ ys.now) }
+{
+    if xs.len() != ys.len() {
+        return false;
+    }
+    for at in 0..xs.len() {
+        if !xs[at].same(&ys[at]) {
+            return false;
+        }
+    }
+    true
 }
 
 /// A listing: the code of one module, with each item's line.
@@ -137,4 +162,42 @@ impl Listing {
     {
         self.functions.as_slice()
     }
+    /// Whether both have the same name, and the same exports and functions in the same order.
+    pub fn same(&self, other: &Listing) -> bool
+        ensures { IsTrue result ↔ (self.now ≡ other.now) }
+    {
+        self.module == other.module
+            && same_exports(&self.exports, &other.exports)
+            && same_functions(&self.functions, &other.functions)
+    }
+}
+
+#[tactic(auto, using(crate::proofs::Compared::same_so_far, crate::proofs::Compared::same_whole))]
+fn same_exports(xs: &[Export], ys: &[Export]) -> bool
+    ensures { IsTrue result ↔ (xs.now ≡ ys.now) }
+{
+    if xs.len() != ys.len() {
+        return false;
+    }
+    for at in 0..xs.len() {
+        if xs[at] != ys[at] {
+            return false;
+        }
+    }
+    true
+}
+
+#[tactic(auto, using(crate::proofs::Compared::same_so_far, crate::proofs::Compared::same_whole))]
+fn same_functions(xs: &[Function], ys: &[Function]) -> bool
+    ensures { IsTrue result ↔ (xs.now ≡ ys.now) }
+{
+    if xs.len() != ys.len() {
+        return false;
+    }
+    for at in 0..xs.len() {
+        if !xs[at].same(&ys[at]) {
+            return false;
+        }
+    }
+    true
 }

@@ -2,6 +2,8 @@
 //!
 //! Every number is kept as it was read, from 0 to 4294967295; which of them are in range is asked when code is assembled.
 
+ghost use Rattle.std.specs.Prelude.{◌≡◌, ◌↔◌, IsTrue};
+
 use bx_terms::{AtomId, Term};
 
 /// A register, by its number.
@@ -25,6 +27,22 @@ pub enum Source {
     Atom(AtomId),
     Nil,
     Literal(Term),
+}
+
+impl Source {
+    /// Whether both are the same register or the same value, written in the same way.
+    pub fn same(&self, other: &Source) -> bool
+        ensures { IsTrue result ↔ (self.now ≡ other.now) }
+    {
+        match (self, other) {
+            (Source::Register(register), Source::Register(other)) => register == other,
+            (Source::Integer(value), Source::Integer(other)) => value == other,
+            (Source::Atom(atom), Source::Atom(other)) => atom == other,
+            (Source::Nil, Source::Nil) => true,
+            (Source::Literal(term), Source::Literal(other)) => term.same(other),
+            _ => false,
+        }
+    }
 }
 
 /// A function that is called by its name, in whichever module it stands.
@@ -76,9 +94,62 @@ pub enum Item {
     },
 }
 
+impl Item {
+    /// Whether both are of one form, with the same operands.
+    pub fn same(&self, other: &Item) -> bool
+        ensures { IsTrue result ↔ (self.now ≡ other.now) }
+    {
+        match (self, other) {
+            (Item::Label(label), Item::Label(other)) => label == other,
+            (Item::Line, Item::Line) => true,
+            (
+                Item::FuncInfo {
+                    module,
+                    function,
+                    arity,
+                },
+                Item::FuncInfo {
+                    module: other_module,
+                    function: other_function,
+                    arity: other_arity,
+                },
+            ) => module == other_module && function == other_function && arity == other_arity,
+            (
+                Item::Move {
+                    source,
+                    destination,
+                },
+                Item::Move {
+                    source: other_source,
+                    destination: other_destination,
+                },
+            ) => destination == other_destination && source.same(other_source),
+            (Item::Jump(label), Item::Jump(other)) => label == other,
+            (Item::Return, Item::Return) => true,
+            (
+                Item::CallExt { kind, import },
+                Item::CallExt {
+                    kind: other_kind,
+                    import: other_import,
+                },
+            ) => kind == other_kind && import == other_import,
+            _ => false,
+        }
+    }
+}
+
 /// An item, and the line from 1 on which its form begins.
 #[derive(Debug, Drop)]
 pub struct PlacedItem {
     pub line: usize,
     pub item: Item,
+}
+
+impl PlacedItem {
+    /// Whether both are the same item on the same line.
+    pub fn same(&self, other: &PlacedItem) -> bool
+        ensures { IsTrue result ↔ (self.now ≡ other.now) }
+    {
+        self.line == other.line && self.item.same(&other.item)
+    }
 }

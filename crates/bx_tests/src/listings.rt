@@ -2,7 +2,7 @@
 
 use crate::samples::{module, read};
 use crate::texts::{push_atom, push_call, push_info};
-use bx_listing::{Function, Item, PlacedItem, Register, Source};
+use bx_listing::{Function, Item, PlacedItem, Register, Source, read_listing};
 use bx_terms::{Atoms, Fault, print};
 use std::alloc::{AllocError, Global};
 use std::test::Fail;
@@ -163,6 +163,39 @@ fn functions_of_a_listing(rt: HostRuntime) -> Result<(), Fail> {
     assert!(rt; first.as_str() == OF_F, "{first}");
     let second = shown(rt.alloc(), &atoms, &functions[1])?;
     assert!(rt; second.as_str() == OF_G, "{second}");
+    Ok(())
+}
+
+/// Whether two texts are read as the same listing, over one table of atoms.
+fn are_same(alloc: Global, one: &str, other: &str) -> Result<bool, Fault> {
+    let mut atoms = Atoms::new(alloc)?;
+    let one = read_listing(alloc, &mut atoms, one.as_bytes())?;
+    let other = read_listing(alloc, &mut atoms, other.as_bytes())?;
+    Ok(one.same(&other))
+}
+
+#[test]
+fn sameness_of_listings(rt: HostRuntime) -> Result<(), Fail> {
+    let rows = [
+        ("return.", "return.", true),
+        ("{labels,7}.", "{labels,8}. % at most", true),
+        ("{vsn,[1]}", "{vsn,[2]}", true),
+        ("{module,m}", "{module,n}", false),
+        ("{g,2}]", "{g,1}]", false),
+        ("{function,g,2,4}", "{function,g,1,4}", false),
+        ("{function,g,2,4}", "{function,g,2,3}", false),
+        ("[1|2]", "[1|3]", false),
+        ("{x,7}", "{y,7}", false),
+        ("return.", "return.\n", false),
+        ("return.", "return. return.", false),
+    ];
+    for (old, new, want) in rows {
+        let text = SAMPLE.replace(rt.alloc(), old, new)?;
+        assert!(rt;
+            are_same(rt.alloc(), SAMPLE, text.as_str())? == want,
+            "{old} and {new}"
+        );
+    }
     Ok(())
 }
 
