@@ -1,8 +1,10 @@
 pub mod Complete
+pub mod Contents
 pub mod Decimals
 pub mod Digits
 pub mod Elements
 pub mod Grammatical
+pub mod Leads
 pub mod Letters
 pub mod Names
 pub mod Outcomes

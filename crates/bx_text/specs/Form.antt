@@ -1,13 +1,12 @@
 -- What a node means: the term that it spells, with its spans.
-use Rattle.std.specs.Prelude.{◌≡◌, ℕ, true, List, [], ◌∷◌, Option, Some, None}
+use Rattle.std.specs.Prelude.{◌≡◌, true, false, Option, Some, None}
 use Rattle.std.specs.declared.boxed.Box.{Box}
 use Rattle.std.specs.declared.alloc.Global.{Global}
 use Rattle.bx_text.specs.declared.node.Span.{Span}
-use Rattle.bx_text.specs.declared.node.Node.TheInside.{Inside}
 use Rattle.bx_text.specs.declared.node.Form.{Form}
 use Rattle.bx_text.specs.declared.node.Form.TheVariants.{Integer, Large, Atom, Tuple, List as Listed}
 use Rattle.bx_text.specs.Number.{number, is_large}
-use Rattle.bx_text.specs.Tree.{Tree, integer, atom, tuple, list, nil, cons, chain}
+use Rattle.bx_text.specs.Tree.{Tree, integer, atom, tuple, list, nil, chain}
 
 abbrev pub tail_tree : Option (Box Tree Global) → Tree
 tail_tree None = nil
@@ -20,7 +19,8 @@ form_tree s (Atom w) = atom s w
 form_tree s (Tuple ts) = tuple s (chain ts.items nil)
 form_tree s (Listed ts u) = list s (chain ts.items (tail_tree u))
 
--- an integer that keeps its text is one outside 64 bits
+-- exactly an integer outside 64 bits keeps its text
 abbrev pub IsForm : Form → Type 0
+IsForm (Integer n) = is_large n ≡ false
 IsForm (Large w) = is_large (number w) ≡ true
 IsForm f = Unit {0}

@@ -1,5 +1,5 @@
 -- A term as it is spelled, with the span of each part.
-use Rattle.std.specs.Prelude.{◌≡◌, ℕ, zero, suc, ℤ, ◌+◌, pos, List, [], ◌∷◌, ◌⊎◌, refl}
+use Rattle.std.specs.Prelude.{◌≡◌, ℕ, zero, suc, ℤ, ◌+◌, List, [], ◌∷◌, ◌⊎◌, refl}
 use Rattle.std.proofs.Common.{inl, inr, ap, ◌∙◌}
 use Rattle.std.specs.Coded.{Coded, code_by, coded×, coded⊎, coded_ℕ, coded_ℤ, coded_list}
 use Rattle.bx_text.specs.declared.node.Span.{Span}
@@ -27,6 +27,17 @@ span_of (atom s w) = s
 span_of (tuple s t) = s
 span_of (list s t) = s
 span_of t = record { from = 0; to = 0; line = 0 }
+
+-- a term of its own, and no part of a row
+abbrev pub IsWhole : Tree → Type 0
+IsWhole nil = ⊥
+IsWhole (cons t u) = ⊥
+IsWhole t = Unit {0}
+
+-- what may follow a row's elements
+abbrev pub IsEnd : Tree → Type 0
+IsEnd (cons t u) = ⊥
+IsEnd t = Unit {0}
 
 -- the elements, and what follows them
 abbrev pub chain : List Tree → Tree → Tree

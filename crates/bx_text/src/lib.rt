@@ -14,6 +14,7 @@ mod node;
 mod numbers;
 mod quotes;
 mod reader;
+mod spellings;
 mod strings;
 mod terms;
 mod tokens;

@@ -1,9 +1,11 @@
 //! A term as it is spelled, and where it stands.
 
-ghost use Rattle.std.specs.Prelude.{◌≡◌};
+ghost use Rattle.std.specs.Prelude.{◌≡◌, ◌↔◌, IfSome, IsTrue};
 ghost use Rattle.bx_text.specs.Form.{tail_tree};
+ghost use Rattle.bx_text.specs.Tree.{IsWhole, IsEnd};
 ghost use Rattle.bx_text.specs.View.{tail_seen};
 
+use crate::spellings::same_number;
 use crate::tokens::Large;
 use crate::word::Word;
 use std::marker::Model;
@@ -73,16 +75,22 @@ pub enum View<'v, 'a> {
 }
 
 fn beyond<'v, 'a>(tail: &'v Option<Box<Node<'a>>>) -> Option<&'v Node<'a>>
-    ensures { tail_seen result ≡ tail_tree tail.now }
+    ensures seen { tail_seen result ≡ tail_tree tail.now }
+    ensures whole { IfSome result (λ node. IsWhole node.now) }
 {
     match tail {
-        Some(node) => Some(&**node),
+        Some(node) => {
+            let node: &Node<'a> = &**node;
+            // A look at what the node holds tells that it is a whole term.
+            let _ = &node.form;
+            Some(node)
+        }
         None => None,
     }
 }
 
 impl<'a> Node<'a> {
-    ghost use Rattle.std.specs.Prelude.{◌≡◌, List};
+    ghost use Rattle.std.specs.Prelude.{◌≡◌, ◌↔◌, IsTrue, List};
     ghost use Rattle.bx_text.specs.Number.{number};
     ghost use Rattle.bx_text.specs.Tree.{integer, atom, tuple, list, nil, chain, span_of};
     ghost use Rattle.bx_text.specs.Form.{tail_tree};
@@ -152,5 +160,57 @@ impl<'a> Node<'a> {
         ensures { result ≡ span_of self.now }
     {
         self.span
+    }
+
+    /// Whether the two terms have the same content, and each part stands in the same place.
+    #[cycle(same)]
+    #[tactic(auto, using(crate::proofs::Contents::unlike_integer, crate::proofs::Contents::unlike_large))]
+    pub fn same(&self, other: &Node<'_>) -> bool
+        ensures { IsTrue result ↔ (self.now ≡ other.now) }
+    {
+        if self.span != other.span {
+            return false;
+        }
+        match (&self.form, &other.form) {
+            (Form::Integer(m), Form::Integer(n)) => m == n,
+            (Form::Large(one), Form::Large(two)) => {
+                same_number(one.as_str().as_bytes(), two.as_str().as_bytes())
+            }
+            (Form::Atom(text), Form::Atom(other_text)) => text.same(other_text),
+            (Form::Tuple(xs), Form::Tuple(ys)) => same_elements(xs, ys),
+            (Form::List(xs, tail), Form::List(ys, other_tail)) => {
+                same_tails(tail, other_tail) && same_elements(xs, ys)
+            }
+            _ => false,
+        }
+    }
+}
+
+#[cycle(same)]
+#[tactic(auto, using(crate::proofs::Contents::row_at, crate::proofs::Contents::nodes_at))]
+fn same_elements(xs: &[Node<'_>], ys: &[Node<'_>]) -> bool
+    ensures { IsTrue result ↔ (xs.now ≡ ys.now) }
+{
+    if xs.len() != ys.len() {
+        return false;
+    }
+    for i in 0..xs.len() {
+        if !xs[i].same(&ys[i]) {
+            return false;
+        }
+    }
+    true
+}
+
+/// Whether the tails are the same, or there is none.
+#[cycle(same)]
+fn same_tails(one: &Option<Box<Node<'_>>>, other: &Option<Box<Node<'_>>>) -> bool
+    ensures same { IsTrue result ↔ (tail_tree one.now ≡ tail_tree other.now) }
+    ensures ends { IsEnd (tail_tree one.now) × IsEnd (tail_tree other.now) }
+{
+    match (beyond(one), beyond(other)) {
+        (Some(one), Some(other)) => one.same(other),
+        (None, None) => true,
+        _ => false,
     }
 }

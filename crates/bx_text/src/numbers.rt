@@ -1,6 +1,6 @@
 //! Integers.
 
-ghost use Rattle.std.specs.Prelude.{◌≡◌, ◌≤◌, ◌^◌, true, drop, take, length, MatchOption};
+ghost use Rattle.std.specs.Prelude.{◌≡◌, ◌≤◌, ◌-◌, ◌^◌, true, drop, take, length, MatchOption};
 ghost use Rattle.std.specs.List.{prefix_len};
 ghost use Rattle.std.specs.Str.{IsAscii};
 ghost use Rattle.bx_terms.specs.Outcomes.{Gives};
@@ -16,20 +16,26 @@ use crate::reader::Reader;
 use crate::tokens::{Large, Token};
 use bx_terms::Fault;
 
+/// What a byte counts as a digit: how far it is past `0`.
+pub(crate) fn digit_value(digit: u8) -> u64
+    ensures { result ≡ digit - 48 }
+{
+    u64::from(digit.saturating_sub(b'0'))
+}
+
 /// One digit more, where the number stays below 2^64.
 fn with_digit(n: u64, digit: u8) -> Option<u64>
     ensures { MatchOption result (2 ^ 64 ≤ with_digit n digit) (λ m. m ≡ with_digit n digit) }
 {
-    let value = u64::from(digit.saturating_sub(b'0'));
     match n.checked_mul(10) {
-        Some(tens) => tens.checked_add(value),
+        Some(tens) => tens.checked_add(digit_value(digit)),
         None => None,
     }
 }
 
 /// The number that digits spell, where it is below 2^64.
 #[tactic(auto, using(crate::proofs::Decimals::stays_large, crate::proofs::Decimals::fold_step))]
-fn magnitude(digits: &[u8]) -> Option<u64>
+pub(crate) fn magnitude(digits: &[u8]) -> Option<u64>
     ensures { MatchOption result (2 ^ 64 ≤ decimal digits.now) (λ n. n ≡ decimal digits.now) }
 {
     let mut sum = 0u64;

@@ -1,6 +1,6 @@
 //! Texts with what they spell, or their first refusal, worked out by hand.
 
-use crate::{Node, Reader, View, atom_at, next_term};
+use crate::{Node, Reader, View, Word, atom_at, next_term};
 use bx_terms::Fault;
 use std::alloc::{AllocError, Global};
 use std::process::Abort;
@@ -400,4 +400,46 @@ fn check_atoms(alloc: Global, rt: &impl Abort, rows: &[(&[u8], usize, &str)]) ->
 #[test]
 fn atoms(rt: HostRuntime) -> Result<(), Fail> {
     check_atoms(rt.alloc(), &rt, &ATOMS)
+}
+
+/// Texts of one term each, and whether the terms are the same.
+static PAIRS: [(&[u8], &[u8], bool); 22] = [
+    (b"{a,[1,'b c'|d],\"e\"}.", b"{a,[1,'b c'|d],\"e\"}.", true),
+    (b"a.", b"a. b", true),
+    (b"'a'.", b"'a'.%", true),
+    (b"-9223372036854775809.", b"-9223372036854775809.", true),
+    (b"[a|{b}].", b"[a|{b}]. ", true),
+    (b"a.", b"b.", false),
+    (b"a.", b" a.", false),
+    (b"a.", b"\na.", false),
+    (b"aa.", b"a.", false),
+    (b"'a'.", b"aaa.", false),
+    (b"1.", b"2.", false),
+    (b"1.", b"a.", false),
+    (b"9223372036854775808.", b"9223372036854775809.", false),
+    (b"9223372036854775808.", b"9223372036854775807.", false),
+    (b"09223372036854775809.", b"-9223372036854775809.", false),
+    (b"[].", b"{}.", false),
+    (b"{a,b}.", b"[a,b].", false),
+    (b"{a,b}.", b"{a,c}.", false),
+    (b"{a,b}.", b"{aab}.", false),
+    (b"[a,b].", b"[a|b].", false),
+    (b"[a|b].", b"[a|c].", false),
+    (b"\"ab\".", b"\"ac\".", false),
+];
+
+#[test]
+fn sameness_of_terms(rt: HostRuntime) -> Result<(), Fail> {
+    for (one, other, wanted) in &PAIRS {
+        let found = next_term(rt.alloc(), one, 0)?;
+        let other_found = next_term(rt.alloc(), other, 0)?;
+        let same = match (&found, &other_found) {
+            (Some((node, _)), Some((other_node, _))) => node.same(other_node),
+            _ => false,
+        };
+        assert_eq!(rt; same, *wanted, "{one:?} {other:?}");
+    }
+    assert!(rt; Word::borrowed("ab").same(&Word::borrowed("ab")));
+    assert!(rt; !Word::borrowed("ab").same(&Word::borrowed("ac")));
+    Ok(())
 }

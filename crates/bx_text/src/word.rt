@@ -1,6 +1,6 @@
 //! The text of an atom or of a large integer.
 
-ghost use Rattle.std.specs.Prelude.{◌≡◌};
+ghost use Rattle.std.specs.Prelude.{◌≡◌, ◌↔◌, IsTrue};
 
 use std::marker::Model;
 
@@ -30,5 +30,12 @@ impl<'a> Word<'a> {
         ensures { result.now ≡ self.now }
     {
         self.text
+    }
+
+    /// Whether the two texts are the same.
+    pub fn same(&self, other: &Word<'_>) -> bool
+        ensures { IsTrue result ↔ (self.now ≡ other.now) }
+    {
+        self.as_str() == other.as_str()
     }
 }
