@@ -162,6 +162,7 @@ impl Listing {
     {
         self.functions.as_slice()
     }
+
     /// Whether both have the same name, and the same exports and functions in the same order.
     pub fn same(&self, other: &Listing) -> bool
         ensures { IsTrue result ↔ (self.now ≡ other.now) }
