@@ -50,7 +50,7 @@ impl Model for Slots {
 }
 
 impl Slots {
-    pub fn new(alloc: Global) -> Slots
+    pub(crate) fn new(alloc: Global) -> Slots
         ensures { result ≡ [] }
     {
         Slots {
@@ -59,21 +59,21 @@ impl Slots {
     }
 
     /// The message in the slot that `link` names.
-    pub fn message_of(&self, link: Option<usize>) -> Option<&Term>
+    pub(crate) fn message_of(&self, link: Option<usize>) -> Option<&Term>
         ensures { option_map (λ m. m.now) result ≡ message_of self.now link }
     {
         self.slots.get(link?)?.message.as_ref()
     }
 
     /// The link in the slot that `link` names.
-    pub fn next_of(&self, link: Option<usize>) -> Option<usize>
+    pub(crate) fn next_of(&self, link: Option<usize>) -> Option<usize>
         ensures { result ≡ next_of self.now link }
     {
         self.slots.get(link?)?.next
     }
 
     /// The link in the slot that `behind` names, or `first` where it names none.
-    pub fn link_behind(&self, first: Option<usize>, behind: Option<usize>) -> Option<usize>
+    pub(crate) fn link_behind(&self, first: Option<usize>, behind: Option<usize>) -> Option<usize>
         ensures { result ≡ link_behind self.now first behind }
     {
         match behind {
@@ -83,7 +83,12 @@ impl Slots {
     }
 
     /// Makes the link in the slot that `behind` names, or `first` where it names none, lead to `to`.
-    pub fn relink(&mut self, first: &mut Option<usize>, behind: Option<usize>, to: Option<usize>)
+    pub(crate) fn relink(
+        &mut self,
+        first: &mut Option<usize>,
+        behind: Option<usize>,
+        to: Option<usize>,
+    )
         requires { (at : ℕ) → behind ≡ Some at → at < length self.old }
         ensures { Relinked self.old self.new first.old first.new behind to }
     {
@@ -94,7 +99,7 @@ impl Slots {
     }
 
     /// Empties a slot, and puts it before the free slots. The answer is its message, and the link that it had.
-    pub fn empty(&mut self, at: usize, free: Option<usize>) -> (Option<Term>, Option<usize>)
+    pub(crate) fn empty(&mut self, at: usize, free: Option<usize>) -> (Option<Term>, Option<usize>)
         requires { at < length self.old }
         ensures message { result.0 ≡ message_in (slice_get self.old at) }
         ensures next { result.1 ≡ next_in (slice_get self.old at) }
@@ -112,7 +117,7 @@ impl Slots {
     }
 
     /// Puts a message into a slot, with no slot next. The answer is the link that the slot had.
-    pub fn fill(&mut self, at: usize, message: Term) -> Option<usize>
+    pub(crate) fn fill(&mut self, at: usize, message: Term) -> Option<usize>
         requires { at < length self.old }
         ensures next { result ≡ next_in (slice_get self.old at) }
         ensures filled { self.new ≡ slice_set self.old at (full message None) }
@@ -129,7 +134,7 @@ impl Slots {
     }
 
     /// The number of a free slot: the first of them, or else a new one.
-    pub fn open(&mut self, free: Option<usize>) -> Result<usize, AllocError>
+    pub(crate) fn open(&mut self, free: Option<usize>) -> Result<usize, AllocError>
         requires { length self.old < 2 ^ 63 }
         ensures ok { IfOk result (λ at. Opened self.old self.new free at) }
         ensures bounded { OnOk result (length self.new < 2 ^ 63) }
@@ -147,7 +152,7 @@ impl Slots {
     }
 
     /// The same slots.
-    pub fn copy(&self) -> Result<Slots, AllocError>
+    pub(crate) fn copy(&self) -> Result<Slots, AllocError>
         ensures { IfOk result (λ s. s ≡ self.now) }
     {
         let slots = self.slots.clone()?;
@@ -156,7 +161,7 @@ impl Slots {
 }
 
 /// Whether so many slots hold the same messages, from where two links lead.
-pub fn same_row(
+pub(crate) fn same_row(
     slots: &Slots,
     first: Option<usize>,
     others: &Slots,
@@ -191,7 +196,11 @@ fn same_message(one: Option<&Term>, other: Option<&Term>) -> bool
 }
 
 /// Which slot is the last, once the one between `before` and `next` is taken out.
-pub fn last_behind(before: Option<usize>, next: Option<usize>, last: Option<usize>) -> Option<usize>
+pub(crate) fn last_behind(
+    before: Option<usize>,
+    next: Option<usize>,
+    last: Option<usize>,
+) -> Option<usize>
     ensures { result ≡ last_behind before next last }
 {
     match next {
