@@ -3,3 +3,4 @@ pub mod Found
 pub mod GuardBifLemmas
 pub mod Named
 pub mod OpcodeLemmas
+pub mod TableLaws

@@ -5,6 +5,8 @@ ghost use Rattle.bx_ops.specs.declared.opcode.Op.{Op};
 ghost use Rattle.bx_ops.specs.GuardBifs.{guard_bif, guard_bif_with};
 ghost use Rattle.bx_ops.specs.Opcodes.{opcode, every_op, with_number, with_name, with_name_and_arity};
 ghost use Rattle.bx_ops.specs.Classes.{is_local, is_test};
+ghost use Rattle.bx_ops.specs.Table.{slots, way};
+ghost use Rattle.bx_ops.specs.TableLaws.{kept, is_test_way};
 
 /// No two opcodes have the same number.
 pub fn numbers_are_distinct()
@@ -53,4 +55,16 @@ pub fn guard_bifs_are_distinct()
 pub fn guard_bifs_look_up()
     ensures { (name : List ℕ) (arity : ℕ) (bif : Bif) → (guard_bif_with name arity ≡ Some bif)
         ↔ (((guard_bif bif).name ≡ name) × ((guard_bif bif).arity ≡ arity)) }
+{}
+
+/// The table of how listings write instructions gives each opcode as many operands as its arity says.
+#[tactic(auto, using(crate::proofs::TableLaws::arities))]
+pub fn operands_are_as_many_as_the_arity()
+    ensures { (op : Op) → kept (slots op) ≡ (opcode op).arity }
+{}
+
+/// The opcodes that listings write as `{test,NAME,LABEL,OPERANDS}` are the tests.
+#[tactic(auto, using(crate::proofs::TableLaws::tests))]
+pub fn tests_are_written_as_tests()
+    ensures { (op : Op) → is_test_way (way op) ≡ is_test op }
 {}
