@@ -3,6 +3,7 @@
 ghost use Rattle.std.specs.Prelude.{◌≡◌, ◌↔◌, ◌^◌, ◌<◌, ◌≤◌, ◌≢◌, ℕ, [], length, Some, None, IfOk, OnOk, OnErr, IsTrue, option_map, slice_set, slice_get};
 ghost use Rattle.bx_mail.specs.Slots.{full, vacant, message_of, next_of, link_behind, last_behind, message_in, next_in, row, Relinked, Opened};
 
+use bx_share::same_held;
 use bx_terms::Term;
 use std::alloc::{AllocError, Global};
 use std::marker::Model;
@@ -174,7 +175,7 @@ pub(crate) fn same_row(
     let mut other = other_first;
     let mut left = count;
     while left > 0 {
-        if !same_message(slots.message_of(at), others.message_of(other)) {
+        if !same_held(slots.message_of(at), others.message_of(other)) {
             return false;
         }
         at = slots.next_of(at);
@@ -182,17 +183,6 @@ pub(crate) fn same_row(
         left -= 1;
     }
     true
-}
-
-/// Whether both are the same message, or neither is one.
-fn same_message(one: Option<&Term>, other: Option<&Term>) -> bool
-    ensures { IsTrue result ↔ (option_map (λ m. m.now) one.entry ≡ option_map (λ m. m.now) other.entry) }
-{
-    match (one, other) {
-        (None, None) => true,
-        (Some(message), Some(other)) => message.same(other),
-        _ => false,
-    }
 }
 
 /// Which slot is the last, once the one between `before` and `next` is taken out.

@@ -1,1 +1,2 @@
 pub mod Loan
+pub mod Rows

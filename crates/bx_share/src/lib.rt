@@ -1,5 +1,6 @@
 //! Copy-on-write holders: many holders share one value, and one that is to change it gets a copy of its own first.
 //! So a snapshot of a large value costs as much as one of a small value, and a change costs a copy only where the value is shared.
+//! And what every value of the emulator can do: be copied, and be compared by content.
 #![tactic(auto)]
 
 ghost use Rattle.std.specs.Prelude.{◌≡◌, IfOk, IfErr};
@@ -10,11 +11,13 @@ use std::alloc::{AllocError, AllocFailed, Global};
 
 mod arc_hold;
 mod rc_hold;
+mod same;
 #[cfg(test)]
 mod tests;
 
 pub use arc_hold::ArcHold;
 pub use rc_hold::RcHold;
+pub use same::{Same, same_held, same_rows};
 
 /// A value that can be copied where memory allows it. A copy equals its source.
 pub trait Copied: Drop {

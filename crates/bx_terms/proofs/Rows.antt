@@ -1,12 +1,8 @@
 -- A row of terms from a place on.
-use Rattle.std.proofs.Common.{◌≡◌, ℕ, ◌+◌, ◌<◌, zero, suc, List, [], ◌∷◌, length, get_or, drop, refl, sym, ap, subst, ◌∙◌, slice_range, arith}
-use Rattle.std.proofs.lemmas.List.{drop_more, take_rest}
+use Rattle.std.proofs.Common.{◌≡◌, ℕ, ◌<◌, zero, suc, List, [], ◌∷◌, length, get_or, drop, refl, ap, subst, slice_range, arith}
+use Rattle.std.proofs.lemmas.List.{take_rest}
 use Rattle.bx_terms.specs.Tree.{Tree, listed, nodes}
 use Rattle.bx_terms.specs.Order.{size}
-
--- an element that was read is the first of what is left
-pub row_at : (xs : List Tree) (i : ℕ) (x : Tree) → i < length xs → x ≡ get_or xs i x → drop i xs ≡ x ∷ drop (i + 1) xs
-row_at xs i x here is = drop_more xs i x here ∙ ap (λ y. y ∷ drop (i + 1) xs) (sym is)
 
 pub listed_same : (xs ys : List Tree) → listed xs ≡ listed ys → xs ≡ ys
 listed_same [] [] e = refl

@@ -15,3 +15,4 @@ pub mod Sameness
 pub mod Order
 pub mod AtomText
 pub mod Printed
+pub mod Options

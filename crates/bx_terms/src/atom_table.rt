@@ -6,6 +6,7 @@ ghost use Rattle.bx_terms.specs.FixedAtoms.{fixed_atoms};
 
 use crate::faults::Fault;
 use crate::fixed;
+use bx_share::Same;
 use indexmap::IndexSet;
 use std::alloc::{AllocError, Global};
 use std::marker::Model;
@@ -120,6 +121,18 @@ impl Atoms {
         let text = String::from_str(alloc, text)?;
         self.names.insert(text)?;
         Ok(AtomId(number as u32))
+    }
+}
+
+impl Same for Atoms {
+    fn same(&self, other: &Atoms) -> bool {
+        Atoms::same(self, other)
+    }
+}
+
+impl Same for AtomId {
+    fn same(&self, other: &AtomId) -> bool {
+        *self == *other
     }
 }
 

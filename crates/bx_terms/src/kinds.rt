@@ -5,6 +5,7 @@ ghost use Rattle.bx_terms.specs.Kinds.{class_atom, trap_name};
 
 use crate::atom_table::AtomId;
 use crate::fixed;
+use bx_share::Same;
 
 /// The class of a fault, as `catch` and `try` tell them apart.
 ///
@@ -26,6 +27,12 @@ impl Class {
             Class::Error => fixed::ERROR,
             Class::Exit => fixed::EXIT,
         }
+    }
+}
+
+impl Same for Class {
+    fn same(&self, other: &Class) -> bool {
+        *self == *other
     }
 }
 
@@ -90,5 +97,11 @@ mod tests {
     fn words(rt: HostRuntime) {
         assert_eq!(rt; Class::Throw.atom(), fixed::THROW);
         assert_eq!(rt; Trap::NotATerm.name(), "NotATerm");
+    }
+}
+
+impl Same for Trap {
+    fn same(&self, other: &Trap) -> bool {
+        *self == *other
     }
 }

@@ -65,7 +65,7 @@ fn order_tuples(atoms: &Atoms, xs: &[Term], ys: &[Term]) -> Ordering
 
 /// Elements from the first, of as many.
 #[cycle(order)]
-#[tactic(auto, using(crate::proofs::Rows::row_at, crate::proofs::Rows::nodes_at))]
+#[tactic(auto, using(bx_share::specs::Rows::rest_at, crate::proofs::Rows::nodes_at))]
 fn order_elements(atoms: &Atoms, xs: &[Term], ys: &[Term]) -> Ordering
     requires { length xs.now ≡ length ys.now }
     ensures { result ≡ order_of atoms.now (listed xs.now) (listed ys.now) }

@@ -79,7 +79,7 @@ fn push_tail(alloc: Global, out: &mut String, atoms: &Atoms, tail: &Term) -> Res
 }
 
 #[cycle(print)]
-#[tactic(auto, using(crate::proofs::Rows::row_at, crate::proofs::Rows::nodes_at))]
+#[tactic(auto, using(bx_share::specs::Rows::rest_at, crate::proofs::Rows::nodes_at))]
 fn push_elements(
     alloc: Global,
     out: &mut String,

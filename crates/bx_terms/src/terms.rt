@@ -6,6 +6,7 @@ ghost use Rattle.bx_terms.specs.Built.{Refuses, IsWithinHeight};
 ghost use Rattle.bx_terms.specs.View.{seen};
 
 use crate::atom_table::AtomId;
+use bx_share::Same;
 use std::alloc::{AllocError, Global};
 use std::marker::Model;
 use std::sync::Arc;
@@ -233,6 +234,12 @@ impl Term {
     }
 }
 
+impl Same for Term {
+    fn same(&self, other: &Term) -> bool {
+        Term::same(self, other)
+    }
+}
+
 impl Clone for Term {
     ghost use Rattle.std.specs.Prelude.{◌≡◌};
 
@@ -275,7 +282,7 @@ impl Eq for Term {
 }
 
 #[cycle(same)]
-#[tactic(auto, using(crate::proofs::Rows::row_at, crate::proofs::Rows::nodes_at))]
+#[tactic(auto, using(bx_share::specs::Rows::rest_at, crate::proofs::Rows::nodes_at))]
 fn same_elements(xs: &[Term], ys: &[Term]) -> bool
     ensures { IsTrue result ↔ (xs.now ≡ ys.now) }
 {
@@ -291,7 +298,7 @@ fn same_elements(xs: &[Term], ys: &[Term]) -> bool
 }
 
 /// The height of the highest of `terms`, or 0 where there is none.
-#[tactic(auto, using(crate::proofs::Rows::row_at))]
+#[tactic(auto, using(bx_share::specs::Rows::rest_at))]
 fn highest(terms: &[Term]) -> u32
     ensures highest { result ≡ highest (listed terms.now) }
     ensures within { result ≤ 10000 }
