@@ -17,6 +17,3 @@ pub use guard_names::{guard_bif, is_guard};
 pub use guards::{guard, guard_named, guard_of_one, guard_of_two};
 pub use native_names::native;
 pub use natives::Native;
-
-#[cfg(test)]
-mod tests;

@@ -11,6 +11,3 @@ pub use frames::{Frame, Frames};
 pub use links::Links;
 pub use registers::Registers;
 pub use values::Value;
-
-#[cfg(test)]
-mod tests;

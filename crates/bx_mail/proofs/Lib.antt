@@ -4,4 +4,3 @@ pub mod Taking
 pub mod Adding
 pub mod Rows
 pub mod Histories
-pub mod Plain

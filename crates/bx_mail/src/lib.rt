@@ -6,6 +6,3 @@ mod mailbox;
 mod slots;
 
 pub use mailbox::Mailbox;
-
-#[cfg(test)]
-mod tests;

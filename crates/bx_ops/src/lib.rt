@@ -13,6 +13,3 @@ pub use lookup::{op_by_name, op_by_number, op_named};
 pub use opcode::{Op, is_local, is_test, name, number, shape};
 pub use sorts::{Slot, Sort, Way};
 pub use table::{slots, way};
-
-#[cfg(test)]
-mod tests;

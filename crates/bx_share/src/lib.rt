@@ -12,8 +12,6 @@ use std::alloc::{AllocError, AllocFailed, Global};
 mod arc_hold;
 mod rc_hold;
 mod same;
-#[cfg(test)]
-mod tests;
 
 pub use arc_hold::ArcHold;
 pub use rc_hold::RcHold;

@@ -162,6 +162,3 @@ fn is_short(text: &str) -> bool
 {
     text.len() <= MOST_CHARACTERS || text.chars().count() <= MOST_CHARACTERS
 }
-
-#[cfg(test)]
-mod tests;

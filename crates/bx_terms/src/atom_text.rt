@@ -91,37 +91,3 @@ fn push_escaped(alloc: Global, out: &mut String, c: char) -> Result<(), AllocErr
         _ => out.push(c),
     }
 }
-
-#[cfg(test)]
-mod tests {
-    use super::*;
-    use std::test::Fail;
-
-    #[test]
-    fn by_hand(rt: HostRuntime) -> Result<(), Fail> {
-        for (text, want) in [
-            ("ok", "-ok"),
-            ("a_B9@x", "-a_B9@x"),
-            ("xors", "-xors"),
-            ("else", "-else"),
-            ("", "-''"),
-            ("Ok", "-'Ok'"),
-            ("_a", "-'_a'"),
-            ("@a", "-'@a'"),
-            ("+", "-'+'"),
-            ("a b", "-'a b'"),
-            ("after", "-'after'"),
-            ("xor", "-'xor'"),
-            ("é", "-'é'"),
-            ("it's", "-'it\\'s'"),
-            ("a\\b", "-'a\\\\b'"),
-            ("\n\r\t", "-'\\n\\r\\t'"),
-            ("\u{1}\u{1f}\u{7f}", "-'\\x{1}\\x{1f}\\x{7f}'"),
-        ] {
-            let mut out = String::from_str(rt.alloc(), "-")?;
-            push_atom(rt.alloc(), &mut out, text)?;
-            assert_eq!(rt; out.as_str(), want);
-        }
-        Ok(())
-    }
-}

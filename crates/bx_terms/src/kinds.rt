@@ -89,17 +89,6 @@ impl Trap {
     }
 }
 
-#[cfg(test)]
-mod tests {
-    use super::*;
-
-    #[test]
-    fn words(rt: HostRuntime) {
-        assert_eq!(rt; Class::Throw.atom(), fixed::THROW);
-        assert_eq!(rt; Trap::NotATerm.name(), "NotATerm");
-    }
-}
-
 impl Same for Trap {
     fn same(&self, other: &Trap) -> bool {
         *self == *other

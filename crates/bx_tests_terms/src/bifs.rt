@@ -1,0 +1,571 @@
+//! Guard BIFs and names, with what Erlang/OTP 25 answers: `max(1, 2)` for `("max", 1, 2, ..)`. An integer outside 64 bits, for
+//! which Erlang has a value or `system_limit`, is `IntegerRange` here.
+
+use bx_bifs::{Given, Native, guard, guard_named, guard_of_one, guard_of_two, is_guard, native};
+use bx_ops::Bif;
+use bx_terms::{AtomId, Atoms, Class, Term, TermRefusal, fixed, print};
+use std::alloc::Global;
+use std::test::Fail;
+
+static OF_TWO_INTEGERS: [(&str, i64, i64, &str); 97] = [
+    ("+", i64::MAX, 1, "IntegerRange"),
+    ("+", i64::MAX, 0, "9223372036854775807"),
+    ("+", i64::MIN, -1, "IntegerRange"),
+    ("+", i64::MIN, i64::MAX, "-1"),
+    ("+", -1, 1, "0"),
+    ("+", i64::MAX, -1, "9223372036854775806"),
+    ("-", i64::MIN, 1, "IntegerRange"),
+    ("-", i64::MIN, 0, "-9223372036854775808"),
+    ("-", 0, i64::MIN, "IntegerRange"),
+    ("-", -1, i64::MIN, "9223372036854775807"),
+    ("-", i64::MAX, -1, "IntegerRange"),
+    ("-", 0, 1, "-1"),
+    ("*", i64::MIN, -1, "IntegerRange"),
+    ("*", i64::MIN, 1, "-9223372036854775808"),
+    ("*", i64::MAX, 2, "IntegerRange"),
+    ("*", 3037000500, 3037000500, "IntegerRange"),
+    ("*", 3037000499, 3037000499, "9223372030926249001"),
+    ("*", -4611686018427387904, 2, "-9223372036854775808"),
+    ("*", 4611686018427387904, 2, "IntegerRange"),
+    ("*", 0, i64::MIN, "0"),
+    ("*", -1, i64::MAX, "-9223372036854775807"),
+    ("div", 7, 2, "3"),
+    ("div", -7, 2, "-3"),
+    ("div", 7, -2, "-3"),
+    ("div", -7, -2, "3"),
+    ("div", i64::MIN, -1, "IntegerRange"),
+    ("div", i64::MIN, 1, "-9223372036854775808"),
+    ("div", i64::MAX, -1, "-9223372036854775807"),
+    ("div", 1, 0, "badarith"),
+    ("div", 0, 0, "badarith"),
+    ("div", 0, 5, "0"),
+    ("div", i64::MIN, i64::MAX, "-1"),
+    ("div", 1, i64::MIN, "0"),
+    ("rem", 7, 2, "1"),
+    ("rem", -7, 2, "-1"),
+    ("rem", 7, -2, "1"),
+    ("rem", -7, -2, "-1"),
+    ("rem", i64::MIN, -1, "0"),
+    ("rem", i64::MIN, 1, "0"),
+    ("rem", i64::MAX, -1, "0"),
+    ("rem", 1, 0, "badarith"),
+    ("rem", 0, 0, "badarith"),
+    ("rem", 0, 5, "0"),
+    ("rem", i64::MIN, i64::MAX, "-1"),
+    ("rem", 1, i64::MIN, "1"),
+    ("band", -1, i64::MAX, "9223372036854775807"),
+    ("band", i64::MIN, -1, "-9223372036854775808"),
+    ("band", i64::MIN, i64::MAX, "0"),
+    ("band", 12, 10, "8"),
+    ("band", -12, 10, "0"),
+    ("band", 12, -10, "4"),
+    ("band", -12, -10, "-12"),
+    ("band", 0, -1, "0"),
+    ("bor", -1, i64::MAX, "-1"),
+    ("bor", i64::MIN, -1, "-1"),
+    ("bor", i64::MIN, i64::MAX, "-1"),
+    ("bor", 12, 10, "14"),
+    ("bor", -12, 10, "-2"),
+    ("bor", 12, -10, "-2"),
+    ("bor", -12, -10, "-10"),
+    ("bor", 0, -1, "-1"),
+    ("bxor", -1, i64::MAX, "-9223372036854775808"),
+    ("bxor", i64::MIN, -1, "9223372036854775807"),
+    ("bxor", i64::MIN, i64::MAX, "-1"),
+    ("bxor", 12, 10, "6"),
+    ("bxor", -12, 10, "-2"),
+    ("bxor", 12, -10, "-6"),
+    ("bxor", -12, -10, "2"),
+    ("bxor", 0, -1, "-1"),
+    ("bsl", 1, 62, "4611686018427387904"),
+    ("bsl", 1, 63, "IntegerRange"),
+    ("bsl", -1, 63, "-9223372036854775808"),
+    ("bsl", -1, 64, "IntegerRange"),
+    ("bsl", 1, 64, "IntegerRange"),
+    ("bsl", 0, i64::MAX, "0"),
+    ("bsl", 5, -1, "2"),
+    ("bsl", -5, -1, "-3"),
+    ("bsl", -5, i64::MIN, "-1"),
+    ("bsl", i64::MIN, 0, "-9223372036854775808"),
+    ("bsl", i64::MIN, 1, "IntegerRange"),
+    ("bsl", 3, 61, "6917529027641081856"),
+    ("bsl", 0, i64::MIN, "0"),
+    ("bsl", -1, i64::MAX, "IntegerRange"),
+    ("bsr", 5, 1, "2"),
+    ("bsr", -5, 1, "-3"),
+    ("bsr", -1, i64::MAX, "-1"),
+    ("bsr", i64::MAX, i64::MAX, "0"),
+    ("bsr", i64::MIN, 63, "-1"),
+    ("bsr", i64::MIN, 64, "-1"),
+    ("bsr", i64::MIN, -1, "IntegerRange"),
+    ("bsr", 1, -62, "4611686018427387904"),
+    ("bsr", 1, -63, "IntegerRange"),
+    ("bsr", -1, -63, "-9223372036854775808"),
+    ("bsr", 0, i64::MIN, "0"),
+    ("bsr", 1, i64::MIN, "IntegerRange"),
+    ("bsr", i64::MIN, 0, "-9223372036854775808"),
+    ("bsr", -8, 3, "-1"),
+];
+
+static OF_ONE_INTEGER: [(&str, i64, &str); 16] = [
+    ("+", i64::MIN, "-9223372036854775808"),
+    ("+", -1, "-1"),
+    ("+", 0, "0"),
+    ("+", i64::MAX, "9223372036854775807"),
+    ("-", i64::MIN, "IntegerRange"),
+    ("-", -1, "1"),
+    ("-", 0, "0"),
+    ("-", i64::MAX, "-9223372036854775807"),
+    ("bnot", i64::MIN, "9223372036854775807"),
+    ("bnot", -1, "0"),
+    ("bnot", 0, "-1"),
+    ("bnot", i64::MAX, "-9223372036854775808"),
+    ("abs", i64::MIN, "IntegerRange"),
+    ("abs", -1, "1"),
+    ("abs", 0, "0"),
+    ("abs", i64::MAX, "9223372036854775807"),
+];
+
+/// What each gives on -1, 0, true, false, a, [], [1,2], [1|2], {} and {1,a}, in turn.
+static OF_ONE_TERM: [(&str, &str); 21] = [
+    (
+        "+",
+        "-1 0 badarith badarith badarith badarith badarith badarith badarith badarith",
+    ),
+    (
+        "-",
+        "1 0 badarith badarith badarith badarith badarith badarith badarith badarith",
+    ),
+    (
+        "bnot",
+        "0 -1 badarith badarith badarith badarith badarith badarith badarith badarith",
+    ),
+    (
+        "abs",
+        "1 0 badarg badarg badarg badarg badarg badarg badarg badarg",
+    ),
+    (
+        "not",
+        "badarg badarg false true badarg badarg badarg badarg badarg badarg",
+    ),
+    (
+        "hd",
+        "badarg badarg badarg badarg badarg badarg 1 1 badarg badarg",
+    ),
+    (
+        "tl",
+        "badarg badarg badarg badarg badarg badarg [2] 2 badarg badarg",
+    ),
+    (
+        "length",
+        "badarg badarg badarg badarg badarg 0 2 badarg badarg badarg",
+    ),
+    (
+        "tuple_size",
+        "badarg badarg badarg badarg badarg badarg badarg badarg 0 2",
+    ),
+    (
+        "size",
+        "badarg badarg badarg badarg badarg badarg badarg badarg 0 2",
+    ),
+    (
+        "is_atom",
+        "false false true true true false false false false false",
+    ),
+    (
+        "is_boolean",
+        "false false true true false false false false false false",
+    ),
+    (
+        "is_integer",
+        "true true false false false false false false false false",
+    ),
+    (
+        "is_list",
+        "false false false false false true true true false false",
+    ),
+    (
+        "is_number",
+        "true true false false false false false false false false",
+    ),
+    (
+        "is_pid",
+        "false false false false false false false false false false",
+    ),
+    (
+        "is_tuple",
+        "false false false false false false false false true true",
+    ),
+    (
+        "is_float",
+        "false false false false false false false false false false",
+    ),
+    (
+        "is_binary",
+        "false false false false false false false false false false",
+    ),
+    (
+        "is_reference",
+        "false false false false false false false false false false",
+    ),
+    (
+        "is_port",
+        "false false false false false false false false false false",
+    ),
+];
+
+/// Pairs among these terms, by their places.
+static PAIRS: [(u8, u8); 14] = [
+    (0, 1),
+    (1, 0),
+    (2, 3),
+    (3, 2),
+    (5, 6),
+    (6, 5),
+    (9, 9),
+    (7, 6),
+    (1, 2),
+    (4, 8),
+    (9, 4),
+    (3, 4),
+    (2, 2),
+    (3, 3),
+];
+
+/// What each gives on these pairs, in turn.
+static OF_TWO_TERMS: [(&str, &str); 19] = [
+    (
+        "==",
+        "false false false false false false true false false false false false true true",
+    ),
+    (
+        "/=",
+        "true true true true true true false true true true true true false false",
+    ),
+    (
+        "=:=",
+        "false false false false false false true false false false false false true true",
+    ),
+    (
+        "=/=",
+        "true true true true true true false true true true true true false false",
+    ),
+    (
+        "<",
+        "true false false true true false false true true true false false false false",
+    ),
+    (
+        ">",
+        "false true true false false true false false false false true true false false",
+    ),
+    (
+        "=<",
+        "true false false true true false true true true true false false true true",
+    ),
+    (
+        ">=",
+        "false true true false false true true false false false true true true true",
+    ),
+    (
+        "min",
+        "-1 -1 false false [] [] {1,a} [1|2] 0 a a a true false",
+    ),
+    (
+        "max",
+        "0 0 true true [1,2] [1,2] {1,a} [1,2] true {} {1,a} false true false",
+    ),
+    (
+        "and",
+        "badarg badarg false false badarg badarg badarg badarg badarg badarg badarg badarg true false",
+    ),
+    (
+        "or",
+        "badarg badarg true true badarg badarg badarg badarg badarg badarg badarg badarg true false",
+    ),
+    (
+        "xor",
+        "badarg badarg true true badarg badarg badarg badarg badarg badarg badarg badarg false false",
+    ),
+    (
+        "+",
+        "-1 -1 badarith badarith badarith badarith badarith badarith badarith badarith badarith badarith badarith badarith",
+    ),
+    (
+        "*",
+        "0 0 badarith badarith badarith badarith badarith badarith badarith badarith badarith badarith badarith badarith",
+    ),
+    (
+        "div",
+        "badarith 0 badarith badarith badarith badarith badarith badarith badarith badarith badarith badarith badarith badarith",
+    ),
+    (
+        "band",
+        "0 0 badarith badarith badarith badarith badarith badarith badarith badarith badarith badarith badarith badarith",
+    ),
+    (
+        "bsl",
+        "-1 0 badarith badarith badarith badarith badarith badarith badarith badarith badarith badarith badarith badarith",
+    ),
+    (
+        "element",
+        "badarg badarg badarg badarg badarg badarg badarg badarg badarg badarg badarg badarg badarg badarg",
+    ),
+];
+
+/// What `element` gives at a place of {}, {1,a}, {{},[],b} and [1,2], in turn.
+static ELEMENTS: [(i64, &str); 7] = [
+    (-1, "badarg badarg badarg badarg"),
+    (0, "badarg badarg badarg badarg"),
+    (1, "badarg 1 {} badarg"),
+    (2, "badarg a [] badarg"),
+    (3, "badarg badarg b badarg"),
+    (4, "badarg badarg badarg badarg"),
+    (9223372036854775807, "badarg badarg badarg badarg"),
+];
+
+fn cons(alloc: Global, head: Term, tail: Term) -> Result<Term, TermRefusal> {
+    Term::cons(alloc, head, tail).map_err(|refused| refused.0)
+}
+
+fn tuple(alloc: Global, elements: Vec<Term>) -> Result<Term, TermRefusal> {
+    Term::tuple(alloc, elements).map_err(|refused| refused.0)
+}
+
+fn table_with_a(alloc: Global) -> Result<(Atoms, AtomId), Fail> {
+    let mut atoms = Atoms::new(alloc)?;
+    let a = atoms.name(alloc, "a")?;
+    Ok((atoms, a))
+}
+
+fn term_at(alloc: Global, a: AtomId, place: u8) -> Result<Term, Fail> {
+    Ok(match place {
+        0 => Term::int(-1),
+        1 => Term::int(0),
+        2 => Term::atom(fixed::TRUE),
+        3 => Term::atom(fixed::FALSE),
+        4 => Term::atom(a),
+        5 => Term::nil(),
+        6 => cons(alloc, Term::int(1), cons(alloc, Term::int(2), Term::nil())?)?,
+        7 => cons(alloc, Term::int(1), Term::int(2))?,
+        8 => tuple(alloc, Vec::new(alloc))?,
+        _ => tuple(alloc, vec![in alloc; Term::int(1), Term::atom(a)]?)?,
+    })
+}
+
+/// The value, the fault's reason or the trap's name.
+fn push_answer(alloc: Global, out: &mut String, atoms: &Atoms, given: &Given) -> Result<(), Fail> {
+    match given {
+        Given::Value(term) => {
+            let text = print(alloc, atoms, term)?;
+            out.push_str(text.as_str())?;
+        }
+        Given::Fault(Class::Error, reason) => {
+            let text = print(alloc, atoms, reason)?;
+            out.push_str(text.as_str())?;
+        }
+        Given::Fault(class, _) => {
+            let text = print(alloc, atoms, &Term::atom(class.atom()))?;
+            out.push_str(text.as_str())?;
+        }
+        Given::Trap(kind) => out.push_str(kind.name())?,
+    }
+    Ok(())
+}
+
+/// A call by name, whose answer is added to `out` after a space, if something stands there.
+fn push_call(
+    alloc: Global,
+    out: &mut String,
+    atoms: &Atoms,
+    name: &str,
+    arguments: &[Term],
+) -> Result<(), Fail> {
+    let name = atoms.find(name).ok_or("a name that is not there")?;
+    let given = guard_named(alloc, atoms, name, arguments)?;
+    if !out.is_empty() {
+        out.push(' ')?;
+    }
+    push_answer(alloc, out, atoms, &given)
+}
+
+#[test]
+fn arithmetic_at_the_edges(rt: HostRuntime) -> Result<(), Fail> {
+    let alloc = rt.alloc();
+    let (atoms, _) = table_with_a(alloc)?;
+    for (name, m, n, want) in &OF_TWO_INTEGERS {
+        let mut answer = String::new(alloc);
+        let arguments = [Term::int(*m), Term::int(*n)];
+        push_call(alloc, &mut answer, &atoms, *name, &arguments)?;
+        assert_eq!(rt; answer.as_str(), *want, "{name} of {m} and {n}");
+    }
+    for (name, n, want) in &OF_ONE_INTEGER {
+        let mut answer = String::new(alloc);
+        push_call(alloc, &mut answer, &atoms, *name, &[Term::int(*n)])?;
+        assert_eq!(rt; answer.as_str(), *want, "{name} of {n}");
+    }
+    Ok(())
+}
+
+#[test]
+fn every_guard_bif_on_terms(rt: HostRuntime) -> Result<(), Fail> {
+    let alloc = rt.alloc();
+    let (atoms, a) = table_with_a(alloc)?;
+    for (name, want) in &OF_ONE_TERM {
+        let mut answers = String::new(alloc);
+        for place in 0..10u8 {
+            let arguments = [term_at(alloc, a, place)?];
+            push_call(alloc, &mut answers, &atoms, *name, &arguments)?;
+        }
+        assert_eq!(rt; answers.as_str(), *want, "{name}");
+    }
+    for (name, want) in &OF_TWO_TERMS {
+        let mut answers = String::new(alloc);
+        for (first, second) in &PAIRS {
+            let arguments = [term_at(alloc, a, *first)?, term_at(alloc, a, *second)?];
+            push_call(alloc, &mut answers, &atoms, *name, &arguments)?;
+        }
+        assert_eq!(rt; answers.as_str(), *want, "{name}");
+    }
+    Ok(())
+}
+
+#[test]
+fn elements_by_place(rt: HostRuntime) -> Result<(), Fail> {
+    let alloc = rt.alloc();
+    let mut atoms = Atoms::new(alloc)?;
+    let a = atoms.name(alloc, "a")?;
+    let b = atoms.name(alloc, "b")?;
+    for (place, want) in &ELEMENTS {
+        let mut answers = String::new(alloc);
+        let three = vec![in alloc; term_at(alloc, a, 8)?, Term::nil(), Term::atom(b)]?;
+        let tuples = vec![in alloc;
+            term_at(alloc, a, 8)?,
+            term_at(alloc, a, 9)?,
+            tuple(alloc, three)?,
+            term_at(alloc, a, 6)?,
+        ]?;
+        for term in tuples {
+            let arguments = [Term::int(*place), term];
+            push_call(alloc, &mut answers, &atoms, "element", &arguments)?;
+        }
+        assert_eq!(rt; answers.as_str(), *want, "at {place}");
+    }
+    Ok(())
+}
+
+/// A list of as many zeros, before `tail`.
+fn zeros(alloc: Global, count: u32, tail: Term) -> Result<Term, TermRefusal> {
+    let mut list = tail;
+    for _ in 0..count {
+        list = cons(alloc, Term::int(0), list)?;
+    }
+    Ok(list)
+}
+
+/// What a BIF of one argument gives on as many zeros before `tail`.
+fn of_zeros(alloc: Global, bif: Bif, count: u32, tail: Term) -> Result<Given, Fail> {
+    let list = zeros(alloc, count, tail)?;
+    Ok(guard_of_one(alloc, bif, &list)?)
+}
+
+#[test]
+fn lists_as_high_as_terms_may_be(rt: HostRuntime) -> Result<(), Fail> {
+    let alloc = rt.alloc();
+    let length = of_zeros(alloc, Bif::Length, 10_000, Term::nil())?;
+    assert!(rt; length.same(&Given::Value(Term::int(10_000))));
+    let improper = of_zeros(alloc, Bif::Length, 10_000, Term::int(0))?;
+    assert!(rt; improper.same(&Given::Fault(Class::Error, Term::atom(fixed::BADARG))));
+    let tail = of_zeros(alloc, Bif::Tl, 10_000, Term::nil())?;
+    assert!(rt; matches!(&tail, Given::Value(term) if term.height() == 9_999));
+    Ok(())
+}
+
+/// What a BIF of two arguments gives on two lists of 10,000 zeros.
+fn of_two_lists(alloc: Global, atoms: &Atoms, bif: Bif) -> Result<Given, Fail> {
+    let list = zeros(alloc, 10_000, Term::nil())?;
+    let other = zeros(alloc, 10_000, Term::nil())?;
+    Ok(guard_of_two(alloc, atoms, bif, &list, &other)?)
+}
+
+#[test]
+fn comparisons_as_high_as_terms_may_be(rt: HostRuntime) -> Result<(), Fail> {
+    let alloc = rt.alloc();
+    let atoms = Atoms::new(alloc)?;
+    let equal = of_two_lists(alloc, &atoms, Bif::Equal)?;
+    assert!(rt; equal.same(&Given::Value(Term::atom(fixed::TRUE))));
+    let greater = of_two_lists(alloc, &atoms, Bif::Greater)?;
+    assert!(rt; greater.same(&Given::Value(Term::atom(fixed::FALSE))));
+    let greatest = of_two_lists(alloc, &atoms, Bif::Max)?;
+    assert!(rt; matches!(&greatest, Given::Value(term) if term.height() == 10_000));
+    Ok(())
+}
+
+#[test]
+fn pids_are_a_kind(rt: HostRuntime) -> Result<(), Fail> {
+    let alloc = rt.alloc();
+    let pid = guard_of_one(alloc, Bif::IsPid, &Term::pid(7))?;
+    assert!(rt; pid.same(&Given::Value(Term::atom(fixed::TRUE))));
+    let number = guard_of_one(alloc, Bif::IsNumber, &Term::pid(7))?;
+    assert!(rt; number.same(&Given::Value(Term::atom(fixed::FALSE))));
+    Ok(())
+}
+
+#[test]
+fn another_number_of_arguments(rt: HostRuntime) -> Result<(), Fail> {
+    let alloc = rt.alloc();
+    let (atoms, _) = table_with_a(alloc)?;
+    for (name, count) in [("self", 0), ("self", 1), ("hd", 2), ("+", 3), ("send", 2)] {
+        let mut answer = String::new(alloc);
+        let mut arguments = Vec::new(alloc);
+        for n in 0..count {
+            arguments.push(Term::int(n))?;
+        }
+        push_call(alloc, &mut answer, &atoms, name, &arguments)?;
+        assert_eq!(rt; answer.as_str(), "undef", "{name} of {count}");
+    }
+    let given = guard(alloc, &atoms, Bif::Abs, &[Term::int(-2)])?;
+    assert!(rt; given.same(&Given::Value(Term::int(2))));
+    Ok(())
+}
+
+#[test]
+fn names_of_natives(rt: HostRuntime) -> Result<(), Fail> {
+    let alloc = rt.alloc();
+    let atoms = Atoms::new(alloc)?;
+    let rows = [
+        ("spawn", 3, Native::Spawn),
+        ("spawn_link", 3, Native::SpawnLink),
+        ("link", 1, Native::Link),
+        ("unlink", 1, Native::Unlink),
+        ("exit", 1, Native::Exit),
+        ("throw", 1, Native::Throw),
+        ("error", 1, Native::Error),
+        ("exit", 2, Native::ExitSignal),
+        ("process_flag", 2, Native::ProcessFlag),
+        ("send", 2, Native::Send),
+        ("!", 2, Native::Send),
+        ("display", 1, Native::Display),
+        ("++", 2, Native::Append),
+        ("setelement", 3, Native::SetElement),
+        ("list_to_tuple", 1, Native::ListToTuple),
+        ("tuple_to_list", 1, Native::TupleToList),
+    ];
+    for (name, arity, want) in rows {
+        let name = atoms.find(name).ok_or("a name that is not there")?;
+        assert_eq!(rt; native(&atoms, fixed::ERLANG, name, arity), Some(want));
+    }
+    Ok(())
+}
+
+#[test]
+fn other_names(rt: HostRuntime) -> Result<(), Fail> {
+    let alloc = rt.alloc();
+    let (atoms, a) = table_with_a(alloc)?;
+    assert!(rt; native(&atoms, a, fixed::LINK, 1).is_none());
+    assert!(rt; native(&atoms, fixed::ERLANG, fixed::LINK, 2).is_none());
+    assert!(rt; native(&atoms, fixed::ERLANG, fixed::SELF, 0).is_none());
+    assert!(rt; native(&atoms, fixed::ERLANG, AtomId(70_000), 1).is_none());
+    assert!(rt; is_guard(&atoms, fixed::SELF, 0) && !is_guard(&atoms, fixed::SELF, 1));
+    assert!(rt; !is_guard(&atoms, a, 1) && !is_guard(&atoms, AtomId(70_000), 1));
+    Ok(())
+}
