@@ -1,0 +1,217 @@
+-- The queues of one sender, by rising receiver.
+use Rattle.std.proofs.Common.{◌≡◌, ◌≢◌, ℕ, zero, suc, ◌+◌, ◌==◌, ◌<◌, ◌≤◌, List, [], ◌∷◌, ◌++◌, length, take, drop, get_or, Bool, true, false, cond, Ok, Err, refl, sym, ap, ◌∙◌, arith, nat_cmp}
+use Rattle.std.specs.Prelude.{None, Some, nat_lt, ◌-◌, ◌&&◌, slice_set, if◌then◌else◌}
+use Rattle.std.specs.List.{insert}
+use Rattle.std.specs.List.Sorted.{IsSearchInRange, IsBinarySearchResult, IsNonDecreasingBy}
+use Rattle.std.specs.Ordering.{ordering_index}
+use Rattle.std.proofs.lemmas.Cmp.{ranked}
+use Rattle.std.proofs.lemmas.List.{get_or_default, get_or-set_same, get_or-set_other, length-set}
+use Rattle.std.proofs.lemmas.List.Edits.{length-insert, get_or-insert_at, get_or-insert_below, get_or-insert_above}
+use Rattle.std.proofs.lemmas.List.Sorted.{IsNonDecreasingBy-from_default}
+use Rattle.std.proofs.lemmas.Bool.Decides.{nat_tests}
+use Rattle.bx_signals.specs.Waiting.{first, rest, front}
+use Rattle.bx_signals.specs.declared.signal.Signal.{Signal}
+use Rattle.bx_signals.specs.Rows.{Row, queue_in, to_at, IsRising, IsPlaceOf, IsGapOf, Replaced, SameRow}
+
+pub rising_none : IsRising {S = Signal} []
+rising_none j k lt here = absurd (omega (arith, here))
+
+apart : (k q p : ℕ) → p ≢ q → ((k == q) && (k == p)) ≡ false
+apart k q p other = go (k == q) refl
+  where
+    go : (b : Bool) → (k == q) ≡ b → (b && (k == p)) ≡ false
+    go true e = grind (arith, nat_tests)
+    go false e = refl
+
+module _ {S : Type 0} where
+  -- no line before that one has the receiver
+  abbrev NoneBefore : Row S → ℕ → ℕ → Type 0
+  NoneBefore row q k = (j : ℕ) → j < k → to_at row j ≢ q
+
+  none_behind : (line : ℕ × List S) (row : Row S) (q k : ℕ) → NoneBefore (line ∷ row) q (suc k) → NoneBefore row q k
+  none_behind line row q k none j lt = none (suc j) (omega arith)
+
+  none_first : (line : ℕ × List S) (row : Row S) (q k : ℕ) → NoneBefore (line ∷ row) q (suc k) → (q == line.0) ≡ false
+  none_first line row q k none = let other : line.0 ≢ q = none 0 (omega arith) in grind (arith, nat_tests)
+
+  absent : (row : Row S) (q : ℕ) → NoneBefore row q (length row) → queue_in row q ≡ []
+  absent [] q none = refl
+  absent (line ∷ row) q none =
+      ap (λ b. cond b line.1 (queue_in row q)) (none_first line row q (length row) none) ∙ absent row q (none_behind line row q (length row) none)
+
+  present : (row : Row S) (q k : ℕ) → k < length row → to_at row k ≡ q → NoneBefore row q k → queue_in row q ≡ (get_or row k (0, [])).1
+  present [] q k here is none = absurd (omega (arith, here))
+  present (line ∷ row) q zero here is none =
+      let own : (q == line.0) ≡ true = grind (arith, nat_tests, is) in ap (λ b. cond b line.1 (queue_in row q)) own
+  present (line ∷ row) q (suc k) here is none =
+      ap (λ b. cond b line.1 (queue_in row q)) (none_first line row q k none) ∙ present row q k (omega (arith, here)) is (none_behind line row q k none)
+
+  before_place : (row : Row S) (q at : ℕ) → IsRising row → IsPlaceOf row q at → NoneBefore row q at
+  before_place row q at rising place j lt equal = omega (arith, rising j at lt place.0, place.1, equal)
+
+  nowhere : (row : Row S) (q at : ℕ) → IsGapOf row q at → NoneBefore row q (length row)
+  nowhere row q at gap j lt equal = grind (arith, gap.1 j, gap.2 j)
+
+  -- the queue at its place
+  pub queue_is : (row : Row S) (q at : ℕ) (line : ℕ × List S) → IsRising row → IsPlaceOf row q at → line ≡ get_or row at line → queue_in row q ≡ line.1
+  queue_is row q at line rising place is =
+      present row q at place.0 place.1 (before_place row q at rising place)
+      ∙ ap (λ (l : ℕ × List S). l.1) (get_or_default row at (0, []) line place.0 ∙ sym is)
+
+  pub queue_missed : (row : Row S) (q at : ℕ) → IsGapOf row q at → queue_in row q ≡ []
+  queue_missed row q at gap = absent row q (nowhere row q at gap)
+
+  -- searching
+  comparisons_rise : (row : Row S) (q : ℕ) → IsRising row → IsNonDecreasingBy (λ line. ordering_index (nat_cmp line.0 q)) row
+  comparisons_rise row q rising = IsNonDecreasingBy-from_default (λ line. ordering_index (nat_cmp line.0 q)) row (0, []) (λ i j le within.
+      let pids_rise : to_at row i ≤ to_at row j = grind (arith, rising i j, λ (same : i ≡ j). ap (to_at row) same) in
+      grind (arith, nat_tests))
+
+  pub found_by_search : (row : Row S) (q at : ℕ) → IsSearchInRange (Ok at) (length row) → IsBinarySearchResult (λ line. nat_cmp line.0 q) row (Ok at) → IsPlaceOf row q at
+  found_by_search row q at within equal = (within, ranked _ q _ (sym (equal (0, []))))
+
+  pub missed_by_search : (row : Row S) (q at : ℕ) → IsRising row → IsSearchInRange (Err at) (length row) → IsBinarySearchResult (λ line. nat_cmp line.0 q) row (Err at) → IsGapOf row q at
+  missed_by_search row q at rising within parted =
+      let sides = parted (comparisons_rise row q rising) in
+      (within, λ j lt. ranked _ q _ (sym (sides.0 j (0, []) (omega arith) lt)), λ j le lt. ranked _ q _ (sym (sides.1 j (0, []) le lt)))
+
+  -- a line is put into the gap
+  turn : (a b : Bool) (x y z : List S) → (a && b) ≡ false → cond b x (cond a y z) ≡ cond a y (cond b x z)
+  turn true true x y z e = let no : true ≡ false = e in cc
+  turn true false x y z e = refl
+  turn false b x y z e = refl
+
+  inserted : (row : Row S) (q at : ℕ) (ss : List S) → at ≤ length row → NoneBefore row q (length row) → Replaced row (insert row at (q, ss)) q ss
+  inserted row q zero ss here none k = refl
+  inserted [] q (suc at) ss here none k = absurd (omega (arith, here))
+  inserted (line ∷ row) q (suc at) ss here none k =
+      ap (cond (k == line.0) line.1) (inserted row q at ss (omega (arith, here)) (none_behind line row q (length row) none) k)
+      ∙ turn (k == q) (k == line.0) line.1 ss (queue_in row k) (apart k q line.0 (none 0 (omega arith)))
+
+  nothing_new : (row new : Row S) (q : ℕ) → queue_in row q ≡ [] → Replaced row new q [] → SameRow row new
+  nothing_new row new q empty replaced k = replaced k ∙ go (k == q) refl
+    where
+      go : (b : Bool) → (k == q) ≡ b → cond b [] (queue_in row k) ≡ queue_in row k
+      go true e = let same : k ≡ q = grind (arith, nat_tests) in sym (ap (queue_in row) same ∙ empty)
+      go false e = refl
+
+  pub opened_same : (row : Row S) (q at : ℕ) → IsGapOf row q at → SameRow row (insert row at (q, []))
+  opened_same row q at gap = nothing_new row (insert row at (q, [])) q (queue_missed row q at gap) (inserted row q at [] gap.0 (nowhere row q at gap))
+
+  key_of : ℕ × List S → ℕ
+  key_of line = line.0
+
+  pub opened_place : (row : Row S) (q at : ℕ) → IsGapOf row q at → to_at (insert row at (q, [])) at ≡ q
+  opened_place row q at gap = ap (λ (l : ℕ × List S). l.0) (get_or-insert_at row at (q, []) (0, []) gap.0)
+
+  key_below : (row : Row S) (q at k : ℕ) → at ≤ length row → k < at → to_at (insert row at (q, [])) k ≡ to_at row k
+  key_below row q at k here lt = ap (λ (l : ℕ × List S). l.0) (get_or-insert_below row at (q, []) (0, []) k lt here)
+
+  key_above : (row : Row S) (q at k : ℕ) → at ≤ length row → at ≤ k → to_at (insert row at (q, [])) (k + 1) ≡ to_at row k
+  key_above row q at k here le = ap (λ (l : ℕ × List S). l.0) (get_or-insert_above row at (q, []) (0, []) k le here)
+
+  pub opened_rising : (row : Row S) (q at : ℕ) → IsRising row → IsGapOf row q at → IsRising (insert row at (q, []))
+  opened_rising row q at rising gap j k lt within = three (nat_lt k at) refl (nat_lt j at) refl
+    where
+      new : Row S
+      new = insert row at (q, [])
+
+      long : k < length row + 1
+      long = omega (arith, within, length-insert row at (q, []) gap.0)
+
+      own : to_at new at ≡ q
+      own = opened_place row q at gap
+
+      -- the pid behind the gap, one place further
+      high : (n : ℕ) → at < n → n < length row + 1 → q < to_at new n
+      high n above short =
+          let m : ℕ = n - 1 in
+          let n_is : n ≡ m + 1 = omega arith in
+          let key : to_at new n ≡ to_at row m = ap (to_at new) n_is ∙ key_above row q at m gap.0 (omega arith) in
+          omega (arith, key, gap.2 m (omega arith) (omega arith))
+
+      low : (n : ℕ) → n < at → to_at new n < q
+      low n below = omega (arith, key_below row q at n gap.0 below, gap.1 n below)
+
+      three : (b : Bool) → nat_lt k at ≡ b → (c : Bool) → nat_lt j at ≡ c → to_at new j < to_at new k
+      three true kb c cb =
+          let k_low : k < at = grind (arith, nat_tests) in
+          let j_low : j < at = omega arith in
+          omega (arith, key_below row q at j gap.0 j_low, key_below row q at k gap.0 k_low, rising j k lt (omega (arith, gap.0)))
+      three false kb true cb =
+          let j_low : j < at = grind (arith, nat_tests) in
+          let k_high : at ≤ k = grind (arith, nat_tests) in
+          four (k == at) refl j_low k_high
+        where
+          four : (d : Bool) → (k == at) ≡ d → j < at → at ≤ k → to_at new j < to_at new k
+          four true is below above = let same : k ≡ at = grind (arith, nat_tests) in omega (arith, low j below, own, ap (to_at new) same)
+          four false is below above = let other : at < k = grind (arith, nat_tests) in omega (arith, low j below, high k other long)
+      three false kb false cb =
+          let j_high : at ≤ j = grind (arith, nat_tests) in
+          four (j == at) refl j_high
+        where
+          four : (d : Bool) → (j == at) ≡ d → at ≤ j → to_at new j < to_at new k
+          four true is above = let same : j ≡ at = grind (arith, nat_tests) in omega (arith, own, ap (to_at new) same, high k (omega (arith, same, lt)) long)
+          four false is above =
+              let j_above : at < j = grind (arith, nat_tests) in
+              let m : ℕ = j - 1 in
+              let n : ℕ = k - 1 in
+              let j_is : j ≡ m + 1 = omega arith in
+              let k_is : k ≡ n + 1 = omega arith in
+              let j_key : to_at new j ≡ to_at row m = ap (to_at new) j_is ∙ key_above row q at m gap.0 (omega arith) in
+              let k_key : to_at new k ≡ to_at row n = ap (to_at new) k_is ∙ key_above row q at n gap.0 (omega arith) in
+              omega (arith, j_key, k_key, rising m n (omega (arith, lt)) (omega (arith, long)))
+
+  -- a queue is replaced at its place
+  set_pid : (row : Row S) (at k : ℕ) (old new : ℕ × List S) → at < length row → old ≡ get_or row at old → new.0 ≡ old.0 → to_at (slice_set row at new) k ≡ to_at row k
+  set_pid [] at k old new here is same = absurd (omega (arith, here))
+  set_pid (line ∷ row) zero zero old new here is same = same ∙ ap (λ (l : ℕ × List S). l.0) is
+  set_pid (line ∷ row) zero (suc k) old new here is same = refl
+  set_pid (line ∷ row) (suc at) zero old new here is same = refl
+  set_pid (line ∷ row) (suc at) (suc k) old new here is same = set_pid row at k old new (omega (arith, here)) is same
+
+  pub set_rising : (row : Row S) (at : ℕ) (old new : ℕ × List S) → at < length row → old ≡ get_or row at old → new.0 ≡ old.0 → IsRising row → IsRising (slice_set row at new)
+  set_rising row at old new here is same rising j k lt within =
+      omega (arith, set_pid row at j old new here is same, set_pid row at k old new here is same, rising j k lt (omega (arith, within, length-set row at new)))
+
+  replaced : (row : Row S) (q at : ℕ) (new : ℕ × List S) → at < length row → to_at row at ≡ q → new.0 ≡ q → NoneBefore row q at → Replaced row (slice_set row at new) q new.1
+  replaced [] q at new here is same none k = absurd (omega (arith, here))
+  replaced (line ∷ row) q zero new here is same none k = ap (λ p. cond (k == p) new.1 (queue_in row k)) same ∙ over (k == q) refl
+    where
+      over : (b : Bool) → (k == q) ≡ b → cond b new.1 (queue_in row k) ≡ cond b new.1 (cond (k == line.0) line.1 (queue_in row k))
+      over true e = refl
+      over false e = let f : (k == line.0) ≡ false = grind (arith, nat_tests, is) in sym (ap (λ b. cond b line.1 (queue_in row k)) f)
+  replaced (line ∷ row) q (suc at) new here is same none k =
+      ap (cond (k == line.0) line.1) (replaced row q at new (omega (arith, here)) is same (none_behind line row q at none) k)
+      ∙ turn (k == q) (k == line.0) line.1 new.1 (queue_in row k) (apart k q line.0 (none 0 (omega arith)))
+
+  pub set_to : (row : Row S) (q at : ℕ) (old new : ℕ × List S) (ss : List S) → IsRising row → IsPlaceOf row q at → old ≡ get_or row at old → new.0 ≡ old.0 → new.1 ≡ ss → Replaced row (slice_set row at new) q ss
+  set_to row q at old new ss rising place is same queue k =
+      let pid : old.0 ≡ q = ap (λ (l : ℕ × List S). l.0) (is ∙ get_or_default row at old (0, []) place.0) ∙ place.1 in
+      replaced row q at new place.0 place.1 (same ∙ pid) (before_place row q at rising place) k ∙ ap (λ x. cond (k == q) x (queue_in row k)) queue
+
+  -- put there again, it changes nothing
+  pub set_same : (row : Row S) (q at : ℕ) (old new : ℕ × List S) → IsRising row → IsPlaceOf row q at → old ≡ get_or row at old → new.0 ≡ old.0 → new.1 ≡ old.1 → SameRow row (slice_set row at new)
+  set_same row q at old new rising place is same queue k =
+      set_to row q at old new old.1 rising place is same queue k ∙ go (k == q) refl
+    where
+      go : (b : Bool) → (k == q) ≡ b → cond b old.1 (queue_in row k) ≡ queue_in row k
+      go true e = let own : k ≡ q = grind (arith, nat_tests) in sym (ap (queue_in row) own ∙ queue_is row q at old rising place is)
+      go false e = refl
+
+  -- where there is no queue, nothing waits, and nothing is taken
+  pub nothing_first : (row : Row S) (q at : ℕ) → IsGapOf row q at → None ≡ first (queue_in row q)
+  nothing_first row q at gap = sym (ap first (queue_missed row q at gap))
+
+  unchanged : (row : Row S) (q : ℕ) (ss : List S) → queue_in row q ≡ [] → ss ≡ [] → Replaced row row q ss
+  unchanged row q ss empty none k = go (k == q) refl
+    where
+      go : (b : Bool) → (k == q) ≡ b → queue_in row k ≡ cond b ss (queue_in row k)
+      go true e = let own : k ≡ q = grind (arith, nat_tests) in ap (queue_in row) own ∙ empty ∙ sym none
+      go false e = refl
+
+  pub nothing_left : (row : Row S) (q at : ℕ) → IsGapOf row q at → Replaced row row q (rest (queue_in row q))
+  nothing_left row q at gap = unchanged row q (rest (queue_in row q)) (queue_missed row q at gap) (ap rest (queue_missed row q at gap))
+
+  pub nothing_before : (row : Row S) (q at : ℕ) → IsGapOf row q at → Replaced row row q (front (queue_in row q))
+  nothing_before row q at gap = unchanged row q (front (queue_in row q)) (queue_missed row q at gap) (ap front (queue_missed row q at gap))

@@ -1,0 +1,7 @@
+use Rattle.std.proofs.Common.{◌≡◌, sym, ap, ◌∙◌}
+use Rattle.bx_signals.specs.Waiting.{front}
+use Rattle.bx_signals.proofs.Maps.{set_row_by}
+use Rattle.bx_signals.proofs.channels.take_back_from.Goals as goal
+
+pub returns : goal.returns
+returns c = set_row_by c.args.rows.now.items c.args.from c.args.to c.index_mut.result.now c.take_back.new.self front c.requires c.index_mut.ensures.value c.take_back.ensures

@@ -1,0 +1,9 @@
+use Rattle.std.proofs.Common.{◌≡◌, subst, sym, ap, ◌∙◌}
+use Rattle.bx_signals.specs.Waiting.{first}
+use Rattle.bx_signals.specs.Rows.{Row, IsGapOf, IsPlaceOf, IsRising}
+use Rattle.bx_signals.specs.declared.signal.Signal.{Signal}
+use Rattle.bx_signals.proofs.Lines.{nothing_before}
+use Rattle.bx_signals.proofs.row.Row.take_back.Goals as goal
+
+pub returns-in-Err : goal.returns-in-Err
+returns-in-Err c = nothing_before c.args.self.now c.args.to c.in-Err.field-0 (subst (λ (row : Row Signal). IsGapOf row c.args.to c.in-Err.field-0) (c.deref.ensures.value ∙ c.self.view_is) c.in-Err.ensures.missed)

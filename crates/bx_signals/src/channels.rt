@@ -1,0 +1,210 @@
+//! The channels between the processes of a world.
+
+ghost use Rattle.std.specs.Prelude.{◌≡◌, ◌≢◌, ◌↔◌, ◌++◌, ◌∷◌, ◌<◌, [], length, IfErr, IfOk, IsTrue, OnOk, OnErr, option_map, is_some};
+ghost use Rattle.std.specs.FinMap as map;
+ghost use Rattle.bx_signals.specs.Waiting.{first, rest, front};
+ghost use Rattle.bx_signals.specs.Channels.{waiting, with_waiting, put, taken, taken_back, put_to_all, taken_back_all};
+ghost use Rattle.bx_signals.specs.Rows.{rows_map, queue_at};
+
+use crate::row::Row;
+use crate::signal::Signal;
+use bx_terms::Term;
+use std::alloc::{AllocError, Global};
+use std::marker::Model;
+
+/// The signals that wait, by the pid of their sender and that of their receiver, in the order in which they were put.
+///
+/// Source: Erlang Reference Manual, "Processes", "Delivery of Signals".
+#[derive(Debug, Drop)]
+pub struct Channels {
+    /// By the sender's pid.
+    rows: Vec<Row>,
+}
+
+impl Model for Channels {
+    ghost use Rattle.std.specs.Coded.{coded_ℕ, coded_list, coded×};
+    ghost use Rattle.std.specs.FinMap as map;
+    ghost use Rattle.bx_signals.specs.declared.signal.Signal.{Signal};
+    ghost use Rattle.bx_signals.specs.contracts.signal.Signal as signal;
+    ghost use Rattle.bx_signals.specs.Channels.{Channels as ByPair};
+    ghost use Rattle.bx_signals.specs.Rows.{rows_map};
+
+    ghost Value = { ByPair Signal };
+
+    ghost coded = { map.code (coded× coded_ℕ coded_ℕ) (coded× signal.the_row.coded (coded_list signal.the_row.coded)) };
+
+    ghost view = { λ a. rows_map 0 a.rows.items };
+}
+
+impl Channels {
+    /// No signal waits.
+    pub fn new(alloc: Global) -> Channels
+        ensures { result ≡ map.empty }
+    {
+        Channels {
+            rows: Vec::new(alloc),
+        }
+    }
+
+    /// Puts a signal behind those that wait, or hands it back where memory ran out, and then nothing has changed.
+    #[inline(always)]
+    pub fn put(&mut self, alloc: Global, from: u32, to: u32, signal: Signal) -> Result<(), Signal>
+        ensures ok { OnOk result (self.new ≡ put (from, to) signal self.old) }
+        ensures err { IfErr result (λ s. (s ≡ signal) × (self.new ≡ self.old)) }
+    {
+        let at = from as usize;
+        if at >= self.rows.len() {
+            if let Err(_refused) = grow(alloc, &mut self.rows, at) {
+                return Err(signal);
+            }
+        }
+        put_in(alloc, &mut self.rows, at, to, signal)
+    }
+
+    /// The signal that waits first in that channel.
+    #[inline(always)]
+    #[tactic(auto, using(crate::proofs::Maps::waiting_rows))]
+    pub fn first(&self, from: u32, to: u32) -> Option<&Signal>
+        ensures { option_map (λ s. s.now) result ≡ first (waiting self.now (from, to)) }
+    {
+        first_in(&self.rows, from as usize, to)
+    }
+
+    /// Takes the signal that waits first in that channel.
+    #[inline(always)]
+    pub fn take(&mut self, from: u32, to: u32) -> Option<Signal>
+        ensures given { result ≡ first (waiting self.old (from, to)) }
+        ensures left { self.new ≡ taken (from, to) self.old }
+    {
+        take_in(&mut self.rows, from as usize, to)
+    }
+
+    /// Takes back the signal that was put last into that channel.
+    pub fn take_back(&mut self, from: u32, to: u32)
+        ensures { self.new ≡ taken_back (from, to) self.old }
+    {
+        take_back_in(&mut self.rows, from as usize, to);
+    }
+
+    /// Puts an exit signal by link with this reason to each of these receivers; where memory runs out, nothing has changed.
+    pub fn put_exits(
+        &mut self,
+        alloc: Global,
+        from: u32,
+        links: &[u32],
+        reason: &Term,
+    ) -> Result<(), AllocError>
+        ensures ok { OnOk result (self.new ≡ put_to_all from links.now (Signal.LinkExit reason.now) self.old) }
+        ensures err { OnErr result (self.new ≡ self.old) }
+    {
+        for at in 0..links.len() {
+            if let Err(refused) = self.put_exit(alloc, from, links[at], reason) {
+                self.take_back_all(from, &links[..at]);
+                return Err(refused);
+            }
+        }
+        Ok(())
+    }
+
+    fn put_exit(
+        &mut self,
+        alloc: Global,
+        from: u32,
+        to: u32,
+        reason: &Term,
+    ) -> Result<(), AllocError>
+        ensures ok { OnOk result (self.new ≡ put (from, to) (Signal.LinkExit reason.now) self.old) }
+        ensures err { OnErr result (self.new ≡ self.old) }
+    {
+        let reason = reason.copy(alloc)?;
+        match self.put(alloc, from, to, Signal::LinkExit(reason)) {
+            Ok(()) => Ok(()),
+            Err(_signal) => Err(AllocError),
+        }
+    }
+
+    /// Takes back the signal that was put last into the channel to each of these receivers, from the last on.
+    #[cold]
+    #[inline(never)]
+    pub fn take_back_all(&mut self, from: u32, links: &[u32])
+        ensures { self.new ≡ taken_back_all from links.now self.old }
+    {
+        let mut left = links.len();
+        while left > 0 {
+            left -= 1;
+            self.take_back(from, links[left]);
+        }
+    }
+}
+
+/// Makes the rows as many as to have one at `at`.
+#[cold]
+#[inline(never)]
+#[tactic(auto, using(crate::proofs::Maps::rows_more))]
+fn grow(alloc: Global, rows: &mut Vec<Row>, at: usize) -> Result<(), AllocError>
+    requires { at < 4294967296 }
+    ensures long { OnOk result (at < length rows.new.items) }
+    ensures kept { rows_map 0 rows.new.items ≡ rows_map 0 rows.old.items }
+{
+    for _next in rows.len()..at + 1 {
+        rows.push(Row::new(alloc))?;
+    }
+    Ok(())
+}
+
+#[inline(always)]
+fn put_in(
+    alloc: Global,
+    rows: &mut Vec<Row>,
+    from: usize,
+    to: u32,
+    signal: Signal,
+) -> Result<(), Signal>
+    requires { from < length rows.old.items }
+    ensures ok { OnOk result (rows_map 0 rows.new.items ≡ put (from, to) signal (rows_map 0 rows.old.items)) }
+    ensures err { IfErr result (λ s. (s ≡ signal) × (rows_map 0 rows.new.items ≡ rows_map 0 rows.old.items)) }
+{
+    rows[from].put(alloc, to, signal)
+}
+
+#[inline(always)]
+fn first_in(rows: &[Row], from: usize, to: u32) -> Option<&Signal>
+    ensures { option_map (λ s. s.now) result ≡ first (queue_at rows.now from to) }
+{
+    rows.get(from)?.first(to)
+}
+
+#[inline(always)]
+fn take_in(rows: &mut Vec<Row>, from: usize, to: u32) -> Option<Signal>
+    ensures given { result ≡ first (waiting (rows_map 0 rows.old.items) (from, to)) }
+    ensures left { rows_map 0 rows.new.items ≡ taken (from, to) (rows_map 0 rows.old.items) }
+{
+    if from >= rows.len() {
+        return None;
+    }
+    take_from(rows, from, to)
+}
+
+#[inline(always)]
+fn take_from(rows: &mut Vec<Row>, from: usize, to: u32) -> Option<Signal>
+    requires { from < length rows.old.items }
+    ensures given { result ≡ first (waiting (rows_map 0 rows.old.items) (from, to)) }
+    ensures left { rows_map 0 rows.new.items ≡ taken (from, to) (rows_map 0 rows.old.items) }
+{
+    rows[from].take(to)
+}
+
+fn take_back_in(rows: &mut Vec<Row>, from: usize, to: u32)
+    ensures { rows_map 0 rows.new.items ≡ taken_back (from, to) (rows_map 0 rows.old.items) }
+{
+    if from < rows.len() {
+        take_back_from(rows, from, to);
+    }
+}
+
+fn take_back_from(rows: &mut Vec<Row>, from: usize, to: u32)
+    requires { from < length rows.old.items }
+    ensures { rows_map 0 rows.new.items ≡ taken_back (from, to) (rows_map 0 rows.old.items) }
+{
+    rows[from].take_back(to);
+}
