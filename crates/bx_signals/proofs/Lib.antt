@@ -1,3 +1,4 @@
-pub mod Compared
 pub mod Lines
 pub mod Maps
+pub mod Listed
+pub mod Paired

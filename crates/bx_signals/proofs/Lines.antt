@@ -1,6 +1,6 @@
 -- The queues of one sender, by rising receiver.
-use Rattle.std.proofs.Common.{◌≡◌, ◌≢◌, ℕ, zero, suc, ◌+◌, ◌==◌, ◌<◌, ◌≤◌, List, [], ◌∷◌, ◌++◌, length, take, drop, get_or, Bool, true, false, cond, Ok, Err, refl, sym, ap, ◌∙◌, arith, nat_cmp}
-use Rattle.std.specs.Prelude.{None, Some, nat_lt, ◌-◌, ◌&&◌, slice_set, if◌then◌else◌}
+use Rattle.std.proofs.Common.{◌≡◌, ◌≢◌, ℕ, zero, suc, ◌+◌, ◌==◌, ◌<◌, ◌≤◌, List, [], ◌∷◌, ◌++◌, length, take, drop, get_or, Bool, true, false, cond, Ok, Err, refl, sym, ap, subst, ◌∙◌, arith, nat_cmp}
+use Rattle.std.specs.Prelude.{None, Some, nat_lt, ◌-◌, ◌&&◌, slice_index_or, slice_set, if◌then◌else◌}
 use Rattle.std.specs.List.{insert}
 use Rattle.std.specs.List.Sorted.{IsSearchInRange, IsBinarySearchResult, IsNonDecreasingBy}
 use Rattle.std.specs.Ordering.{ordering_index}
@@ -11,7 +11,7 @@ use Rattle.std.proofs.lemmas.List.Sorted.{IsNonDecreasingBy-from_default}
 use Rattle.std.proofs.lemmas.Bool.Decides.{nat_tests}
 use Rattle.bx_signals.specs.Waiting.{first, rest, front}
 use Rattle.bx_signals.specs.declared.signal.Signal.{Signal}
-use Rattle.bx_signals.specs.Rows.{Row, queue_in, to_at, IsRising, IsPlaceOf, IsGapOf, Replaced, SameRow}
+use Rattle.bx_signals.specs.Rows.{Row, queue_in, to_at, IsRising, IsPlaceOf, IsGapOf, Replaced, SameRow, Covers}
 
 pub rising_none : IsRising {S = Signal} []
 rising_none j k lt here = absurd (omega (arith, here))
@@ -215,3 +215,51 @@ module _ {S : Type 0} where
 
   pub nothing_before : (row : Row S) (q at : ℕ) → IsGapOf row q at → Replaced row row q (front (queue_in row q))
   nothing_before row q at gap = unchanged row q (front (queue_in row q)) (queue_missed row q at gap) (ap front (queue_missed row q at gap))
+
+  -- what waits at one place waits in another row too
+  abbrev pub Held : Row S → Row S → ℕ → Type 0
+  Held row other k = let line = slice_index_or row k (0, []) in (line.1 ≢ [] → queue_in other line.0 ≡ line.1)
+
+  abbrev pub HeldBefore : Row S → Row S → ℕ → Type 0
+  HeldBefore row other n = (k : ℕ) → k < n → Held row other k
+
+  somewhere : (row : Row S) (q : ℕ) → queue_in row q ≢ [] → (k : ℕ) × (k < length row) × (to_at row k ≡ q)
+  somewhere [] q some = absurd (some refl)
+  somewhere (line ∷ row) q some = go (q == line.0) refl (somewhere row q)
+    where
+      go : (b : Bool) → (q == line.0) ≡ b → (queue_in row q ≢ [] → (k : ℕ) × (k < length row) × (to_at row k ≡ q)) → (k : ℕ) × (k < length (line ∷ row)) × (to_at (line ∷ row) k ≡ q)
+      go true e further = (0, omega arith, grind (arith, nat_tests))
+      go false e further =
+          let behind = further (λ none. some (ap (λ b. cond b line.1 (queue_in row q)) e ∙ none)) in
+          (suc behind.0, omega (arith, behind.1), behind.2)
+
+  at_place : (row : Row S) (k : ℕ) → IsRising row → k < length row → queue_in row (to_at row k) ≡ (get_or row k (0, [])).1
+  at_place row k rising here = present row (to_at row k) k here refl (before_place row (to_at row k) k rising (here, refl))
+
+  pub covers_when : (row other : Row S) (n : ℕ) → IsRising row → length row ≤ n → HeldBefore row other n → Covers row other
+  covers_when row other n rising all held q some =
+      let found = somewhere row q some in
+      let here = at_place row found.0 rising found.1 in
+      let own : queue_in row q ≡ (get_or row found.0 (0, [])).1 = ap (queue_in row) (sym found.2) ∙ here in
+      ap (queue_in other) (sym found.2) ∙ held found.0 (omega (arith, found.1)) (λ none. some (own ∙ none)) ∙ sym own
+
+  pub held_when : (row other : Row S) (k : ℕ) → IsRising row → k < length row → Covers row other → Held row other k
+  held_when row other k rising here covers some =
+      let own = at_place row k rising here in covers (to_at row k) (λ none. some (sym own ∙ none)) ∙ own
+
+  pub held_further : (row other : Row S) (at : ℕ) (line : ℕ × List S) → at < length row → line ≡ get_or row at line → HeldBefore row other at
+      → (line.1 ≢ [] → queue_in other line.0 ≡ line.1) → HeldBefore row other (at + 1)
+  held_further row other at line here is held one k lt = go (k == at) refl
+    where
+      go : (b : Bool) → (k == at) ≡ b → Held row other k
+      go true e =
+          let same : k ≡ at = grind (arith, nat_tests) in
+          let line_is : line ≡ get_or row k (0, []) = is ∙ get_or_default row at line (0, []) here ∙ ap (λ n. get_or row n (0, [])) (sym same) in
+          subst (λ (l : ℕ × List S). l.1 ≢ [] → queue_in other l.0 ≡ l.1) line_is one
+      go false e = held k (grind (arith, nat_tests))
+
+  pub not_held : (row other : Row S) (at : ℕ) (line : ℕ × List S) → IsRising row → at < length row → line ≡ get_or row at line → Covers row other
+      → line.1 ≢ [] → queue_in other line.0 ≡ line.1
+  not_held row other at line rising here is covers =
+      let line_is : get_or row at (0, []) ≡ line = sym (is ∙ get_or_default row at line (0, []) here) in
+      subst (λ (l : ℕ × List S). l.1 ≢ [] → queue_in other l.0 ≡ l.1) line_is (held_when row other at rising here covers)

@@ -13,7 +13,7 @@ use Rattle.std.proofs.lemmas.Option.{slice_get_past}
 use Rattle.std.proofs.Math.Seq.{take-append_seam}
 use Rattle.bx_signals.specs.Waiting.{first, rest, front}
 use Rattle.bx_signals.specs.Channels.{pair_cmp, Channels, in_order, waiting, with_waiting, put, taken, taken_back, put_to_all, taken_back_all}
-use Rattle.bx_signals.specs.Rows.{Row, or_empty, queue_in, queue_at, row_map, rows_map, Replaced, SameRow}
+use Rattle.bx_signals.specs.Rows.{Row, IsRising, AllRising, CoversAll, or_empty, queue_in, queue_at, row_map, rows_map, Replaced, SameRow}
 
 pub pair_cmp_total : IsTotalOrder pair_cmp
 pair_cmp_total = then_total (on_total (λ (r : ℕ × ℕ). r.0) nat_cmp_total) (on_total (λ (r : ℕ × ℕ). r.1) nat_cmp_total)
@@ -141,6 +141,9 @@ module _ {S : Type 0} where
   apart : (r k : ℕ × ℕ) (ss : List S) (m : Channels S) → ((r.0 == k.0) && (r.1 == k.1)) ≡ false → waiting (with_waiting k ss m) r ≡ waiting m r
   apart r k ss m e = waiting_with k ss m r ∙ ap (λ b. cond b ss (waiting m r)) e
 
+  pub apart_below : (p n q : ℕ) (ss : List S) (m : Channels S) → q < n → waiting (with_waiting (p, n) ss m) (p, q) ≡ waiting m (p, q)
+  apart_below p n q ss m h = let f : (q == n) ≡ false = grind (arith, nat_tests) in apart (p, q) (p, n) ss m (no_and (p == p) (q == n) f)
+
   row_else : (p : ℕ) (row : Row S) (m : Channels S) (a b : ℕ) → a ≢ p → waiting (row_map p row m) (a, b) ≡ waiting m (a, b)
   row_else p [] m a b e = refl
   row_else p (line ∷ row) m a b e = let f : (a == p) ≡ false = grind (arith, nat_tests) in apart (a, b) (p, line.0) line.1 _ (and_no (a == p) (b == line.0) f) ∙ row_else p row m a b e
@@ -237,3 +240,29 @@ module _ {S : Type 0} where
   pub all_taken_back : (p : ℕ) (qs : List ℕ) (s : S) (m : Channels S) → taken_back_all p qs (put_to_all p qs s m) ≡ m
   all_taken_back p [] s m = refl
   all_taken_back p (q ∷ qs) s m = ap (taken_back (p, q)) (all_taken_back p qs s (put (p, q) s m)) ∙ taken_back_put p q s m
+
+  -- rows that rise
+  pub rising_set : (rows : List (Row S)) (p : ℕ) (row : Row S) → AllRising rows → IsRising row → AllRising (slice_set rows p row)
+  rising_set [] p row rising own k here = absurd (omega (arith, here))
+  rising_set (first ∷ rows) zero row rising own zero here = own
+  rising_set (first ∷ rows) zero row rising own (suc k) here = rising (suc k) here
+  rising_set (first ∷ rows) (suc p) row rising own zero here = rising zero (omega arith)
+  rising_set (first ∷ rows) (suc p) row rising own (suc k) here = rising_set rows p row (λ j there. rising (suc j) (omega (arith, there))) own k (omega (arith, here))
+
+  pub rising_more : (rows : List (Row S)) → AllRising rows → AllRising (rows ++ [] ∷ [])
+  rising_more [] rising zero here = λ j k lt there. absurd (omega (arith, there))
+  rising_more [] rising (suc p) here = absurd (omega (arith, here))
+  rising_more (row ∷ rows) rising zero here = rising zero (omega arith)
+  rising_more (row ∷ rows) rising (suc p) here = rising_more rows (λ j there. rising (suc j) (omega (arith, there))) p (omega (arith, here))
+
+  -- channels that cover one another are the same
+  covered : (xs ys : List S) → (xs ≢ [] → ys ≡ xs) → (ys ≢ [] → xs ≡ ys) → xs ≡ ys
+  covered [] [] f g = refl
+  covered [] (y ∷ ys) f g = g (λ e. let no : y ∷ ys ≡ [] = e in cc)
+  covered (x ∷ xs) ys f g = sym (f (λ e. let no : x ∷ xs ≡ [] = e in cc))
+
+  pub covers_both : (xs ys : List (Row S)) → CoversAll xs ys → CoversAll ys xs → rows_map 0 xs ≡ rows_map 0 ys
+  covers_both xs ys f g = same_channels _ _ (λ r. waiting_rows xs r.0 r.1 ∙ covered (queue_at xs r.0 r.1) (queue_at ys r.0 r.1) (f r.0 r.1) (g r.0 r.1) ∙ sym (waiting_rows ys r.0 r.1))
+
+  pub covers_same : (xs ys : List (Row S)) → rows_map 0 xs ≡ rows_map 0 ys → CoversAll xs ys
+  covers_same xs ys e p q some = sym (waiting_rows ys p q) ∙ sym (ap (λ m. waiting m (p, q)) e) ∙ waiting_rows xs p q

@@ -47,3 +47,7 @@ put_to_all p (q ∷ more) signal channels = put_to_all p more signal (put (p, q)
 abbrev pub taken_back_all : {S : Type 0} → ℕ → List ℕ → Channels S → Channels S
 taken_back_all p [] channels = channels
 taken_back_all p (q ∷ more) channels = taken_back (p, q) (taken_back_all p more channels)
+
+-- the channels in which something waits, by rising pair
+abbrev pub pairs : {S : Type 0} → Channels S → List (ℕ × ℕ)
+pairs channels = map.keys channels

@@ -1,5 +1,5 @@
 -- Channels that lie in rows: a row for each sender, in it a queue for each receiver, behind its pid, by rising pid.
-use Rattle.std.specs.Prelude.{◌≡◌, ℕ, ◌+◌, ◌==◌, ◌<◌, ◌≤◌, List, [], ◌∷◌, Option, Some, None, if◌then◌else◌, length, slice_get, slice_index_or}
+use Rattle.std.specs.Prelude.{◌≡◌, ◌≢◌, ℕ, ◌+◌, ◌==◌, ◌<◌, ◌≤◌, List, [], ◌∷◌, ◌++◌, Option, Some, None, if◌then◌else◌, length, slice_get, slice_index_or}
 use Rattle.std.specs.FinMap as map
 use Rattle.bx_signals.specs.Channels.{Channels, with_waiting}
 
@@ -24,6 +24,9 @@ to_at row k = let line = slice_index_or row k (0, []) in line.0
 
 abbrev pub IsRising : {S : Type 0} → Row S → Type 0
 IsRising row = (j k : ℕ) → j < k → k < length row → to_at row j < to_at row k
+
+abbrev pub AllRising : {S : Type 0} → List (Row S) → Type 0
+AllRising rows = (p : ℕ) → p < length rows → IsRising (slice_index_or rows p [])
 
 -- a place whose queue is that of the receiver
 abbrev pub IsPlaceOf : {S : Type 0} → Row S → ℕ → ℕ → Type 0
@@ -50,3 +53,24 @@ Replaced old new q signals = (k : ℕ) → queue_in new k ≡ (if k == q then si
 -- the same queues
 abbrev pub SameRow : {S : Type 0} → Row S → Row S → Type 0
 SameRow old new = (k : ℕ) → queue_in new k ≡ queue_in old k
+
+-- whatever waits in the one waits in the other too
+abbrev pub Covers : {S : Type 0} → Row S → Row S → Type 0
+Covers row other = (q : ℕ) → queue_in row q ≢ [] → queue_in other q ≡ queue_in row q
+
+abbrev pub CoversAll : {S : Type 0} → List (Row S) → List (Row S) → Type 0
+CoversAll rows others = (p q : ℕ) → queue_at rows p q ≢ [] → queue_at others p q ≡ queue_at rows p q
+
+-- the receivers for which something waits, each behind the sender
+abbrev pub pair_if : {S : Type 0} → ℕ → ℕ → List S → List (ℕ × ℕ)
+pair_if p q [] = []
+pair_if p q (signal ∷ more) = (p, q) ∷ []
+
+abbrev pub row_pairs : {S : Type 0} → ℕ → Row S → List (ℕ × ℕ)
+row_pairs p [] = []
+row_pairs p (line ∷ more) = pair_if p line.0 line.1 ++ row_pairs p more
+
+-- of all senders from p on
+abbrev pub rows_pairs : {S : Type 0} → ℕ → List (Row S) → List (ℕ × ℕ)
+rows_pairs p [] = []
+rows_pairs p (row ∷ rows) = row_pairs p row ++ rows_pairs (p + 1) rows

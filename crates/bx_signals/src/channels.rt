@@ -1,12 +1,12 @@
 //! The channels between the processes of a world.
 
-ghost use Rattle.std.specs.Prelude.{◌≡◌, ◌≢◌, ◌↔◌, ◌++◌, ◌∷◌, ◌<◌, [], length, IfErr, IfOk, IsTrue, OnOk, OnErr, option_map, is_some};
+ghost use Rattle.std.specs.Prelude.{◌≡◌, ◌≢◌, ◌↔◌, ◌++◌, ◌∷◌, ◌<◌, ◌≤◌, [], length, IfErr, IfOk, IsTrue, OnOk, OnErr, option_map, is_some};
 ghost use Rattle.std.specs.FinMap as map;
 ghost use Rattle.bx_signals.specs.Waiting.{first, rest, front};
-ghost use Rattle.bx_signals.specs.Channels.{waiting, with_waiting, put, taken, taken_back, put_to_all, taken_back_all};
-ghost use Rattle.bx_signals.specs.Rows.{rows_map, queue_at};
+ghost use Rattle.bx_signals.specs.Channels.{waiting, with_waiting, put, taken, taken_back, put_to_all, taken_back_all, pairs};
+ghost use Rattle.bx_signals.specs.Rows.{rows_map, queue_at, rows_pairs, AllRising, CoversAll};
 
-use crate::row::Row;
+use crate::row::{Row, covers, lines_of};
 use crate::signal::Signal;
 use bx_terms::Term;
 use std::alloc::{AllocError, Global};
@@ -34,6 +34,11 @@ impl Model for Channels {
     ghost coded = { map.code (coded× coded_ℕ coded_ℕ) (coded× signal.the_row.coded (coded_list signal.the_row.coded)) };
 
     ghost view = { λ a. rows_map 0 a.rows.items };
+
+    ghost use Rattle.std.specs.Prelude.{◌≤◌, length};
+    ghost use Rattle.bx_signals.specs.Rows.{AllRising};
+
+    ghost invariant = { λ a. AllRising a.rows.items × (length a.rows.items ≤ 4294967296) };
 }
 
 impl Channels {
@@ -59,6 +64,31 @@ impl Channels {
             }
         }
         put_in(alloc, &mut self.rows, at, to, signal)
+    }
+
+    /// The channels in which something waits, by rising pair of sender and receiver. Memory is taken only where there is one.
+    pub fn pairs(&self, alloc: Global) -> Result<Vec<(u32, u32)>, AllocError>
+        ensures ok { IfOk result (λ found. found.items ≡ pairs self.now) }
+        ensures err { OnErr result (pairs self.now ≢ []) }
+    {
+        let mut found = Vec::new(alloc);
+        push_all_pairs(&self.rows, &mut found)?;
+        Ok(found)
+    }
+
+    /// The same channels. Terms are shared.
+    pub fn copy(&self, _alloc: Global) -> Result<Channels, AllocError>
+        ensures { IfOk result (λ c. c ≡ self.now) }
+    {
+        let rows = self.rows.clone()?;
+        Ok(Channels { rows })
+    }
+
+    /// Whether the same signals wait in both.
+    pub fn same(&self, other: &Channels) -> bool
+        ensures { IsTrue result ↔ (self.now ≡ other.now) }
+    {
+        rows_are_covered(&self.rows, &other.rows) && rows_are_covered(&other.rows, &self.rows)
     }
 
     /// The signal that waits first in that channel.
@@ -137,12 +167,39 @@ impl Channels {
     }
 }
 
+fn push_all_pairs(rows: &[Row], found: &mut Vec<(u32, u32)>) -> Result<(), AllocError>
+    requires { length rows.now ≤ 4294967296 }
+    ensures ok { OnOk result (found.new.items ≡ found.old.items ++ rows_pairs 0 rows.now) }
+    ensures err { OnErr result (rows_pairs 0 rows.now ≢ []) }
+{
+    for from in 0..rows.len() {
+        rows[from].push_pairs(from as u32, found)?;
+    }
+    Ok(())
+}
+
+/// Whether whatever waits in the one waits in the other too.
+fn rows_are_covered(rows: &[Row], others: &[Row]) -> bool
+    ensures { IsTrue result ↔ CoversAll rows.now others.now }
+{
+    for from in 0..rows.len() {
+        if !covers(lines_of(rows, from), lines_of(others, from)) {
+            return false;
+        }
+    }
+    true
+}
+
 /// Makes the rows as many as to have one at `at`.
 #[cold]
 #[inline(never)]
-#[tactic(auto, using(crate::proofs::Maps::rows_more))]
+#[tactic(auto, using(crate::proofs::Maps::rows_more, crate::proofs::Maps::rising_more))]
 fn grow(alloc: Global, rows: &mut Vec<Row>, at: usize) -> Result<(), AllocError>
-    requires { at < 4294967296 }
+    requires at { at < 4294967296 }
+    requires rising { AllRising rows.old.items }
+    requires few { length rows.old.items ≤ 4294967296 }
+    ensures rising { AllRising rows.new.items }
+    ensures few { length rows.new.items ≤ 4294967296 }
     ensures long { OnOk result (at < length rows.new.items) }
     ensures kept { rows_map 0 rows.new.items ≡ rows_map 0 rows.old.items }
 {
@@ -160,7 +217,10 @@ fn put_in(
     to: u32,
     signal: Signal,
 ) -> Result<(), Signal>
-    requires { from < length rows.old.items }
+    requires from { from < length rows.old.items }
+    requires rising { AllRising rows.old.items }
+    ensures rising { AllRising rows.new.items }
+    ensures length { length rows.new.items ≡ length rows.old.items }
     ensures ok { OnOk result (rows_map 0 rows.new.items ≡ put (from, to) signal (rows_map 0 rows.old.items)) }
     ensures err { IfErr result (λ s. (s ≡ signal) × (rows_map 0 rows.new.items ≡ rows_map 0 rows.old.items)) }
 {
@@ -176,6 +236,9 @@ fn first_in(rows: &[Row], from: usize, to: u32) -> Option<&Signal>
 
 #[inline(always)]
 fn take_in(rows: &mut Vec<Row>, from: usize, to: u32) -> Option<Signal>
+    requires rising { AllRising rows.old.items }
+    ensures rising { AllRising rows.new.items }
+    ensures length { length rows.new.items ≡ length rows.old.items }
     ensures given { result ≡ first (waiting (rows_map 0 rows.old.items) (from, to)) }
     ensures left { rows_map 0 rows.new.items ≡ taken (from, to) (rows_map 0 rows.old.items) }
 {
@@ -187,7 +250,10 @@ fn take_in(rows: &mut Vec<Row>, from: usize, to: u32) -> Option<Signal>
 
 #[inline(always)]
 fn take_from(rows: &mut Vec<Row>, from: usize, to: u32) -> Option<Signal>
-    requires { from < length rows.old.items }
+    requires from { from < length rows.old.items }
+    requires rising { AllRising rows.old.items }
+    ensures rising { AllRising rows.new.items }
+    ensures length { length rows.new.items ≡ length rows.old.items }
     ensures given { result ≡ first (waiting (rows_map 0 rows.old.items) (from, to)) }
     ensures left { rows_map 0 rows.new.items ≡ taken (from, to) (rows_map 0 rows.old.items) }
 {
@@ -195,7 +261,10 @@ fn take_from(rows: &mut Vec<Row>, from: usize, to: u32) -> Option<Signal>
 }
 
 fn take_back_in(rows: &mut Vec<Row>, from: usize, to: u32)
-    ensures { rows_map 0 rows.new.items ≡ taken_back (from, to) (rows_map 0 rows.old.items) }
+    requires rising { AllRising rows.old.items }
+    ensures rising { AllRising rows.new.items }
+    ensures length { length rows.new.items ≡ length rows.old.items }
+    ensures left { rows_map 0 rows.new.items ≡ taken_back (from, to) (rows_map 0 rows.old.items) }
 {
     if from < rows.len() {
         take_back_from(rows, from, to);
@@ -203,8 +272,11 @@ fn take_back_in(rows: &mut Vec<Row>, from: usize, to: u32)
 }
 
 fn take_back_from(rows: &mut Vec<Row>, from: usize, to: u32)
-    requires { from < length rows.old.items }
-    ensures { rows_map 0 rows.new.items ≡ taken_back (from, to) (rows_map 0 rows.old.items) }
+    requires from { from < length rows.old.items }
+    requires rising { AllRising rows.old.items }
+    ensures rising { AllRising rows.new.items }
+    ensures length { length rows.new.items ≡ length rows.old.items }
+    ensures left { rows_map 0 rows.new.items ≡ taken_back (from, to) (rows_map 0 rows.old.items) }
 {
     rows[from].take_back(to);
 }

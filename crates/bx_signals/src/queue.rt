@@ -4,6 +4,7 @@ ghost use Rattle.std.specs.Prelude.{◌≡◌, ◌↔◌, ◌++◌, ◌∷◌, [
 ghost use Rattle.bx_signals.specs.Waiting.{first, rest, front};
 
 use crate::signal::Signal;
+use bx_share::Same;
 use std::alloc::{AllocError, Global};
 use std::collections::VecDeque;
 use std::marker::Model;
@@ -101,7 +102,7 @@ impl Queue {
     }
 }
 
-#[tactic(auto, using(crate::proofs::Compared::same_so_far, crate::proofs::Compared::same_whole))]
+#[tactic(auto, using(bx_share::specs::Rows::same_so_far, bx_share::specs::Rows::same_whole))]
 fn same_signals(xs: &VecDeque<Signal>, ys: &VecDeque<Signal>) -> bool
     ensures { IsTrue result ↔ (xs.now.items ≡ ys.now.items) }
 {

@@ -1,8 +1,8 @@
 //! The channels of one sender.
 
-ghost use Rattle.std.specs.Prelude.{◌≡◌, ◌++◌, ◌∷◌, ◌<◌, [], length, IfOk, IfErr, OnOk, OnErr, option_map};
+ghost use Rattle.std.specs.Prelude.{◌≡◌, ◌≢◌, ◌↔◌, ◌++◌, ◌∷◌, [], IfOk, IfErr, OnOk, OnErr, IsTrue, option_map, slice_get};
 ghost use Rattle.bx_signals.specs.Waiting.{first, rest, front};
-ghost use Rattle.bx_signals.specs.Rows.{queue_in, IsRising, IsPlaceOf, IsGapOf, Replaced, SameRow};
+ghost use Rattle.bx_signals.specs.Rows.{queue_in, IsRising, IsPlaceOf, IsGapOf, Replaced, SameRow, Covers, or_empty, row_pairs};
 
 use crate::queue::Queue;
 use crate::signal::Signal;
@@ -56,6 +56,7 @@ impl Row {
     /// Puts a signal behind those to that receiver, or hands it back where memory ran out, and then nothing has changed.
     #[inline(always)]
     pub(crate) fn put(&mut self, alloc: Global, to: u32, signal: Signal) -> Result<(), Signal>
+        ensures rising { IsRising self.new }
         ensures ok { OnOk result (Replaced self.old self.new to (queue_in self.old to ++ signal ∷ [])) }
         ensures err { IfErr result (λ s. (s ≡ signal) × SameRow self.old self.new) }
     {
@@ -85,6 +86,7 @@ impl Row {
     /// Takes the first signal to that receiver out.
     #[inline(always)]
     pub(crate) fn take(&mut self, to: u32) -> Option<Signal>
+        ensures rising { IsRising self.new }
         ensures given { result ≡ first (queue_in self.old to) }
         ensures left { Replaced self.old self.new to (rest (queue_in self.old to)) }
     {
@@ -96,12 +98,87 @@ impl Row {
 
     /// Takes the last signal to that receiver out.
     pub(crate) fn take_back(&mut self, to: u32)
-        ensures { Replaced self.old self.new to (front (queue_in self.old to)) }
+        ensures rising { IsRising self.new }
+        ensures left { Replaced self.old self.new to (front (queue_in self.old to)) }
     {
         match place_of(&self.lines, to) {
             Ok(at) => take_back_at(&mut self.lines, at, to),
             Err(_) => {}
         }
+    }
+
+    /// Puts the receivers for which something waits last, by rising pid, each behind the sender. Memory is taken only where
+    /// there is one.
+    pub(crate) fn push_pairs(
+        &self,
+        from: u32,
+        pairs: &mut Vec<(u32, u32)>,
+    ) -> Result<(), AllocError>
+        ensures ok { OnOk result (pairs.new.items ≡ pairs.old.items ++ row_pairs from self.now) }
+        ensures err { OnErr result (row_pairs from self.now ≢ []) }
+    {
+        push_pairs_of(&self.lines, from, pairs)
+    }
+}
+
+/// The queues of a sender; without a row none.
+#[tactic(auto, using(crate::proofs::Lines::rising_none))]
+pub(crate) fn lines_of(rows: &[Row], from: usize) -> &[(u32, Queue)]
+    ensures lines { result.now ≡ or_empty (slice_get rows.now from) }
+    ensures rising { IsRising result.now }
+{
+    match rows.get(from) {
+        Some(row) => &row.lines,
+        None => &[],
+    }
+}
+
+fn push_pairs_of(
+    lines: &[(u32, Queue)],
+    from: u32,
+    pairs: &mut Vec<(u32, u32)>,
+) -> Result<(), AllocError>
+    ensures ok { OnOk result (pairs.new.items ≡ pairs.old.items ++ row_pairs from lines.now) }
+    ensures err { OnErr result (row_pairs from lines.now ≢ []) }
+{
+    for at in 0..lines.len() {
+        let (to, queue) = &lines[at];
+        if !queue.is_empty() {
+            pairs.push((from, *to))?;
+        }
+    }
+    Ok(())
+}
+
+/// Whether whatever waits in the one waits in the other too.
+pub(crate) fn covers(lines: &[(u32, Queue)], others: &[(u32, Queue)]) -> bool
+    requires rising { IsRising lines.now }
+    requires others { IsRising others.now }
+    ensures { IsTrue result ↔ Covers lines.now others.now }
+{
+    for at in 0..lines.len() {
+        let (to, queue) = &lines[at];
+        if !holds(others, *to, queue) {
+            return false;
+        }
+    }
+    true
+}
+
+/// Whether these signals, if any, are those that wait for that receiver.
+fn holds(lines: &[(u32, Queue)], to: u32, queue: &Queue) -> bool
+    requires { IsRising lines.now }
+    ensures { IsTrue result ↔ (queue.now ≢ [] → queue_in lines.now to ≡ queue.now) }
+{
+    if queue.is_empty() {
+        return true;
+    }
+    match place_of(lines, to) {
+        Ok(at) => {
+            let (_, found) = &lines[at];
+            found.same(queue)
+        }
+        Err(_) => false,
     }
 }
 

@@ -1,7 +1,6 @@
 //! Signals.
 
-ghost use Rattle.std.specs.Prelude.{◌≡◌, ◌↔◌, IsTrue};
-
+use bx_share::Same;
 use bx_terms::Term;
 use std::alloc::AllocError;
 
@@ -37,11 +36,8 @@ impl Clone for Signal {
     }
 }
 
-impl Signal {
-    /// Whether both are the same signal.
-    pub fn same(&self, other: &Signal) -> bool
-        ensures { IsTrue result ↔ (self.now ≡ other.now) }
-    {
+impl Same for Signal {
+    fn same(&self, other: &Signal) -> bool {
         match (self, other) {
             (Signal::Message(term), Signal::Message(other)) => term.same(other),
             (Signal::Link, Signal::Link) => true,

@@ -5,5 +5,5 @@ use Rattle.bx_signals.specs.declared.signal.Signal.{Signal}
 use Rattle.bx_signals.proofs.Lines.{nothing_before}
 use Rattle.bx_signals.proofs.row.Row.take_back.Goals as goal
 
-pub returns-in-Err : goal.returns-in-Err
-returns-in-Err c = nothing_before c.args.self.now c.args.to c.in-Err.field-0 (subst (λ (row : Row Signal). IsGapOf row c.args.to c.in-Err.field-0) (c.deref.ensures.value ∙ c.self.view_is) c.in-Err.ensures.missed)
+pub returns-in-Err-clause-left : goal.returns-in-Err-clause-left
+returns-in-Err-clause-left c = nothing_before c.args.self.now c.args.to c.in-Err.field-0 (subst (λ (row : Row Signal). IsGapOf row c.args.to c.in-Err.field-0) (c.deref.ensures.value ∙ c.self.view_is) c.in-Err.ensures.missed)
