@@ -1,0 +1,371 @@
+-- The chains of the nodes so far, with a node more.
+use Rattle.std.proofs.Common.{◌≡◌, ◌≢◌, ◌⊎◌, inl, inr, ℕ, ◌+◌, ◌-◌, ◌<◌, ◌≤◌, ◌==◌, ◌&&◌, not, nat_lt, Bool, true, false, cond, List, [], ◌∷◌, ◌++◌, length, get_or, set, refl, sym, ap, subst, ◌∙◌, arith, length-append}
+use Rattle.std.proofs.Math.ListN.{get_or-append, get_or-eq_default}
+use Rattle.std.proofs.Math.Seq.{get_or-append_seam}
+use Rattle.std.proofs.lemmas.List.{get_or-set_same, get_or-set_other, length-set}
+use Rattle.std.proofs.lemmas.Bool.{cases_eq, cases_Bool, both_ways, and_parts, and_from, eqb-true, eq-eqb, lt-ltb, le-ltb, ltb-true, ltb-false, cond-true, cond-false}
+use Rattle.bx_world.specs.declared.choices.Choice.TheVariants.{Run}
+use Rattle.bx_plan.specs.Planned.{Planned}
+use Rattle.bx_plan.specs.Trees.{Tree, IsTree, parent}
+use Rattle.bx_chains.specs.declared.chains.Head.{Head}
+use Rattle.bx_chains.specs.Chains.{child_count, ends_at, goes_on, Chained, no_head, first, above, last, kids, owner, times, one_if, is_kid, Begins, Owned, AreSoFar, extended, begun}
+use Rattle.bx_chains.proofs.Counting.{count_two, times-append, not_eq, flipped, below_or_past, both_true, mid_false, and_true, and_false}
+
+-- ---- the last node of a chain
+
+pub last_inner : (all : Chained) (c : ℕ) → c + 1 < length all.heads → last all c ≡ first all (c + 1) - 1
+last_inner all c h = cond-true (nat_lt (c + 1) (length all.heads)) _ _ (lt-ltb (c + 1) (length all.heads) h)
+
+pub last_final : (all : Chained) (c : ℕ) → length all.heads ≤ c + 1 → last all c ≡ length all.owners - 1
+last_final all c h = cond-false (nat_lt (c + 1) (length all.heads)) _ _ (le-ltb (c + 1) (length all.heads) h)
+
+-- a chain is the last one, or another follows
+pub inner_or_final : (all : Chained) (c : ℕ) → (c + 1 < length all.heads) ⊎ (length all.heads ≤ c + 1)
+inner_or_final all c = one (cases_Bool (nat_lt (c + 1) (length all.heads))) where
+  one : (nat_lt (c + 1) (length all.heads) ≡ true) ⊎ (nat_lt (c + 1) (length all.heads) ≡ false) → (c + 1 < length all.heads) ⊎ (length all.heads ≤ c + 1)
+  one (inl e) = inl (ltb-true (c + 1) (length all.heads) e)
+  one (inr e) = inr (ltb-false (c + 1) (length all.heads) e)
+
+root_or_more : (c : ℕ) → (c ≡ 0) ⊎ (0 < c)
+root_or_more c = one (cases_eq c 0) where
+  one : (c ≡ 0) ⊎ (c ≢ 0) → (c ≡ 0) ⊎ (0 < c)
+  one (inl e) = inl e
+  one (inr e) = inr (omega (arith, e))
+
+-- what is said of a node that goes on
+pub record GoesOn (plan : Planned) (node : ℕ) : Type 0 where
+  pub low : 1 < node
+  pub behind : parent plan.tree node ≡ node - 1
+  pub single : child_count plan.tree (node - 1) ≡ 1
+  pub unended : ends_at plan (node - 1) ≡ false
+
+not_true : (b : Bool) → not b ≡ true → b ≡ false
+not_true true h = cc
+not_true false h = refl
+
+pub goes_on_is : (plan : Planned) (node : ℕ) → goes_on plan node ≡ true → GoesOn plan node
+goes_on_is plan node h =
+    let a = and_parts (nat_lt 1 node && (parent plan.tree node == node - 1) && (child_count plan.tree (node - 1) == 1)) (not (ends_at plan (node - 1))) h in
+    let b = and_parts (nat_lt 1 node && (parent plan.tree node == node - 1)) (child_count plan.tree (node - 1) == 1) a.0 in
+    let c = and_parts (nat_lt 1 node) (parent plan.tree node == node - 1) b.0 in
+    record {
+      low = ltb-true 1 node c.0;
+      behind = eqb-true (parent plan.tree node) (node - 1) c.1;
+      single = eqb-true (child_count plan.tree (node - 1)) 1 b.1;
+      unended = not_true (ends_at plan (node - 1)) a.1;
+    }
+
+module _ (plan : Planned) (all : Chained) (is : AreSoFar plan all) where
+  -- a chain begins before the nodes end
+  first_within : (c : ℕ) → c < length all.heads → first all c < length all.owners
+  first_within c h = one (root_or_more c) where
+    one : (c ≡ 0) ⊎ (0 < c) → first all c < length all.owners
+    one (inl e) = omega (arith, ap (first all) e, is.root, is.owned)
+    one (inr p) = (is.begins c p h).within
+
+  pub last_within : (c : ℕ) → c < length all.heads → last all c < length all.owners
+  last_within c h = one (inner_or_final all c) where
+    one : (c + 1 < length all.heads) ⊎ (length all.heads ≤ c + 1) → last all c < length all.owners
+    one (inl l) = omega (arith, last_inner all c l, first_within (c + 1) l, is.owned)
+    one (inr l) = omega (arith, last_final all c l, is.owned)
+
+  -- ---- a node goes on
+
+  module _ (on : goes_on plan (length all.owners) ≡ true) where
+    longer : length (extended all).owners ≡ length all.owners + 1
+    longer = length-append all.owners ((length all.heads - 1) ∷ [])
+
+    same_inner : (c : ℕ) → c + 1 < length all.heads → last (extended all) c ≡ last all c
+    same_inner c h = last_inner (extended all) c h ∙ sym (last_inner all c h)
+
+    last_grows : (c : ℕ) → c < length all.heads → last all c ≤ last (extended all) c
+    last_grows c h = one (inner_or_final all c) where
+      one : (c + 1 < length all.heads) ⊎ (length all.heads ≤ c + 1) → last all c ≤ last (extended all) c
+      one (inl l) = omega (arith, same_inner c l)
+      one (inr l) = omega (arith, last_final all c l, last_final (extended all) c l, longer)
+
+    begins_still : (c : ℕ) → 0 < c → c < length all.heads → Begins plan (extended all) c
+    begins_still c p h =
+        let old = is.begins c p h in
+        record {
+          positive = old.positive;
+          within = omega (arith, old.within, longer);
+          fresh = old.fresh;
+          below = old.below;
+          stands = same_inner (above all c) (omega (arith, old.below)) ∙ old.stands;
+        }
+
+    inside_still : (c node : ℕ) → c < length all.heads → first all c < node → node ≤ last (extended all) c → goes_on plan node ≡ true
+    inside_still c node h a b = one (inner_or_final all c) where
+      final : length all.heads ≤ c + 1 → (node ≡ length all.owners) ⊎ (node ≢ length all.owners) → goes_on plan node ≡ true
+      final l (inl e) = ap (goes_on plan) e ∙ on
+      final l (inr e) = is.inside c node h a (omega (arith, e, b, last_final all c l, last_final (extended all) c l, longer))
+
+      one : (c + 1 < length all.heads) ⊎ (length all.heads ≤ c + 1) → goes_on plan node ≡ true
+      one (inl l) = is.inside c node h a (omega (arith, b, same_inner c l))
+      one (inr l) = final l (cases_eq node (length all.owners))
+
+    owned_still : (node : ℕ) → node < length (extended all).owners → Owned (extended all) node
+    owned_still node h = one (cases_eq node (length all.owners)) where
+      one : (node ≡ length all.owners) ⊎ (node ≢ length all.owners) → Owned (extended all) node
+      one (inl e) =
+          let same : owner (extended all) node ≡ length all.heads - 1 = ap (owner (extended all)) e ∙ get_or-append_seam all.owners (length all.heads - 1) [] 0 in
+          record {
+            chain = omega (arith, same, is.some);
+            behind = omega (arith, ap (first all) same, e, first_within (length all.heads - 1) (omega (arith, is.some)));
+            before = omega (arith, ap (last (extended all)) same, last_final (extended all) (length all.heads - 1) (omega (arith, is.some)), longer, e);
+          }
+      one (inr e) =
+          let old = is.owners node (omega (arith, h, longer, e)) in
+          let same : owner (extended all) node ≡ owner all node = get_or-append all.owners ((length all.heads - 1) ∷ []) 0 node (omega (arith, h, longer, e)) in
+          record {
+            chain = omega (arith, same, old.chain);
+            behind = omega (arith, ap (first all) same, old.behind);
+            before = omega (arith, ap (last (extended all)) same, last_grows (owner all node) old.chain, old.before);
+          }
+
+    pub goes_further : AreSoFar plan (extended all)
+    goes_further = record {
+      some = is.some;
+      owned = omega (arith, longer);
+      rows = is.rows;
+      root = is.root;
+      begins = begins_still;
+      rises = is.rises;
+      inside = inside_still;
+      owners = owned_still;
+      kids = is.kids;
+    }
+
+    pub goes_with : (new : Chained) → new ≡ extended all → AreSoFar plan new × (length new.owners ≡ length all.owners + 1)
+    goes_with new e = subst (λ x. AreSoFar plan x × (length x.owners ≡ length all.owners + 1)) (sym e) (goes_further, longer)
+
+  -- ---- a node begins a chain
+
+  module _ (tree : IsTree plan.tree) (within : length all.owners < length plan.tree.paths) (fresh : goes_on plan (length all.owners) ≡ false) where
+    up_before : parent plan.tree (length all.owners) < length all.owners
+    up_before = tree.below (length all.owners) is.owned within
+
+    own : Owned all (parent plan.tree (length all.owners))
+    own = is.owners (parent plan.tree (length all.owners)) up_before
+
+    -- a step to a node with that parent
+    steps_there : (k : ℕ) → parent plan.tree k ≡ parent plan.tree (length all.owners) → ((get_or plan.tree.steps (k - 1) (0, Run 0)).0 == parent plan.tree (length all.owners)) ≡ true
+    steps_there k e = eq-eqb (parent plan.tree k) (parent plan.tree (length all.owners)) e
+
+    -- the parent is the last node of its chain: else the next node there were its only child
+    parent_is_last : last all (owner all (parent plan.tree (length all.owners))) ≡ parent plan.tree (length all.owners)
+    parent_is_last = one (cases_eq (last all (owner all (parent plan.tree (length all.owners)))) (parent plan.tree (length all.owners))) where
+      one : (last all (owner all (parent plan.tree (length all.owners))) ≡ parent plan.tree (length all.owners)) ⊎ (last all (owner all (parent plan.tree (length all.owners))) ≢ parent plan.tree (length all.owners))
+          → last all (owner all (parent plan.tree (length all.owners))) ≡ parent plan.tree (length all.owners)
+      one (inl e) = e
+      one (inr e) =
+          let p = parent plan.tree (length all.owners) in
+          let ahead : p + 1 ≤ last all (owner all p) = omega (arith, e, own.before) in
+          let on = goes_on_is plan (p + 1) (is.inside (owner all p) (p + 1) own.chain (omega (arith, own.behind)) ahead) in
+          let here : parent plan.tree (p + 1) ≡ p = omega (arith, on.behind) in
+          let lower : p + 1 - 1 < length all.owners - 1 = omega (arith, ahead, last_within (owner all p) own.chain) in
+          let two = count_two (λ step. step.0 == p) plan.tree.steps (p + 1 - 1) (length all.owners - 1) (0, Run 0) lower (omega (arith, tree.count, within, is.owned)) (steps_there (p + 1) here) (steps_there (length all.owners) refl) in
+          let place : p + 1 - 1 ≡ p = omega arith in
+          let single : child_count plan.tree p ≡ 1 = sym (ap (child_count plan.tree) place) ∙ on.single in
+          absurd (omega (arith, two, single))
+
+    abbrev next : Chained
+    next = begun (owner all (parent plan.tree (length all.owners))) all
+
+    more_heads : length next.heads ≡ length all.heads + 1
+    more_heads = length-append all.heads ((record { first = length all.owners; above = owner all (parent plan.tree (length all.owners)) }) ∷ [])
+
+    more_owners : length next.owners ≡ length all.owners + 1
+    more_owners = length-append all.owners (length all.heads ∷ [])
+
+    old_head : (c : ℕ) → c < length all.heads → get_or next.heads c no_head ≡ get_or all.heads c no_head
+    old_head c h = get_or-append all.heads ((record { first = length all.owners; above = owner all (parent plan.tree (length all.owners)) }) ∷ []) no_head c h
+
+    new_head : get_or next.heads (length all.heads) no_head ≡ record { first = length all.owners; above = owner all (parent plan.tree (length all.owners)) }
+    new_head = get_or-append_seam all.heads (record { first = length all.owners; above = owner all (parent plan.tree (length all.owners)) }) [] no_head
+
+    old_first : (c : ℕ) → c < length all.heads → first next c ≡ first all c
+    old_first c h = ap (λ (x : Head). x.first) (old_head c h)
+
+    new_first : first next (length all.heads) ≡ length all.owners
+    new_first = ap (λ (x : Head). x.first) new_head
+
+    old_above : (c : ℕ) → c < length all.heads → above next c ≡ above all c
+    old_above c h = ap (λ (x : Head). x.above) (old_head c h)
+
+    new_above : above next (length all.heads) ≡ owner all (parent plan.tree (length all.owners))
+    new_above = ap (λ (x : Head). x.above) new_head
+
+    old_last : (c : ℕ) → c < length all.heads → last next c ≡ last all c
+    old_last c h = one (inner_or_final all c) where
+      one : (c + 1 < length all.heads) ⊎ (length all.heads ≤ c + 1) → last next c ≡ last all c
+      one (inl l) = omega (arith, last_inner all c l, last_inner next c (omega (arith, h, more_heads)), old_first (c + 1) l)
+      one (inr l) =
+          let place : c + 1 ≡ length all.heads = omega (arith, h, l) in
+          omega (arith, last_final all c l, last_inner next c (omega (arith, h, more_heads)), ap (first next) place, new_first)
+
+    new_last : last next (length all.heads) ≡ length all.owners
+    new_last = omega (arith, last_final next (length all.heads) (omega (arith, more_heads)), more_owners)
+
+    begins_more : (c : ℕ) → 0 < c → c < length next.heads → Begins plan next c
+    begins_more c p h = one (cases_eq c (length all.heads)) where
+      one : (c ≡ length all.heads) ⊎ (c ≢ length all.heads) → Begins plan next c
+      one (inl e) =
+          let begins = ap (first next) e ∙ new_first in
+          let under = ap (above next) e ∙ new_above in
+          record {
+            positive = omega (arith, begins, is.owned);
+            within = omega (arith, begins, more_owners);
+            fresh = ap (goes_on plan) begins ∙ fresh;
+            below = omega (arith, under, own.chain, e);
+            stands = ap (last next) under ∙ old_last (owner all (parent plan.tree (length all.owners))) own.chain ∙ parent_is_last ∙ ap (parent plan.tree) (sym begins);
+          }
+      one (inr e) =
+          let less : c < length all.heads = omega (arith, h, more_heads, e) in
+          let old = is.begins c p less in
+          let begins = old_first c less in
+          let under = old_above c less in
+          record {
+            positive = omega (arith, begins, old.positive);
+            within = omega (arith, begins, old.within, more_owners);
+            fresh = ap (goes_on plan) begins ∙ old.fresh;
+            below = omega (arith, under, old.below);
+            stands = ap (last next) under ∙ old_last (above all c) (omega (arith, old.below, less)) ∙ old.stands ∙ ap (parent plan.tree) (sym begins);
+          }
+
+    rises_more : (c : ℕ) → c + 1 < length next.heads → first next c < first next (c + 1)
+    rises_more c h = one (cases_eq (c + 1) (length all.heads)) where
+      one : (c + 1 ≡ length all.heads) ⊎ (c + 1 ≢ length all.heads) → first next c < first next (c + 1)
+      one (inl e) =
+          let less : c < length all.heads = omega (arith, e) in
+          omega (arith, ap (first next) e, new_first, old_first c less, first_within c less)
+      one (inr e) =
+          let less : c + 1 < length all.heads = omega (arith, h, more_heads, e) in
+          omega (arith, old_first c (omega (arith, less)), old_first (c + 1) less, is.rises c less)
+
+    inside_more : (c node : ℕ) → c < length next.heads → first next c < node → node ≤ last next c → goes_on plan node ≡ true
+    inside_more c node h a b = one (cases_eq c (length all.heads)) where
+      one : (c ≡ length all.heads) ⊎ (c ≢ length all.heads) → goes_on plan node ≡ true
+      one (inl e) = absurd (omega (arith, ap (first next) e, new_first, ap (last next) e, new_last, a, b))
+      one (inr e) =
+          let less : c < length all.heads = omega (arith, h, more_heads, e) in
+          is.inside c node less (omega (arith, old_first c less, a)) (omega (arith, old_last c less, b))
+
+    owned_more : (node : ℕ) → node < length next.owners → Owned next node
+    owned_more node h = one (cases_eq node (length all.owners)) where
+      one : (node ≡ length all.owners) ⊎ (node ≢ length all.owners) → Owned next node
+      one (inl e) =
+          let same : owner next node ≡ length all.heads = ap (owner next) e ∙ get_or-append_seam all.owners (length all.heads) [] 0 in
+          record {
+            chain = omega (arith, same, more_heads);
+            behind = omega (arith, ap (first next) same, new_first, e);
+            before = omega (arith, ap (last next) same, new_last, e);
+          }
+      one (inr e) =
+          let less : node < length all.owners = omega (arith, h, more_owners, e) in
+          let old = is.owners node less in
+          let same : owner next node ≡ owner all node = get_or-append all.owners (length all.heads ∷ []) 0 node less in
+          record {
+            chain = omega (arith, same, old.chain, more_heads);
+            behind = omega (arith, ap (first next) same, old_first (owner all node) old.chain, old.behind);
+            before = omega (arith, ap (last next) same, old_last (owner all node) old.chain, old.before);
+          }
+
+    -- ---- what stands on each chain
+
+    -- the new chain stands on that one
+    abbrev new_kid : ℕ → ℕ → ℕ
+    new_kid c d = one_if ((owner all (parent plan.tree (length all.owners)) == c) && (d == length all.heads))
+
+    more_kids : length next.kids ≡ length all.kids + 1
+    more_kids =
+        length-append (set all.kids (owner all (parent plan.tree (length all.owners))) (kids all (owner all (parent plan.tree (length all.owners))) ++ length all.heads ∷ [])) ([] ∷ [])
+        ∙ ap (λ n. n + 1) (length-set all.kids (owner all (parent plan.tree (length all.owners))) (kids all (owner all (parent plan.tree (length all.owners))) ++ length all.heads ∷ []))
+
+    abbrev under : ℕ
+    under = owner all (parent plan.tree (length all.owners))
+
+    abbrev set_kids : List (List ℕ)
+    set_kids = set all.kids under (kids all under ++ length all.heads ∷ [])
+
+    length-set_kids : length set_kids ≡ length all.heads
+    length-set_kids = length-set all.kids under (kids all under ++ length all.heads ∷ []) ∙ is.rows
+
+    -- the old row, and perhaps the new chain
+    same_row : (c : ℕ) → c < length all.heads → kids next c ≡ get_or set_kids c []
+    same_row c h = get_or-append set_kids ([] ∷ []) [] c (omega (arith, h, length-set_kids))
+
+    new_row : (c : ℕ) → length all.heads ≤ c → kids next c ≡ []
+    new_row c h = one (cases_eq c (length all.heads)) where
+      one : (c ≡ length all.heads) ⊎ (c ≢ length all.heads) → kids next c ≡ []
+      one (inl e) = let place : c ≡ length set_kids = e ∙ sym length-set_kids in ap (kids next) place ∙ get_or-append_seam set_kids [] [] []
+      one (inr e) = get_or-eq_default next.kids [] (omega (arith, more_kids, is.rows, h, e))
+
+    no_row : (c : ℕ) → length all.heads ≤ c → kids all c ≡ []
+    no_row c h = get_or-eq_default all.kids [] (omega (arith, is.rows, h))
+
+    times_last : (d : ℕ) → times d (length all.heads ∷ []) ≡ one_if (length all.heads == d)
+    times_last d = omega arith
+
+    row_more : (c d : ℕ) → times d (kids next c) ≡ times d (kids all c) + new_kid c d
+    row_more c d = one (cases_eq c under) where
+      here : (c ≡ under) → times d (kids next c) ≡ times d (kids all c) + one_if (d == length all.heads)
+      here e =
+          let less : c < length all.heads = omega (arith, e, own.chain) in
+          let row : kids next c ≡ kids all under ++ length all.heads ∷ [] = same_row c less ∙ ap (λ i. get_or set_kids i []) e ∙ get_or-set_same all.kids under (kids all under ++ length all.heads ∷ []) [] (omega (arith, own.chain, is.rows)) in
+          ap (times d) row ∙ times-append d (kids all under) (length all.heads ∷ []) ∙ ap (λ n. times d (kids all under) + n) (times_last d ∙ ap one_if (flipped (length all.heads) d)) ∙ ap (λ i. times d (kids all i) + one_if (d == length all.heads)) (sym e)
+
+      one : (c ≡ under) ⊎ (c ≢ under) → times d (kids next c) ≡ times d (kids all c) + new_kid c d
+      one (inl e) = here e ∙ ap (λ b. times d (kids all c) + one_if (b && (d == length all.heads))) (sym (eq-eqb under c (sym e)))
+      one (inr e) = other (below_or_past c (length all.heads)) where
+        apart : new_kid c d ≡ 0
+        apart = ap (λ b. one_if (b && (d == length all.heads))) (not_eq under c (λ f. e (sym f)))
+
+        other : (c < length all.heads) ⊎ (length all.heads ≤ c) → times d (kids next c) ≡ times d (kids all c) + new_kid c d
+        other (inl l) = omega (arith, apart, ap (times d) (same_row c l ∙ get_or-set_other all.kids under c (kids all under ++ length all.heads ∷ []) [] e))
+        other (inr l) = omega (arith, apart, ap (times d) (new_row c l), ap (times d) (no_row c l))
+
+    kid_more : (c d : ℕ) → one_if (is_kid next c d) ≡ one_if (is_kid all c d) + new_kid c d
+    kid_more c d = one (cases_eq d (length all.heads)) where
+      one : (d ≡ length all.heads) ⊎ (d ≢ length all.heads) → one_if (is_kid next c d) ≡ one_if (is_kid all c d) + new_kid c d
+      one (inl e) =
+          let new : is_kid next c d ≡ (under == c) =
+          both_true (nat_lt 0 d) (nat_lt d (length next.heads)) (above next d == c) (lt-ltb 0 d (omega (arith, e, is.some))) (lt-ltb d (length next.heads) (omega (arith, e, more_heads)))
+          ∙ ap (λ i. i == c) (ap (above next) e ∙ new_above) in
+          let old : is_kid all c d ≡ false = mid_false (nat_lt 0 d) (nat_lt d (length all.heads)) (above all d == c) (le-ltb d (length all.heads) (omega (arith, e))) in
+          let more : new_kid c d ≡ one_if (under == c) = ap (λ b. one_if ((under == c) && b)) (eq-eqb d (length all.heads) e) ∙ ap one_if (and_true (under == c)) in
+          omega (arith, ap one_if new, ap one_if old, more)
+      one (inr e) = two (below_or_past d (length all.heads)) where
+        more : new_kid c d ≡ 0
+        more = ap (λ b. one_if ((under == c) && b)) (not_eq d (length all.heads) e) ∙ ap one_if (and_false (under == c))
+
+        two : (d < length all.heads) ⊎ (length all.heads ≤ d) → one_if (is_kid next c d) ≡ one_if (is_kid all c d) + new_kid c d
+        two (inl l) =
+            let same : is_kid next c d ≡ is_kid all c d =
+            ap (λ b. nat_lt 0 d && b && (above next d == c)) (lt-ltb d (length next.heads) (omega (arith, l, more_heads)) ∙ sym (lt-ltb d (length all.heads) l))
+            ∙ ap (λ i. nat_lt 0 d && nat_lt d (length all.heads) && (i == c)) (old_above d l) in
+            omega (arith, ap one_if same, more)
+        two (inr l) =
+            let new : is_kid next c d ≡ false = mid_false (nat_lt 0 d) (nat_lt d (length next.heads)) (above next d == c) (le-ltb d (length next.heads) (omega (arith, l, e, more_heads))) in
+            let old : is_kid all c d ≡ false = mid_false (nat_lt 0 d) (nat_lt d (length all.heads)) (above all d == c) (le-ltb d (length all.heads) l) in
+            omega (arith, ap one_if new, ap one_if old, more)
+
+    kids_more : (c d : ℕ) → times d (kids next c) ≡ one_if (is_kid next c d)
+    kids_more c d = row_more c d ∙ ap (λ n. n + new_kid c d) (is.kids c d) ∙ sym (kid_more c d)
+
+    pub begins_another : AreSoFar plan next
+    begins_another = record {
+      some = omega (arith, more_heads);
+      owned = omega (arith, more_owners);
+      rows = more_kids ∙ ap (λ n. n + 1) is.rows ∙ sym more_heads;
+      root = old_first 0 is.some ∙ is.root;
+      begins = begins_more;
+      rises = rises_more;
+      inside = inside_more;
+      owners = owned_more;
+      kids = kids_more;
+    }
+
+    pub begins_with : (new : Chained) → new ≡ next → AreSoFar plan new × (length new.owners ≡ length all.owners + 1)
+    begins_with new e = subst (λ x. AreSoFar plan x × (length x.owners ≡ length all.owners + 1)) (sym e) (begins_another, more_owners)
