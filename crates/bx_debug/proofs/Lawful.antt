@@ -1,0 +1,139 @@
+-- What is true of every session.
+use Rattle.std.proofs.Common.{◌≡◌, ℕ, ◌+◌, ◌-◌, ◌≤◌, List, [], ◌∷◌, ◌++◌, length, take, Bool, true, false, Option, Some, None, Result, Ok, Err, refl, sym, ap, ◌∙◌, subst, arith, length-append}
+use Rattle.std.specs.Prelude.{is_some, if◌then◌else◌, nat_lt}
+use Rattle.std.proofs.lemmas.List.{take_at, length-take-le}
+use Rattle.std.proofs.lemmas.Bool.{le-ltb, ltb-false}
+use Rattle.bx_terms.proofs.Outcomes.{ok_pair, bind_ok}
+use Rattle.bx_terms.specs.declared.atom_table.AtomId.{AtomId}
+use Rattle.bx_terms.specs.declared.faults.Fault.{Fault}
+use Rattle.bx_terms.specs.declared.faults.Fault.TheVariants as faults
+use Rattle.bx_load.specs.Image.{Loaded}
+use Rattle.bx_world.specs.declared.choices.Choice.{Choice}
+use Rattle.bx_world.specs.World.{State, started}
+use Rattle.bx_world.specs.Enabled.{can}
+use Rattle.bx_world.specs.Choosing.{refusal}
+use Rattle.bx_world.specs.Running.{Ended, ran, unchosen}
+use Rattle.bx_debug.specs.Calls.{Call, Step, Back, Forward, Go, SetBreak, ClearBreak, kept_unless, called, after_calls}
+use Rattle.bx_debug.specs.Going.{walked}
+use Rattle.bx_debug.specs.Leading.{led, all_enabled}
+use Rattle.bx_debug.specs.Sessions.{History, behind, world_of, begun, opened, with_made, or_refused, stepped, back, forward}
+use Rattle.bx_debug.specs.Stopping.{IsRunOf}
+use Rattle.bx_debug.proofs.Leads.{enabled_both, enabled_take, ran_all}
+use Rattle.bx_debug.proofs.Stopped.{walked_enabled, and_true}
+
+-- every choice of the session was enabled where it was made
+record Made (image : Loaded) (start : State) (s : History) : Type 0 where
+  pub code : s.image ≡ image
+  pub begins : s.start ≡ start
+  pub within : s.at ≤ length s.choices
+  pub made : all_enabled s.image s.choices s.start ≡ true
+
+led_there : (image : Loaded) (start : State) (s : History) → Made image start s → world_of s ≡ led s.image (behind s) s.start
+led_there image start s m = ap (λ (end : Ended). end.world) (ran_all s.image (behind s) s.start (enabled_take s.image s.at s.choices s.start m.made))
+
+made_more : (image : Loaded) (start : State) (choices : List Choice) (s : History) → Made image start s → all_enabled s.image choices (world_of s) ≡ true → Made image start (with_made choices s)
+made_more image start [] s m able = m
+made_more image start (choice ∷ more) s m able = record {
+  code = m.code;
+  begins = m.begins;
+  within = let cut : length (behind s) ≡ s.at = length-take-le s.at s.choices m.within in omega (arith, length-append (behind s) (choice ∷ more));
+  made = enabled_both s.image (behind s) (choice ∷ more) s.start (enabled_take s.image s.at s.choices s.start m.made)
+      (subst (λ (w : State). all_enabled s.image (choice ∷ more) w ≡ true) (led_there image start s m) able);
+}
+
+able_unless : (trap able : Bool) → (if trap then Some faults.Halted else if able then None else Some faults.NotEnabled) ≡ None → able ≡ true
+able_unless true able is = cc
+able_unless false true is = refl
+able_unless false false is = cc
+
+step_made : (image : Loaded) (start : State) (choice : Choice) (s : History) (why : Option Fault) → refusal (world_of s) choice ≡ why → Made image start s
+    → Made image start (kept_unless s (or_refused why (with_made (choice ∷ []) s)))
+step_made image start choice s None is m =
+    let able : can (world_of s) choice ≡ true = able_unless (is_some (world_of s).trap) (can (world_of s) choice) is in
+    made_more image start (choice ∷ []) s m (and_true (can (world_of s) choice) true able refl)
+step_made image start choice s (Some fault) is m = m
+
+moved : (image : Loaded) (start : State) (s : History) (at : ℕ) → Made image start s → at ≤ length s.choices → Made image start (record s { at = at })
+moved image start s at m within = record { code = m.code; begins = m.begins; within = within; made = m.made }
+
+back_made : (image : Loaded) (start : State) (n : ℕ) (s : History) (past : Bool) → Made image start s → Made image start (kept_unless s (if past then Err faults.BeforeStart else Ok (record s { at = s.at - n }, tt)))
+back_made image start n s true m = m
+back_made image start n s false m = let within = m.within in moved image start s (s.at - n) m (omega arith)
+
+forward_made : (image : Loaded) (start : State) (n : ℕ) (s : History) (past : Bool) → nat_lt (length s.choices - s.at) n ≡ past → Made image start s
+    → Made image start (kept_unless s (if past then Err faults.AfterEnd else Ok (record s { at = s.at + n }, tt)))
+forward_made image start n s true is m = m
+forward_made image start n s false is m =
+    let within = m.within in
+    let few : n ≤ length s.choices - s.at = ltb-false (length s.choices - s.at) n is in
+    moved image start s (s.at + n) m (omega arith)
+
+called_made : (image : Loaded) (start : State) (call : Call) (s : History) → Made image start s → Made image start (called call s)
+called_made image start (Step choice) s m = step_made image start choice s (refusal (world_of s) choice) refl m
+called_made image start (Back n) s m = back_made image start n s (nat_lt s.at n) m
+called_made image start (Forward n) s m = forward_made image start n s (nat_lt (length s.choices - s.at) n) refl m
+called_made image start (Go choices) s m = made_more image start (walked s.image s.places choices (world_of s)).0 s m (walked_enabled s.image s.places choices (world_of s))
+called_made image start (SetBreak place) s m = record { code = m.code; begins = m.begins; within = m.within; made = m.made }
+called_made image start (ClearBreak place) s m = record { code = m.code; begins = m.begins; within = m.within; made = m.made }
+
+calls_made : (image : Loaded) (start : State) (calls : List Call) (s : History) → Made image start s → Made image start (after_calls calls s)
+calls_made image start [] s m = m
+calls_made image start (call ∷ more) s m = calls_made image start more (called call s) (called_made image start call s m)
+
+run_of : (image : Loaded) (start : State) (s : History) → Made image start s → IsRunOf image start s
+run_of image start s m =
+    let here = led_there image start s m in
+    let whole : ran s.image (behind s) (unchosen s.start) ≡ record { world = world_of s; applied = s.at; refused = None } =
+    ran_all s.image (behind s) s.start (enabled_take s.image s.at s.choices s.start m.made)
+    ∙ (λ i. record { world = sym here i; applied = length-take-le s.at s.choices m.within i; refused = None }) in
+    record {
+      code = m.code;
+      begins = m.begins;
+      within = m.within;
+      run = (λ i. ran (sym m.code i) (behind s) (unchosen (sym m.begins i))) ∙ whole;
+    }
+
+opened_made : (image : Loaded) (m f : AtomId) (first : History) → opened image m f ≡ Ok first → Made image first.start first
+opened_made image m f first is =
+    let found = bind_ok (started image m f) (λ w. Ok (begun image w)) first is in
+    let same : begun image found.0 ≡ first = cc (found.2) in
+    subst (λ (s : History). Made image s.start s) same (record { code = refl; begins = refl; within = omega arith; made = refl })
+
+pub always_run : (image : Loaded) (m f : AtomId) (first : History) (calls : List Call) → opened image m f ≡ Ok first → IsRunOf image first.start (after_calls calls first)
+always_run image m f first calls is = run_of image first.start (after_calls calls first) (calls_made image first.start calls first (opened_made image m f first is))
+
+-- stepping back over a choice that was made
+made_is : (s t : History) (choice : Choice) (why : Option Fault) → or_refused why (with_made (choice ∷ []) s) ≡ Ok (t, tt) → with_made (choice ∷ []) s ≡ t
+made_is s t choice None is = (ok_pair (with_made (choice ∷ []) s) t tt tt is).0
+made_is s t choice (Some fault) is = cc
+
+abbrev unless_past : Bool → Fault → History → Result (History × Unit {0}) Fault
+unless_past past fault t = if past then Err fault else Ok (t, tt)
+
+back_is : (n : ℕ) (t u : History) (past : Bool) → unless_past past faults.BeforeStart (record t { at = t.at - n }) ≡ Ok (u, tt) → record t { at = t.at - n } ≡ u
+back_is n t u true is = cc
+back_is n t u false is = (ok_pair (record t { at = t.at - n }) u tt tt is).0
+
+pub stepped_back : (choice : Choice) (s t u : History) → s.at ≤ length s.choices → stepped choice s ≡ Ok (t, tt) → back 1 t ≡ Ok (u, tt) → world_of u ≡ world_of s
+stepped_back choice s t u within made gone_back =
+    let t_is = made_is s t choice (refusal (world_of s) choice) made in
+    let u_is = back_is 1 t u (nat_lt t.at 1) gone_back in
+    let behind_is : take (s.at + 1 - 1) (behind s ++ choice ∷ []) ≡ behind s =
+    take_at (behind s) (choice ∷ []) (s.at + 1 - 1) (length-take-le s.at s.choices within ∙ omega arith) in
+    sym (ap world_of u_is) ∙ sym (ap (λ (h : History). world_of (record h { at = h.at - 1 })) t_is)
+    ∙ ap (λ (cs : List Choice). (ran s.image cs (unchosen s.start)).world) behind_is
+
+-- forward as far as back
+forward_is : (n : ℕ) (s : History) (past : Bool) → s.at ≤ length s.choices → nat_lt s.at n ≡ past → (t : History)
+    → unless_past past faults.BeforeStart (record s { at = s.at - n }) ≡ Ok (t, tt) → forward n t ≡ Ok (s, tt)
+forward_is n s true within is t gone_back = cc
+forward_is n s false within is t gone_back =
+    let few : n ≤ s.at = ltb-false s.at n is in
+    let t_is : record s { at = s.at - n } ≡ t = (ok_pair (record s { at = s.at - n }) t tt tt gone_back).0 in
+    let room_ahead : nat_lt (length s.choices - (s.at - n)) n ≡ false = le-ltb (length s.choices - (s.at - n)) n (omega arith) in
+    let there : s.at - n + n ≡ s.at = omega arith in
+    subst (λ (h : History). forward n h ≡ Ok (s, tt)) t_is
+    (ap (λ b. unless_past b faults.AfterEnd (record s { at = s.at - n + n })) room_ahead ∙ ap (λ k. unless_past false faults.AfterEnd (record s { at = k })) there)
+
+pub forward_back : (n : ℕ) (s t : History) → s.at ≤ length s.choices → back n s ≡ Ok (t, tt) → forward n t ≡ Ok (s, tt)
+forward_back n s t within gone_back = forward_is n s (nat_lt s.at n) within refl t gone_back

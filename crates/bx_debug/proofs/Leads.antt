@@ -1,0 +1,91 @@
+-- Where lists of enabled choices lead.
+use Rattle.std.proofs.Common.{◌≡◌, ℕ, suc, ◌+◌, List, [], ◌∷◌, ◌++◌, length, take, drop, Bool, true, false, refl, sym, ap, ◌∙◌, subst, arith}
+use Rattle.std.specs.Prelude.{◌&&◌, Option, Some, None, is_some, IsSome, Contains, if◌then◌else◌}
+use Rattle.std.proofs.lemmas.List.{take-append-drop}
+use Rattle.bx_terms.specs.declared.kinds.Trap.{Trap}
+use Rattle.bx_load.specs.Image.{Loaded}
+use Rattle.bx_world.specs.declared.choices.Choice.{Choice}
+use Rattle.bx_world.specs.World.{State}
+use Rattle.bx_world.specs.Enabled.{can, enabled}
+use Rattle.bx_world.specs.Choosing.{chosen}
+use Rattle.bx_world.specs.Running.{Ended, advanced, ran, unchosen}
+use Rattle.bx_world.proofs.Lawful.{nothing_enabled}
+use Rattle.bx_world.proofs.Members.{can_is_enabled}
+use Rattle.bx_debug.specs.Leading.{led, all_enabled}
+
+both : (a b : Bool) → (a && b) ≡ true → (a ≡ true) × (b ≡ true)
+both true b e = (refl, e)
+both false b e = cc
+
+and : (a b : Bool) → a ≡ true → b ≡ true → (a && b) ≡ true
+and true b e h = h
+and false b e h = e
+
+-- in a world that has trapped nothing is enabled
+none_among : (w : State) (choice : Choice) (trap : Option (Trap × ℕ)) → w.trap ≡ trap → can w choice ≡ true → is_some trap ≡ false
+none_among w choice None is able = refl
+none_among w choice (Some t) is able =
+    let among : Contains (enabled w) choice = (can_is_enabled w choice).0 able in
+    let trapped : IsSome w.trap = subst (λ (o : Option (Trap × ℕ)). IsSome o) (sym is) refl in
+    let nothing = nothing_enabled w trapped in
+    let no : length (enabled w) ≡ 0 = ap length nothing in
+    let there = among.1 in
+    absurd (omega arith)
+
+pub untrapped : (w : State) (choice : Choice) → can w choice ≡ true → is_some w.trap ≡ false
+untrapped w choice able = none_among w choice w.trap refl able
+
+pub led-append : (image : Loaded) (first more : List Choice) (w : State) → led image (first ++ more) w ≡ led image more (led image first w)
+led-append image [] more w = refl
+led-append image (choice ∷ first) more w = led-append image first more (chosen image choice w)
+
+pub enabled_both : (image : Loaded) (first more : List Choice) (w : State) → all_enabled image first w ≡ true → all_enabled image more (led image first w) ≡ true → all_enabled image (first ++ more) w ≡ true
+enabled_both image [] more w a b = b
+enabled_both image (choice ∷ first) more w a b =
+    let parts = both (can w choice) (all_enabled image first (chosen image choice w)) a in
+    and (can w choice) _ parts.0 (enabled_both image first more (chosen image choice w) parts.1 b)
+
+pub enabled_first : (image : Loaded) (first more : List Choice) (w : State) → all_enabled image (first ++ more) w ≡ true → all_enabled image first w ≡ true
+enabled_first image [] more w a = refl
+enabled_first image (choice ∷ first) more w a =
+    let parts = both (can w choice) (all_enabled image (first ++ more) (chosen image choice w)) a in
+    and (can w choice) _ parts.0 (enabled_first image first more (chosen image choice w) parts.1)
+
+pub enabled_more : (image : Loaded) (first more : List Choice) (w : State) → all_enabled image (first ++ more) w ≡ true → all_enabled image more (led image first w) ≡ true
+enabled_more image [] more w a = a
+enabled_more image (choice ∷ first) more w a =
+    let parts = both (can w choice) (all_enabled image (first ++ more) (chosen image choice w)) a in
+    enabled_more image first more (chosen image choice w) parts.1
+
+pub enabled_take : (image : Loaded) (n : ℕ) (choices : List Choice) (w : State) → all_enabled image choices w ≡ true → all_enabled image (take n choices) w ≡ true
+enabled_take image n choices w a = enabled_first image (take n choices) (drop n choices) w (subst (λ (cs : List Choice). all_enabled image cs w ≡ true) (sym (take-append-drop n choices)) a)
+
+pub enabled_drop : (image : Loaded) (n : ℕ) (choices : List Choice) (w : State) → all_enabled image choices w ≡ true → all_enabled image (drop n choices) (led image (take n choices) w) ≡ true
+enabled_drop image n choices w a = enabled_more image (take n choices) (drop n choices) w (subst (λ (cs : List Choice). all_enabled image cs w ≡ true) (sym (take-append-drop n choices)) a)
+
+-- an enabled choice is applied by a run
+abbrev run_at : State → ℕ → Ended
+run_at w n = record { world = w; applied = n; refused = None }
+
+first_of : (t b : Bool) (x y z : Ended) → t ≡ false → b ≡ true → (if t then x else if b then y else z) ≡ y
+first_of true b x y z h e = cc
+first_of false true x y z h e = refl
+first_of false false x y z h e = cc
+
+advanced_enabled : (image : Loaded) (choice : Choice) (w : State) (n : ℕ) → can w choice ≡ true → advanced image choice (run_at w n) ≡ run_at (chosen image choice w) (n + 1)
+advanced_enabled image choice w n able = first_of (is_some w.trap) (can w choice) _ _ _ (untrapped w choice able) able
+
+pub ran_from : (image : Loaded) (choices : List Choice) (w : State) (n : ℕ) → all_enabled image choices w ≡ true
+    → ran image choices (run_at w n) ≡ run_at (led image choices w) (n + length choices)
+ran_from image [] w n a = let none : n ≡ n + 0 = omega arith in ap (run_at w) none
+ran_from image (choice ∷ more) w n a =
+    let parts = both (can w choice) (all_enabled image more (chosen image choice w)) a in
+    let count : n + 1 + length more ≡ n + suc (length more) = omega arith in
+    ap (ran image more) (advanced_enabled image choice w n parts.0)
+    ∙ ran_from image more (chosen image choice w) (n + 1) parts.1
+    ∙ ap (run_at (led image more (chosen image choice w))) count
+
+-- the run of choices that are all enabled applies each of them
+pub ran_all : (image : Loaded) (choices : List Choice) (w : State) → all_enabled image choices w ≡ true
+    → ran image choices (unchosen w) ≡ record { world = led image choices w; applied = length choices; refused = None }
+ran_all image choices w a = ran_from image choices w 0 a ∙ (let none : 0 + length choices ≡ length choices = omega arith in ap (run_at (led image choices w)) none)

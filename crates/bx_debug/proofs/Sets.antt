@@ -1,0 +1,65 @@
+-- Sets of places, kept as numbers in order.
+use Rattle.std.proofs.Common.{◌≡◌, ℕ, List, Bool, true, false, cond, not, refl, sym, ap, ◌∙◌}
+use Rattle.std.specs.Prelude.{◌||◌, ◌&&◌}
+use Rattle.std.specs.declared.cmp.Ordering.{Ordering}
+use Rattle.std.specs.declared.cmp.Ordering.TheVariants.{Less, Equal, Greater}
+use Rattle.std.specs.List.{list_any}
+use Rattle.std.specs.Ordering.{nat_cmp, eq_by_cmp, is_eq, ordering_then, ordering_reverse}
+use Rattle.std.specs.Cmp.{IsTotalOrder, nat_cmp_total, on_total, then_total}
+use Rattle.std.specs.FinSet as set
+use Rattle.std.specs.FinSet.{contains-from_list, contains-insert, contains-remove, same_set, IsAntisymmetric, nat_cmp-IsAntisymmetric}
+use Rattle.bx_debug.specs.Places.{pair_cmp}
+
+pub pair_cmp_total : IsTotalOrder pair_cmp
+pair_cmp_total = then_total (on_total (λ (r : ℕ × ℕ). r.0) nat_cmp_total) (on_total (λ (r : ℕ × ℕ). r.1) nat_cmp_total)
+
+both_equal : (a b : Ordering) → ordering_then a b ≡ Equal → (a ≡ Equal) × (b ≡ Equal)
+both_equal Less b e = let no : Less ≡ Equal = e in cc
+both_equal Equal b e = (refl, e)
+both_equal Greater b e = let no : Greater ≡ Equal = e in cc
+
+pub pair_cmp-IsAntisymmetric : IsAntisymmetric pair_cmp
+pair_cmp-IsAntisymmetric x y e =
+    let parts = both_equal (nat_cmp x.0 y.0) (nat_cmp x.1 y.1) e in
+    let first = nat_cmp-IsAntisymmetric x.0 y.0 parts.0 in
+    let second = nat_cmp-IsAntisymmetric x.1 y.1 parts.1 in
+    λ i. (first i, second i)
+
+level : (r : Ordering) → is_eq (ordering_reverse r) ≡ is_eq r
+level Less = refl
+level Equal = refl
+level Greater = refl
+
+-- which of two is asked about the other does not matter
+turned : (x y : ℕ × ℕ) → eq_by_cmp pair_cmp x y ≡ eq_by_cmp pair_cmp y x
+turned x y = ap is_eq (pair_cmp_total.antisymm x y) ∙ level (pair_cmp y x)
+
+pub held : (keys : List (ℕ × ℕ)) (q : ℕ × ℕ) → set.contains (set.from_list {R = pair_cmp} keys) q ≡ list_any (eq_by_cmp pair_cmp q) keys
+held keys q = contains-from_list pair_cmp_total keys q
+
+some_or : (b a : Bool) → cond b true a ≡ (b || a)
+some_or true a = refl
+some_or false a = refl
+
+none_and : (b a : Bool) → cond b false a ≡ (not b && a)
+none_and true a = refl
+none_and false a = refl
+
+-- a key more
+pub held_more : (old new : List (ℕ × ℕ)) (k : ℕ × ℕ) → ((q : ℕ × ℕ) → list_any (eq_by_cmp pair_cmp q) new ≡ cond (eq_by_cmp pair_cmp k q) true (list_any (eq_by_cmp pair_cmp q) old))
+    → set.from_list {R = pair_cmp} new ≡ set.insert (set.from_list old) k
+held_more old new k is = same_set pair_cmp_total pair_cmp-IsAntisymmetric _ _ (λ q.
+    held new q ∙ is q ∙ some_or (eq_by_cmp pair_cmp k q) _ ∙ (λ i. turned k q i || sym (held old q) i) ∙ sym (contains-insert pair_cmp_total (set.from_list old) k q))
+
+-- a key less
+pub held_less : (old new : List (ℕ × ℕ)) (k : ℕ × ℕ) → ((q : ℕ × ℕ) → list_any (eq_by_cmp pair_cmp q) new ≡ cond (eq_by_cmp pair_cmp k q) false (list_any (eq_by_cmp pair_cmp q) old))
+    → set.from_list {R = pair_cmp} new ≡ set.remove (set.from_list old) k
+held_less old new k is = same_set pair_cmp_total pair_cmp-IsAntisymmetric _ _ (λ q.
+    held new q ∙ is q ∙ none_and (eq_by_cmp pair_cmp k q) _ ∙ (λ i. not (turned k q i) && sym (held old q) i) ∙ sym (contains-remove pair_cmp_total (set.from_list old) k q))
+
+-- sets are the same where they hold the same
+pub held_same : (xs ys : List (ℕ × ℕ)) → ((q : ℕ × ℕ) → list_any (eq_by_cmp pair_cmp q) xs ≡ list_any (eq_by_cmp pair_cmp q) ys) → set.from_list {R = pair_cmp} xs ≡ set.from_list ys
+held_same xs ys is = same_set pair_cmp_total pair_cmp-IsAntisymmetric _ _ (λ q. held xs q ∙ is q ∙ sym (held ys q))
+
+pub same_held : (xs ys : List (ℕ × ℕ)) → set.from_list {R = pair_cmp} xs ≡ set.from_list ys → (q : ℕ × ℕ) → list_any (eq_by_cmp pair_cmp q) xs ≡ list_any (eq_by_cmp pair_cmp q) ys
+same_held xs ys is q = sym (held xs q) ∙ ap (λ s. set.contains s q) is ∙ held ys q

@@ -1,0 +1,135 @@
+-- Where choices are stopped, and why.
+use Rattle.std.proofs.Common.{◌≡◌, ◌≢◌, ℕ, ◌≤◌, List, [], ◌∷◌, ◌++◌, length, Bool, true, false, Option, Some, None, refl, sym, ap, subst, arith, length-append}
+use Rattle.std.specs.Prelude.{◌&&◌, if◌then◌else◌}
+use Rattle.bx_terms.specs.declared.kinds.Trap.{Trap}
+use Rattle.bx_terms.specs.declared.places.Place.{Place}
+use Rattle.bx_load.specs.Image.{Loaded}
+use Rattle.bx_world.specs.declared.choices.Choice.{Choice}
+use Rattle.bx_world.specs.declared.choices.Choice.TheVariants.{Run}
+use Rattle.bx_world.specs.World.{State}
+use Rattle.bx_world.specs.Enabled.{can}
+use Rattle.bx_world.specs.Choosing.{chosen}
+use Rattle.bx_world.specs.Seen.{place_in}
+use Rattle.bx_debug.specs.Going.{halted, else_stop, stop_before, break_at, break_behind, stop_behind, behind_choice, walked}
+use Rattle.bx_debug.specs.Leading.{led, all_enabled}
+use Rattle.bx_debug.specs.Places.{PlaceSet, is_set}
+use Rattle.bx_debug.specs.Stopping.{IsWhy, TellsWhy}
+use Rattle.bx_debug.specs.declared.stops.Stop.{Stop}
+use Rattle.bx_debug.specs.declared.stops.Stop.TheVariants.{Done, Break, NotEnabled, Trapped}
+use Rattle.bx_debug.proofs.Walking.{enabled_unless, walked_before, walked_behind, walked_on}
+
+pub and_true : (a b : Bool) → a ≡ true → b ≡ true → (a && b) ≡ true
+and_true true b e h = h
+and_true false b e h = e
+
+-- a walk of one choice and more: it is not applied, or it is applied and stops the walk, or the walk goes on behind it
+walked_cases : (image : Loaded) (places : PlaceSet) (choice : Choice) (more : List Choice) (w : State) (P : List Choice × Stop → Type 0)
+    → ((stop : Stop) → stop_before choice w ≡ Some stop → P ([], stop))
+    → ((stop : Stop) → stop_before choice w ≡ None → stop_behind places choice (chosen image choice w) ≡ Some stop → P (choice ∷ [], stop))
+    → (stop_before choice w ≡ None → stop_behind places choice (chosen image choice w) ≡ None → P (behind_choice choice (walked image places more (chosen image choice w))))
+    → P (walked image places (choice ∷ more) w)
+walked_cases image places choice more w P refused stops on = go (stop_before choice w) refl where
+  went : (behind : Option Stop) → stop_behind places choice (chosen image choice w) ≡ behind → stop_before choice w ≡ None → P (walked image places (choice ∷ more) w)
+  went (Some stop) is free = subst P (sym (walked_behind image places choice more w stop free is)) (stops stop free is)
+  went None is free = subst P (sym (walked_on image places choice more w free is)) (on free is)
+
+  go : (before : Option Stop) → stop_before choice w ≡ before → P (walked image places (choice ∷ more) w)
+  go (Some stop) is = subst P (sym (walked_before image places choice more w stop is)) (refused stop is)
+  go None is = went (stop_behind places choice (chosen image choice w)) refl is
+
+pub walked_beginning : (image : Loaded) (places : PlaceSet) (choices : List Choice) (w : State) → (rest : List Choice) × (choices ≡ (walked image places choices w).0 ++ rest)
+walked_beginning image places [] w = ([], refl)
+walked_beginning image places (choice ∷ more) w =
+    let further = walked_beginning image places more (chosen image choice w) in
+    walked_cases image places choice more w (λ walk. (rest : List Choice) × (choice ∷ more ≡ walk.0 ++ rest))
+    (λ stop is. (choice ∷ more, refl))
+    (λ stop free is. (more, refl))
+    (λ free is. (further.0, ap (λ (cs : List Choice). choice ∷ cs) further.1))
+
+pub walked_enabled : (image : Loaded) (places : PlaceSet) (choices : List Choice) (w : State) → all_enabled image (walked image places choices w).0 w ≡ true
+walked_enabled image places [] w = refl
+walked_enabled image places (choice ∷ more) w =
+    let further = walked_enabled image places more (chosen image choice w) in
+    walked_cases image places choice more w (λ walk. all_enabled image walk.0 w ≡ true)
+    (λ stop is. refl)
+    (λ stop free is. and_true (can w choice) true (enabled_unless choice w free) refl)
+    (λ free is. and_true (can w choice) (all_enabled image (walked image places more (chosen image choice w)).0 (chosen image choice w)) (enabled_unless choice w free) further)
+
+-- what stands before the last of a list's elements
+abbrev Earlier : Loaded → PlaceSet → State → List Choice → Type 0
+Earlier image places w made = (before : List Choice) (choice : Choice) (after : List Choice) → made ≡ before ++ choice ∷ after → after ≢ [] → stop_behind places choice (led image (before ++ choice ∷ []) w) ≡ None
+
+no_more : {A : Type 0} (xs : List A) → length xs ≡ 0 → xs ≡ []
+no_more [] h = refl
+no_more (x ∷ xs) h = absurd (omega arith)
+
+one_alone : (choice : Choice) (made before : List Choice) (c : Choice) (after : List Choice) → length made ≤ 1 → made ≡ before ++ c ∷ after → after ≡ []
+one_alone choice made before c after few is =
+    let long : length made ≡ length (before ++ c ∷ after) = ap length is in
+    no_more after (omega (arith, length-append before (c ∷ after)))
+
+earlier_on : (image : Loaded) (places : PlaceSet) (choice : Choice) (rest : List Choice) (w : State) → stop_behind places choice (chosen image choice w) ≡ None → Earlier image places (chosen image choice w) rest
+    → Earlier image places w (choice ∷ rest)
+earlier_on image places choice rest w on further [] c after is some = let same : choice ≡ c = cc in subst (λ (d : Choice). stop_behind places d (chosen image d w) ≡ None) same on
+earlier_on image places choice rest w on further (b ∷ before) c after is some =
+    let same : choice ≡ b = cc in
+    let others : rest ≡ before ++ c ∷ after = cc in
+    subst (λ (d : Choice). stop_behind places c (led image (before ++ c ∷ []) (chosen image d w)) ≡ None) same (further before c after others some)
+
+pub walked_earlier : (image : Loaded) (places : PlaceSet) (choices : List Choice) (w : State) → Earlier image places w (walked image places choices w).0
+walked_earlier image places [] w = λ before c after is some. absurd (some (one_alone c [] before c after (omega arith) is))
+walked_earlier image places (choice ∷ more) w =
+    let further = walked_earlier image places more (chosen image choice w) in
+    walked_cases image places choice more w (λ walk. Earlier image places w walk.0)
+    (λ stop is. λ before c after whole some. absurd (some (one_alone c [] before c after (omega arith) whole)))
+    (λ stop free is. λ before c after whole some. absurd (some (one_alone c (choice ∷ []) before c after (omega arith) whole)))
+    (λ free is. earlier_on image places choice (walked image places more (chosen image choice w)).0 w is further)
+
+-- why a choice is not applied
+why_refused : (places : PlaceSet) (choice : Choice) (more : List Choice) (w : State) (trap : Option (Trap × ℕ)) (able : Bool) (stop : Stop) → w.trap ≡ trap → can w choice ≡ able
+    → else_stop (halted trap) (if able then None else Some (NotEnabled choice)) ≡ Some stop → IsWhy places (choice ∷ more) [] w stop
+why_refused places choice more w (Some t) able stop traps can_be is = let same : Trapped t.0 t.1 ≡ stop = cc in subst (λ (s : Stop). IsWhy places (choice ∷ more) [] w s) same traps
+why_refused places choice more w None true stop traps can_be is = cc
+why_refused places choice more w None false stop traps can_be is =
+    let same : NotEnabled choice ≡ stop = cc in
+    subst (λ (s : Stop). IsWhy places (choice ∷ more) [] w s) same ((more, refl), can_be, traps)
+
+-- why it stops behind a choice that was applied
+why_set : (places : PlaceSet) (p : ℕ) (more : List Choice) (w : State) (place : Place) (member : Bool) (stop : Stop) → w.trap ≡ None → place_in p w ≡ Some place → is_set places place ≡ member
+    → (if member then Some (Break p place) else None) ≡ Some stop → IsWhy places (Run p ∷ more) (Run p ∷ []) w stop
+why_set places p more w place true stop traps stands within is =
+    let same : Break p place ≡ stop = cc in
+    subst (λ (s : Stop). IsWhy places (Run p ∷ more) (Run p ∷ []) w s) same (([], refl), stands, within, traps)
+why_set places p more w place false stop traps stands within is = cc
+
+why_stands : (places : PlaceSet) (p : ℕ) (more : List Choice) (w : State) (place : Option Place) (stop : Stop) → w.trap ≡ None → place_in p w ≡ place → break_at places p place ≡ Some stop
+    → IsWhy places (Run p ∷ more) (Run p ∷ []) w stop
+why_stands places p more w None stop traps stands is = cc
+why_stands places p more w (Some place) stop traps stands is = why_set places p more w place (is_set places place) stop traps stands refl is
+
+why_broken : (places : PlaceSet) (choice : Choice) (more : List Choice) (w : State) (stop : Stop) → w.trap ≡ None → break_behind places choice w ≡ Some stop → IsWhy places (choice ∷ more) (choice ∷ []) w stop
+why_broken places (Run p) more w stop traps is = why_stands places p more w (place_in p w) stop traps refl is
+why_broken places other more w stop traps is = cc
+
+why_behind : (places : PlaceSet) (choice : Choice) (more : List Choice) (w : State) (trap : Option (Trap × ℕ)) (stop : Stop) → w.trap ≡ trap → else_stop (halted trap) (break_behind places choice w) ≡ Some stop
+    → IsWhy places (choice ∷ more) (choice ∷ []) w stop
+why_behind places choice more w (Some t) stop traps is = let same : Trapped t.0 t.1 ≡ stop = cc in subst (λ (s : Stop). IsWhy places (choice ∷ more) (choice ∷ []) w s) same traps
+why_behind places choice more w None stop traps is = why_broken places choice more w stop traps is
+
+-- why it stops further on
+why_on : (places : PlaceSet) (choice : Choice) (more made : List Choice) (w : State) (stop : Stop) → IsWhy places more made w stop → IsWhy places (choice ∷ more) (choice ∷ made) w stop
+why_on places choice more made w Done h = ap (λ (cs : List Choice). choice ∷ cs) h
+why_on places choice more made w (Break p place) h = ((choice ∷ h.0.0, ap (λ (cs : List Choice). choice ∷ cs) h.0.1), h.1, h.2, h.3)
+why_on places choice more made w (NotEnabled c) h = ((h.0.0, ap (λ (cs : List Choice). choice ∷ cs) h.0.1), h.1, h.2)
+why_on places choice more made w (Trapped kind p) h = h
+
+pub walked_why : (image : Loaded) (places : PlaceSet) (choices : List Choice) (w : State) → TellsWhy image places choices w (walked image places choices w)
+walked_why image places [] w = refl
+walked_why image places (choice ∷ more) w =
+    let next = chosen image choice w in
+    let walk = walked image places more next in
+    let further = walked_why image places more next in
+    walked_cases image places choice more w (TellsWhy image places (choice ∷ more) w)
+    (λ stop is. why_refused places choice more w w.trap (can w choice) stop refl refl is)
+    (λ stop free is. why_behind places choice more next next.trap stop refl is)
+    (λ free is. why_on places choice more walk.0 (led image walk.0 next) walk.1 further)

@@ -1,0 +1,195 @@
+-- Walks, choice by choice.
+use Rattle.std.proofs.Common.{◌≡◌, ◌≢◌, ℕ, zero, suc, ◌+◌, ◌<◌, inl, inr, List, [], ◌∷◌, ◌++◌, length, take, drop, get_or, Bool, true, false, Option, Some, None, refl, sym, ap, ◌∙◌, subst, append_assoc, arith, length-append}
+use Rattle.std.specs.Prelude.{◌&&◌, if◌then◌else◌, is_some}
+use Rattle.bx_terms.specs.declared.faults.Fault.TheVariants as faults
+use Rattle.std.proofs.lemmas.List.{take_more, drop_more, length-take-le}
+use Rattle.bx_terms.specs.declared.kinds.Trap.{Trap}
+use Rattle.bx_load.specs.Image.{Loaded}
+use Rattle.bx_world.specs.declared.choices.Choice.{Choice}
+use Rattle.bx_world.specs.World.{State}
+use Rattle.bx_world.specs.Enabled.{can}
+use Rattle.bx_world.specs.Choosing.{chosen, refusal}
+use Rattle.bx_debug.specs.Places.{PlaceSet}
+use Rattle.bx_debug.specs.Going.{halted, else_stop, stop_at_once, stop_before, stop_behind, unless_stopped, behind_choice, walked}
+use Rattle.bx_debug.specs.Leading.{led, all_enabled, AreKept, Chooses, Walks}
+use Rattle.bx_debug.specs.declared.stops.Stop.{Stop}
+use Rattle.bx_debug.specs.declared.stops.Stop.TheVariants.{Done, NotEnabled}
+use Rattle.bx_debug.proofs.Leads.{led-append, enabled_both}
+use Rattle.bx_debug.proofs.Keeping.{below, none_kept, kept_on, kept_here}
+
+-- a walk that goes on behind choices that were applied
+abbrev pub resumed : List Choice → List Choice × Stop → List Choice × Stop
+resumed before more = (before ++ more.0, more.1)
+
+able_of : (choice : Choice) (trap : Option (Trap × ℕ)) (able : Bool) → else_stop (halted trap) (if able then None else Some (NotEnabled choice)) ≡ None → able ≡ true
+able_of choice None true is = refl
+able_of choice None false is = cc
+able_of choice (Some t) able is = cc
+
+-- what is applied is enabled
+pub enabled_unless : (choice : Choice) (w : State) → stop_before choice w ≡ None → can w choice ≡ true
+enabled_unless choice w is = able_of choice w.trap (can w choice) is
+
+-- the next choice of a walk
+pub walked_next : (image : Loaded) (places : PlaceSet) (choices : List Choice) (i : ℕ) (choice : Choice) (w : State) → i < length choices → choice ≡ get_or choices i choice
+    → walked image places (drop i choices) w ≡ walked image places (choice ∷ drop (i + 1) choices) w
+walked_next image places choices i choice w short is =
+    ap (λ (cs : List Choice). walked image places cs w) (drop_more choices i choice short ∙ ap (λ d. d ∷ drop (i + 1) choices) (sym is))
+
+stopped_here : (stop : Option Stop) (found : Stop) (more : List Choice × Stop) → stop ≡ Some found → unless_stopped stop more ≡ ([], found)
+stopped_here stop found more is = ap (λ s. unless_stopped s more) is
+
+open_here : (stop : Option Stop) (more : List Choice × Stop) → stop ≡ None → unless_stopped stop more ≡ more
+open_here stop more is = ap (λ s. unless_stopped s more) is
+
+-- it is not applied
+pub walked_before : (image : Loaded) (places : PlaceSet) (choice : Choice) (more : List Choice) (w : State) (stop : Stop) → stop_before choice w ≡ Some stop → walked image places (choice ∷ more) w ≡ ([], stop)
+walked_before image places choice more w stop is = stopped_here (stop_before choice w) stop _ is
+
+-- it is applied, and stops the walk
+pub walked_behind : (image : Loaded) (places : PlaceSet) (choice : Choice) (more : List Choice) (w : State) (stop : Stop) → stop_before choice w ≡ None → stop_behind places choice (chosen image choice w) ≡ Some stop
+    → walked image places (choice ∷ more) w ≡ (choice ∷ [], stop)
+walked_behind image places choice more w stop free is =
+    open_here (stop_before choice w) _ free ∙ ap (behind_choice choice) (stopped_here (stop_behind places choice (chosen image choice w)) stop _ is)
+
+-- it is applied, and the walk goes on
+pub walked_on : (image : Loaded) (places : PlaceSet) (choice : Choice) (more : List Choice) (w : State) → stop_before choice w ≡ None → stop_behind places choice (chosen image choice w) ≡ None
+    → walked image places (choice ∷ more) w ≡ behind_choice choice (walked image places more (chosen image choice w))
+walked_on image places choice more w free is =
+    open_here (stop_before choice w) _ free ∙ ap (behind_choice choice) (open_here (stop_behind places choice (chosen image choice w)) _ is)
+
+-- none is applied
+pub walked_none : (image : Loaded) (places : PlaceSet) (choices : List Choice) (w : State) (stop : Stop) → stop_at_once choices w ≡ Some stop → walked image places choices w ≡ ([], stop)
+walked_none image places [] w stop is = let same : Done ≡ stop = cc in ap (λ s. ([], s)) same
+walked_none image places (choice ∷ more) w stop is = walked_before image places choice more w stop is
+
+-- one is applied at least
+pub walked_some : (image : Loaded) (places : PlaceSet) (choices : List Choice) (w : State) → stop_at_once choices w ≡ None → (walked image places choices w).0 ≢ []
+walked_some image places [] w is = cc
+walked_some image places (choice ∷ more) w is = λ none.
+    let next = unless_stopped (stop_behind places choice (chosen image choice w)) (walked image places more (chosen image choice w)) in
+    let walk : walked image places (choice ∷ more) w ≡ behind_choice choice next = open_here (stop_before choice w) _ is in
+    let long : length (walked image places (choice ∷ more) w).0 ≡ suc (length next.0) = ap (λ (k : List Choice × Stop). length k.0) walk in
+    let short : length (walked image places (choice ∷ more) w).0 ≡ 0 = ap length none in
+    absurd (omega arith)
+
+-- what was applied so far, and the choice behind it
+pub taken_next : (choices : List Choice) (i : ℕ) (choice : Choice) → i < length choices → choice ≡ get_or choices i choice → take (i + 1) choices ≡ take i choices ++ choice ∷ []
+taken_next choices i choice short is = take_more choices i choice short ∙ ap (λ c. take i choices ++ c ∷ []) (sym is)
+
+-- a walk of no choice
+pub walks_none : (image : Loaded) (choices : List Choice) (from : State) (since : ℕ) → since < 64 → Walks image choices from since 0 from since []
+walks_none image choices from since few = record {
+  within = omega arith;
+  follows = record { made = refl; shown = refl; snapshots = none_kept image from since few };
+  count = omega arith;
+}
+
+and_one : (b : Bool) → b ≡ true → (b && true) ≡ true
+and_one true e = refl
+and_one false e = e
+
+-- one choice further
+record Further (image : Loaded) (choices : List Choice) (from : State) (applied : ℕ) (choice : Choice) (next : State) : Type 0 where
+  pub made : all_enabled image (take (applied + 1) choices) from ≡ true
+  pub shown : next ≡ led image (take (applied + 1) choices) from
+
+further : (image : Loaded) (choices : List Choice) (from : State) (since applied : ℕ) (here : State) (now : ℕ) (kept : List State) (choice : Choice) (next : State)
+    → Walks image choices from since applied here now kept → applied < length choices → choice ≡ get_or choices applied choice → stop_before choice here ≡ None → next ≡ chosen image choice here
+    → Further image choices from applied choice next
+further image choices from since applied here now kept choice next walk short is free done =
+    let taken = taken_next choices applied choice short is in
+    let able : can here choice ≡ true = enabled_unless choice here free in
+    let able_there : all_enabled image (choice ∷ []) (led image (take applied choices) from) ≡ true = subst (λ (w : State). (can w choice && true) ≡ true) walk.follows.shown (and_one (can here choice) able) in
+    record {
+      made = subst (λ (cs : List Choice). all_enabled image cs from ≡ true) (sym taken) (enabled_both image (take applied choices) (choice ∷ []) from walk.follows.made able_there);
+      shown = done ∙ ap (chosen image choice) walk.follows.shown ∙ sym (led-append image (take applied choices) (choice ∷ []) from) ∙ ap (λ (cs : List Choice). led image cs from) (sym taken);
+    }
+
+pub now_few : (image : Loaded) (choices : List Choice) (from : State) (since applied : ℕ) (here : State) (now : ℕ) (kept : List State) → Walks image choices from since applied here now kept → now < 64
+now_few image choices from since applied here now kept walk =
+    let cut : length (take applied choices) ≡ applied = length-take-le applied choices walk.within in
+    let ahead = walk.follows.snapshots.ahead in
+    let count = walk.count in
+    omega arith
+
+pub walks_more : (image : Loaded) (choices : List Choice) (from : State) (since applied : ℕ) (here : State) (now : ℕ) (kept : List State) (choice : Choice) (next : State) (now' : ℕ) (kept' : List State)
+    → Walks image choices from since applied here now kept → applied < length choices → choice ≡ get_or choices applied choice → stop_before choice here ≡ None → next ≡ chosen image choice here
+    → (now + 1 < 64 → (now' ≡ now + 1) × (kept' ≡ kept)) → (now + 1 ≡ 64 → (now' ≡ 0) × (kept' ≡ kept ++ next ∷ []))
+    → Walks image choices from since (applied + 1) next now' kept'
+walks_more image choices from since applied here now kept choice next now' kept' walk short is free done between full =
+    let more = further image choices from since applied here now kept choice next walk short is free done in
+    let taken = taken_next choices applied choice short is in
+    let cut : length (take applied choices) ≡ applied = length-take-le applied choices walk.within in
+    let count = walk.count in
+    let few = now_few image choices from since applied here now kept walk in
+    elim (below (now + 1) 64) [
+      | inl less ↦
+          let step = between less in
+          let snapshots = kept_on image from since (take applied choices) (choice ∷ []) kept walk.follows.snapshots (omega arith) in
+          let on : AreKept image from since (take (applied + 1) choices) kept' = subst (λ (cs : List Choice). AreKept image from since cs kept') (sym taken) (subst (λ (ks : List State). AreKept image from since (take applied choices ++ choice ∷ []) ks) (sym step.1) snapshots) in
+          let long : length kept' ≡ length kept = ap length step.1 in
+          let now_is = step.0 in
+          record { within = omega arith; follows = record { made = more.made; shown = more.shown; snapshots = on }; count = omega arith }
+      | inr least ↦
+          let last : now + 1 ≡ 64 = omega arith in
+          let step = full last in
+          let here_is : next ≡ led image (take applied choices ++ choice ∷ []) from = more.shown ∙ ap (λ (cs : List Choice). led image cs from) taken in
+          let snapshots = kept_here image from since (take applied choices) (choice ∷ []) kept next walk.follows.snapshots (omega arith) here_is in
+          let on : AreKept image from since (take (applied + 1) choices) kept' = subst (λ (cs : List Choice). AreKept image from since cs kept') (sym taken) (subst (λ (ks : List State). AreKept image from since (take applied choices ++ choice ∷ []) ks) (sym step.1) snapshots) in
+          let long : length kept' ≡ length kept + 1 = ap length step.1 ∙ length-append kept (next ∷ []) in
+          let now_is = step.0 in
+          record { within = omega arith; follows = record { made = more.made; shown = more.shown; snapshots = on }; count = omega arith }
+    ]
+
+-- a choice was applied and counted
+pub walks_counted : (image : Loaded) (choices : List Choice) (from : State) (since applied i : ℕ) (here : State) (now : ℕ) (kept : List State) (choice : Choice) (next next' : State) (applied' now' : ℕ) (kept' : List State)
+    → Walks image choices from since applied here now kept → applied ≡ i → i < length choices → choice ≡ get_or choices i choice → Chooses image choice here next None → next' ≡ next → applied' ≡ applied + 1
+    → (now + 1 < 64 → (now' ≡ now + 1) × (kept' ≡ kept)) → (now + 1 ≡ 64 → (now' ≡ 0) × (kept' ≡ kept ++ next ∷ []))
+    → Walks image choices from since applied' next' now' kept'
+walks_counted image choices from since applied i here now kept choice next next' applied' now' kept' walk at short is done same count between full =
+    let short_there : applied < length choices = omega arith in
+    let is_there : choice ≡ get_or choices applied choice = is ∙ ap (λ n. get_or choices n choice) (sym at) in
+    let more = walks_more image choices from since applied here now kept choice next now' kept' walk short_there is_there done.0 done.1 between full in
+    subst (λ n. Walks image choices from since n next' now' kept') (sym count) (subst (λ (w : State). Walks image choices from since (applied + 1) w now' kept') (sym same) more)
+
+-- the walk goes on behind a choice that was applied
+pub told_on : (image : Loaded) (places : PlaceSet) (choices : List Choice) (from : State) (i : ℕ) (here : State) (choice : Choice) (next next' : State)
+    → i < length choices → choice ≡ get_or choices i choice → Chooses image choice here next None → next' ≡ next → stop_behind places choice next' ≡ None
+    → walked image places choices from ≡ resumed (take i choices) (walked image places (drop i choices) here)
+    → walked image places choices from ≡ resumed (take (i + 1) choices) (walked image places (drop (i + 1) choices) next')
+told_on image places choices from i here choice next next' short is done same unstopped told =
+    let made : next' ≡ chosen image choice here = same ∙ done.1 in
+    let unstopped_there : stop_behind places choice (chosen image choice here) ≡ None = subst (λ (w : State). stop_behind places choice w ≡ None) made unstopped in
+    let more = walked image places (drop (i + 1) choices) (chosen image choice here) in
+    told
+    ∙ ap (resumed (take i choices)) (walked_next image places choices i choice here short is ∙ walked_on image places choice (drop (i + 1) choices) here done.0 unstopped_there)
+    ∙ (λ j. (sym (append_assoc (take i choices) (choice ∷ []) more.0) j, more.1))
+    ∙ (λ j. resumed (sym (taken_next choices i choice short is) j) (walked image places (drop (i + 1) choices) (sym made j)))
+
+-- a choice that is not refused is applied
+open_to : (choice : Choice) (trap : Option (Trap × ℕ)) (able : Bool) → (if is_some trap then Some faults.Halted else if able then None else Some faults.NotEnabled) ≡ None
+    → else_stop (halted trap) (if able then None else Some (NotEnabled choice)) ≡ None
+open_to choice None true is = refl
+open_to choice None false is = cc
+open_to choice (Some t) able is = cc
+
+first_unless : (choice : Choice) (stop : Option Stop) → (behind_choice choice (unless_stopped stop ([], Done))).0 ≡ choice ∷ []
+first_unless choice (Some stop) = refl
+first_unless choice None = refl
+
+pub one_applied : (image : Loaded) (places : PlaceSet) (choice : Choice) (w : State) (made : List Choice) (stop : Stop) → refusal w choice ≡ None → walked image places (choice ∷ []) w ≡ (made, stop) → made ≡ choice ∷ []
+one_applied image places choice w made stop free told =
+    let unstopped : stop_before choice w ≡ None = open_to choice w.trap (can w choice) free in
+    sym (ap (λ (k : List Choice × Stop). k.0) told)
+    ∙ ap (λ (k : List Choice × Stop). k.0) (open_here (stop_before choice w) _ unstopped)
+    ∙ first_unless choice (stop_behind places choice (chosen image choice w))
+
+-- an element of a list, whatever stands for one past its end
+pub same_element : {A : Type 0} (xs : List A) (i : ℕ) (d e : A) → i < length xs → get_or xs i d ≡ get_or xs i e
+same_element [] i d e h = absurd (omega arith)
+same_element (x ∷ xs) zero d e h = refl
+same_element (x ∷ xs) (suc i) d e h = same_element xs i d e (omega arith)
+
+pub applied_here : (image : Loaded) (choice : Choice) (here next : State) (stop : Option Stop) → stop ≡ None → Chooses image choice here next stop → Chooses image choice here next None
+applied_here image choice here next stop none done = subst (λ (s : Option Stop). Chooses image choice here next s) none done

@@ -1,0 +1,7 @@
+use Rattle.std.proofs.Common.{ap, ◌∙◌}
+use Rattle.bx_world.specs.Choosing.{refusal}
+use Rattle.bx_debug.proofs.Moving.{shown_there}
+use Rattle.bx_debug.proofs.sessions.Session.refusal.Goals as goal
+
+pub returns : goal.returns
+returns c = c.refusal.ensures ∙ ap (λ w. refusal w c.args.choice) (shown_there _ _ _ _ _ _ _ _ c.self.view_is c.self.invariant)

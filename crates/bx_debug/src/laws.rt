@@ -1,0 +1,48 @@
+//! Laws of the definitions: the functions do nothing, and their clauses are the laws.
+
+ghost use Rattle.std.specs.Prelude.{◌≡◌, ◌≢◌, ◌≤◌, ◌++◌, ◌∷◌, ℕ, List, [], length, true, None, Ok};
+ghost use Rattle.bx_load.specs.Image.{Loaded};
+ghost use Rattle.bx_terms.specs.declared.atom_table.AtomId.{AtomId};
+ghost use Rattle.bx_world.specs.declared.choices.Choice.{Choice};
+ghost use Rattle.bx_world.specs.World.{State};
+ghost use Rattle.bx_debug.specs.Calls.{Call, after_calls};
+ghost use Rattle.bx_debug.specs.Going.{stop_behind, walked};
+ghost use Rattle.bx_debug.specs.Leading.{led, all_enabled};
+ghost use Rattle.bx_debug.specs.Places.{PlaceSet};
+ghost use Rattle.bx_debug.specs.Sessions.{History, back, forward, opened, stepped, world_of};
+ghost use Rattle.bx_debug.specs.Stopping.{IsRunOf, TellsWhy};
+
+/// Whatever the calls on a session were, the world that it shows is the run of the choices before its position, from the start
+/// at which it was opened, and that run applied each of them.
+pub fn every_world_shown_is_a_run()
+    ensures { (image : Loaded) (m f : AtomId) (first : History) (calls : List Call) → opened image m f ≡ Ok first → IsRunOf image first.start (after_calls calls first) }
+{}
+
+/// Stepping back over a choice that was made shows the world of before it.
+pub fn stepping_back_shows_the_world_before()
+    ensures { (choice : Choice) (s t u : History) → s.at ≤ length s.choices → stepped choice s ≡ Ok (t, tt) → back 1 t ≡ Ok (u, tt) → world_of u ≡ world_of s }
+{}
+
+/// Stepping forward as far as was stepped back leaves the session as it was.
+pub fn forward_undoes_back()
+    ensures { (n : ℕ) (s t : History) → s.at ≤ length s.choices → back n s ≡ Ok (t, tt) → forward n t ≡ Ok (s, tt) }
+{}
+
+/// What is applied is a beginning of the choices, each of which was enabled.
+pub fn a_beginning_is_applied()
+    ensures beginning { (image : Loaded) (places : PlaceSet) (choices : List Choice) (w : State)
+        → (rest : List Choice) × (choices ≡ (walked image places choices w).0 ++ rest) }
+    ensures enabled { (image : Loaded) (places : PlaceSet) (choices : List Choice) (w : State)
+        → all_enabled image (walked image places choices w).0 w ≡ true }
+{}
+
+/// No choice but the last that is applied traps, or is a run that leaves its process at a place of the set.
+pub fn nothing_stops_it_earlier()
+    ensures { (image : Loaded) (places : PlaceSet) (choices : List Choice) (w : State) (before : List Choice) (choice : Choice) (after : List Choice)
+        → (walked image places choices w).0 ≡ before ++ choice ∷ after → after ≢ [] → stop_behind places choice (led image (before ++ choice ∷ []) w) ≡ None }
+{}
+
+/// Why it stopped is so.
+pub fn it_tells_why_it_stopped()
+    ensures { (image : Loaded) (places : PlaceSet) (choices : List Choice) (w : State) → TellsWhy image places choices w (walked image places choices w) }
+{}

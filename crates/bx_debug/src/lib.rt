@@ -1,0 +1,12 @@
+//! Sessions of a debugger: choices are made one by one, stepped back over and made anew, and runs break off at places.
+#![tactic(auto)]
+
+pub mod laws;
+mod places;
+mod rows;
+mod sessions;
+mod stops;
+mod walks;
+
+pub use sessions::Session;
+pub use stops::Stop;

@@ -1,0 +1,289 @@
+//! Sessions.
+
+ghost use Rattle.std.specs.Prelude.{◌≡◌, ◌≢◌, ◌↔◌, ◌-◌, ◌%◌, ◌<◌, ◌≤◌, [], false, length, None, Ok, OnErr, OnOk, IfOk, IsSome, IsTrue, slice_index_or, take};
+ghost use Rattle.bx_terms.specs.Outcomes.{Does, Gives};
+ghost use Rattle.bx_load.specs.Image.{export};
+ghost use Rattle.bx_world.specs.Choosing.{refusal};
+ghost use Rattle.bx_world.specs.Running.{ran, unchosen};
+ghost use Rattle.bx_debug.specs.Leading.{led, Follows};
+ghost use Rattle.bx_debug.specs.Places.{is_set};
+ghost use Rattle.bx_debug.specs.Sessions.{back, behind, forward, gone, GoTakes, opened, stepped, with_break, with_made, without_break, world_of};
+
+use crate::places::Places;
+use crate::rows::replace_tails;
+use crate::stops::{Stop, refusal, stop_at_once};
+use crate::walks::{KEPT_EACH, Walk, follow, replay, shared};
+use bx_load::Image;
+use bx_terms::{AtomId, Fault, Place};
+use bx_world::{Choice, RcWorld};
+use std::alloc::{AllocError, Global};
+use std::marker::Model;
+
+/// A world with the choices that led to it, which can be stepped back over and made anew, and the places at which a run breaks
+/// off.
+///
+/// It keeps each choice, and the world at the start and behind each 64th choice, so that a move of the position makes at most
+/// 63 choices again. Where memory runs out, a call has changed nothing.
+#[derive(Drop)]
+pub struct Session<'a> {
+    image: &'a Image,
+    start: RcWorld,
+    choices: Vec<Choice>,
+    at: usize,
+    world: RcWorld,
+    kept: Vec<RcWorld>,
+    places: Places,
+}
+
+impl<'a> Model for Session<'a> {
+    ghost use Rattle.bx_terms.specs.TreeCode.{tree_code};
+    ghost use Rattle.bx_terms.specs.contracts.kinds.Trap as traps;
+    ghost use Rattle.bx_load.specs.contracts.image.Image as images;
+    ghost use Rattle.bx_proc.specs.contracts.process.Proc as process;
+    ghost use Rattle.bx_world.specs.contracts.choices.Choice as made;
+    ghost use Rattle.bx_world.specs.World.{state_code};
+    ghost use Rattle.bx_debug.specs.Sessions.{History, history_code};
+    ghost use Rattle.bx_debug.specs.Leading.{IsSession};
+
+    ghost Value = { History };
+
+    ghost coded = { history_code images.the_row.coded (state_code process.the_row.coded tree_code traps.the_row.coded) made.the_row.coded };
+
+    ghost view = { λ s. record { image = s.image.now; start = s.start; choices = s.choices.items; at = s.at; places = s.places } };
+
+    ghost invariant = { λ s. IsSession s.image.now s.start s.choices.items s.at s.world s.kept.items };
+}
+
+impl<'a> Session<'a> {
+    /// A session at the start of that exported function of no arguments, with no choice made and no place set.
+    ///
+    /// `NoEntry` exactly where the module does not export it; memory is taken only where it does.
+    pub fn new(
+        alloc: Global,
+        image: &'a Image,
+        module: AtomId,
+        function: AtomId,
+    ) -> Result<Session<'a>, Fault>
+        ensures { Gives (IsSome (export image.entry.now «module» function 0)) (λ s. s) result (opened image.entry.now «module» function) }
+    {
+        let start = RcWorld::start(alloc, image, module, function)?;
+        let world = shared(alloc, &start)?;
+        Ok(Session {
+            image,
+            start,
+            choices: Vec::new(alloc),
+            at: 0,
+            world,
+            kept: Vec::new(alloc),
+            places: Places::new(alloc),
+        })
+    }
+
+    /// The world that the choices before the position lead to, each of which was applied.
+    pub fn world(&self) -> &RcWorld
+        ensures shown { result.now ≡ world_of self.now }
+        ensures run { ran self.now.image (behind self.now) (unchosen self.now.start)
+            ≡ record { world = result.now; applied = self.now.at; refused = None } }
+    {
+        &self.world
+    }
+
+    /// How many choices lead to the world that is shown.
+    pub fn at(&self) -> usize
+        ensures at { result ≡ self.now.at }
+        ensures within { result ≤ length self.now.choices }
+    {
+        let _ = &self.choices;
+        self.at
+    }
+
+    /// How many choices there are, those behind the position included.
+    pub fn len(&self) -> usize
+        ensures { result ≡ length self.now.choices }
+    {
+        self.choices.len()
+    }
+
+    /// Whether no choice was made.
+    pub fn is_empty(&self) -> bool
+        ensures { IsTrue result ↔ (self.now.choices ≡ []) }
+    {
+        self.choices.is_empty()
+    }
+
+    /// The choices in order, those behind the position included.
+    pub fn choices(&self) -> &[Choice]
+        ensures { result.now ≡ self.now.choices }
+    {
+        &self.choices
+    }
+
+    /// The loaded code.
+    pub fn image(&self) -> &'a Image
+        ensures { result.now ≡ self.now.image }
+    {
+        self.image
+    }
+
+    /// The world in which no choice was made yet.
+    pub fn start(&self) -> &RcWorld
+        ensures { result.now ≡ self.now.start }
+    {
+        &self.start
+    }
+
+    /// Whether a run breaks off at this place.
+    pub fn breaks_at(&self, place: Place) -> bool
+        ensures { result ≡ is_set self.now.places place }
+    {
+        self.places.contains(place)
+    }
+
+    /// Makes a choice, and drops those behind the position.
+    ///
+    /// `Halted` exactly where the world has trapped, else `NotEnabled` exactly where the choice is not enabled; a refused choice
+    /// drops nothing. Memory is taken only for a choice that is enabled.
+    pub fn step(&mut self, alloc: Global, choice: Choice) -> Result<(), Fault>
+        ensures { Does (refusal (world_of self.old) choice ≡ None) self.old self.new result (stepped choice self.old) }
+    {
+        if let Some(fault) = self.refusal(choice) {
+            return Err(fault);
+        }
+        let nowhere = Places::new(alloc);
+        let since = self.at % KEPT_EACH;
+        let walk = follow(alloc, self.image, &nowhere, &self.world, since, &[choice])?;
+        self.adopt(&[choice], walk)?;
+        Ok(())
+    }
+
+    /// Moves the position back by so many choices.
+    ///
+    /// `BeforeStart` exactly where there are fewer before it. Memory is taken only where it moves.
+    pub fn back(&mut self, alloc: Global, count: usize) -> Result<(), Fault>
+        ensures { Does (0 < count) self.old self.new result (back count self.old) }
+    {
+        if count > self.at {
+            return Err(Fault::BeforeStart);
+        }
+        self.move_to(alloc, self.at - count)?;
+        Ok(())
+    }
+
+    /// Moves the position forward by so many choices.
+    ///
+    /// `AfterEnd` exactly where there are fewer behind it. Memory is taken only where it moves.
+    pub fn forward(&mut self, alloc: Global, count: usize) -> Result<(), Fault>
+        ensures { Does (0 < count) self.old self.new result (forward count self.old) }
+    {
+        if count > self.choices.len() - self.at {
+            return Err(Fault::AfterEnd);
+        }
+        self.move_to(alloc, self.at + count)?;
+        Ok(())
+    }
+
+    /// Makes choices in order, up to the first that stops it, and drops those behind the position as soon as one is applied.
+    ///
+    /// It stops before a choice that is not enabled, behind one that traps, and behind the first run that leaves its process, not
+    /// ended, at a place of the set; what was applied before stays. Memory is taken only where a choice is applied.
+    pub fn go(&mut self, alloc: Global, choices: &[Choice]) -> Result<Stop, Fault>
+        ensures { Does (GoTakes choices.now self.old) self.old self.new result (Ok (gone choices.now self.old)) }
+    {
+        if let Some(stop) = stop_at_once(choices, &self.world) {
+            return Ok(stop);
+        }
+        let since = self.at % KEPT_EACH;
+        let walk = follow(alloc, self.image, &self.places, &self.world, since, choices)?;
+        let stop = walk.stop;
+        self.adopt(&choices[..walk.applied], walk)?;
+        Ok(stop)
+    }
+
+    /// Lets runs break off at a place, whichever it is.
+    ///
+    /// Memory is all that it may lack, and none is taken where they do already.
+    pub fn set_break(&mut self, _alloc: Global, place: Place) -> Result<(), Fault>
+        ensures { Does (is_set self.old.places place ≡ false) self.old self.new result (Ok (with_break place self.old, tt)) }
+    {
+        self.places.insert(place)?;
+        Ok(())
+    }
+
+    /// Lets no run break off at a place, whichever it is.
+    pub fn clear_break(&mut self, place: Place)
+        ensures { self.new ≡ without_break place self.old }
+    {
+        self.places.remove(place);
+    }
+
+    /// Why a choice is refused in the world that is shown.
+    fn refusal(&self, choice: Choice) -> Option<Fault>
+        ensures { result ≡ refusal (world_of self.now) choice }
+    {
+        refusal(choice, &self.world)
+    }
+
+    /// Puts choices that were made, and where they led, in the place of those behind the position.
+    fn adopt(&mut self, made: &[Choice], walk: Walk) -> Result<(), AllocError>
+        requires some { made.now ≢ [] }
+        requires follows { Follows self.old.image (world_of self.old) (self.old.at % KEPT_EACH) made.now walk.world walk.kept.items }
+        ensures ok { OnOk result (self.new ≡ with_made made.now self.old) }
+        ensures err { OnErr result (self.new ≡ self.old) }
+    {
+        let mut kept = walk.kept;
+        let turns = self.at / KEPT_EACH;
+        replace_tails(
+            &mut self.choices,
+            self.at,
+            made,
+            &mut self.kept,
+            turns,
+            &mut kept,
+        )?;
+        self.at = self.choices.len();
+        self.world = walk.world;
+        Ok(())
+    }
+
+    /// Moves the position, making again the choices behind the nearest world that was kept before it.
+    fn move_to(&mut self, alloc: Global, at: usize) -> Result<(), AllocError>
+        requires { at ≤ length self.old.choices }
+        ensures ok { OnOk result (self.new ≡ record self.old { at = at }) }
+        ensures err { OnErr result ((self.new ≡ self.old) × (at ≢ self.old.at)) }
+    {
+        if at == self.at {
+            return Ok(());
+        }
+        let world = self.world_at(alloc, at)?;
+        self.world = world;
+        self.at = at;
+        Ok(())
+    }
+
+    /// The world that so many choices lead to.
+    fn world_at(&self, alloc: Global, at: usize) -> Result<RcWorld, AllocError>
+        requires { at ≤ length self.now.choices }
+        ensures { IfOk result (λ w. w ≡ led self.now.image (take at self.now.choices) self.now.start) }
+    {
+        let turns = at / KEPT_EACH;
+        let choices = &self.choices[turns * KEPT_EACH..at];
+        replay(
+            alloc,
+            self.image,
+            nearest(&self.start, &self.kept, turns),
+            choices,
+        )
+    }
+}
+
+/// The world that was kept behind so many rounds of choices.
+fn nearest<'a>(start: &'a RcWorld, kept: &'a [RcWorld], turns: usize) -> &'a RcWorld
+    requires { turns ≤ length kept.now }
+    ensures start { turns ≡ 0 → result.now ≡ start.now }
+    ensures kept { 0 < turns → result.now ≡ slice_index_or kept.now (turns - 1) result.now }
+{
+    if turns == 0 {
+        return start;
+    }
+    &kept[turns - 1]
+}
