@@ -1,10 +1,12 @@
 //! Entries: a choice, and how many times it is made.
 
-ghost use Rattle.std.specs.Prelude.{◌≡◌, ◌-◌, ◌^◌, ◌++◌, min, replicate, option_map, IsSome, IfOk, OnOk};
+ghost use Rattle.std.specs.Prelude.{◌≡◌, ◌-◌, ◌^◌, ◌++◌, min, replicate, option_map, IsSome, IfOk, Ok, OnOk};
+ghost use Rattle.bx_terms.specs.Outcomes.{Gives};
 ghost use Rattle.bx_plan.specs.Reading.{choice_of, entry_of, entries_of, count_of, spread};
 
 use crate::numbers::number_of;
 use crate::parts::{Parts, cut};
+use bx_terms::Fault;
 use bx_world::Choice;
 use std::alloc::{AllocError, Global};
 
@@ -14,8 +16,8 @@ pub(crate) const MOST_PID: u32 = 1023;
 /// How many times one entry may make its choice.
 pub(crate) const MOST_TIMES: u32 = 100_000;
 
-/// The choice that the text spells.
-fn choice_of(text: &[u8]) -> Option<Choice>
+/// The choice that the text spells: `r0`, or `d0>1`, by pids from 0 to 1023.
+pub fn choice_of(text: &[u8]) -> Option<Choice>
     ensures { result ≡ choice_of text.now }
 {
     match text {
@@ -64,6 +66,21 @@ fn push_times(choices: &mut Vec<Choice>, choice: Choice, times: u32) -> Result<(
         choices.push(choice)?;
     }
     Ok(())
+}
+
+/// The choices that a text's entries make, in order, with one space between one entry and the next. An entry is a choice, or a
+/// choice with `*` and how many times it is made, from 1 to 100,000.
+///
+/// `None` exactly where the text is no such list. Memory is all that it may lack, and none is taken there.
+pub fn read_choices(alloc: Global, text: &[u8]) -> Result<Option<Vec<Choice>>, Fault>
+    ensures { Gives (IsSome (entries_of text.now)) (λ choices. option_map (λ v. v.items) choices) result
+        (Ok (option_map spread (entries_of text.now))) }
+{
+    if count_choices(text).is_none() {
+        return Ok(None);
+    }
+    let choices = spread(alloc, text)?;
+    Ok(Some(choices))
 }
 
 /// The choices that the entries make, with one space between one entry and the next.

@@ -9,6 +9,8 @@ mod parts;
 mod plans;
 mod trees;
 
+pub use entries::{choice_of, read_choices};
+pub use numbers::number_of;
 pub use plans::{Plan, Schedule, read_plan};
 
 #[cfg(test)]
