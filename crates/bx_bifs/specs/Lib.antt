@@ -1,5 +1,6 @@
 pub mod Names
 pub mod Natives
+pub mod Asks
 pub mod GuardNames
 pub mod Given
 pub mod Bits

@@ -36,3 +36,8 @@ part_from_one t place = None
 abbrev pub element_of : Tree → Tree → Option Tree
 element_of (int place) (tuple t) = part_from_one t place
 element_of place t = None
+
+-- places count from 0
+abbrev pub element_from_zero : ℕ → Tree → Option Tree
+element_from_zero place (tuple t) = part t place
+element_from_zero place t = None

@@ -27,7 +27,12 @@ use std::alloc::{AllocError, Global};
 ///
 /// Another number of arguments than the BIF's own gives the fault `undef`, as `self/0` does, which only a process can
 /// answer. Memory is all that it may lack, and only where the value is a tuple or a list cell.
-pub fn guard(alloc: Global, atoms: &Atoms, bif: Bif, arguments: &[Term]) -> Result<Given, Fault>
+pub fn guard_decoded(
+    alloc: Global,
+    atoms: &Atoms,
+    bif: Bif,
+    arguments: &[Term],
+) -> Result<Given, Fault>
     ensures { Gives (TakesMemory (guard_gives atoms.now bif arguments.now)) (λ given. given) result (Ok (guard_gives atoms.now bif arguments.now)) }
 {
     Ok(match arguments {
@@ -37,22 +42,17 @@ pub fn guard(alloc: Global, atoms: &Atoms, bif: Bif, arguments: &[Term]) -> Resu
     })
 }
 
-/// What the guard BIF of that name gives on `arguments`, by the atom's text in `atoms`: as `guard`, and the fault `undef`
+/// What the guard BIF of that name gives on `arguments`, by the atom's text in `atoms`: as `guard_decoded`, and the fault `undef`
 /// where there is no guard BIF of that name and as many arguments.
 #[tactic(auto, using(crate::proofs::Arities::too_many))]
-pub fn guard_named(
-    alloc: Global,
-    atoms: &Atoms,
-    name: AtomId,
-    arguments: &[Term],
-) -> Result<Given, Fault>
+pub fn guard(alloc: Global, atoms: &Atoms, name: AtomId, arguments: &[Term]) -> Result<Given, Fault>
     ensures { Gives (TakesMemory (named_gives atoms.now name arguments.now)) (λ given. given) result (Ok (named_gives atoms.now name arguments.now)) }
 {
     if arguments.len() > 2 {
         return Ok(undef());
     }
     match guard_bif(atoms, name, arguments.len() as u32) {
-        Some(bif) => guard(alloc, atoms, bif, arguments),
+        Some(bif) => guard_decoded(alloc, atoms, bif, arguments),
         None => Ok(undef()),
     }
 }

@@ -5,39 +5,43 @@ ghost use Rattle.bx_bifs.specs.Kinds.{is_atom as atom_kind, is_integer as intege
 
 use bx_terms::{Term, View, fixed};
 
-pub(crate) fn is_atom(term: &Term) -> bool
+/// Whether a term is an atom.
+pub fn is_atom(term: &Term) -> bool
     ensures { result ≡ atom_kind term.now }
 {
     matches!(term.view(), View::Atom(_))
 }
 
-pub(crate) fn is_integer(term: &Term) -> bool
+/// Whether a term is an integer.
+pub fn is_integer(term: &Term) -> bool
     ensures { result ≡ integer_kind term.now }
 {
     matches!(term.view(), View::Int(_))
 }
 
-/// Also an improper list, whose last tail is no list.
-pub(crate) fn is_list(term: &Term) -> bool
+/// Whether a term is a list, also an improper one, whose last tail is no list.
+pub fn is_list(term: &Term) -> bool
     ensures { result ≡ list_kind term.now }
 {
     matches!(term.view(), View::Nil | View::Cons(_, _))
 }
 
-pub(crate) fn is_pid(term: &Term) -> bool
+/// Whether a term is a pid.
+pub fn is_pid(term: &Term) -> bool
     ensures { result ≡ pid_kind term.now }
 {
     matches!(term.view(), View::Pid(_))
 }
 
-pub(crate) fn is_tuple(term: &Term) -> bool
+/// Whether a term is a tuple.
+pub fn is_tuple(term: &Term) -> bool
     ensures { result ≡ tuple_kind term.now }
 {
     matches!(term.view(), View::Tuple(_))
 }
 
 /// What the atoms `true` and `false` stand for, and `None` for any other term.
-pub(crate) fn truth(term: &Term) -> Option<bool>
+pub fn truth(term: &Term) -> Option<bool>
     ensures { result ≡ truth_of term.now }
 {
     match term.view() {

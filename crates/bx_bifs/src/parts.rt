@@ -3,12 +3,13 @@
 //! Source: module `erlang` of the ERTS Reference Manual: `hd/1`, `tl/1`, `length/1`, `tuple_size/1`, `element/2`.
 
 ghost use Rattle.std.specs.Prelude.{◌≡◌, option_map};
-ghost use Rattle.bx_bifs.specs.Parts.{head_of, tail_of, length_of, size_of, part_from_one, element_of};
+ghost use Rattle.bx_bifs.specs.Parts.{head_of, tail_of, length_of, size_of, part_from_one, element_of, element_from_zero};
 ghost use Rattle.bx_terms.specs.Tree.{listed};
 
 use bx_terms::{Term, View};
 
-pub(crate) fn head(list: &Term) -> Option<&Term>
+/// The head of a list cell, and `None` for any other term.
+pub fn head(list: &Term) -> Option<&Term>
     ensures { option_map (λ term. term.now) result ≡ head_of list.now }
 {
     match list.view() {
@@ -17,7 +18,8 @@ pub(crate) fn head(list: &Term) -> Option<&Term>
     }
 }
 
-pub(crate) fn tail(list: &Term) -> Option<&Term>
+/// The tail of a list cell, and `None` for any other term.
+pub fn tail(list: &Term) -> Option<&Term>
     ensures { option_map (λ term. term.now) result ≡ tail_of list.now }
 {
     match list.view() {
@@ -28,7 +30,7 @@ pub(crate) fn tail(list: &Term) -> Option<&Term>
 
 /// The number of elements of a proper list, and `None` for any other term.
 #[tactic(auto, using(crate::proofs::Lists::one_more, crate::proofs::Lists::none_counted))]
-pub(crate) fn length(list: &Term) -> Option<u32>
+pub fn length(list: &Term) -> Option<u32>
     ensures { result ≡ length_of list.now }
 {
     let _height = list.height();
@@ -46,7 +48,7 @@ pub(crate) fn length(list: &Term) -> Option<u32>
 
 /// The number of elements of a tuple, and `None` for any other term.
 #[tactic(auto, using(crate::proofs::Lists::size_listed))]
-pub(crate) fn size(tuple: &Term) -> Option<usize>
+pub fn size(tuple: &Term) -> Option<usize>
     ensures { result ≡ size_of tuple.now }
 {
     match tuple.view() {
@@ -55,8 +57,23 @@ pub(crate) fn size(tuple: &Term) -> Option<usize>
     }
 }
 
+/// The element of a tuple at a place from 0, and `None` where there is none.
+#[tactic(auto, using(crate::proofs::Lists::part_here, crate::proofs::Lists::part_past))]
+pub fn element_from_zero(tuple: &Term, place: usize) -> Option<&Term>
+    ensures { option_map (λ term. term.now) result ≡ element_from_zero place tuple.now }
+{
+    let View::Tuple(elements) = tuple.view() else {
+        return None;
+    };
+    if place < elements.len() {
+        Some(&elements[place])
+    } else {
+        None
+    }
+}
+
 /// The element of a tuple at a place from 1, and `None` where there is none.
-pub(crate) fn element<'a>(place: &Term, tuple: &'a Term) -> Option<&'a Term>
+pub fn element<'a>(place: &Term, tuple: &'a Term) -> Option<&'a Term>
     ensures { option_map (λ term. term.now) result ≡ element_of place.now tuple.now }
 {
     match (place.view(), tuple.view()) {
