@@ -2,3 +2,5 @@ pub mod Cells
 pub mod Stacks
 pub mod Catching
 pub mod Writing
+pub mod StackRows
+pub mod Linked

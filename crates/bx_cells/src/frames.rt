@@ -1,115 +1,45 @@
 //! The stack of a process.
 
-ghost use Rattle.std.specs.Prelude.{◌≡◌, ◌↔◌, ◌++◌, ◌∷◌, [], ◌<◌, ℕ, length, take, reverse, replicate, IfOk, OnOk, IfErr, IsTrue, None, Some, Ok, Err, MatchOption, MatchResult, option_map, slice_get};
-ghost use Rattle.bx_cells.specs.StackFrame.{StackFrame};
+ghost use Rattle.std.specs.Prelude.{◌≡◌, ◌≢◌, ◌↔◌, ◌++◌, ◌∷◌, [], ◌<◌, ◌≤◌, length, take, drop, reverse, replicate, slice_set, IfOk, IfSome, OnOk, OnErr, IsTrue, None, Some, Ok, Err, MatchOption, MatchResult, option_map};
+ghost use Rattle.bx_cells.specs.StackRow.{frames_of, Fits, index_of, Catches};
 ghost use Rattle.bx_cells.specs.Stack.{unwound, lowest_tag};
-ghost use Rattle.bx_cells.specs.TopFrame.{y_cell, there, with_y, with_cell};
+ghost use Rattle.bx_cells.specs.TopFrame.{y_cell, with_y, empty_frame, top_of, trimmed};
 
-use crate::registers::same_held;
 use crate::values::Value;
+use bx_share::{Same, same_rows};
 use bx_terms::{Place, Trap};
 use std::alloc::{AllocError, Global};
 use std::marker::Model;
 
-/// A stack frame: its y registers, and the place to return to that it saved.
-///
-/// Source: The BEAM Book, "The Stack".
-#[derive(Debug, Drop)]
-pub struct Frame {
-    cells: Vec<Option<Value>>,
-    return_to: Option<Place>,
+/// Where a frame's y registers begin in the row of all of them, and the place to return to that it saved.
+#[derive(Clone, Copy, Debug)]
+pub struct Head {
+    pub(crate) first: usize,
+    pub(crate) return_to: Option<Place>,
 }
 
-impl Model for Frame {
-    ghost use Rattle.bx_cells.specs.StackFrame.{StackFrame, frame_code};
-    ghost use Rattle.bx_cells.specs.contracts.values.Value as held;
-    ghost use Rattle.bx_terms.specs.contracts.places.Place as place;
-
-    ghost Value = { StackFrame };
-
-    ghost coded = { frame_code held.the_row.coded place.the_row.coded };
-
-    ghost view = { λ a. record { cells = a.cells.items; return_to = a.return_to } };
-}
-
-impl Frame {
-    /// A frame of `size` y registers that hold nothing.
-    #[tactic(auto, using(std::proofs::lemmas::Grind::replicate_next))]
-    pub fn new(alloc: Global, size: u16, return_to: Option<Place>) -> Result<Frame, AllocError>
-        ensures { IfOk result (λ f. f ≡ record { cells = replicate size None; return_to = return_to }) }
-    {
-        let mut cells = Vec::with_capacity(alloc, size as usize)?;
-        for _next in 0..size {
-            cells.push(None)?;
-        }
-        Ok(Frame { cells, return_to })
-    }
-
-    /// Whether both have the same registers and the same place to return to.
-    pub fn same(&self, other: &Frame) -> bool
-        ensures { IsTrue result ↔ (self.now ≡ other.now) }
-    {
-        self.return_to == other.return_to && same_rows(&self.cells, &other.cells)
-    }
-
-    /// What the register of this number holds, where it holds something. `FrameSize`: the frame has no such register.
-    #[inline]
-    fn get(&self, number: usize) -> Result<Option<&Value>, Trap>
-        ensures { MatchResult result (λ cell. there (slice_get self.now.cells number) ≡ Ok (option_map (λ v. v.now) cell)) (λ trap. there (slice_get self.now.cells number) ≡ Err trap) }
-    {
-        if number >= self.cells.len() {
-            return Err(Trap::FrameSize);
-        }
-        Ok(self.cells[number].as_ref())
-    }
-
-    /// Puts `value` into the register of this number. `FrameSize`: the frame has no such register, and nothing has changed.
-    #[inline]
-    fn set(&mut self, number: usize, value: Value) -> Result<(), Trap>
-        ensures { MatchResult result (λ done. with_cell number value self.old (slice_get self.old.cells number) ≡ Ok self.new) (λ trap. (with_cell number value self.old (slice_get self.old.cells number) ≡ Err trap) × (self.new ≡ self.old)) }
-    {
-        if number >= self.cells.len() {
-            return Err(Trap::FrameSize);
-        }
-        self.cells[number] = Some(value);
-        Ok(())
-    }
-
-    /// The place of the catch tag in the lowest register that holds one.
-    fn tag(&self) -> Option<Place>
-        ensures { result ≡ lowest_tag self.now.cells }
-    {
-        lowest_tag(&self.cells)
+impl Same for Head {
+    fn same(&self, other: &Head) -> bool {
+        self.first == other.first && self.return_to.same(&other.return_to)
     }
 }
 
-impl Clone for Frame {
-    ghost use Rattle.std.specs.Prelude.{◌≡◌};
-
-    ghost is_clone = { λ f g. g ≡ f };
-
-    fn clone(&self) -> Result<Frame, AllocError> {
-        let cells = self.cells.clone()?;
-        Ok(Frame {
-            cells,
-            return_to: self.return_to,
-        })
-    }
-}
-
-/// A stack of frames.
+/// A stack of frames. The y registers of all frames lie in one row, so that a frame takes memory only where the stack is
+/// higher than it ever was.
 ///
 /// Source: The BEAM Book, "The Stack".
 #[derive(Debug, Drop)]
 pub struct Frames {
-    /// The topmost is the last.
-    frames: Vec<Frame>,
+    /// Those of the topmost frame are the last.
+    cells: Vec<Option<Value>>,
+    heads: Vec<Head>,
 }
 
 impl Model for Frames {
-    ghost use Rattle.std.specs.Prelude.{List, reverse};
+    ghost use Rattle.std.specs.Prelude.{List, reverse, length};
     ghost use Rattle.std.specs.Coded.{coded_list};
     ghost use Rattle.bx_cells.specs.StackFrame.{StackFrame, frame_code};
+    ghost use Rattle.bx_cells.specs.StackRow.{frames_of, Fits};
     ghost use Rattle.bx_cells.specs.contracts.values.Value as held;
     ghost use Rattle.bx_terms.specs.contracts.places.Place as place;
 
@@ -117,7 +47,9 @@ impl Model for Frames {
 
     ghost coded = { coded_list (frame_code held.the_row.coded place.the_row.coded) };
 
-    ghost view = { λ a. reverse a.frames.items };
+    ghost view = { λ a. frames_of (reverse a.heads.items) a.cells.items };
+
+    ghost invariant = { λ a. Fits (reverse a.heads.items) (length a.cells.items) };
 }
 
 impl Frames {
@@ -126,74 +58,229 @@ impl Frames {
         ensures { result ≡ [] }
     {
         Frames {
-            frames: Vec::new(alloc),
+            cells: Vec::new(alloc),
+            heads: Vec::new(alloc),
         }
     }
 
-    /// Puts a frame on top, or hands it back where memory ran out, and then nothing has changed.
-    pub fn push(&mut self, frame: Frame) -> Result<(), Frame>
-        ensures ok { OnOk result (self.new ≡ frame ∷ self.old) }
-        ensures err { IfErr result (λ f. (f ≡ frame) × (self.new ≡ self.old)) }
+    /// Puts a frame of `size` y registers that hold nothing on top. Where memory ran out nothing has changed.
+    #[inline]
+    #[tactic(auto, using(crate::proofs::StackRows::pushed))]
+    pub fn push(&mut self, size: usize, return_to: Option<Place>) -> Result<(), AllocError>
+        ensures ok { OnOk result (self.new ≡ empty_frame size return_to ∷ self.old) }
+        ensures err { OnErr result (self.new ≡ self.old) }
     {
-        match self.frames.push(frame) {
-            Ok(()) => Ok(()),
-            Err(failed) => Err(failed.value),
+        let first = self.cells.len();
+        lengthen(&mut self.cells, size)?;
+        if let Err(_) = self.heads.push(Head { first, return_to }) {
+            self.cells.truncate(first);
+            return Err(AllocError);
         }
+        Ok(())
+    }
+
+    /// How many y registers the topmost frame has, and the place to return to that it saved; `None` where there is no frame.
+    #[inline(always)]
+    #[tactic(auto, using(crate::proofs::Stacks::reverse_last))]
+    pub fn top(&self) -> Option<(usize, Option<Place>)>
+        ensures { result ≡ top_of self.now }
+    {
+        let count = self.heads.len();
+        if count == 0 {
+            return None;
+        }
+        let head = self.heads[count - 1];
+        Some((self.cells.len() - head.first, head.return_to))
+    }
+
+    /// Takes the topmost frame away, where there is one.
+    #[inline(always)]
+    pub fn pop(&mut self)
+        ensures { self.new ≡ drop 1 self.old }
+    {
+        if let Some(head) = self.heads.pop() {
+            self.cells.truncate(head.first);
+        }
+    }
+
+    /// Takes the lowest `count` registers of the topmost frame away: the one of the number `count` is y0 then. Of a frame
+    /// of fewer registers none is left.
+    pub fn trim(&mut self, count: usize)
+        ensures { self.new ≡ trimmed count self.old }
+    {
+        let frames = self.heads.len();
+        if frames == 0 {
+            return;
+        }
+        let first = self.heads[frames - 1].first;
+        let gone = count.min(self.cells.len() - first);
+        self.cells.drain(first..first + gone);
     }
 
     /// What the y register of this number holds, where it holds something. `NoFrame`: there is no frame; `FrameSize`: the
     /// topmost frame has no such register.
-    #[inline]
-    #[tactic(auto, using(crate::proofs::Stacks::reverse_last))]
+    #[inline(always)]
     pub fn get(&self, number: u16) -> Result<Option<&Value>, Trap>
         ensures { MatchResult result (λ cell. y_cell number self.now ≡ Ok (option_map (λ v. v.now) cell)) (λ trap. y_cell number self.now ≡ Err trap) }
     {
-        let size = self.frames.len();
-        if size == 0 {
-            return Err(Trap::NoFrame);
-        }
-        self.frames[size - 1].get(number as usize)
+        let at = index_in(&self.heads, self.cells.len(), number)?;
+        Ok(self.cells[at].as_ref())
     }
 
     /// Puts `value` into the y register of this number. `NoFrame`: there is no frame; `FrameSize`: the topmost frame has no
-    /// such register. Then nothing has changed.
-    #[inline]
-    #[tactic(auto, using(crate::proofs::Stacks::reverse_last, crate::proofs::Stacks::reverse_set_last))]
-    pub fn set(&mut self, number: u16, value: Value) -> Result<(), Trap>
-        ensures { MatchResult result (λ done. with_y number value self.old ≡ Ok self.new) (λ trap. (with_y number value self.old ≡ Err trap) × (self.new ≡ self.old)) }
+    /// such register. Then nothing has changed, and the value is handed back.
+    #[inline(always)]
+    #[tactic(auto, using(crate::proofs::StackRows::set_row, crate::proofs::StackRows::set_refused))]
+    pub fn set(&mut self, number: u16, value: Value) -> Result<(), (Trap, Value)>
+        ensures { MatchResult result (λ done. with_y number value self.old ≡ Ok self.new) (λ refused. (with_y number value self.old ≡ Err refused.0) × (refused.1 ≡ value) × (self.new ≡ self.old)) }
     {
-        let size = self.frames.len();
-        if size == 0 {
-            return Err(Trap::NoFrame);
+        match index_in(&self.heads, self.cells.len(), number) {
+            Ok(at) => {
+                put(&mut self.cells, at, value);
+                Ok(())
+            }
+            Err(trap) => Err((trap, value)),
         }
-        self.frames[size - 1].set(number as usize, value)
     }
 
-    /// Goes down to the topmost frame that holds a catch tag, and answers the place of that frame's lowest tag. Where
-    /// there is none, nothing has changed.
-    pub fn unwind(&mut self) -> Option<Place>
-        ensures { MatchOption result ((unwound self.old ≡ None) × (self.new ≡ self.old)) (λ place. unwound self.old ≡ Some (place, self.new)) }
+    /// Where a fault is caught: how many frames stand above the topmost one that holds a catch tag, and the place of that
+    /// frame's lowest tag.
+    pub fn handler(&self) -> Option<(usize, Place)>
+        ensures { Catches self.now result }
     {
-        let (kept, place) = handler(&self.frames)?;
-        self.frames.truncate(kept);
-        Some(place)
+        catcher(&self.heads, &self.cells)
+    }
+
+    /// The same for a stack without its topmost frame, which is counted among those above.
+    pub fn handler_below(&self) -> Option<(usize, Place)>
+        ensures { MatchOption result (unwound (drop 1 self.now) ≡ None) (λ h. unwound (drop 1 self.now) ≡ Some (h.1, drop h.0 self.now)) }
+    {
+        let count = self.heads.len();
+        if count == 0 {
+            return None;
+        }
+        let first = self.heads[count - 1].first;
+        let (above, place) = catcher(&self.heads[..count - 1], &self.cells[..first])?;
+        Some((above + 1, place))
+    }
+
+    /// Takes so many frames away from the top, or all where there are fewer.
+    pub fn cut(&mut self, above: usize)
+        ensures { self.new ≡ drop above self.old }
+    {
+        let count = self.heads.len();
+        if above == 0 || count == 0 {
+            return;
+        }
+        let kept = count.saturating_sub(above);
+        let first = self.heads[kept].first;
+        self.cells.truncate(first);
+        self.heads.truncate(kept);
     }
 
     /// Whether both have the same frames.
-    #[tactic(auto, using(crate::proofs::Stacks::same_reversed))]
+    #[tactic(auto, using(crate::proofs::StackRows::same_frames))]
     pub fn same(&self, other: &Frames) -> bool
         ensures { IsTrue result ↔ (self.now ≡ other.now) }
     {
-        same_frames(&self.frames, &other.frames)
+        same_rows(&self.heads, &other.heads) && same_rows(&self.cells, &other.cells)
     }
 
-    /// The same stack. Terms are shared.
-    pub fn copy(&self, _alloc: Global) -> Result<Frames, AllocError>
-        ensures { IfOk result (λ f. f ≡ self.now) }
+    /// The same stack. Terms are shared. Memory is taken only where there is a frame.
+    pub fn copy(&self, alloc: Global) -> Result<Frames, AllocError>
+        ensures copied { IfOk result (λ f. f ≡ self.now) }
+        ensures memory { OnErr result (self.now ≢ []) }
     {
-        let frames = self.frames.clone()?;
-        Ok(Frames { frames })
+        let none = Frames::new(alloc);
+        if self.same(&none) {
+            return Ok(none);
+        }
+        let cells = cloned_cells(&self.cells)?;
+        let heads = cloned_heads(&self.heads)?;
+        Ok(Frames { cells, heads })
     }
+}
+
+/// Where a y register of the topmost frame lies in the row of all, which has that many.
+#[inline(always)]
+#[tactic(auto, using(crate::proofs::Stacks::reverse_last))]
+fn index_in(heads: &[Head], cells: usize, number: u16) -> Result<usize, Trap>
+    requires { Fits (reverse heads.now) cells }
+    ensures { result ≡ index_of (reverse heads.now) cells number }
+{
+    let count = heads.len();
+    if count == 0 {
+        return Err(Trap::NoFrame);
+    }
+    let first = heads[count - 1].first;
+    if number as usize >= cells - first {
+        return Err(Trap::FrameSize);
+    }
+    Ok(first + number as usize)
+}
+
+/// Adds registers that hold nothing. Where memory ran out nothing has changed.
+#[inline]
+#[tactic(auto, using(std::proofs::lemmas::Grind::replicate_next))]
+fn lengthen(cells: &mut Vec<Option<Value>>, count: usize) -> Result<(), AllocError>
+    ensures ok { OnOk result (cells.new.items ≡ cells.old.items ++ replicate count None) }
+    ensures err { OnErr result (cells.new.items ≡ cells.old.items) }
+{
+    let before = cells.len();
+    for _next in 0..count {
+        if let Err(_) = cells.push(None) {
+            cells.truncate(before);
+            return Err(AllocError);
+        }
+    }
+    Ok(())
+}
+
+/// Writes into a register that the row has.
+#[inline(always)]
+fn put(cells: &mut Vec<Option<Value>>, at: usize, value: Value)
+    requires { at < length cells.old.items }
+    ensures { cells.new.items ≡ slice_set cells.old.items at (Some value) }
+{
+    cells[at] = Some(value);
+}
+
+fn cloned_cells(cells: &Vec<Option<Value>>) -> Result<Vec<Option<Value>>, AllocError>
+    ensures { IfOk result (λ v. v.items ≡ cells.now.items) }
+{
+    cells.clone()
+}
+
+fn cloned_heads(heads: &Vec<Head>) -> Result<Vec<Head>, AllocError>
+    ensures { IfOk result (λ v. v.items ≡ heads.now.items) }
+{
+    heads.clone()
+}
+
+/// Where a fault is caught: how many frames stand above, and the place of the lowest tag.
+fn catcher(heads: &[Head], cells: &[Option<Value>]) -> Option<(usize, Place)>
+    requires { Fits (reverse heads.now) (length cells.now) }
+    ensures found { Catches (frames_of (reverse heads.now) cells.now) result }
+    ensures within { IfSome result (λ h. h.0 < length heads.now) }
+{
+    let mut end = cells.len();
+    for above in 0..heads.len() {
+        let first = heads[heads.len() - 1 - above].first;
+        if let Some(place) = lowest_between(cells, first, end) {
+            return Some((above, place));
+        }
+        end = first;
+    }
+    None
+}
+
+/// The place of the lowest tag of a frame, by where its registers begin and end.
+fn lowest_between(cells: &[Option<Value>], first: usize, end: usize) -> Option<Place>
+    requires begins { first ≤ end }
+    requires ends { end ≤ length cells.now }
+    ensures { result ≡ lowest_tag (drop first (take end cells.now)) }
+{
+    lowest_tag(&cells[..end][first..])
 }
 
 #[tactic(auto, using(crate::proofs::Stacks::lowest_from))]
@@ -206,49 +293,4 @@ fn lowest_tag(cells: &[Option<Value>]) -> Option<Place>
         }
     }
     None
-}
-
-/// How many frames stay where a fault is caught, and at which place it is.
-#[tactic(auto, using(crate::proofs::Stacks::reverse_next))]
-fn handler(frames: &[Frame]) -> Option<(usize, Place)>
-    ensures { MatchOption result (unwound (reverse frames.now) ≡ None) (λ h. unwound (reverse frames.now) ≡ Some (h.1, reverse (take h.0 frames.now))) }
-{
-    for above in 0..frames.len() {
-        let at = frames.len() - 1 - above;
-        if let Some(place) = frames[at].tag() {
-            return Some((at + 1, place));
-        }
-    }
-    None
-}
-
-/// Whether two rows hold the same, register by register.
-#[tactic(auto, using(crate::proofs::Stacks::same_so_far, crate::proofs::Stacks::same_whole))]
-fn same_rows(xs: &[Option<Value>], ys: &[Option<Value>]) -> bool
-    ensures { IsTrue result ↔ (xs.now ≡ ys.now) }
-{
-    if xs.len() != ys.len() {
-        return false;
-    }
-    for at in 0..xs.len() {
-        if !same_held(xs[at].as_ref(), ys[at].as_ref()) {
-            return false;
-        }
-    }
-    true
-}
-
-#[tactic(auto, using(crate::proofs::Stacks::same_so_far, crate::proofs::Stacks::same_whole))]
-fn same_frames(xs: &[Frame], ys: &[Frame]) -> bool
-    ensures { IsTrue result ↔ (xs.now ≡ ys.now) }
-{
-    if xs.len() != ys.len() {
-        return false;
-    }
-    for at in 0..xs.len() {
-        if !xs[at].same(&ys[at]) {
-            return false;
-        }
-    }
-    true
 }

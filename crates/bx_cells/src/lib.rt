@@ -7,7 +7,7 @@ mod links;
 mod registers;
 mod values;
 
-pub use frames::{Frame, Frames};
+pub use frames::Frames;
 pub use links::Links;
 pub use registers::Registers;
 pub use values::Value;

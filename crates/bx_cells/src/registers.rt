@@ -1,11 +1,12 @@
 //! The x registers of a process.
 
-ghost use Rattle.std.specs.Prelude.{◌≡◌, ◌≢◌, ◌↔◌, ◌<◌, ◌≤◌, ℕ, [], length, IfOk, OnOk, IfErr, OnErr, IsTrue, None, option_map};
+ghost use Rattle.std.specs.Prelude.{◌≡◌, ◌≢◌, ◌↔◌, ◌⊎◌, ◌<◌, ◌≤◌, ℕ, [], length, IfOk, OnOk, IfErr, OnErr, IsTrue, None, option_map};
 ghost use Rattle.std.specs.FinMap as map;
 ghost use Rattle.bx_cells.specs.Indexed.{cell_at, indexed};
 ghost use Rattle.bx_cells.specs.Held.{all_held, holding};
 
 use crate::values::Value;
+use bx_share::same_held;
 use bx_terms::Term;
 use std::alloc::{AllocError, Global};
 use std::marker::Model;
@@ -81,10 +82,59 @@ impl Registers {
         Ok(())
     }
 
-    /// The same registers. Terms are shared.
-    pub fn copy(&self, _alloc: Global) -> Result<Registers, AllocError>
-        ensures { IfOk result (λ r. r ≡ self.now) }
+    /// Puts values into two registers, the second after the first, or hands both back where memory ran out, and then
+    /// nothing has changed. Memory is taken only where one of them holds nothing.
+    #[inline]
+    #[tactic(auto, using(crate::proofs::Cells::nothing_past))]
+    pub fn set_two(
+        &mut self,
+        number: u16,
+        value: Value,
+        second: u16,
+        other: Value,
+    ) -> Result<(), (Value, Value)>
+        ensures ok { OnOk result (self.new ≡ map.insert (map.insert self.old number value) second other) }
+        ensures err { IfErr result (λ back. (back ≡ (value, other)) × (self.new ≡ self.old) × ((map.get self.old number ≡ None) ⊎ (map.get self.old second ≡ None))) }
     {
+        let last = if number < second { second } else { number };
+        if last as usize >= self.cells.len() && grow(&mut self.cells, last as usize).is_err() {
+            return Err((value, other));
+        }
+        write(&mut self.cells, number as usize, value);
+        write(&mut self.cells, second as usize, other);
+        Ok(())
+    }
+
+    /// Puts values into x0, x1 and x2, or hands them back where memory ran out, and then nothing has changed. Memory is
+    /// taken only where x2 holds nothing.
+    #[tactic(auto, using(crate::proofs::Cells::nothing_past))]
+    pub fn set_three(
+        &mut self,
+        first: Value,
+        second: Value,
+        third: Value,
+    ) -> Result<(), (Value, Value, Value)>
+        ensures ok { OnOk result (self.new ≡ map.insert (map.insert (map.insert self.old 0 first) 1 second) 2 third) }
+        ensures err { IfErr result (λ back. (back ≡ (first, second, third)) × (self.new ≡ self.old) × (map.get self.old 2 ≡ None)) }
+    {
+        if self.cells.len() <= 2 && grow(&mut self.cells, 2).is_err() {
+            return Err((first, second, third));
+        }
+        write(&mut self.cells, 0, first);
+        write(&mut self.cells, 1, second);
+        write(&mut self.cells, 2, third);
+        Ok(())
+    }
+
+    /// The same registers. Terms are shared. Memory is taken only where a register holds something.
+    pub fn copy(&self, alloc: Global) -> Result<Registers, AllocError>
+        ensures copied { IfOk result (λ r. r ≡ self.now) }
+        ensures memory { OnErr result (self.now ≢ map.empty) }
+    {
+        let none = Registers::new(alloc);
+        if self.same(&none) {
+            return Ok(none);
+        }
         let cells = self.cells.clone()?;
         Ok(Registers { cells })
     }
@@ -132,7 +182,8 @@ fn grow(cells: &mut Vec<Option<Value>>, at: usize) -> Result<(), AllocError>
 #[tactic(auto, using(crate::proofs::Cells::indexed_set))]
 fn write(cells: &mut Vec<Option<Value>>, at: usize, value: Value)
     requires { at < length cells.old.items }
-    ensures { indexed 0 cells.new.items ≡ map.insert (indexed 0 cells.old.items) at value }
+    ensures written { indexed 0 cells.new.items ≡ map.insert (indexed 0 cells.old.items) at value }
+    ensures as_long { length cells.new.items ≡ length cells.old.items }
 {
     cells[at] = Some(value);
 }
@@ -148,17 +199,6 @@ fn same_cells(xs: &[Option<Value>], ys: &[Option<Value>]) -> bool
         }
     }
     true
-}
-
-/// Whether both hold the same value, or neither holds one.
-pub(crate) fn same_held(one: Option<&Value>, other: Option<&Value>) -> bool
-    ensures { IsTrue result ↔ (option_map (λ v. v.now) one.entry ≡ option_map (λ v. v.now) other.entry) }
-{
-    match (one, other) {
-        (None, None) => true,
-        (Some(value), Some(other)) => value.same(other),
-        _ => false,
-    }
 }
 
 /// What stands at `at`, where something does.

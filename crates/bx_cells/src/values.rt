@@ -3,6 +3,7 @@
 ghost use Rattle.std.specs.Prelude.{◌≡◌, ◌↔◌, ◌<◌, IfOk, OnErr, IsTrue};
 ghost use Rattle.bx_cells.specs.Held.{value_height};
 
+use bx_share::Same;
 use bx_terms::{Class, Place, Term};
 use std::alloc::{AllocError, Global};
 
@@ -43,6 +44,12 @@ impl Value {
             (Value::Trace(class), Value::Trace(other)) => *class == *other,
             _ => false,
         }
+    }
+}
+
+impl Same for Value {
+    fn same(&self, other: &Value) -> bool {
+        Value::same(self, other)
     }
 }
 

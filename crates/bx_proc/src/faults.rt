@@ -29,11 +29,12 @@ impl Proc {
     fn settle(&mut self, alloc: Global, class: Class, value: Term) -> Result<Option<Term>, Stop>
         ensures { Shows (RaisingTakes class value self.old) effect_of self.old self.new result (raised class value self.old) }
     {
-        let Some(place) = self.frames.unwind() else {
+        let Some((above, place)) = self.frames.handler() else {
             let reason = reason(alloc, class, value)?;
             let told = self.close(alloc, reason)?;
             return Ok(Some(told));
         };
+        self.frames.cut(above);
         self.place = Some(place);
         self.fault = Some(Pending { class, value });
         Ok(None)

@@ -55,7 +55,7 @@ impl Proc {
             },
             CodeRegister::Y(number) => match self.frames.set(number, value) {
                 Ok(()) => Ok(()),
-                Err(trap) => Err(Stop::Trapped(trap)),
+                Err((trap, _)) => Err(Stop::Trapped(trap)),
             },
         }
     }

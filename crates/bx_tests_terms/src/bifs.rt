@@ -1,7 +1,7 @@
 //! Guard BIFs and names, with what Erlang/OTP 25 answers: `max(1, 2)` for `("max", 1, 2, ..)`. An integer outside 64 bits, for
 //! which Erlang has a value or `system_limit`, is `IntegerRange` here.
 
-use bx_bifs::{Given, Native, guard, guard_named, guard_of_one, guard_of_two, is_guard, native};
+use bx_bifs::{Given, Native, guard, guard_decoded, guard_of_one, guard_of_two, is_guard, native};
 use bx_ops::Bif;
 use bx_terms::{AtomId, Atoms, Class, Term, TermRefusal, fixed, print};
 use std::alloc::Global;
@@ -381,7 +381,7 @@ fn push_call(
     arguments: &[Term],
 ) -> Result<(), Fail> {
     let name = atoms.find(name).ok_or("a name that is not there")?;
-    let given = guard_named(alloc, atoms, name, arguments)?;
+    let given = guard(alloc, atoms, name, arguments)?;
     if !out.is_empty() {
         out.push(' ')?;
     }
@@ -523,7 +523,7 @@ fn another_number_of_arguments(rt: HostRuntime) -> Result<(), Fail> {
         push_call(alloc, &mut answer, &atoms, name, &arguments)?;
         assert_eq!(rt; answer.as_str(), "undef", "{name} of {count}");
     }
-    let given = guard(alloc, &atoms, Bif::Abs, &[Term::int(-2)])?;
+    let given = guard_decoded(alloc, &atoms, Bif::Abs, &[Term::int(-2)])?;
     assert!(rt; given.same(&Given::Value(Term::int(2))));
     Ok(())
 }

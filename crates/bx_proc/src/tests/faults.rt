@@ -2,7 +2,7 @@
 
 use super::listings::{ends_so, is_so, item, loaded, process, runs_so};
 use crate::{Pending, Proc, Status};
-use bx_cells::{Frame, Value};
+use bx_cells::Value;
 use bx_terms::{Class, Term, fixed};
 
 #[test]
@@ -58,10 +58,7 @@ fn a_fault_goes_to_the_lowest_tag_of_the_topmost_frame_with_one(rt: HostRuntime)
     let (Some(mut p), Some(expected)) = (tagged(&rt), tagged(&rt)) else {
         panic!(rt; "no memory")
     };
-    let Ok(frame) = Frame::new(rt.alloc(), 5, None) else {
-        panic!(rt; "no memory")
-    };
-    assert!(rt; p.frames.push(frame).is_ok());
+    assert!(rt; p.frames.push(5, None).is_ok());
     assert!(rt; runs_so(&rt, &mut p, "return.", ("ran", 7, "nothing")));
     assert!(rt; p.frames.same(&expected.frames));
     assert_eq!(rt; p.cp, expected.cp);

@@ -2,7 +2,7 @@
 
 use crate::{Effect, Proc};
 use bx_asm::{Unit, assemble};
-use bx_cells::{Frame, Value};
+use bx_cells::Value;
 use bx_listing::read_listing;
 use bx_load::{Image, load};
 use bx_terms::{Atoms, Fault, Place, Term, print};
@@ -45,10 +45,7 @@ pub fn int(value: i64) -> Value {
 pub fn process(alloc: Global, at: u32, sizes: &[u16]) -> Result<Proc, Fault> {
     let mut process = Proc::new(alloc, Some(item(at)), &[])?;
     for size in sizes {
-        let frame = Frame::new(alloc, *size, None)?;
-        if process.frames.push(frame).is_err() {
-            return Err(Fault::Memory);
-        }
+        process.frames.push(*size as usize, None)?;
     }
     Ok(process)
 }
