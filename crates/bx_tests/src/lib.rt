@@ -2,18 +2,12 @@
 #![tactic(auto)]
 
 #[cfg(test)]
-mod code;
-#[cfg(test)]
 mod engines;
-#[cfg(test)]
-mod listings;
 #[cfg(test)]
 mod loading;
 #[cfg(test)]
 mod reports;
 #[cfg(test)]
 mod samples;
-#[cfg(test)]
-mod texts;
 #[cfg(test)]
 mod worlds;

@@ -2,6 +2,7 @@
 
 use crate::samples::{atom, image, loaded};
 use bx_load::Image;
+use bx_share::Same;
 use bx_terms::{Fault, Place};
 use std::alloc::{AllocError, Global};
 use std::test::Fail;

@@ -1,7 +1,7 @@
 //! Modules that were written by hand, and what each crate makes of them.
 
 use bx_asm::{Unit, assemble};
-use bx_listing::{Listing, read_listing};
+use bx_listing::read_listing;
 use bx_load::{Image, LoadRefused, load};
 use bx_terms::{AtomId, Atoms, Fault};
 use std::alloc::{AllocError, Global};
@@ -24,23 +24,9 @@ pub fn module(alloc: Global, items: &str) -> Result<String, AllocError> {
     Ok(text)
 }
 
-/// What a text is read as, with its atoms.
-pub fn read(alloc: Global, text: &str) -> Result<(Atoms, Listing), Fault> {
-    let mut atoms = Atoms::new(alloc)?;
-    let listing = read_listing(alloc, &mut atoms, text.as_bytes())?;
-    Ok((atoms, listing))
-}
-
 fn next_unit(alloc: Global, atoms: &mut Atoms, text: &str) -> Result<Unit, Fault> {
     let listing = read_listing(alloc, atoms, text.as_bytes())?;
     assemble(alloc, &listing)
-}
-
-/// The numbered code of a listing, with its atoms.
-pub fn unit(alloc: Global, text: &str) -> Result<(Atoms, Unit), Fault> {
-    let mut atoms = Atoms::new(alloc)?;
-    let unit = next_unit(alloc, &mut atoms, text)?;
-    Ok((atoms, unit))
 }
 
 /// The image of these listings, or how loading them was refused.
