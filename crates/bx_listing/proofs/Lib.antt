@@ -24,3 +24,4 @@ pub mod ListedHeads
 pub mod Listed
 pub mod OnLines
 pub mod FirstFaults
+pub mod Fitting

@@ -1,6 +1,6 @@
 //! Laws over the definitions of this crate: each function's clause is one, and its body is empty.
 
-ghost use Rattle.std.specs.Prelude.{◌≡◌, ◌↔◌, ℕ, List};
+ghost use Rattle.std.specs.Prelude.{◌≡◌, ◌↔◌, ℕ, List, true};
 ghost use Rattle.bx_terms.specs.declared.faults.Fault.{Fault};
 ghost use Rattle.bx_terms.specs.AtomTable.{IsAtomTable};
 ghost use Rattle.bx_text.specs.Place.{Place, place_in};
@@ -10,6 +10,10 @@ ghost use Rattle.bx_listing.specs.FormsOf.{AreForms};
 ghost use Rattle.bx_listing.specs.ListedCode.{ListedModule};
 ghost use Rattle.bx_listing.specs.Listing.{listing};
 ghost use Rattle.bx_listing.specs.Listed.{IsListing};
+ghost use Rattle.bx_listing.specs.ListedItems.{IsItem};
+ghost use Rattle.bx_listing.specs.Items.{Item};
+ghost use Rattle.bx_listing.specs.Fits.{fits};
+ghost use Rattle.bx_text.specs.Tree.{Tree};
 ghost use Rattle.bx_listing.specs.Refused.{IsFirstFault};
 
 /// The forms from a place on are those of the grammar, up to the first fault of the text, and no others.
@@ -28,4 +32,10 @@ pub fn a_listing_is_read_exactly()
 #[tactic(auto, using(crate::proofs::FirstFaults::first_faults_are))]
 pub fn the_first_form_at_fault_is_refused()
     ensures { (text : List ℕ) (before behind : Table) (fault : Fault) → IsAtomTable before → (listing (last_line text) (forms (place_in text 0))).run before ≡ refused behind fault → IsFirstFault before (last_line text) (forms (place_in text 0)) fault }
+{}
+
+/// What is listed as an item has the operands that its opcode's row of the table wants.
+#[tactic(auto, using(crate::proofs::Fitting::item_fits))]
+pub fn a_listed_item_fits_its_opcode()
+    ensures { (before behind : Table) (t : Tree) (i : Item) → IsItem before t i behind → fits i ≡ true }
 {}

@@ -106,14 +106,8 @@ fn take_form(
 ) -> Result<(), Fault>
     ensures { Reads (Unit {0}) (λ done. functions.new.items) atoms.old atoms.new result (listings.part (span_of form.entry).line functions.old.items (shape form.entry)) }
 {
-    part(
-        alloc,
-        atoms,
-        functions,
-        operands,
-        form.span().line,
-        shape_of(&form),
-    )
+    let line = form.span().line;
+    part(alloc, atoms, functions, operands, line, shape_of(&form))
 }
 
 /// Reads a listing: the forms `{module,M}`, `{exports,[{F,A},..]}`, `{attributes,T}` (which may be missing) and
