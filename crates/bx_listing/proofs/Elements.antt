@@ -69,6 +69,7 @@ view_elements s r t u v es e h = sym (no_proper (seen r v) es (no_nil v r)) ∙ 
     no_nil (views.Atom n) r = refl
     no_nil (views.Tuple n) r = refl
     no_nil (views.List n m) r = refl
+    no_nil (views.Other n m) r = refl
 
     no_proper : (w : Tree) (es : List Tree) → proper w ≡ None → list_elements (list s (chain es w)) ≡ None
     no_proper w [] none = none

@@ -8,35 +8,16 @@ use Rattle.bx_text.specs.Tree.{Tree, span_of}
 use Rattle.bx_text.specs.Place.{Place}
 use Rattle.bx_text.specs.Token.{Lexeme}
 use Rattle.bx_text.specs.Forms.{form_at}
-use Rattle.bx_text.specs.Grammar.{Strings, no_string, a_string, Spells, an_integer, an_atom, strings, empty_tuple, a_tuple, empty_list, a_list, a_list_with_tail, Row, one, more, Form, a_form}
+use Rattle.bx_text.specs.Grammar.{Form, a_form}
+use Rattle.bx_text.proofs.Complete.{term_le}
 use Rattle.bx_text.proofs.Grammatical.{forms_are, none_are}
 use Rattle.bx_text.proofs.Shorter.{next_shorter}
 use Rattle.bx_listing.specs.Forms.{Forms, form, moved, next_form, forms_on, forms}
 use Rattle.bx_listing.specs.FormsOf.{AreForms, none_follows, one_follows, is_refused}
 use Rattle.bx_listing.proofs.Forms.{forms_next}
 
-strings_le : {p q : Place} {ts : List Tree} → Strings p ts q → length q.rest ≤ length p.rest
-strings_le (no_string h) = omega arith
-strings_le (a_string {p = p} {l = l} n e rest) = omega (arith, next_shorter p l n, strings_le rest)
-
-mutual
-  spelled_le : {d : ℕ} {l : Lexeme} {t : Tree} {q : Place} → Spells d l t q → length q.rest ≤ length l.after.rest
-  spelled_le (an_integer e) = omega arith
-  spelled_le (an_atom e) = omega arith
-  spelled_le (strings e h) = strings_le h
-  spelled_le (empty_tuple {l = l} {m = m} e n c) = omega (arith, next_shorter l.after m n)
-  spelled_le (a_tuple {l = l} {first = first} e n row c) = omega (arith, next_shorter l.after first n, row_le row)
-  spelled_le (empty_list {l = l} {m = m} e n c) = omega (arith, next_shorter l.after m n)
-  spelled_le (a_list {l = l} {first = first} e n row c) = omega (arith, next_shorter l.after first n, row_le row)
-  spelled_le (a_list_with_tail {l = l} {first = first} {bar = bar} {start = start} {m = m} {r = r} e n row b s tail x c) =
-      omega (arith, next_shorter l.after first n, row_le row, next_shorter bar.after start s, spelled_le tail, next_shorter r m x)
-
-  row_le : {d : ℕ} {l m : Lexeme} {ts : List Tree} → Row d l ts m → length m.after.rest ≤ length l.after.rest
-  row_le (one {m = m} {r = r} t n) = omega (arith, spelled_le t, next_shorter r m n)
-  row_le (more {comma = comma} {next = next} {r = r} t n c s row) = omega (arith, spelled_le t, next_shorter r comma n, next_shorter comma.after next s, row_le row)
-
 form_shorter : {d : ℕ} {p q : Place} {t : Tree} → Form d p t q → length q.rest < length p.rest
-form_shorter (a_form {p = p} {r = r} {l = l} {m = m} n t s c) = omega (arith, next_shorter p l n, spelled_le t, next_shorter r m s)
+form_shorter (a_form {p = p} {r = r} {l = l} {m = m} n t s c) = omega (arith, next_shorter p l n, term_le t, next_shorter r m s)
 
 is_less : (a b : ℕ) → a < b → nat_lt a b ≡ true
 is_less a b h = grind (arith, nat_tests)

@@ -7,6 +7,7 @@ use Rattle.bx_terms.specs.Naming.{naming}
 use Rattle.bx_terms.specs.Refusals.{at_line}
 use Rattle.bx_terms.specs.Tree as term
 use Rattle.bx_text.specs.Number.{is_large}
+use Rattle.bx_text.specs.Tree as texts
 use Rattle.bx_text.specs.Tree.{Tree, integer, atom, tuple, list, nil, cons}
 use Rattle.bx_ops.specs.GuardBifs.{guard_bif_with}
 use Rattle.bx_ops.specs.declared.guard_bif.Bif.{Bif}
@@ -41,6 +42,7 @@ bare_word (integer s n) text e = absurd (cc)
 bare_word (tuple s (cons (atom r w) row)) text e = absurd (cc)
 bare_word (tuple s _) text e = absurd (cc)
 bare_word (list s row) text e = absurd (cc)
+bare_word (texts.other s k w) text e = absurd (cc)
 bare_word nil text e = absurd (cc)
 bare_word (cons t u) text e = absurd (cc)
 
@@ -49,6 +51,7 @@ word_bare (atom s w) text e = cc
 word_bare (integer s n) text e = absurd (cc)
 word_bare (tuple s row) text e = absurd (cc)
 word_bare (list s row) text e = absurd (cc)
+word_bare (texts.other s k w) text e = absurd (cc)
 word_bare nil text e = absurd (cc)
 word_bare (cons t u) text e = absurd (cc)
 

@@ -13,7 +13,7 @@ use Rattle.bx_listing.specs.Reading.{Table, read, and_then, ◌>>=◌, give, ref
 use Rattle.bx_listing.specs.Literals.{kept, kept_cons, kept_before, kept_list, kept_tuple, with_first, Row, ended, longer, parts, literal}
 use Rattle.bx_listing.specs.ListedTerms.{IsTerm, an_int, a_name, a_tuple, a_list, AreElements, no_element, an_element, IsRow, an_end, a_tail, a_cell}
 use Rattle.bx_listing.proofs.GoodReadings.{given, after_read, outcome_read}
-use Rattle.bx_listing.proofs.Written.{Written, an_integer_term, an_atom_term, a_tuple_term, a_list_term, Elements, no_elements, an_element_first, Rest, no_rest, a_last, a_first}
+use Rattle.bx_listing.proofs.Written.{Written, an_integer_term, an_atom_term, a_tuple_term, a_list_term, an_other_term, Elements, no_elements, an_element_first, Rest, no_rest, a_last, a_first}
 
 low_is : (n : ℕ) → nat_le n 10000 ≡ true → n ≤ 10000
 low_is n h = grind (arith, nat_tests)
@@ -55,6 +55,7 @@ row_alone line an_integer_term = refl
 row_alone line an_atom_term = refl
 row_alone line (a_tuple_term e) = refl
 row_alone line (a_list_term e) = refl
+row_alone line an_other_term = refl
 
 tuple_low : (b c : Table) (t : Tree) (row : Tree) (o : Option (List term.Tree)) → HasElements b row o c → ((x : term.Tree) → AreElements b row x c → IsTerm b t (term.tuple x) c) → IsLow b t (kept_tuple o) c
 tuple_low b c t row None h make = tt
@@ -100,6 +101,7 @@ mutual
   alone_is line (a_list_term {s = s} {row = row} w) b c o h =
       after_read ((parts line row).row.run b) (λ r. give (kept_list r.elements r.tail)) c o (λ d r e1 h1.
       given (IsLow b (list s row)) (kept_list r.elements r.tail) o d c h1 (list_low b d (list s row) row (kept_list r.elements r.tail) (rest_is line w b d r e1) (λ x is. a_list is))) h
+  alone_is line an_other_term b c o h = absurd (cc)
 
   elements_are : (line : ℕ) {row : Tree} → Elements row → (b c : Table) (r : Row) → (parts line row).row.run b ≡ read c r → HasElements b row r.elements c
   elements_are line no_elements b c r h = given (λ r c. HasElements b nil r.elements c) (ended (Some term.nil)) r b c h no_element

@@ -6,6 +6,7 @@ use Rattle.std.proofs.Math.ListN.{drop_of_length-le}
 use Rattle.bx_terms.specs.Tree as term
 use Rattle.bx_terms.specs.declared.faults.Fault.{Fault}
 use Rattle.bx_terms.specs.declared.faults.Fault.TheVariants.{Memory}
+use Rattle.bx_text.specs.Tree as texts
 use Rattle.bx_text.specs.Tree.{Tree, integer, atom, tuple, list, nil, cons, chain, nodes}
 use Rattle.bx_listing.specs.Reading.{Table, Outcome, read, refused, table_of, Begins, Begins-refl, Begins-trans, Reading, and_then, ◌>>=◌, give, Refuses}
 use Rattle.bx_listing.specs.Literals.{Row, with_first, longer, parts, literal, IsNode, ended}
@@ -80,6 +81,7 @@ row_of_node line (integer s n) h = refl
 row_of_node line (atom s text) h = refl
 row_of_node line (tuple s r) h = refl
 row_of_node line (list s r) h = refl
+row_of_node line (texts.other s k w) h = refl
 row_of_node line nil h = absurd h
 row_of_node line (cons t rest) h = absurd h
 

@@ -8,6 +8,7 @@ use Rattle.bx_terms.specs.Naming.{naming, numbered, atom as numbered_atom}
 use Rattle.bx_terms.specs.Refusals.{at_line}
 use Rattle.bx_terms.specs.Tree as term
 use Rattle.bx_text.specs.Number.{is_large}
+use Rattle.bx_text.specs.Tree as texts
 use Rattle.bx_text.specs.Tree.{Tree, integer, atom, tuple, list, nil, cons}
 use Rattle.bx_listing.specs.declared.items.Operand.{Operand}
 use Rattle.bx_listing.specs.declared.items.Operand.TheVariants as items
@@ -30,7 +31,7 @@ use Rattle.bx_listing.specs.declared.words.OperandWord.TheVariants as operands
 use Rattle.bx_listing.specs.Reading.{Table, Outcome, read, refused, Reading, and_then, ◌>>=◌, give, refuse, from_result, wanted, outcome, named}
 use Rattle.bx_listing.specs.Shape.{Shape, bare, tagged, other, shape, number, word, list_elements}
 use Rattle.bx_listing.specs.Words.{form_word, operand_word}
-use Rattle.bx_listing.specs.Literals.{small, kept_list, kept_tuple, ended, longer, Parts, no_row, parts, literal}
+use Rattle.bx_listing.specs.Literals.{sort_name, small, kept_list, kept_tuple, ended, longer, Parts, no_row, parts, literal}
 use Rattle.bx_listing.specs.Operands.{operand, bad_operand, register, label, atom_word, atom_of, atom_in, atom_operand, atom_source, integer_source, within_height, source_of, word_source, source_in, source, value_of, value_in, value, external, callee_of, callee_in, callee, amount_of, amount_in, amount, plain, simple}
 use Rattle.bx_listing.specs.HeadForms.{bad_form, head, offer, are_offers, named_offer_of, named_offer, named_offers, offers, exports_of, exports_form, begun, function_form}
 use Rattle.bx_listing.specs.Ways.{Formed, counted, bad_form_operand, named_way, named_op, named_form, bare_way, bare_op, bare_form, test_listed, test_row, test_way, test_op, test_found, test_form, bif_op, gc_bif_op, bif_row, bif_found, is_raise, bif_named, bif_called, bif_form, gc_bif_called, gc_bif_form, raise_listed, raise_form, tuple_form}
@@ -110,6 +111,8 @@ parts_lined line (tuple s row) =
     no_row_lined line ((parts line row).row >>= λ r. give (kept_tuple r.elements)) (then_lined line (parts line row).row (λ r. give (kept_tuple r.elements)) (parts_lined line row).row (λ r. give_lined line (kept_tuple r.elements)))
 parts_lined line (list s row) =
     no_row_lined line ((parts line row).row >>= λ r. give (kept_list r.elements r.tail)) (then_lined line (parts line row).row (λ r. give (kept_list r.elements r.tail)) (parts_lined line row).row (λ r. give_lined line (kept_list r.elements r.tail)))
+parts_lined line (texts.other s k w) =
+    no_row_lined line (refuse (faults.Unsupported line (sort_name k))) (refuse_lined line (faults.Unsupported line (sort_name k)) refl)
 parts_lined line nil = no_row_lined line (give (Some term.nil)) (give_lined line (Some term.nil))
 parts_lined line (cons t rest) = record {
   alone = give_lined line None;

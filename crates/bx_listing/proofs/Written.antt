@@ -4,12 +4,14 @@ use Rattle.std.specs.Prelude.{nat_lt, chars}
 use Rattle.bx_terms.specs.declared.faults.Fault.{Fault}
 use Rattle.bx_terms.specs.Outcomes.{◌>>=◌}
 use Rattle.bx_text.specs.declared.node.Span.{Span}
+use Rattle.bx_text.specs.declared.node.Sort.{Sort}
+use Rattle.bx_text.specs.Tree as texts
 use Rattle.bx_text.specs.Tree.{Tree, integer, atom, tuple, list, nil, cons, chain}
 use Rattle.bx_text.specs.Place.{Place}
-use Rattle.bx_text.specs.Token.{Lexeme}
+use Rattle.bx_text.specs.Token.{spelled, Lexeme}
 use Rattle.bx_text.specs.Terms.{span, letters, tail_of}
 use Rattle.bx_text.specs.Forms.{form_at}
-use Rattle.bx_text.specs.Grammar.{Strings, no_string, a_string, Spells, an_integer, an_atom, strings, empty_tuple, a_tuple, empty_list, a_list, a_list_with_tail, Row, one, more, Form, a_form}
+use Rattle.bx_text.specs.Grammar.{Strings, no_string, a_string, Spells, an_integer, an_atom, strings, empty_tuple, a_tuple, empty_list, a_list, a_list_with_tail, a_float, an_empty_map, a_map, an_empty_binary, a_binary, a_fun, Row, one, more, Form, a_form}
 use Rattle.bx_text.proofs.Grammatical.{forms_are}
 use Rattle.bx_listing.specs.Shape.{shape, tagged, elements}
 use Rattle.bx_listing.specs.Forms.{Forms, ends, broken, form, moved, next_form, forms_on, some_forms, forms}
@@ -20,6 +22,7 @@ mutual
     an_atom_term : {s : Span} {w : List ℕ} → Written (atom s w)
     a_tuple_term : {s : Span} {row : Tree} → Elements row → Written (tuple s row)
     a_list_term : {s : Span} {row : Tree} → Rest row → Written (list s row)
+    an_other_term : {s : Span} {k : Sort} {w : List ℕ} → Written (texts.other s k w)
 
   pub data Elements : Tree → Type 0 where
     no_elements : Elements nil
@@ -57,25 +60,32 @@ codes_written s (c ∷ cs) = (an_integer_term, codes_written s cs)
 
 strings_written : {p q : Place} {ts : List Tree} → Strings p ts q → AllWritten ts
 strings_written (no_string h) = tt
-strings_written (a_string {p = p} {q = q} {l = l} {w = w} {ts = ts} n e rest) = both (letters (span l l.after) w) ts (codes_written (span l l.after) (chars w)) (strings_written rest)
+strings_written (a_string {p = p} {q = q} {l = l} {b = w} {ts = ts} n e rest) = both (letters (span l l.after) (spelled w)) ts (codes_written (span l l.after) (chars (spelled w))) (strings_written rest)
 
 tail_rest : {t : Tree} → Written t → Rest (tail_of t)
 tail_rest an_integer_term = a_last an_integer_term
 tail_rest an_atom_term = a_last an_atom_term
 tail_rest (a_tuple_term e) = a_last (a_tuple_term e)
 tail_rest (a_list_term r) = r
+tail_rest an_other_term = a_last an_other_term
 
 mutual
   spelled_written : {d : ℕ} {l : Lexeme} {t : Tree} {q : Place} → Spells d l t q → Written t
   spelled_written (an_integer e) = an_integer_term
   spelled_written (an_atom e) = an_atom_term
-  spelled_written (strings {l = l} {w = w} {ts = ts} e h) =
-      a_list_term (before_rest (letters (span l l.after) w ++ ts) nil (both (letters (span l l.after) w) ts (codes_written (span l l.after) (chars w)) (strings_written h)) no_rest)
+  spelled_written (strings {l = l} {b = w} {ts = ts} e h) =
+      a_list_term (before_rest (letters (span l l.after) (spelled w) ++ ts) nil (both (letters (span l l.after) (spelled w)) ts (codes_written (span l l.after) (chars (spelled w))) (strings_written h)) no_rest)
   spelled_written (empty_tuple e n c) = a_tuple_term no_elements
   spelled_written (a_tuple {ts = ts} e n row c) = a_tuple_term (in_chain ts (row_written row))
   spelled_written (empty_list e n c) = a_list_term no_rest
   spelled_written (a_list {ts = ts} e n row c) = a_list_term (before_rest ts nil (row_written row) no_rest)
   spelled_written (a_list_with_tail {ts = ts} {t = t} e n row b m spells x c) = a_list_term (before_rest ts (tail_of t) (row_written row) (tail_rest (spelled_written spells)))
+  spelled_written (a_float e k) = an_other_term
+  spelled_written (an_empty_map e n c k) = an_other_term
+  spelled_written (a_map e n r c k) = an_other_term
+  spelled_written (an_empty_binary e n c k) = an_other_term
+  spelled_written (a_binary e n r c k) = an_other_term
+  spelled_written (a_fun e a b c h i j k m o p q) = an_other_term
 
   row_written : {d : ℕ} {l m : Lexeme} {ts : List Tree} → Row d l ts m → AllWritten ts
   row_written (one spells n) = (spelled_written spells, tt)
@@ -110,8 +120,10 @@ pub parts_written : {t : Tree} → Written t → (text : List ℕ) (parts : List
 parts_written an_integer_term text parts e = absurd (cc)
 parts_written an_atom_term text parts e = absurd (cc)
 parts_written (a_list_term r) text parts e = absurd (cc)
+parts_written an_other_term text parts e = absurd (cc)
 parts_written (a_tuple_term no_elements) text parts e = absurd (cc)
 parts_written (a_tuple_term (an_element_first {rest = rest} an_atom_term others)) text parts e = let same : elements rest ≡ parts = cc in subst AllWritten same (all_elements others)
 parts_written (a_tuple_term (an_element_first an_integer_term others)) text parts e = absurd (cc)
 parts_written (a_tuple_term (an_element_first (a_tuple_term x) others)) text parts e = absurd (cc)
 parts_written (a_tuple_term (an_element_first (a_list_term x) others)) text parts e = absurd (cc)
+parts_written (a_tuple_term (an_element_first an_other_term others)) text parts e = absurd (cc)

@@ -1,9 +1,12 @@
 -- The term of a literal. Its parts are read from left to right, and all of them even where it is too high, in which case
 -- no term is kept.
-use Rattle.std.specs.Prelude.{ℕ, ℤ, List, [], ◌∷◌, Option, Some, None, nat_le, if◌then◌else◌}
+use Rattle.std.specs.Prelude.{ℕ, ℤ, List, [], ◌∷◌, Option, Some, None, nat_le, codes, if◌then◌else◌}
 use Rattle.bx_terms.specs.declared.faults.Fault.TheVariants as faults
 use Rattle.bx_terms.specs.Tree as term
+use Rattle.bx_text.specs.declared.node.Sort.{Sort}
+use Rattle.bx_text.specs.declared.node.Sort.TheVariants as sorts
 use Rattle.bx_text.specs.Number.{is_large}
+use Rattle.bx_text.specs.Tree as texts
 use Rattle.bx_text.specs.Tree.{Tree, integer, atom, tuple, list, nil, cons}
 use Rattle.bx_listing.specs.Reading.{Reading, ◌>>=◌, give, refuse, named}
 
@@ -55,11 +58,19 @@ pub record Parts : Type 0 where
 abbrev pub no_row : Reading (Option term.Tree) → Parts
 no_row reading = record { alone = reading; row = reading >>= λ t. give (ended t) }
 
+-- how a refusal names a term that stands for none here
+abbrev pub sort_name : Sort → List ℕ
+sort_name sorts.Float = codes "float"
+sort_name sorts.Map = codes "map"
+sort_name sorts.Binary = codes "binary"
+sort_name sorts.Fun = codes "fun"
+
 abbrev pub parts : ℕ → Tree → Parts
 parts line (integer s n) = no_row (small line n >>= λ n. give (Some (term.int n)))
 parts line (atom s text) = no_row (named line text >>= λ a. give (Some (term.atom a.0)))
 parts line (tuple s row) = no_row ((parts line row).row >>= λ r. give (kept_tuple r.elements))
 parts line (list s row) = no_row ((parts line row).row >>= λ r. give (kept_list r.elements r.tail))
+parts line (texts.other s k text) = no_row (refuse (faults.Unsupported line (sort_name k)))
 parts line nil = no_row (give (Some term.nil))
 parts line (cons t rest) = record {
   alone = give None;

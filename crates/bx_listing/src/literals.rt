@@ -3,13 +3,13 @@
 ghost use Rattle.std.specs.Prelude.{◌≡◌, IfOk, option_map};
 ghost use Rattle.bx_text.specs.Tree.{chain};
 ghost use Rattle.bx_text.specs.View.{tail_seen};
-ghost use Rattle.bx_listing.specs.Literals.{kept_cons, kept_before, kept_list, kept_tuple, literal, parts, IsNode};
+ghost use Rattle.bx_listing.specs.Literals.{sort_name, kept_cons, kept_before, kept_list, kept_tuple, literal, parts, IsNode};
 ghost use Rattle.bx_listing.specs.LiteralRows.{row_of, with_last};
 ghost use Rattle.bx_listing.specs.Reading.{Reads};
 
-use crate::operands::name_atom;
+use crate::operands::{name_atom, unsupported};
 use bx_terms::{Atoms, Fault, Term, TermRefusal};
-use bx_text::{Node, View};
+use bx_text::{Node, Sort, View};
 use std::alloc::{AllocError, Global};
 
 /// The elements of a tuple or a list, and what follows them. What is too high is not kept, nor what holds it.
@@ -47,6 +47,19 @@ pub(crate) fn literal(
             let row = literal_row(alloc, atoms, line, elements, tail)?;
             Ok(list(alloc, row)?)
         }
+        View::Other(sort, _) => Err(unsupported(alloc, line, sort_name(sort))?),
+    }
+}
+
+/// How a refusal names a term that stands for none here.
+fn sort_name(sort: Sort) -> &'static str
+    ensures { result.now ≡ sort_name sort }
+{
+    match sort {
+        Sort::Float => "float",
+        Sort::Map => "map",
+        Sort::Binary => "binary",
+        Sort::Fun => "fun",
     }
 }
 

@@ -3,11 +3,11 @@ use Rattle.std.proofs.Common.{◌≡◌, ℕ, zero, suc, ◌+◌, ◌*◌, ℤ, 
 use Rattle.std.proofs.lemmas.List.{drop_more}
 use Rattle.bx_text.specs.declared.node.Span.{Span}
 use Rattle.bx_text.specs.declared.node.Form.{Form}
-use Rattle.bx_text.specs.declared.node.Form.TheVariants.{Integer, Large, Atom, Tuple, List as Listed}
+use Rattle.bx_text.specs.declared.node.Form.TheVariants.{Integer, Large, Atom, Tuple, List as Listed, Other}
 use Rattle.bx_text.specs.Form.{form_tree, IsForm}
 use Rattle.bx_text.specs.Falls.{tail_le}
 use Rattle.bx_text.specs.Number.{number, is_large}
-use Rattle.bx_text.specs.Tree.{Tree, integer, atom, tuple, list, cons, nil, chain, nodes, IsEnd}
+use Rattle.bx_text.specs.Tree.{Tree, integer, atom, tuple, list, other, cons, nil, chain, nodes, IsEnd}
 
 -- an element that was read is the first of what is left
 pub row_at : (xs : List Tree) (i : ℕ) (x : Tree) → i < length xs → x ≡ get_or xs i x → drop i xs ≡ x ∷ drop (i + 1) xs
@@ -27,6 +27,7 @@ nodes_some (integer s n) = omega arith
 nodes_some (atom s w) = omega arith
 nodes_some (tuple s t) = omega arith
 nodes_some (list s t) = omega arith
+nodes_some (other s k w) = omega arith
 nodes_some nil = omega arith
 nodes_some (cons t u) = omega arith
 
@@ -50,31 +51,33 @@ parted (x ∷ xs) (y ∷ ys) u v p q e =
 
 -- a kept number is no other node's
 pub unlike_integer : (s t : Span) (n : ℤ) (f g : Form) → f ≡ Integer n → IsForm f → IsForm g → ((m : ℤ) → g ≡ Integer m → ⊥) → form_tree s f ≡ form_tree t g → ⊥
-unlike_integer s t n f g e p q other same = by_form g q other (sym (ap (form_tree s) e) ∙ same)
+unlike_integer s t n f g e p q unlike same = by_form g q unlike (sym (ap (form_tree s) e) ∙ same)
   where
     small : is_large n ≡ false
     small = subst IsForm e p
 
     by_form : (g : Form) → IsForm g → ((m : ℤ) → g ≡ Integer m → ⊥) → form_tree s (Integer n) ≡ form_tree t g → ⊥
-    by_form (Integer m) q other same = other m refl
-    by_form (Large w) q other same = let number_is : n ≡ number w = cc in let both = small in cc
-    by_form (Atom w) q other same = cc
-    by_form (Tuple ts) q other same = cc
-    by_form (Listed ts u) q other same = cc
+    by_form (Integer m) q unlike same = unlike m refl
+    by_form (Large w) q unlike same = let number_is : n ≡ number w = cc in let both = small in cc
+    by_form (Atom w) q unlike same = cc
+    by_form (Tuple ts) q unlike same = cc
+    by_form (Listed ts u) q unlike same = cc
+    by_form (Other k w) q unlike same = cc
 
 -- nor is a kept text's number
 pub unlike_large : (s t : Span) (v : List ℕ) (f g : Form) → f ≡ Large v → IsForm f → IsForm g → ((w : List ℕ) → g ≡ Large w → ⊥) → form_tree s f ≡ form_tree t g → ⊥
-unlike_large s t v f g e p q other same = by_form g q other (sym (ap (form_tree s) e) ∙ same)
+unlike_large s t v f g e p q unlike same = by_form g q unlike (sym (ap (form_tree s) e) ∙ same)
   where
     large : is_large (number v) ≡ true
     large = subst IsForm e p
 
     by_form : (g : Form) → IsForm g → ((w : List ℕ) → g ≡ Large w → ⊥) → form_tree s (Large v) ≡ form_tree t g → ⊥
-    by_form (Integer m) q other same = let number_is : number v ≡ m = cc in let both = large in cc
-    by_form (Large w) q other same = other w refl
-    by_form (Atom w) q other same = cc
-    by_form (Tuple ts) q other same = cc
-    by_form (Listed ts u) q other same = cc
+    by_form (Integer m) q unlike same = let number_is : number v ≡ m = cc in let both = large in cc
+    by_form (Large w) q unlike same = unlike w refl
+    by_form (Atom w) q unlike same = cc
+    by_form (Tuple ts) q unlike same = cc
+    by_form (Listed ts u) q unlike same = cc
+    by_form (Other k w) q unlike same = cc
 
 -- tuples are as their rows
 pub same_tuples : (s t : Span) (xs ys : List Tree) → s ≡ t → (xs ≡ ys) ↔ (tuple s (chain xs nil) ≡ tuple t (chain ys nil))

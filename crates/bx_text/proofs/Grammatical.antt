@@ -60,7 +60,7 @@ form_is (a_form {d = d} {p = p} {r = r} {l = l} {m = m} {t = t} n s e c) =
         ∙ ap (λ (b : Bool). if b then Ok (Some (t, m.after)) else Err (BadTerm m.line)) (ap is_stop c)
 
     on_list : (cs : List ℕ) (q : Place) → q.rest ≡ cs → lexeme_from q ≡ Ok l → form_on d q.rest q ≡ Ok (Some (t, m.after))
-    on_list [] q r f = let z = sym (ap (λ cs. token_on cs q >>= λ x. Ok (record { token = x.0; from = q.at; line = q.line; after = x.1 })) r) ∙ f in cc
+    on_list [] q r f = let z = sym (ap (λ cs. token_on cs q >>= λ x. Ok (record { token = x.0; from = q.at; line = q.line; begin = q.rest; after = x.1 })) r) ∙ f in cc
     on_list (k ∷ cs) q r f =
         ap (λ cs. form_on d cs q) r ∙ ap (λ u. u >>= form_by d) f ∙ whole
 

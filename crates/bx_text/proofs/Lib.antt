@@ -1,13 +1,16 @@
+pub mod Bodies
 pub mod Complete
 pub mod Contents
 pub mod Decimals
 pub mod Digits
 pub mod Elements
+pub mod Escaping
 pub mod Grammatical
 pub mod Leads
 pub mod Letters
 pub mod Names
 pub mod Outcomes
+pub mod Parts
 pub mod Quoting
 pub mod Rows
 pub mod Shorter

@@ -1,11 +1,12 @@
 -- Rows of elements, read a part at a time.
-use Rattle.std.proofs.Common.{◌≡◌, ℕ, zero, suc, IsOkAnd, IsSome, ◌+◌, ◌-◌, ◌<◌, List, [], ◌∷◌, ◌++◌, Result, Ok, Err, Option, Some, None, option_map, refl, sym, ap, ◌∙◌, subst, append_assoc, arith}
+use Rattle.std.proofs.Common.{◌≡◌, ℕ, zero, suc, IsOkAnd, IsSome, ◌+◌, ◌-◌, ◌<◌, List, [], ◌∷◌, ◌++◌, Result, Ok, Err, Option, Some, None, option_map, refl, sym, ap, ◌∙◌, subst, append_assoc, append-nil, Bool, true, false, arith}
 use Rattle.bx_terms.specs.Outcomes.{Gives, ◌>>=◌}
 use Rattle.bx_terms.specs.declared.faults.Fault.{Fault}
 use Rattle.bx_text.specs.Place.{Place}
 use Rattle.bx_text.specs.Token.{Lexeme}
-use Rattle.bx_text.specs.Tree.{Tree, cons, chain}
-use Rattle.bx_text.specs.Terms.{text_next, texts, texts_on, letters_of}
+use Rattle.bx_text.specs.Tree.{Tree, cons, list, chain}
+use Rattle.bx_text.specs.Terms as terms
+use Rattle.bx_text.specs.Terms.{Reading, Follow, follow_by, next_text, span, rest_at, list_at, text_next, texts, texts_on, letters_of}
 use Rattle.bx_text.specs.Rows.{prefixed, chained}
 use Rattle.bx_text.proofs.Outcomes.{gives_err, gives_bind}
 
@@ -46,3 +47,55 @@ chained_none (Err e) = refl
 pub chain_append : (xs ys : List Tree) (u : Tree) → chain xs (chain ys u) ≡ chain (xs ++ ys) u
 chain_append [] ys u = refl
 chain_append (x ∷ xs) ys u = ap (cons x) (chain_append xs ys u)
+
+-- what a flag says of what follows
+pub text_none : (b : Bool) (m : Lexeme) (r : Result (Option Lexeme) Fault) → b ≡ false → r ≡ Ok (next_text b m) → r ≡ Ok None
+text_none true m r e h = cc
+text_none false m r e h = h
+
+pub text_found : (b : Bool) (m : Lexeme) (r : Result (Option Lexeme) Fault) → b ≡ true → r ≡ Ok (next_text b m) → r ≡ Ok (Some m)
+text_found true m r e h = h
+text_found false m r e h = cc
+
+pub part_last : (b : Bool) (m : Lexeme) (r : Result Follow Fault) → b ≡ false → r ≡ Ok (follow_by b m) → r ≡ Ok (terms.end m)
+part_last true m r e h = cc
+part_last false m r e h = h
+
+pub part_next : (b : Bool) (m : Lexeme) (r : Result Follow Fault) → b ≡ true → r ≡ Ok (follow_by b m) → r ≡ Ok (terms.next m)
+part_next true m r e h = h
+part_next false m r e h = cc
+
+pub row_last : (b : Bool) (xs : List Tree) (m : Lexeme) (r : Result (List Tree × Follow) Fault) → b ≡ false → r ≡ Ok (xs, follow_by b m) → r ≡ Ok (xs, terms.end m)
+row_last true xs m r e h = cc
+row_last false xs m r e h = h
+
+pub row_next : (b : Bool) (xs : List Tree) (m : Lexeme) (r : Result (List Tree × Follow) Fault) → b ≡ true → r ≡ Ok (xs, follow_by b m) → r ≡ Ok (xs, terms.next m)
+row_next true xs m r e h = h
+row_next false xs m r e h = cc
+
+-- no string more
+pub texts_none : (size turn : ℕ) (xs : List Tree) (p q : Place) → turn < size → text_next p ≡ Ok None → q ≡ p → prefixed xs (texts (size - turn) p) ≡ Ok (xs, q)
+texts_none size turn xs p q t e s =
+    ap (λ k. prefixed xs (texts k p)) (turns size turn t)
+    ∙ ap (λ r. prefixed xs (r >>= texts_on (texts (size - (turn + 1))) p)) e
+    ∙ ap (λ ys. Ok (ys, p)) (append-nil xs)
+    ∙ ap (λ z. Ok (xs, z)) (sym s)
+
+-- a row that begins with nothing
+pub row_fails : {X Y : Type 0} (T : Type 0) (v : X → List Tree × Place) (w : Y → List Tree × Place) (e : Fault) (xs : List Tree) (r : Result (List Tree × Place) Fault) → xs ≡ [] → Gives T v (Err e) (prefixed xs r)
+    → Gives T w (Err e) r
+row_fails T v w e xs r n h = gives_err v w e (prefixed xs r) r (λ t. t) (λ g. sym (ap (λ xs. prefixed xs r) n ∙ prefixed_none r) ∙ g) h
+
+pub row_gives : (xs : List Tree) (r s : Result (List Tree × Place) Fault) → xs ≡ [] → prefixed xs r ≡ s → r ≡ s
+row_gives xs r s n h = sym (ap (λ xs. prefixed xs r) n ∙ prefixed_none r) ∙ h
+
+list_on : (xs : List Tree) (term : Reading) (l : Lexeme) (r : Result (Tree × Place) Fault) → xs ≡ [] → chained xs (rest_at term l.after) ≡ r → list_at term l ≡ (r >>= λ x. Ok (list (span l x.1) x.0, x.1))
+list_on xs term l r n h =
+    ap (λ r. r >>= λ x. Ok (list (span l x.1) x.0, x.1)) (sym (ap (λ xs. chained xs (rest_at term l.after)) n ∙ chained_none (rest_at term l.after)) ∙ h)
+
+pub list_fails : {X Y : Type 0} (T : Type 0) (v : X → Tree × Place) (w : Y → Tree × Place) (e : Fault) (xs : List Tree) (term : Reading) (l : Lexeme) → xs ≡ [] → Gives T v (Err e) (chained xs (rest_at term l.after))
+    → Gives T w (Err e) (list_at term l)
+list_fails T v w e xs term l n h = gives_err v w e (chained xs (rest_at term l.after)) (list_at term l) (λ t. t) (λ g. list_on xs term l (Err e) n g) h
+
+pub list_gives : (xs : List Tree) (term : Reading) (l : Lexeme) (t : Tree) (q : Place) (node : Tree) → xs ≡ [] → chained xs (rest_at term l.after) ≡ Ok (t, q) → node ≡ list (span l q) t → list_at term l ≡ Ok (node, q)
+list_gives xs term l t q node n h e = list_on xs term l (Ok (t, q)) n h ∙ ap (λ u. Ok (u, q)) (sym e)

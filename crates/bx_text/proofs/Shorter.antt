@@ -6,14 +6,15 @@ use Rattle.std.proofs.lemmas.Bool.Decides.{nat_tests}
 use Rattle.bx_terms.specs.Outcomes.{◌>>=◌}
 use Rattle.bx_terms.specs.declared.faults.Fault.{Fault}
 use Rattle.bx_terms.specs.declared.faults.Fault.TheVariants.{NotUtf8, BadToken, Truncated}
-use Rattle.bx_text.specs.declared.tokens.Mark.TheVariants.{Stop}
+use Rattle.bx_text.specs.declared.tokens.Mark.TheVariants.{Stop, Arrow, CloseBinary}
 use Rattle.bx_text.specs.declared.kinds.Kind.{Kind}
 use Rattle.bx_text.specs.declared.kinds.Kind.TheVariants as kind
 use Rattle.bx_text.specs.Bytes.{begins, is_space, is_digit, is_lower, is_name, is_accented, is_accented_lower, is_plain}
 use Rattle.bx_text.specs.Place.{Place, after}
 use Rattle.bx_text.specs.Blank.{skip, skip_from, skip_line, line_of}
-use Rattle.bx_text.specs.Token.{Token, integer, atom, text, open_tuple, open_list, mark, Lexeme}
-use Rattle.bx_text.specs.Lexing.{kind_of, punctuation_of, name_len, accent_len, word_at, foreign_at, accent_at, digits_at, number_at, stop_at, begun_at, closing_at, body_at, quoted_at, token_by, token_on, token_at, lexeme_from, lexeme_at, begins_fraction, ends}
+use Rattle.bx_text.specs.Token.{Body, plain, escaped, Token, integer, float, atom, text, open_tuple, open_list, open_map, open_binary, mark, Lexeme}
+use Rattle.bx_text.specs.Lexing.{kind_of, punctuation_of, name_len, accent_len, word_at, foreign_at, accent_at, digits_at, number_by, number_at, stop_at, pair_on, pair_at, closing_at, body_at, ended_at, escaped_at, behind, cut, broken, valid_front, body_len, fraction_len, exponent_len, quoted_at, token_by, token_on, token_at, lexeme_from, lexeme_at, ends}
+use Rattle.bx_text.specs.Escapes.{open_in, is_whole}
 use Rattle.bx_text.proofs.Outcomes.{ok_same, bind_ok}
 
 -- blanks
@@ -64,8 +65,9 @@ punctuation : (b : ℕ) → is_letter (punctuation_of b) ≡ false
 punctuation b =
     neither (eqb b 123) _ _ refl (neither (eqb b 125) _ _ refl (neither (eqb b 91) _ _ refl (neither (eqb b 93) _ _ refl
     (neither (eqb b 44) _ _ refl (neither (eqb b 124) _ _ refl (neither (eqb b 46) _ _ refl (neither (eqb b 39) _ _ refl
-    (neither (eqb b 34) _ _ refl (neither (eqb b 45) _ _ refl (neither (eqb b 40 || eqb b 41 || eqb b 58 || eqb b 47) _ _ refl
-    (neither (eqb b 35 || eqb b 60 || eqb b 61 || eqb b 62) _ _ refl refl)))))))))))
+    (neither (eqb b 34) _ _ refl (neither (eqb b 45) _ _ refl (neither (eqb b 58) _ _ refl (neither (eqb b 47) _ _ refl
+    (neither (eqb b 40 || eqb b 41) _ _ refl (neither (eqb b 35) _ _ refl (neither (eqb b 60) _ _ refl (neither (eqb b 61) _ _ refl
+    (neither (eqb b 62) _ _ refl refl))))))))))))))))
 
 letter_by : (l d a f : Bool) (k : Kind) → is_letter k ≡ false → cond l kind.Letter (cond d kind.Digit (cond a kind.Accent (cond f kind.Foreign k))) ≡ kind.Letter → l ≡ true
 letter_by true d a f k n e = refl
@@ -110,12 +112,17 @@ accent_len_at b (c ∷ cs) e f =
 moved : (p q : Place) (n : ℕ) → 0 < n → 0 < length p.rest → after p n ≡ q → length q.rest < length p.rest
 moved p q n some left e = let s : length (drop n p.rest) ≡ length q.rest = ap (λ (r : Place). length r.rest) e in omega (arith, length-drop n p.rest)
 
-by_digits : (z e f : Bool) (p : Place) (n : ℕ) (t : Token) (x : Token × Place) (c d g : Fault) → (z ≡ false → 0 < n) → 0 < length p.rest
-    → cond z (cond e (Err c) (Err d)) (cond f (Err g) (Ok (t, after p n))) ≡ Ok x → length x.1.rest < length p.rest
-by_digits true true f p n t x c d g s l h = cc
-by_digits true false f p n t x c d g s l h = cc
-by_digits false e true p n t x c d g s l h = cc
-by_digits false e false p n t x c d g s l h = moved p x.1 n (s refl) l (ap (λ y. y.1) (ok_same {A = Token × Place} (t, after p n) x h))
+by_number : (t : Bool) (p : Place) (m n : ℕ) (k j : Token) (x : Token × Place) → 0 < m → 0 < n → 0 < length p.rest → cond {A = Result (Token × Place) Fault} t (Ok (k, after p m)) (Ok (j, after p n)) ≡ Ok x → length x.1.rest < length p.rest
+by_number true p m n k j x a b l h = moved p x.1 m a l (ap (λ y. y.1) (ok_same {A = Token × Place} (k, after p m) x h))
+by_number false p m n k j x a b l h = moved p x.1 n b l (ap (λ y. y.1) (ok_same {A = Token × Place} (j, after p n) x h))
+
+number_by_shorter : (p : Place) (m f : ℕ) (x : Token × Place) → 0 < m → 0 < length p.rest → number_by p m f ≡ Ok x → length x.1.rest < length p.rest
+number_by_shorter p m f x a l h = by_number (eqb f 0) p m (m + f + exponent_len (drop (m + f) p.rest)) _ float x a (omega arith) l h
+
+by_digits : (t u : Bool) (p : Place) (m f : ℕ) (x : Token × Place) (c d : Fault) → (t ≡ false → 0 < m) → 0 < length p.rest → cond t (cond u (Err c) (Err d)) (number_by p m f) ≡ Ok x → length x.1.rest < length p.rest
+by_digits true true p m f x c d a l h = cc
+by_digits true false p m f x c d a l h = cc
+by_digits false u p m f x c d a l h = number_by_shorter p m f x (a refl) l h
 
 some_digits : (sign n : ℕ) → eqb n 0 ≡ false → 0 < sign + n
 some_digits sign n e = grind (arith, nat_tests)
@@ -123,8 +130,7 @@ some_digits sign n e = grind (arith, nat_tests)
 number_shorter : (p : Place) (sign : ℕ) (x : Token × Place) → 0 < length p.rest → number_at p sign ≡ Ok x → length x.1.rest < length p.rest
 number_shorter p sign x l h =
     let n = prefix_len is_digit (drop sign p.rest) in
-    by_digits (eqb n 0) (eqb (length p.rest) sign) (begins_fraction (drop (sign + n) p.rest)) p (sign + n) _ x (Truncated p.line) (BadToken p.line) (BadToken p.line)
-    (λ e. some_digits sign n e) l h
+    by_digits (eqb n 0) (eqb (length p.rest) sign) p (sign + n) (fraction_len (drop (sign + n) p.rest)) x (Truncated p.line) (BadToken p.line) (λ e. some_digits sign n e) l h
 
 by_one : (t : Bool) (p : Place) (k : Token) (x : Token × Place) (e : Fault) → 0 < length p.rest → cond t (Ok (k, after p 1)) (Err e) ≡ Ok x → length x.1.rest < length p.rest
 by_one true p k x e l h = moved p x.1 1 (omega arith) l (ap (λ y. y.1) (ok_same {A = Token × Place} (k, after p 1) x h))
@@ -141,30 +147,53 @@ by_accent : (t : Bool) (p : Place) (x : Token × Place) → (t ≡ true → 0 < 
 by_accent true p x n l h = word_shorter p x (n refl) l h
 by_accent false p x n l h = absurd (by_foreign (eqb (utf8_valid_len p.rest) 0) _ _ x h)
 
+-- marks of two bytes
+by_pair : (t : Bool) (p : Place) (k : Token) (x : Token × Place) (e : Fault) → 0 < length p.rest → cond t (Ok (k, after p 2)) (Err e) ≡ Ok x → length x.1.rest < length p.rest
+by_pair true p k x e l h = moved p x.1 2 (omega arith) l (ap (λ y. y.1) (ok_same {A = Token × Place} (k, after p 2) x h))
+by_pair false p k x e l h = cc
+
+pair_shorter : (c : ℕ) (k : Token) (bs : List ℕ) (p : Place) (x : Token × Place) → 0 < length p.rest → pair_on c k bs p ≡ Ok x → length x.1.rest < length p.rest
+pair_shorter c k [] p x l h = cc
+pair_shorter c k (b ∷ bs) p x l h = by_pair (eqb b c) p k x (BadToken p.line) l h
+
 -- quotes
-closing_shorter : (t : Bool) (p : Place) (w : List ℕ) (n line : ℕ) (e : Fault) (x : List ℕ × Place) → 0 < length p.rest
-    → cond t (Err e) (Ok (w, record { rest = drop (n + 2) p.rest; at = p.at + (n + 2); line = line })) ≡ Ok x → length x.1.rest < length p.rest
-closing_shorter true p w n line e x l h = cc
-closing_shorter false p w n line e x l h =
-    let q : Place = record { rest = drop (n + 2) p.rest; at = p.at + (n + 2); line = line } in
-    let s : length (drop (n + 2) p.rest) ≡ length x.1.rest = ap (λ y. length y.1.rest) (ok_same {A = List ℕ × Place} (w, q) x h) in
+behind_shorter : (p : Place) (body : List ℕ) (n : ℕ) (b : Body) (x : Body × Place) → 0 < length p.rest → ◌≡◌ {A = Result (Body × Place) Fault} (Ok (b, behind p body n)) (Ok x) → length x.1.rest < length p.rest
+behind_shorter p body n b x l h =
+    let s : length (drop (n + 2) p.rest) ≡ length x.1.rest = ap (λ y. length y.1.rest) (ok_same {A = Body × Place} (b, behind p body n) x h) in
     omega (arith, length-drop (n + 2) p.rest)
 
-closing_at_shorter : (p : Place) (body : List ℕ) (n : ℕ) (cs : List ℕ) (x : List ℕ × Place) → 0 < length p.rest → closing_at p body n cs ≡ Ok x → length x.1.rest < length p.rest
-closing_at_shorter p body n [] x l h = cc
-closing_at_shorter p body n (c ∷ cs) x l h = closing_shorter (eqb c 92) p (take n body) n _ (BadToken p.line) x l h
+by_whole : (t : Bool) (p : Place) (body : List ℕ) (n : ℕ) (b : Body) (e : Fault) (x : Body × Place) → 0 < length p.rest → cond t (Ok (b, behind p body n)) (Err e) ≡ Ok x → length x.1.rest < length p.rest
+by_whole true p body n b e x l h = behind_shorter p body n b x l h
+by_whole false p body n b e x l h = cc
 
-by_body : (t : Bool) (e : Fault) (p : Place) (body : List ℕ) (n : ℕ) (cs : List ℕ) (x : List ℕ × Place) → 0 < length p.rest → cond t (closing_at p body n cs) (Err e) ≡ Ok x → length x.1.rest < length p.rest
-by_body true e p body n cs x l h = closing_at_shorter p body n cs x l h
-by_body false e p body n cs x l h = cc
+ended_shorter : (p : Place) (body : List ℕ) (n : ℕ) (cs : List ℕ) (x : Body × Place) → 0 < length p.rest → ended_at p body n cs ≡ Ok x → length x.1.rest < length p.rest
+ended_shorter p body n [] x l h = cc
+ended_shorter p body n (c ∷ cs) x l h = by_whole (is_whole (open_in (take n body))) p body n (escaped (take n body)) (BadToken p.line) x l h
 
-quoted_shorter : (quote : ℕ) (p : Place) (x : List ℕ × Place) → 0 < length p.rest → quoted_at quote p ≡ Ok x → length x.1.rest < length p.rest
+either : (t : Bool) (e : Fault) (p : Place) (r : Result (Body × Place) Fault) (x : Body × Place) → (r ≡ Ok x → length x.1.rest < length p.rest) → cond t r (Err e) ≡ Ok x → length x.1.rest < length p.rest
+either true e p r x f h = f h
+either false e p r x f h = cc
+
+escaped_shorter : (p : Place) (body : List ℕ) (n : ℕ) (x : Body × Place) → 0 < length p.rest → escaped_at p body n ≡ Ok x → length x.1.rest < length p.rest
+escaped_shorter p body n x l h = either (eqb (utf8_valid_len (take n body)) n) _ p (ended_at p body n (drop n body)) x (λ g. ended_shorter p body n (drop n body) x l g) h
+
+by_slash : (t : Bool) (p : Place) (body : List ℕ) (n : ℕ) (b : Body) (r : Result (Body × Place) Fault) (x : Body × Place) → 0 < length p.rest → (r ≡ Ok x → length x.1.rest < length p.rest)
+    → cond t r (Ok (b, behind p body n)) ≡ Ok x → length x.1.rest < length p.rest
+by_slash true p body n b r x l f h = f h
+by_slash false p body n b r x l f h = behind_shorter p body n b x l h
+
+closing_at_shorter : (quote : ℕ) (p : Place) (body : List ℕ) (n : ℕ) (cs : List ℕ) (x : Body × Place) → 0 < length p.rest → closing_at quote p body n cs ≡ Ok x → length x.1.rest < length p.rest
+closing_at_shorter quote p body n [] x l h = cc
+closing_at_shorter quote p body n (c ∷ cs) x l h =
+    by_slash (eqb c 92) p body n (plain (take n body)) (escaped_at p body (body_len quote body)) x l (λ g. escaped_shorter p body (body_len quote body) x l g) h
+
+quoted_shorter : (quote : ℕ) (p : Place) (x : Body × Place) → 0 < length p.rest → quoted_at quote p ≡ Ok x → length x.1.rest < length p.rest
 quoted_shorter quote p x l h =
     let body = drop 1 p.rest in
     let n = prefix_len (is_plain quote) body in
-    by_body (eqb (utf8_valid_len (take n body)) n) _ p body n (drop n body) x l h
+    either (eqb (utf8_valid_len (take n body)) n) _ p (closing_at quote p body n (drop n body)) x (λ g. closing_at_shorter quote p body n (drop n body) x l g) h
 
-wrapped : (quote : ℕ) (p : Place) (f : List ℕ → Token) (x : Token × Place) → 0 < length p.rest → (quoted_at quote p >>= λ y. Ok (f y.0, y.1)) ≡ Ok x → length x.1.rest < length p.rest
+wrapped : (quote : ℕ) (p : Place) (f : Body → Token) (x : Token × Place) → 0 < length p.rest → (quoted_at quote p >>= λ y. Ok (f y.0, y.1)) ≡ Ok x → length x.1.rest < length p.rest
 wrapped quote p f x l h =
     let b = bind_ok (quoted_at quote p) (λ y. Ok (f y.0, y.1)) x h in
     let s : length b.0.1.rest ≡ length x.1.rest = ap (λ y. length y.1.rest) (ok_same {A = Token × Place} (f b.0.0, b.0.1) x b.2) in
@@ -183,7 +212,10 @@ by_kind kind.OpenTuple p b bs r e x h = by_one true p open_tuple x (BadToken 0) 
 by_kind kind.OpenList p b bs r e x h = by_one true p open_list x (BadToken 0) (omega (arith, ap length r)) h
 by_kind (kind.Mark m) p b bs r e x h = by_one true p (mark m) x (BadToken 0) (omega (arith, ap length r)) h
 by_kind kind.Dot p b bs r e x h = by_one (ends (drop 1 p.rest)) p (mark Stop) x (BadToken p.line) (omega (arith, ap length r)) h
-by_kind kind.Begun p b bs r e x h = absurd (by_foreign (eqb (length p.rest) 1) _ _ x h)
+by_kind kind.Hash p b bs r e x h = pair_shorter 123 open_map (drop 1 p.rest) p x (omega (arith, ap length r)) h
+by_kind kind.Less p b bs r e x h = pair_shorter 60 open_binary (drop 1 p.rest) p x (omega (arith, ap length r)) h
+by_kind kind.Equals p b bs r e x h = pair_shorter 62 (mark Arrow) (drop 1 p.rest) p x (omega (arith, ap length r)) h
+by_kind kind.Greater p b bs r e x h = pair_shorter 62 (mark CloseBinary) (drop 1 p.rest) p x (omega (arith, ap length r)) h
 by_kind kind.Foreign p b bs r e x h = absurd (by_foreign (eqb (utf8_valid_len p.rest) 0) _ _ x h)
 by_kind kind.Nothing p b bs r e x h = cc
 
@@ -196,8 +228,8 @@ token_shorter p x h = on_list p.rest refl h
 
 from_shorter : (p : Place) (l : Lexeme) → lexeme_from p ≡ Ok l → length l.after.rest < length p.rest
 from_shorter p l h =
-    let b = bind_ok (token_at p) (λ x. Ok (record { token = x.0; from = p.at; line = p.line; after = x.1 })) l h in
-    let s : length b.0.1.rest ≡ length l.after.rest = ap (λ (m : Lexeme). length m.after.rest) (ok_same (record { token = b.0.0; from = p.at; line = p.line; after = b.0.1 }) l b.2) in
+    let b = bind_ok (token_at p) (λ x. Ok (record { token = x.0; from = p.at; line = p.line; begin = p.rest; after = x.1 })) l h in
+    let s : length b.0.1.rest ≡ length l.after.rest = ap (λ (m : Lexeme). length m.after.rest) (ok_same (record { token = b.0.0; from = p.at; line = p.line; begin = p.rest; after = b.0.1 }) l b.2) in
     omega (arith, token_shorter p b.0 b.1)
 
 -- each token takes a byte at least

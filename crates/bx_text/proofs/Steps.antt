@@ -10,16 +10,16 @@ use Rattle.bx_text.specs.Lexing.{lexeme_at}
 use Rattle.bx_text.specs.Tree.{Tree, tuple, list, nil, chain}
 use Rattle.bx_text.specs.Terms.{Reading, Follow, next, end, span, closed, closes_tuple, closes_list, is_comma, is_bar, follow_at, element_at, elements_at, tuple_on, tuple_at, tail_of, tail_at, end_at, rest_on, rest_at, list_at, bracket_by, begin_by, begin, group_at, term_at}
 
-closed_is : (closes : token.Token → Bool) (m : Lexeme) → closes m.token ≡ true → closed closes m ≡ Ok m.after
+pub closed_is : (closes : token.Token → Bool) (m : Lexeme) → closes m.token ≡ true → closed closes m ≡ Ok m.after
 closed_is closes m c = ap (λ (b : Bool). if b then Ok m.after else Err (BadTerm m.line)) c
 
 -- elements
-follow_end : (r : Place) (m : Lexeme) → lexeme_at r ≡ Ok m → is_comma m.token ≡ false → follow_at r ≡ Ok (end m)
+pub follow_end : (r : Place) (m : Lexeme) → lexeme_at r ≡ Ok m → is_comma m.token ≡ false → follow_at r ≡ Ok (end m)
 follow_end r m n c =
     ap (λ s. s >>= λ m. if is_comma m.token then (lexeme_at m.after >>= λ n. Ok (next n)) else Ok (end m)) n
     ∙ ap (λ (b : Bool). if b then (lexeme_at m.after >>= λ n. Ok (next n)) else Ok (end m)) c
 
-follow_next : (r : Place) (m n : Lexeme) → lexeme_at r ≡ Ok m → is_comma m.token ≡ true → lexeme_at m.after ≡ Ok n → follow_at r ≡ Ok (next n)
+pub follow_next : (r : Place) (m n : Lexeme) → lexeme_at r ≡ Ok m → is_comma m.token ≡ true → lexeme_at m.after ≡ Ok n → follow_at r ≡ Ok (next n)
 follow_next r m n e c f =
     ap (λ s. s >>= λ m. if is_comma m.token then (lexeme_at m.after >>= λ n. Ok (next n)) else Ok (end m)) e
     ∙ ap (λ (b : Bool). if b then (lexeme_at m.after >>= λ n. Ok (next n)) else Ok (end m)) c

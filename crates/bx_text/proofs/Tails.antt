@@ -1,15 +1,21 @@
 -- Tails of lists, whose own elements and tail go on with the list's.
 use Rattle.std.proofs.Common.{◌≡◌, ℕ, zero, suc, Bool, true, false, List, [], ◌∷◌, ◌++◌, Result, Ok, Err, refl, sym, ap, ◌∙◌, subst, if◌then◌else◌}
-use Rattle.bx_terms.specs.Outcomes.{◌>>=◌}
+use Rattle.bx_terms.specs.Outcomes.{Gives, ◌>>=◌}
 use Rattle.bx_terms.specs.declared.faults.Fault.{Fault}
+use Rattle.bx_terms.specs.declared.faults.Fault.TheVariants.{NotUtf8}
 use Rattle.bx_text.specs.Place.{Place}
 use Rattle.bx_text.specs.Token as token
 use Rattle.bx_text.specs.Token.{Token, Lexeme}
-use Rattle.bx_text.specs.Tree.{Tree, tuple, list, nil, chain}
+use Rattle.bx_text.specs.declared.tokens.Mark.TheVariants.{Fun}
+use Rattle.bx_text.specs.declared.node.Sort.{Sort}
+use Rattle.bx_text.specs.declared.node.Sort.TheVariants as sort
+use Rattle.std.specs.Str.Lossy.{utf8_valid_len}
+use Rattle.std.specs.Prelude.{◌==◌, length}
+use Rattle.bx_text.specs.Tree.{Tree, tuple, list, other, nil, chain}
 use Rattle.bx_text.specs.Lexing.{lexeme_at}
-use Rattle.bx_text.specs.Terms.{Reading, span, closed, closes_tuple, closes_list, is_bar, spells_list, elements_at, tuple_on, tuple_at, tail_of, tail_at, end_at, rest_on, rest_at, strings_at, bracket_by, begin_by, begin, group_at, term_at}
+use Rattle.bx_text.specs.Terms.{Reading, span, closed, closes_tuple, closes_list, is_bar, spells_list, elements_at, tuple_on, tuple_at, tail_of, tail_at, end_at, rest_on, rest_at, strings_at, kept_at, taken, want, is_atom, is_colon, is_slash, is_integer, fun_at, closes_binary, map_on, map_at, pair_at, parts_at, binary_on, binary_at, segment_at, bracket_by, begin_by, begin, group_at, term_at}
 use Rattle.bx_text.specs.Rows.{prefixed, chained, closing, splicing}
-use Rattle.bx_text.proofs.Outcomes.{ok_same}
+use Rattle.bx_text.proofs.Outcomes.{ok_same, gives_err}
 use Rattle.bx_text.proofs.Rows.{chain_append}
 
 then_chained : (xs zs : List Tree) (r : Result (Tree × Place) Fault) → chained xs (r >>= λ y. Ok (chain zs y.0, y.1)) ≡ chained (xs ++ zs) r
@@ -93,8 +99,47 @@ tuple_first term l (Err e) = refl
 tuple_tail : (d : ℕ) (l : Lexeme) → l.token ≡ token.open_tuple → (group_at d l >>= untailed) ≡ group_at d l
 tuple_tail zero l e = refl
 tuple_tail (suc d) l e =
-    let P : Token → Type 0 = λ k. (bracket_by (begin (group_at d)) l k >>= untailed) ≡ bracket_by (begin (group_at d)) l k in
+    let P : Token → Type 0 = λ k. (bracket_by d (begin (group_at d)) l k >>= untailed) ≡ bracket_by d (begin (group_at d)) l k in
     subst P (sym e) (tuple_first (begin (group_at d)) l (lexeme_at l.after))
+
+-- nor has a term that is kept
+kept_by : (b : Bool) (k : Sort) (l : Lexeme) (q : Place) → ((if b then Ok (other (span l q) k (taken l q), q) else Err (NotUtf8 l.line)) >>= untailed) ≡ (if b then Ok (other (span l q) k (taken l q), q) else Err (NotUtf8 l.line))
+kept_by true k l q = refl
+kept_by false k l q = refl
+
+kept_tail : (k : Sort) (l : Lexeme) (q : Place) → (kept_at k l q >>= untailed) ≡ kept_at k l q
+kept_tail k l q = kept_by (utf8_valid_len (taken l q) == length (taken l q)) k l q
+
+keeping : (k : Sort) (l : Lexeme) (r : Result Place Fault) → ((r >>= kept_at k l) >>= untailed) ≡ (r >>= kept_at k l)
+keeping k l (Ok q) = kept_tail k l q
+keeping k l (Err e) = refl
+
+fun_tail : (l : Lexeme) → (fun_at l >>= untailed) ≡ fun_at l
+fun_tail l = keeping sort.Fun l (want is_atom l.after >>= want is_colon >>= want is_atom >>= want is_slash >>= want is_integer)
+
+either_kept : (b : Bool) (k : Sort) (l : Lexeme) (q : Place) (r : Result Place Fault) → ((if b then kept_at k l q else (r >>= kept_at k l)) >>= untailed) ≡ (if b then kept_at k l q else (r >>= kept_at k l))
+either_kept true k l q r = kept_tail k l q
+either_kept false k l q r = keeping k l r
+
+map_first : (term : Reading) (l : Lexeme) (r : Result Lexeme Fault) → ((r >>= map_on term l) >>= untailed) ≡ (r >>= map_on term l)
+map_first term l (Ok m) = either_kept (closes_tuple m.token) sort.Map l m.after (parts_at (pair_at term) m >>= closed closes_tuple)
+map_first term l (Err e) = refl
+
+binary_first : (d : ℕ) (l : Lexeme) (r : Result Lexeme Fault) → ((r >>= binary_on d l) >>= untailed) ≡ (r >>= binary_on d l)
+binary_first d l (Ok m) = either_kept (closes_binary m.token) sort.Binary l m.after (parts_at (segment_at d) m >>= closed closes_binary)
+binary_first d l (Err e) = refl
+
+map_tail : (d : ℕ) (l : Lexeme) → l.token ≡ token.open_map → (group_at d l >>= untailed) ≡ group_at d l
+map_tail zero l e = refl
+map_tail (suc d) l e =
+    let P : Token → Type 0 = λ k. (bracket_by d (begin (group_at d)) l k >>= untailed) ≡ bracket_by d (begin (group_at d)) l k in
+    subst P (sym e) (map_first (begin (group_at d)) l (lexeme_at l.after))
+
+binary_tail : (d : ℕ) (l : Lexeme) → l.token ≡ token.open_binary → (group_at d l >>= untailed) ≡ group_at d l
+binary_tail zero l e = refl
+binary_tail (suc d) l e =
+    let P : Token → Type 0 = λ k. (bracket_by d (begin (group_at d)) l k >>= untailed) ≡ bracket_by d (begin (group_at d)) l k in
+    subst P (sym e) (binary_first d l (lexeme_at l.after))
 
 pub improper_is : (d : ℕ) (l : Lexeme) → spells_list l.token ≡ false → term_at d l ≡ tail_at (term_at d) l
 improper_is d l e = sym (by_token l.token refl e)
@@ -105,7 +150,18 @@ improper_is d l e = sym (by_token l.token refl e)
     by_token (token.text w) t e = cc
     by_token token.open_tuple t e = tuple_tail d l t
     by_token token.open_list t e = cc
+    by_token token.float t e = kept_tail sort.Float l l.after
+    by_token token.open_map t e = map_tail d l t
+    by_token token.open_binary t e = binary_tail d l t
+    by_token (token.mark Fun) t e = fun_tail l
     by_token (token.mark m) t e = refl
+
+-- such a tail behind what was found
+pub improper_gives : {X : Type 0} (T : Type 0) (tree : X → Tree) (xs : List Tree) (p : Place) (r : Result X Fault) (d : ℕ) (l : Lexeme) → spells_list l.token ≡ false → Gives T (λ x. (tree x, p)) r (term_at d l)
+    → Gives T (λ x. (chain xs (tree x), p)) r (chained xs (tail_at (term_at d) l))
+improper_gives T tree xs p (Ok x) d l e h = ap (chained xs) (sym (improper_is d l e) ∙ h)
+improper_gives T tree xs p (Err f) d l e h =
+    gives_err (λ x. (tree x, p)) (λ x. (chain xs (tree x), p)) f (term_at d l) (chained xs (tail_at (term_at d) l)) (λ t. t) (λ g. ap (chained xs) (sym (improper_is d l e) ∙ g)) h
 
 -- a list goes on behind what was found
 text_on : (xs : List Tree) (l : Lexeme) (r : Result (List Tree × Place) Fault)
@@ -125,10 +181,13 @@ splicing_is xs d l e = by_token l.token refl e
     by_token (token.integer n) t e = cc
     by_token (token.atom w) t e = cc
     by_token (token.text w) t e =
-        let P : Token → Type 0 = λ k. (prefixed xs (strings_at l) >>= row_done) ≡ chained xs (bracket_by (begin (group_at d)) l k >>= untailed) in
+        let P : Token → Type 0 = λ k. (prefixed xs (strings_at l) >>= row_done) ≡ chained xs (bracket_by d (begin (group_at d)) l k >>= untailed) in
         subst P (sym t) (text_on xs l (strings_at l))
     by_token token.open_tuple t e = cc
     by_token token.open_list t e =
-        let P : Token → Type 0 = λ k. chained xs (rest_at (term_at d) l.after) ≡ chained xs (bracket_by (begin (group_at d)) l k >>= untailed) in
+        let P : Token → Type 0 = λ k. chained xs (rest_at (term_at d) l.after) ≡ chained xs (bracket_by d (begin (group_at d)) l k >>= untailed) in
         subst P (sym t) (list_on xs l (rest_at (term_at d) l.after))
+    by_token token.float t e = cc
+    by_token token.open_map t e = cc
+    by_token token.open_binary t e = cc
     by_token (token.mark m) t e = cc

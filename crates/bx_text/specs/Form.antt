@@ -4,9 +4,9 @@ use Rattle.std.specs.declared.boxed.Box.{Box}
 use Rattle.std.specs.declared.alloc.Global.{Global}
 use Rattle.bx_text.specs.declared.node.Span.{Span}
 use Rattle.bx_text.specs.declared.node.Form.{Form}
-use Rattle.bx_text.specs.declared.node.Form.TheVariants.{Integer, Large, Atom, Tuple, List as Listed}
+use Rattle.bx_text.specs.declared.node.Form.TheVariants.{Integer, Large, Atom, Tuple, List as Listed, Other}
 use Rattle.bx_text.specs.Number.{number, is_large}
-use Rattle.bx_text.specs.Tree.{Tree, integer, atom, tuple, list, nil, chain}
+use Rattle.bx_text.specs.Tree.{Tree, integer, atom, tuple, list, other, nil, chain}
 
 abbrev pub tail_tree : Option (Box Tree Global) → Tree
 tail_tree None = nil
@@ -18,6 +18,7 @@ form_tree s (Large w) = integer s (number w)
 form_tree s (Atom w) = atom s w
 form_tree s (Tuple ts) = tuple s (chain ts.items nil)
 form_tree s (Listed ts u) = list s (chain ts.items (tail_tree u))
+form_tree s (Other k w) = other s k w
 
 -- exactly an integer outside 64 bits keeps its text
 abbrev pub IsForm : Form → Type 0

@@ -5,7 +5,7 @@ use Rattle.bx_terms.specs.declared.faults.Fault.{Fault}
 use Rattle.bx_terms.specs.declared.faults.Fault.TheVariants.{BadTerm}
 use Rattle.bx_text.specs.Place.{Place, place_in}
 use Rattle.bx_text.specs.Blank.{skip}
-use Rattle.bx_text.specs.Token.{Lexeme}
+use Rattle.bx_text.specs.Token.{Body, spelled, Lexeme}
 use Rattle.bx_text.specs.Lexing.{lexeme_from, lexeme_at, name_at}
 use Rattle.bx_text.specs.Tree.{Tree}
 use Rattle.bx_text.specs.Terms.{is_stop, term_at, keeps}
@@ -40,4 +40,4 @@ term_in text at = form_at (place_in text at) >>= λ o. Ok (option_map (λ x. (x.
 
 -- an atom's text at a place of a whole text, and where it ends there
 abbrev pub atom_in : List ℕ → ℕ → Result (Option (List ℕ × ℕ)) Fault
-atom_in text at = name_at (place_in text at) >>= λ o. Ok (option_map (λ x. (x.0, x.1.at)) o)
+atom_in text at = name_at (place_in text at) >>= λ o. Ok (option_map (λ x. (spelled x.0, x.1.at)) o)

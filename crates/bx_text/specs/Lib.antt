@@ -1,9 +1,10 @@
 pub mod Blank
 pub mod Bytes
+pub mod Escapes
 pub mod Falls
-pub mod Follow
 pub mod Form
 pub mod Forms
+pub mod Letters
 pub mod Lexing
 pub mod Number
 pub mod Place

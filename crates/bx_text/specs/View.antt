@@ -3,9 +3,9 @@ use Rattle.std.specs.Prelude.{◌≡◌, ℕ, true, Option, Some, None}
 use Rattle.std.specs.Borrow.{Bor}
 use Rattle.bx_text.specs.declared.node.Span.{Span}
 use Rattle.bx_text.specs.declared.node.View.{View}
-use Rattle.bx_text.specs.declared.node.View.TheVariants.{Integer, Large, Atom, Tuple, List as Listed}
+use Rattle.bx_text.specs.declared.node.View.TheVariants.{Integer, Large, Atom, Tuple, List as Listed, Other}
 use Rattle.bx_text.specs.Number.{number, is_large}
-use Rattle.bx_text.specs.Tree.{Tree, integer, atom, tuple, list, nil, chain}
+use Rattle.bx_text.specs.Tree.{Tree, integer, atom, tuple, list, other, nil, chain}
 
 abbrev pub tail_seen : Option (Bor Tree) → Tree
 tail_seen None = nil
@@ -17,6 +17,7 @@ seen s (Large digits) = integer s (number digits.now)
 seen s (Atom text) = atom s text.now
 seen s (Tuple ts) = tuple s (chain ts.now nil)
 seen s (Listed ts u) = list s (chain ts.now (tail_seen u))
+seen s (Other k text) = other s k text.now
 
 -- an integer that shows its digits is one outside 64 bits
 abbrev pub IsView : View → Type 0

@@ -2,31 +2,29 @@
 
 ghost use Rattle.bx_terms.specs.Outcomes.{Gives};
 ghost use Rattle.bx_text.specs.Place.{place};
-ghost use Rattle.bx_text.specs.Terms.{follow_at};
-ghost use Rattle.bx_text.specs.Follow.{follow_of};
+ghost use Rattle.bx_text.specs.Token.{lexeme_of};
+ghost use Rattle.bx_text.specs.Terms as terms;
 
 use crate::lexemes::{Lexeme, is_comma};
-use crate::lexing::lexeme;
-use crate::reader::Reader;
+use crate::lexing::advance;
 use bx_terms::Fault;
 
-/// What follows an element.
-#[derive(Clone, Copy, Debug)]
-pub(crate) enum Follow<'a> {
-    /// Behind a comma, the first token of another element.
-    Next(Lexeme<'a>),
-    /// A token that is no comma.
-    End(Lexeme<'a>),
+/// Whether another element follows the token held: then its first token is held.
+pub(crate) fn behind_token<'a>(l: &mut Lexeme<'a>) -> Result<bool, Fault>
+    ensures { Gives ⊥ (λ more. terms.follow_by more (lexeme_of l.new)) result (terms.behind_token (lexeme_of l.old)) }
+{
+    if is_comma(l.token) {
+        advance(l)?;
+        Ok(true)
+    } else {
+        Ok(false)
+    }
 }
 
-/// What follows an element that ends at `r`.
-pub(crate) fn follow_at<'a>(r: Reader<'a>) -> Result<Follow<'a>, Fault>
-    ensures { Gives ⊥ follow_of result (follow_at (place r.entry)) }
+/// Whether another element follows: then its first token is held, else the token that is no comma.
+pub(crate) fn follow<'a>(l: &mut Lexeme<'a>) -> Result<bool, Fault>
+    ensures { Gives ⊥ (λ more. terms.follow_by more (lexeme_of l.new)) result (terms.follow_at (place l.old.after)) }
 {
-    let m = lexeme(r)?;
-    if is_comma(m.token) {
-        Ok(Follow::Next(lexeme(m.after)?))
-    } else {
-        Ok(Follow::End(m))
-    }
+    advance(l)?;
+    behind_token(l)
 }

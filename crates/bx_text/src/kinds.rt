@@ -13,9 +13,9 @@ pub(crate) enum Kind {
     Letter,
     /// A bare atom, by the next byte.
     Accent,
-    /// An integer.
+    /// A number.
     Digit,
-    /// An integer, where digits follow.
+    /// A number, where digits follow.
     Minus,
     /// A quoted atom.
     Quote,
@@ -26,8 +26,14 @@ pub(crate) enum Kind {
     Mark(Mark),
     /// A full stop, by the next byte.
     Dot,
-    /// A token of two bytes or more, none of which is read.
-    Begun,
+    /// `#{`, by the next byte.
+    Hash,
+    /// `<<`, by the next byte.
+    Less,
+    /// `=>`, by the next byte.
+    Equals,
+    /// `>>`, by the next byte.
+    Greater,
     /// No token; perhaps no character.
     Foreign,
     /// No token.
@@ -48,8 +54,13 @@ fn punctuation(b: u8) -> Kind
         b'\'' => Kind::Quote,
         b'"' => Kind::DoubleQuote,
         b'-' => Kind::Minus,
-        b'(' | b')' | b':' | b'/' => Kind::Mark(Mark::Other),
-        b'#' | b'<' | b'=' | b'>' => Kind::Begun,
+        b':' => Kind::Mark(Mark::Colon),
+        b'/' => Kind::Mark(Mark::Slash),
+        b'(' | b')' => Kind::Mark(Mark::Other),
+        b'#' => Kind::Hash,
+        b'<' => Kind::Less,
+        b'=' => Kind::Equals,
+        b'>' => Kind::Greater,
         _ => Kind::Nothing,
     }
 }

@@ -15,6 +15,8 @@ pub(crate) struct Lexeme<'a> {
     pub(crate) token: Token<'a>,
     pub(crate) from: usize,
     pub(crate) line: usize,
+    /// The bytes from its first one on.
+    pub(crate) begin: &'a [u8],
     pub(crate) after: Reader<'a>,
 }
 
@@ -43,6 +45,33 @@ pub(crate) fn closes_list(token: Token<'_>) -> bool
 {
     match token {
         Token::Mark(Mark::CloseList) => true,
+        _ => false,
+    }
+}
+
+pub(crate) fn closes_binary(token: Token<'_>) -> bool
+    ensures { result ≡ terms.closes_binary (token_of token.entry) }
+{
+    match token {
+        Token::Mark(Mark::CloseBinary) => true,
+        _ => false,
+    }
+}
+
+pub(crate) fn is_colon(token: Token<'_>) -> bool
+    ensures { result ≡ terms.is_colon (token_of token.entry) }
+{
+    match token {
+        Token::Mark(Mark::Colon) => true,
+        _ => false,
+    }
+}
+
+pub(crate) fn is_slash(token: Token<'_>) -> bool
+    ensures { result ≡ terms.is_slash (token_of token.entry) }
+{
+    match token {
+        Token::Mark(Mark::Slash) => true,
         _ => false,
     }
 }

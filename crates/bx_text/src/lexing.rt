@@ -5,7 +5,7 @@ ghost use Rattle.std.specs.Str.{IsAscii};
 ghost use Rattle.bx_terms.specs.Outcomes.{Gives};
 ghost use Rattle.bx_text.specs.Place.{place};
 ghost use Rattle.bx_text.specs.Token.{token_of, lexeme_of};
-ghost use Rattle.bx_text.specs.Lexing.{ends, stop_at, begun_at, token_by, token_at, lexeme_from, lexeme_at};
+ghost use Rattle.bx_text.specs.Lexing.{ends, stop_at, pair_at, token_by, token_at, lexeme_from, lexeme_at};
 
 use crate::blanks::skip;
 use crate::bytes::is_space;
@@ -40,14 +40,20 @@ fn stop<'a>(r: Reader<'a>) -> Result<(Token<'a>, Reader<'a>), Fault>
     }
 }
 
-/// The fault of a byte that only begins a token.
-fn begun(r: Reader<'_>) -> Fault
-    ensures { begun_at (place r.entry) ≡ Err result }
+/// The mark of two bytes at `r`, of which the second is to be `second`.
+fn pair<'a>(r: Reader<'a>, second: u8, token: Token<'a>) -> Result<(Token<'a>, Reader<'a>), Fault>
+    requires { 1 ≤ length r.rest.now }
+    ensures { Gives ⊥ (λ x. (token_of x.0, place x.1)) result (pair_at second (token_of token.entry) (place r.entry)) }
 {
-    if r.rest.len() == 1 {
-        Fault::Truncated { line: r.line }
-    } else {
-        Fault::BadToken { line: r.line }
+    match &r.rest[1..] {
+        [] => Err(Fault::Truncated { line: r.line }),
+        [b, ..] => {
+            if *b == second {
+                Ok((token, ahead(r, 2)))
+            } else {
+                Err(Fault::BadToken { line: r.line })
+            }
+        }
     }
 }
 
@@ -74,7 +80,10 @@ fn token_by<'a>(kind: Kind, r: Reader<'a>) -> Result<(Token<'a>, Reader<'a>), Fa
         Kind::OpenList => Ok((Token::OpenList, ahead(r, 1))),
         Kind::Mark(mark) => Ok((Token::Mark(mark), ahead(r, 1))),
         Kind::Dot => stop(r),
-        Kind::Begun => Err(begun(r)),
+        Kind::Hash => pair(r, b'{', Token::OpenMap),
+        Kind::Less => pair(r, b'<', Token::OpenBinary),
+        Kind::Equals => pair(r, b'>', Token::Mark(Mark::Arrow)),
+        Kind::Greater => pair(r, b'>', Token::Mark(Mark::CloseBinary)),
         Kind::Foreign => Err(foreign(r)),
         Kind::Nothing => Err(Fault::BadToken { line: r.line }),
     }
@@ -99,6 +108,7 @@ pub(crate) fn lexeme_from<'a>(r: Reader<'a>) -> Result<Lexeme<'a>, Fault>
         token,
         from: r.at,
         line: r.line,
+        begin: r.rest,
         after,
     })
 }
@@ -108,4 +118,12 @@ pub(crate) fn lexeme<'a>(r: Reader<'a>) -> Result<Lexeme<'a>, Fault>
     ensures { Gives ⊥ lexeme_of result (lexeme_at (place r.entry)) }
 {
     lexeme_from(skip(r)?)
+}
+
+/// Goes on to the next token.
+pub(crate) fn advance<'a>(l: &mut Lexeme<'a>) -> Result<(), Fault>
+    ensures { Gives ⊥ (λ _. lexeme_of l.new) result (lexeme_at (place l.old.after)) }
+{
+    *l = lexeme(l.after)?;
+    Ok(())
 }

@@ -1,10 +1,13 @@
 //! Erlang's term texts: tokens, terms and their full stops, read from bytes.
 #![tactic(auto)]
 
+mod binaries;
 mod blanks;
 mod bytes;
+mod escapes;
 mod follows;
 mod forms;
+mod kept;
 mod kinds;
 pub mod laws;
 mod lexemes;
@@ -18,13 +21,11 @@ mod spellings;
 mod strings;
 mod terms;
 mod tokens;
+mod wanted;
 mod word;
 mod words;
 
 pub use forms::{atom_at, next_term};
-pub use node::{Node, Span, View};
+pub use node::{Node, Sort, Span, View};
 pub use reader::Reader;
 pub use word::Word;
-
-#[cfg(test)]
-mod tests;

@@ -21,6 +21,16 @@ pub struct Span {
     pub line: usize,
 }
 
+/// Which terms stand for no value here.
+#[derive(Clone, Copy, Debug, PartialEq, Eq)]
+pub enum Sort {
+    Float,
+    Map,
+    Binary,
+    /// An external fun.
+    Fun,
+}
+
 /// A term that was read, with the part of the text that it takes.
 #[cycle(node)]
 #[derive(Debug, Drop)]
@@ -37,6 +47,7 @@ enum Form<'a> {
     Atom(Word<'a>),
     Tuple(Vec<Node<'a>>),
     List(Vec<Node<'a>>, Option<Box<Node<'a>>>),
+    Other(Sort, Word<'a>),
 }
 
 impl<'a> Model for Node<'a> {
@@ -72,6 +83,8 @@ pub enum View<'v, 'a> {
     Tuple(&'v [Node<'a>]),
     /// A list's elements, and its tail where it has one that is no list.
     List(&'v [Node<'a>], Option<&'v Node<'a>>),
+    /// A float, map, binary or external fun: which of them, and its text as it was read.
+    Other(Sort, &'v str),
 }
 
 fn beyond<'v, 'a>(tail: &'v Option<Box<Node<'a>>>) -> Option<&'v Node<'a>>
@@ -92,7 +105,7 @@ fn beyond<'v, 'a>(tail: &'v Option<Box<Node<'a>>>) -> Option<&'v Node<'a>>
 impl<'a> Node<'a> {
     ghost use Rattle.std.specs.Prelude.{◌≡◌, ◌↔◌, IsTrue, List};
     ghost use Rattle.bx_text.specs.Number.{number};
-    ghost use Rattle.bx_text.specs.Tree.{integer, atom, tuple, list, nil, chain, span_of};
+    ghost use Rattle.bx_text.specs.Tree.{integer, atom, tuple, list, other, nil, chain, span_of};
     ghost use Rattle.bx_text.specs.Form.{tail_tree};
     ghost use Rattle.bx_text.specs.View.{seen, IsView};
 
@@ -114,12 +127,21 @@ impl<'a> Node<'a> {
         }
     }
 
-    pub(crate) fn atom(span: Span, text: &'a str) -> Node<'a>
-        ensures { result ≡ atom span text.entry.now }
+    pub(crate) fn atom(span: Span, text: Word<'a>) -> Node<'a>
+        ensures { result ≡ atom span text.entry }
     {
         Node {
             span,
-            form: Form::Atom(Word::borrowed(text)),
+            form: Form::Atom(text),
+        }
+    }
+
+    pub(crate) fn other(span: Span, sort: Sort, text: &'a str) -> Node<'a>
+        ensures { result ≡ other span sort text.entry.now }
+    {
+        Node {
+            span,
+            form: Form::Other(sort, Word::borrowed(text)),
         }
     }
 
@@ -152,6 +174,7 @@ impl<'a> Node<'a> {
             Form::Atom(text) => View::Atom(text.as_str()),
             Form::Tuple(elements) => View::Tuple(elements.as_slice()),
             Form::List(elements, tail) => View::List(elements.as_slice(), beyond(tail)),
+            Form::Other(sort, text) => View::Other(*sort, text.as_str()),
         }
     }
 
@@ -180,6 +203,9 @@ impl<'a> Node<'a> {
             (Form::Tuple(xs), Form::Tuple(ys)) => same_elements(xs, ys),
             (Form::List(xs, tail), Form::List(ys, other_tail)) => {
                 same_tails(tail, other_tail) && same_elements(xs, ys)
+            }
+            (Form::Other(sort, text), Form::Other(other_sort, other_text)) => {
+                sort == other_sort && text.same(other_text)
             }
             _ => false,
         }

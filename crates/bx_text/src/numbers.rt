@@ -1,4 +1,4 @@
-//! Integers.
+//! Integers and floats.
 
 ghost use Rattle.std.specs.Prelude.{◌≡◌, ◌≤◌, ◌-◌, ◌^◌, true, drop, take, length, MatchOption};
 ghost use Rattle.std.specs.List.{prefix_len};
@@ -8,7 +8,7 @@ ghost use Rattle.bx_text.specs.Bytes.{is_digit};
 ghost use Rattle.bx_text.specs.Number.{decimal, number, signed, is_large, with_digit};
 ghost use Rattle.bx_text.specs.Place.{place};
 ghost use Rattle.bx_text.specs.Token.{token_of, integer};
-ghost use Rattle.bx_text.specs.Lexing.{begins_fraction, number_at};
+ghost use Rattle.bx_text.specs.Lexing.{point_len, fraction_len, sign_len, power_len, exponent_len, number_at};
 
 use crate::bytes::{as_text, is_digit};
 use crate::moves::ahead;
@@ -74,12 +74,51 @@ fn digit_count(bytes: &[u8]) -> usize
     bytes.iter().take_while(|b| is_digit(**b)).count()
 }
 
-fn begins_fraction(bytes: &[u8]) -> bool
-    ensures { result ≡ begins_fraction bytes.now }
+/// How many bytes a fraction takes, from its point on, or 0 where none begins.
+fn fraction_len(bytes: &[u8]) -> usize
+    ensures exact { result ≡ fraction_len bytes.now }
+    ensures bounded { result ≤ length bytes.now }
 {
     match bytes {
-        [b'.', b, ..] => is_digit(*b),
-        _ => false,
+        [b'.', digits @ ..] => match digit_count(digits) {
+            0 => 0,
+            count => 1 + count,
+        },
+        _ => 0,
+    }
+}
+
+fn sign_len(bytes: &[u8]) -> usize
+    ensures exact { result ≡ sign_len bytes.now }
+    ensures bounded { result ≤ length bytes.now }
+{
+    match bytes {
+        [b'+' | b'-', ..] => 1,
+        _ => 0,
+    }
+}
+
+/// How many bytes an exponent takes behind its letter, or 0 where none follows.
+fn power_len(bytes: &[u8]) -> usize
+    ensures exact { point_len result ≡ power_len (sign_len bytes.now) (prefix_len is_digit (drop (sign_len bytes.now) bytes.now)) }
+    ensures bounded { result ≤ length bytes.now }
+{
+    let sign = sign_len(bytes);
+    let count = digit_count(&bytes[sign..]);
+    if count == 0 { 0 } else { sign + count }
+}
+
+/// How many bytes an exponent takes, from its letter on, or 0 where none begins.
+fn exponent_len(bytes: &[u8]) -> usize
+    ensures exact { result ≡ exponent_len bytes.now }
+    ensures bounded { result ≤ length bytes.now }
+{
+    match bytes {
+        [b'e' | b'E', power @ ..] => match power_len(power) {
+            0 => 0,
+            count => 1 + count,
+        },
+        _ => 0,
     }
 }
 
@@ -116,8 +155,8 @@ fn value(spelling: &[u8]) -> Option<i64>
     }
 }
 
+/// The number at `r`, of which `sign` bytes are its sign.
 #[tactic(auto, using(crate::proofs::Digits::number_ascii))]
-/// The integer at `r`, of which `sign` bytes are its sign.
 pub(crate) fn number<'a>(r: Reader<'a>, sign: usize) -> Result<(Token<'a>, Reader<'a>), Fault>
     requires within { sign ≤ length r.rest.now }
     requires ascii { IsAscii (take sign r.rest.now) }
@@ -131,8 +170,11 @@ pub(crate) fn number<'a>(r: Reader<'a>, sign: usize) -> Result<(Token<'a>, Reade
         return Err(Fault::BadToken { line: r.line });
     }
     let end = sign + count;
-    if begins_fraction(&r.rest[end..]) {
-        return Err(Fault::BadToken { line: r.line });
+    let fraction = fraction_len(&r.rest[end..]);
+    if fraction == 0 {
+        return Ok((integer(&r.rest[..end]), ahead(r, end)));
     }
-    Ok((integer(&r.rest[..end]), ahead(r, end)))
+    let front = end + fraction;
+    let exponent = exponent_len(&r.rest[front..]);
+    Ok((Token::Float, ahead(r, front + exponent)))
 }

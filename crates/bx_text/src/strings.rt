@@ -1,92 +1,123 @@
 //! Strings: lists of their characters' codes.
 
-ghost use Rattle.std.specs.Prelude.{◌≡◌, ◌<◌, ◌⊎◌, ◌++◌, List, length, option_map, IsOkAnd, IsSome, MatchResult};
+ghost use Rattle.std.specs.Prelude.{◌≡◌, ◌<◌, ◌⊎◌, ◌++◌, List, false, length, IsOkAnd, IsSome, MatchResult, OnErr};
 ghost use Rattle.bx_terms.specs.Outcomes.{Gives};
 ghost use Rattle.bx_text.specs.Place.{place};
-ghost use Rattle.bx_text.specs.Token.{lexeme_of, token_of};
-ghost use Rattle.bx_text.specs.Terms.{HasLetters, letters, letters_of, text_next, strings_at, string_at};
+ghost use Rattle.bx_text.specs.Token.{lexeme_of, token_of, body_of, spelled};
+ghost use Rattle.bx_text.specs.Terms.{HasLetters, HasBody, letters, letters_of, text_next, next_text, strings_at, string_at, passed};
 ghost use Rattle.bx_text.specs.Rows.{prefixed};
 
 use crate::blanks::skip;
+use crate::escapes::decode;
 use crate::lexemes::{Lexeme, span};
 use crate::lexing::lexeme_from;
 use crate::moves::truncated;
 use crate::node::{Node, Span};
-use crate::reader::Reader;
-use crate::tokens::Token;
+use crate::tokens::{Body, Token};
 use bx_terms::Fault;
 use std::alloc::{AllocError, Global};
 
 /// The elements with those that a string spells behind them.
 #[tactic(auto, using(std::proofs::lemmas::Str::chars_from_encodes, crate::proofs::Letters::no_letters))]
-fn letters<'a>(found: Vec<Node<'a>>, span: Span, text: &str) -> Result<Vec<Node<'a>>, AllocError>
-    ensures { MatchResult result (λ v. v.items ≡ found.entry.items ++ letters span text.now) (λ _. 0 < length text.now) }
+fn letters<'a>(found: &mut Vec<Node<'a>>, span: Span, text: &str) -> Result<(), AllocError>
+    ensures { MatchResult result (λ _. found.new.items ≡ found.old.items ++ letters span text.now) (λ _. 0 < length text.now) }
 {
-    let mut elements = found;
     if text.is_empty() {
-        return Ok(elements);
+        return Ok(());
     }
     for c in text.chars() {
-        elements.push(Node::integer(span, i64::from(c as u32)))?;
+        found.push(Node::integer(span, i64::from(c as u32)))?;
     }
-    Ok(elements)
+    Ok(())
 }
 
-/// The next token, where it is a string.
-fn text_next<'a>(r: Reader<'a>) -> Result<Option<Lexeme<'a>>, Fault>
-    ensures { Gives ⊥ (option_map lexeme_of) result (text_next (place r.entry)) }
+/// The elements with those that stand between quotes behind them.
+fn body_letters<'a>(
+    alloc: Global,
+    found: &mut Vec<Node<'a>>,
+    span: Span,
+    body: Body<'a>,
+) -> Result<(), AllocError>
+    ensures { MatchResult result (λ _. found.new.items ≡ found.old.items ++ letters span (spelled (body_of body.entry))) (λ _. HasBody (body_of body.entry)) }
 {
-    let here = skip(r)?;
+    match body {
+        Body::Plain(text) => letters(found, span, text),
+        Body::Escaped(raw) => {
+            let text = decode(alloc, raw)?;
+            letters(found, span, text.as_str())
+        }
+    }
+}
+
+/// The next token, where it is a string: then it is held.
+fn text_next<'a>(l: &mut Lexeme<'a>) -> Result<bool, Fault>
+    ensures reads { Gives ⊥ (λ more. next_text more (lexeme_of l.new)) result (text_next (place l.old.after)) }
+    ensures stays { result ≡ Ok false → place l.new.after ≡ place l.old.after }
+{
+    let here = skip(l.after)?;
     match here.rest {
-        [b'"', ..] => Ok(Some(lexeme_from(here)?)),
-        _ => Ok(None),
+        [b'"', ..] => {
+            *l = lexeme_from(here)?;
+            Ok(true)
+        }
+        _ => Ok(false),
     }
 }
 
 /// The elements with those that a string's token spells behind them.
-fn letters_of<'a>(found: Vec<Node<'a>>, l: Lexeme<'a>) -> Result<Vec<Node<'a>>, AllocError>
-    ensures { MatchResult result (λ v. v.items ≡ found.entry.items ++ letters_of (lexeme_of l.entry) (token_of l.entry.token)) (λ _. HasLetters (token_of l.entry.token)) }
+fn letters_of<'a>(alloc: Global, found: &mut Vec<Node<'a>>, l: Lexeme<'a>) -> Result<(), AllocError>
+    ensures { MatchResult result (λ _. found.new.items ≡ found.old.items ++ letters_of (lexeme_of l.entry) (token_of l.entry.token)) (λ _. HasLetters (token_of l.entry.token)) }
 {
     match l.token {
-        Token::Text(text) => letters(found, span(l, l.after), text),
-        _ => Ok(found),
+        Token::Text(body) => body_letters(alloc, found, span(l, l.after), body),
+        _ => Ok(()),
     }
 }
 
-/// The elements with those of the strings in a row that begin with the token `l`, and the place behind these.
+/// The elements with those of the strings in a row behind them that begin with the token held.
 pub(crate) fn strings<'a>(
-    found: Vec<Node<'a>>,
-    l: Lexeme<'a>,
-) -> Result<(Vec<Node<'a>>, Reader<'a>), Fault>
-    ensures { Gives (HasLetters (token_of l.entry.token) ⊎ IsOkAnd (text_next (place l.entry.after)) IsSome) (λ x. (x.0.items, place x.1)) result (prefixed found.entry.items (strings_at (lexeme_of l.entry))) }
+    alloc: Global,
+    found: &mut Vec<Node<'a>>,
+    l: &mut Lexeme<'a>,
+) -> Result<(), Fault>
+    ensures { Gives (HasLetters (token_of l.old.token) ⊎ IsOkAnd (text_next (place l.old.after)) IsSome) (λ _. (found.new.items, place l.new.after)) result (prefixed found.old.items (strings_at (lexeme_of l.old))) }
 {
-    let mut elements = letters_of(found, l)?;
-    let mut here = l.after;
+    letters_of(alloc, found, *l)?;
     // Each string takes a byte at least.
     for _turn in 0..l.after.rest.len() + 1 {
-        match text_next(here) {
+        match text_next(l) {
             Err(fault) => return Err(fault),
-            Ok(None) => return Ok((elements, here)),
-            Ok(Some(next)) => {
-                elements = letters_of(elements, next)?;
-                here = next.after;
-            }
+            Ok(false) => return Ok(()),
+            Ok(true) => letters_of(alloc, found, *l)?,
         }
     }
-    Err(truncated(here))
+    Err(truncated(l.after))
 }
 
-/// The elements of the strings in a row that begin with the token `l`, and the place behind these.
-fn alone<'a>(alloc: Global, l: Lexeme<'a>) -> Result<(Vec<Node<'a>>, Reader<'a>), Fault>
-    ensures { Gives (HasLetters (token_of l.entry.token) ⊎ IsOkAnd (text_next (place l.entry.after)) IsSome) (λ x. (x.0.items, place x.1)) result (strings_at (lexeme_of l.entry)) }
+/// The elements of the strings in a row that begin with the token held.
+fn alone<'a>(alloc: Global, l: &mut Lexeme<'a>) -> Result<Vec<Node<'a>>, Fault>
+    ensures { Gives (HasLetters (token_of l.old.token) ⊎ IsOkAnd (text_next (place l.old.after)) IsSome) (λ x. (x.items, place l.new.after)) result (strings_at (lexeme_of l.old)) }
 {
-    strings(Vec::new(alloc), l)
+    let mut elements = Vec::new(alloc);
+    match strings(alloc, &mut elements, l) {
+        Ok(_) => Ok(elements),
+        Err(fault) => Err(fault),
+    }
 }
 
-/// The list that the strings in a row spell that begin with the token `l`, and the place behind these.
-pub(crate) fn string<'a>(alloc: Global, l: Lexeme<'a>) -> Result<(Node<'a>, Reader<'a>), Fault>
-    ensures { Gives (HasLetters (token_of l.entry.token) ⊎ IsOkAnd (text_next (place l.entry.after)) IsSome) (λ x. (x.0, place x.1)) result (string_at (lexeme_of l.entry)) }
+/// The list that the strings in a row spell that begin with the token held.
+pub(crate) fn string<'a>(alloc: Global, l: &mut Lexeme<'a>) -> Result<Node<'a>, Fault>
+    ensures { Gives (HasLetters (token_of l.old.token) ⊎ IsOkAnd (text_next (place l.old.after)) IsSome) (λ x. (x, place l.new.after)) result (string_at (lexeme_of l.old)) }
 {
-    let (elements, end) = alone(alloc, l)?;
-    Ok((Node::list(span(l, end), elements, None), end))
+    let first = *l;
+    let elements = alone(alloc, l)?;
+    Ok(Node::list(span(first, l.after), elements, None))
+}
+
+/// Reads the strings in a row that begin with the token held, and lets them go.
+pub(crate) fn pass_strings<'a>(alloc: Global, l: &mut Lexeme<'a>) -> Result<(), Fault>
+    ensures { Gives (Unit {0}) (λ _. place l.new.after) result (passed (strings_at (lexeme_of l.old))) }
+{
+    let _ = alone(alloc, l)?;
+    Ok(())
 }

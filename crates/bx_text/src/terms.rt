@@ -3,82 +3,96 @@
 ghost use Rattle.std.specs.Prelude.{◌≡◌, ◌⊎◌, OnOk, IsOk, IsOkAnd, suc, true, false};
 ghost use Rattle.bx_terms.specs.Outcomes.{Gives};
 ghost use Rattle.bx_text.specs.Place.{place};
-ghost use Rattle.bx_text.specs.Token.{lexeme_of, token_of};
-ghost use Rattle.bx_text.specs.Follow.{follow_of};
+ghost use Rattle.bx_text.specs.Token.{lexeme_of, token_of, body_of, IsEscaped};
 ghost use Rattle.bx_text.specs.Form.{tail_tree};
 ghost use Rattle.bx_text.specs.Tree.{chain};
 ghost use Rattle.bx_text.specs.Lexing as lexing;
 ghost use Rattle.bx_text.specs.Terms as terms;
 ghost use Rattle.bx_text.specs.Rows.{prefixed, chained, joined, closing, splicing, ending};
 
-use crate::follows::{Follow, follow_at};
+use crate::binaries::binary;
+use crate::follows::follow;
+use crate::kept::{fun, kept};
 use crate::lexemes::{Lexeme, closes_list, closes_tuple, is_bar, span, spells_list};
-use crate::lexing::lexeme;
-use crate::node::Node;
-use crate::reader::Reader;
+use crate::lexing::advance;
+use crate::node::{Node, Sort};
 use crate::strings::{string, strings};
-use crate::tokens::Token;
+use crate::tokens::{Body, Mark, Token};
+use crate::wanted::{Wanted, want};
+use crate::word::Word;
 use bx_terms::Fault;
 use std::alloc::Global;
 
-/// The place behind a tuple, which the token `m` is to close.
-fn tuple_end<'a>(m: Lexeme<'a>) -> Result<Reader<'a>, Fault>
-    ensures { Gives ⊥ place result (terms.closed terms.closes_tuple (lexeme_of m.entry)) }
+/// The fault of a token that may not stand here.
+fn misplaced(l: &Lexeme<'_>) -> Fault
+    ensures { result ≡ Fault.BadTerm l.now.line }
 {
-    if closes_tuple(m.token) {
-        Ok(m.after)
+    Fault::BadTerm { line: l.line }
+}
+
+/// Whether the token held closes a tuple or a map, as it is to.
+fn tuple_end(l: &Lexeme<'_>) -> Result<(), Fault>
+    ensures { Gives ⊥ (λ _. place l.now.after) result (terms.closed terms.closes_tuple (lexeme_of l.now)) }
+{
+    if closes_tuple(l.token) {
+        Ok(())
     } else {
-        Err(Fault::BadTerm { line: m.line })
+        Err(misplaced(l))
     }
 }
 
-/// The place behind a list, which the token `m` is to close.
-fn list_end<'a>(m: Lexeme<'a>) -> Result<Reader<'a>, Fault>
-    ensures { Gives ⊥ place result (terms.closed terms.closes_list (lexeme_of m.entry)) }
+/// Whether the token held closes a list, as it is to.
+fn list_end(l: &Lexeme<'_>) -> Result<(), Fault>
+    ensures { Gives ⊥ (λ _. place l.now.after) result (terms.closed terms.closes_list (lexeme_of l.now)) }
 {
-    if closes_list(m.token) {
-        Ok(m.after)
+    if closes_list(l.token) {
+        Ok(())
     } else {
-        Err(Fault::BadTerm { line: m.line })
+        Err(misplaced(l))
     }
 }
 
-/// The fault of a text that ends before the token `l`.
-fn unended(l: Lexeme<'_>) -> Fault
-    ensures { result ≡ Fault.Truncated l.entry.line }
+/// The fault of a text that ends before the token held.
+fn unended(l: &Lexeme<'_>) -> Fault
+    ensures { result ≡ Fault.Truncated l.now.line }
 {
     Fault::Truncated { line: l.line }
 }
 
-/// The fault of brackets that nest too deep at the token `l`.
-fn too_deep(l: Lexeme<'_>) -> Fault
-    ensures { result ≡ Fault.TooDeep l.entry.line }
+/// The fault of brackets that nest too deep at the token held.
+fn too_deep(l: &Lexeme<'_>) -> Fault
+    ensures { result ≡ Fault.TooDeep l.now.line }
 {
     Fault::TooDeep { line: l.line }
 }
 
-/// The term that begins with the token `l`, where brackets may nest `depth` deep, and the place behind it.
+/// The atom that the token held spells.
+fn atom<'a>(alloc: Global, l: &Lexeme<'a>, body: Body<'a>) -> Result<Node<'a>, Fault>
+    ensures { Gives (IsEscaped (body_of body.entry)) (λ x. x) result (Ok (terms.atom_by (lexeme_of l.now) (body_of body.entry))) }
+{
+    Ok(Node::atom(span(*l, l.after), Word::of(alloc, body)?))
+}
+
+/// The term that begins with the token held, where brackets may nest `depth` deep; its last token is held then.
 #[cycle(term)]
-pub(crate) fn term<'a>(
-    alloc: Global,
-    l: Lexeme<'a>,
-    depth: u32,
-) -> Result<(Node<'a>, Reader<'a>), Fault>
-    ensures { Gives (terms.keeps depth (lexeme_of l.entry)) (λ x. (x.0, place x.1)) result (terms.term_at depth (lexeme_of l.entry)) }
+pub(crate) fn term<'a>(alloc: Global, l: &mut Lexeme<'a>, depth: u32) -> Result<Node<'a>, Fault>
+    ensures { Gives (terms.keeps depth (lexeme_of l.old)) (λ x. (x, place l.new.after)) result (terms.term_at depth (lexeme_of l.old)) }
 {
     match l.token {
-        Token::Integer(n) => Ok((Node::integer(span(l, l.after), n), l.after)),
-        Token::Large(large) => Ok((Node::large(span(l, l.after), large), l.after)),
-        Token::Atom(text) => Ok((Node::atom(span(l, l.after), text), l.after)),
-        Token::Mark(_) => Err(Fault::BadTerm { line: l.line }),
-        Token::Text(_) | Token::OpenTuple | Token::OpenList => group(alloc, l, depth),
+        Token::Integer(n) => Ok(Node::integer(span(*l, l.after), n)),
+        Token::Large(large) => Ok(Node::large(span(*l, l.after), large)),
+        Token::Float => kept(*l, l.after, Sort::Float),
+        Token::Atom(body) => atom(alloc, l, body),
+        Token::Mark(Mark::Fun) => fun(l),
+        Token::Mark(_) => Err(misplaced(l)),
+        _ => group(alloc, l, depth),
     }
 }
 
-/// The tuple, list or string that begins with the token `l`.
+/// The tuple, list, string, map or binary that begins with the token held.
 #[cycle(term)]
-fn group<'a>(alloc: Global, l: Lexeme<'a>, depth: u32) -> Result<(Node<'a>, Reader<'a>), Fault>
-    ensures { Gives (terms.keeps depth (lexeme_of l.entry)) (λ x. (x.0, place x.1)) result (terms.group_at depth (lexeme_of l.entry)) }
+fn group<'a>(alloc: Global, l: &mut Lexeme<'a>, depth: u32) -> Result<Node<'a>, Fault>
+    ensures { Gives (terms.keeps_group depth (lexeme_of l.old)) (λ x. (x, place l.new.after)) result (terms.group_at depth (lexeme_of l.old)) }
 {
     if depth == 0 {
         return Err(too_deep(l));
@@ -86,193 +100,166 @@ fn group<'a>(alloc: Global, l: Lexeme<'a>, depth: u32) -> Result<(Node<'a>, Read
     bracket(alloc, l, depth - 1)
 }
 
-/// The tuple, list or string that begins with the token `l`, where those in it may nest `depth` deep.
+/// The same, where those in it may nest `depth` deep.
 #[cycle(term)]
-fn bracket<'a>(alloc: Global, l: Lexeme<'a>, depth: u32) -> Result<(Node<'a>, Reader<'a>), Fault>
-    ensures { Gives (terms.keeps (suc depth) (lexeme_of l.entry)) (λ x. (x.0, place x.1)) result (terms.group_at (suc depth) (lexeme_of l.entry)) }
+fn bracket<'a>(alloc: Global, l: &mut Lexeme<'a>, depth: u32) -> Result<Node<'a>, Fault>
+    ensures { Gives (terms.keeps_group (suc depth) (lexeme_of l.old)) (λ x. (x, place l.new.after)) result (terms.group_at (suc depth) (lexeme_of l.old)) }
 {
     match l.token {
         Token::Text(_) => string(alloc, l),
         Token::OpenTuple => tuple(alloc, l, depth),
         Token::OpenList => list(alloc, l, depth),
-        _ => Err(Fault::BadTerm { line: l.line }),
+        Token::OpenMap => map(alloc, l, depth),
+        Token::OpenBinary => binary(alloc, l, depth),
+        _ => Err(misplaced(l)),
     }
 }
 
-/// The list that begins with the token `l`, whose elements may nest `depth` deep.
+/// The list that begins with the token held, whose elements may nest `depth` deep.
 #[cycle(term)]
-fn list<'a>(alloc: Global, l: Lexeme<'a>, depth: u32) -> Result<(Node<'a>, Reader<'a>), Fault>
-    ensures { Gives (IsOkAnd (lexing.lexeme_at (place l.entry.after)) (terms.kept depth)) (λ x. (x.0, place x.1)) result (terms.list_at (terms.term_at depth) (lexeme_of l.entry)) }
+fn list<'a>(alloc: Global, l: &mut Lexeme<'a>, depth: u32) -> Result<Node<'a>, Fault>
+    ensures { Gives (IsOkAnd (lexing.lexeme_at (place l.old.after)) (terms.kept depth)) (λ x. (x, place l.new.after)) result (terms.list_at (terms.term_at depth) (lexeme_of l.old)) }
 {
-    let (elements, tail, end) = whole(alloc, l.after, depth)?;
-    Ok((Node::list(span(l, end), elements, tail), end))
-}
-
-/// What follows a list's opening mark.
-#[cycle(term)]
-fn whole<'a>(
-    alloc: Global,
-    r: Reader<'a>,
-    depth: u32,
-) -> Result<(Vec<Node<'a>>, Option<Box<Node<'a>>>, Reader<'a>), Fault>
-    ensures { Gives (IsOkAnd (lexing.lexeme_at (place r.entry)) (terms.kept depth)) (λ x. (chain x.0.items (tail_tree x.1), place x.2)) result (terms.rest_at (terms.term_at depth) (place r.entry)) }
-{
-    rest(alloc, Vec::new(alloc), r, depth)
-}
-
-/// The tuple that begins with the token `l`, whose elements may nest `depth` deep.
-#[cycle(term)]
-fn tuple<'a>(alloc: Global, l: Lexeme<'a>, depth: u32) -> Result<(Node<'a>, Reader<'a>), Fault>
-    ensures { Gives (IsOkAnd (lexing.lexeme_at (place l.entry.after)) (terms.kept depth)) (λ x. (x.0, place x.1)) result (terms.tuple_at (terms.term_at depth) (lexeme_of l.entry)) }
-{
-    let first = lexeme(l.after)?;
-    if closes_tuple(first.token) {
-        return Ok((
-            Node::tuple(span(l, first.after), Vec::new(alloc)),
-            first.after,
-        ));
+    let first = *l;
+    let mut elements = Vec::new(alloc);
+    match rest(alloc, &mut elements, l, depth) {
+        Ok(tail) => Ok(Node::list(span(first, l.after), elements, tail)),
+        Err(fault) => Err(fault),
     }
-    let (elements, m) = row(alloc, first, depth)?;
-    let end = tuple_end(m)?;
-    Ok((Node::tuple(span(l, end), elements), end))
 }
 
-/// The elements from the token `first` on, and the first token behind them that is no comma.
+/// The tuple that begins with the token held, whose elements may nest `depth` deep.
 #[cycle(term)]
-fn row<'a>(
-    alloc: Global,
-    first: Lexeme<'a>,
-    depth: u32,
-) -> Result<(Vec<Node<'a>>, Lexeme<'a>), Fault>
-    ensures { Gives (terms.kept depth (lexeme_of first.entry)) (λ x. (x.0.items, lexeme_of x.1)) result (terms.elements_at (terms.term_at depth) (lexeme_of first.entry)) }
+fn tuple<'a>(alloc: Global, l: &mut Lexeme<'a>, depth: u32) -> Result<Node<'a>, Fault>
+    ensures { Gives (IsOkAnd (lexing.lexeme_at (place l.old.after)) (terms.kept depth)) (λ x. (x, place l.new.after)) result (terms.tuple_at (terms.term_at depth) (lexeme_of l.old)) }
 {
-    elements(alloc, Vec::new(alloc), first, depth)
+    let first = *l;
+    advance(l)?;
+    let mut found = Vec::new(alloc);
+    if !closes_tuple(l.token) {
+        elements(alloc, &mut found, l, depth)?;
+        tuple_end(l)?;
+    }
+    Ok(Node::tuple(span(first, l.after), found))
 }
 
-/// What was found with the element from the token `l` on behind it, and what follows this.
+/// Puts the element that begins with the token held behind what was found: whether another follows, which is then held.
 #[cycle(term)]
 fn element<'a>(
     alloc: Global,
-    found: Vec<Node<'a>>,
-    l: Lexeme<'a>,
+    found: &mut Vec<Node<'a>>,
+    l: &mut Lexeme<'a>,
     depth: u32,
-) -> Result<(Vec<Node<'a>>, Follow<'a>), Fault>
-    ensures { Gives (terms.kept depth (lexeme_of l.entry)) (λ x. (x.0.items, follow_of x.1)) result (joined found.entry.items (terms.element_at (terms.term_at depth) (lexeme_of l.entry))) }
+) -> Result<bool, Fault>
+    ensures { Gives (terms.kept depth (lexeme_of l.old)) (λ more. (found.new.items, terms.follow_by more (lexeme_of l.new))) result (joined found.old.items (terms.element_at (terms.term_at depth) (lexeme_of l.old))) }
 {
-    let (node, end) = term(alloc, l, depth)?;
-    let mut elements = found;
-    elements.push(node)?;
-    let follow = follow_at(end)?;
-    Ok((elements, follow))
+    let node = term(alloc, l, depth)?;
+    found.push(node)?;
+    follow(l)
 }
 
-/// What was found with the elements from the token `first` on behind it, and the first token behind them that is no comma.
+/// Puts the elements from the token held on behind what was found; held then is the first token that is no comma.
 #[cycle(term)]
 fn elements<'a>(
     alloc: Global,
-    found: Vec<Node<'a>>,
-    first: Lexeme<'a>,
+    found: &mut Vec<Node<'a>>,
+    l: &mut Lexeme<'a>,
     depth: u32,
-) -> Result<(Vec<Node<'a>>, Lexeme<'a>), Fault>
-    ensures reads { Gives (terms.kept depth (lexeme_of first.entry)) (λ x. (x.0.items, lexeme_of x.1)) result (prefixed found.entry.items (terms.elements_at (terms.term_at depth) (lexeme_of first.entry))) }
-    ensures begins { OnOk result (IsOk (terms.term_at depth (lexeme_of first.entry))) }
+) -> Result<(), Fault>
+    ensures reads { Gives (terms.kept depth (lexeme_of l.old)) (λ _. (found.new.items, lexeme_of l.new)) result (prefixed found.old.items (terms.elements_at (terms.term_at depth) (lexeme_of l.old))) }
+    ensures begins { OnOk result (IsOk (terms.term_at depth (lexeme_of l.old))) }
 {
-    let mut elements = found;
-    let mut next = first;
     // Each element takes a byte at least.
-    for _turn in 0..first.after.rest.len() + 1 {
-        match element(alloc, elements, next, depth) {
+    for _turn in 0..l.after.rest.len() + 1 {
+        match element(alloc, found, l, depth) {
             Err(fault) => return Err(fault),
-            Ok((more, follow)) => {
-                elements = more;
-                match follow {
-                    Follow::End(m) => return Ok((elements, m)),
-                    Follow::Next(l) => next = l,
-                }
-            }
+            Ok(false) => return Ok(()),
+            Ok(true) => {}
         }
     }
-    Err(unended(next))
+    Err(unended(l))
 }
 
-/// What follows a list's opening mark: its elements, behind what was found, its tail, and the place behind it.
+/// What follows a list's opening mark, which is held: its elements, behind what was found, and its tail.
 #[cycle(term)]
 fn rest<'a>(
     alloc: Global,
-    found: Vec<Node<'a>>,
-    r: Reader<'a>,
+    found: &mut Vec<Node<'a>>,
+    l: &mut Lexeme<'a>,
     depth: u32,
-) -> Result<(Vec<Node<'a>>, Option<Box<Node<'a>>>, Reader<'a>), Fault>
-    ensures { Gives (IsOkAnd (lexing.lexeme_at (place r.entry)) (terms.kept depth)) (λ x. (chain x.0.items (tail_tree x.1), place x.2)) result (chained found.entry.items (terms.rest_at (terms.term_at depth) (place r.entry))) }
+) -> Result<Option<Box<Node<'a>>>, Fault>
+    ensures { Gives (IsOkAnd (lexing.lexeme_at (place l.old.after)) (terms.kept depth)) (λ x. (chain found.new.items (tail_tree x), place l.new.after)) result (chained found.old.items (terms.rest_at (terms.term_at depth) (place l.old.after))) }
 {
-    let first = lexeme(r)?;
-    if closes_list(first.token) {
-        return Ok((found, None, first.after));
+    advance(l)?;
+    if closes_list(l.token) {
+        return Ok(None);
     }
-    let (elements, m) = elements(alloc, found, first, depth)?;
-    end(alloc, elements, m, depth)
+    elements(alloc, found, l, depth)?;
+    end(alloc, found, l, depth)
 }
 
-/// What follows a list's elements, from the token `m` on: its tail, and the place behind it.
+/// What follows a list's elements, from the token held on: its tail, and its closing mark.
 #[cycle(term)]
 fn end<'a>(
     alloc: Global,
-    found: Vec<Node<'a>>,
-    m: Lexeme<'a>,
+    found: &mut Vec<Node<'a>>,
+    l: &mut Lexeme<'a>,
     depth: u32,
-) -> Result<(Vec<Node<'a>>, Option<Box<Node<'a>>>, Reader<'a>), Fault>
-    ensures { Gives (Unit {0}) (λ x. (chain x.0.items (tail_tree x.1), place x.2)) result (chained found.entry.items (terms.end_at (terms.term_at depth) (lexeme_of m.entry))) }
+) -> Result<Option<Box<Node<'a>>>, Fault>
+    ensures { Gives (Unit {0}) (λ x. (chain found.new.items (tail_tree x), place l.new.after)) result (chained found.old.items (terms.end_at (terms.term_at depth) (lexeme_of l.old))) }
 {
-    if is_bar(m.token) {
-        closed_tail(alloc, found, m, depth)
+    if is_bar(l.token) {
+        closed_tail(alloc, found, l, depth)
     } else {
-        Ok((found, None, list_end(m)?))
+        list_end(l)?;
+        Ok(None)
     }
 }
 
-/// The tail behind the token `m`, and the place behind the list that it closes.
+/// The tail behind the token held, and the closing mark.
 #[cycle(term)]
 fn closed_tail<'a>(
     alloc: Global,
-    found: Vec<Node<'a>>,
-    m: Lexeme<'a>,
+    found: &mut Vec<Node<'a>>,
+    l: &mut Lexeme<'a>,
     depth: u32,
-) -> Result<(Vec<Node<'a>>, Option<Box<Node<'a>>>, Reader<'a>), Fault>
-    ensures { Gives (Unit {0}) (λ x. (chain x.0.items (tail_tree x.1), place x.2)) result (closing found.entry.items (terms.term_at depth) (lexeme_of m.entry)) }
+) -> Result<Option<Box<Node<'a>>>, Fault>
+    ensures { Gives (Unit {0}) (λ x. (chain found.new.items (tail_tree x), place l.new.after)) result (closing found.old.items (terms.term_at depth) (lexeme_of l.old)) }
 {
-    let first = lexeme(m.after)?;
-    let (elements, tail, r) = tail(alloc, found, first, depth)?;
-    let last = lexeme(r)?;
-    Ok((elements, tail, list_end(last)?))
+    advance(l)?;
+    let tail = tail(alloc, found, l, depth)?;
+    advance(l)?;
+    list_end(l)?;
+    Ok(tail)
 }
 
-/// The tail that begins with the token `l`: a list's elements go behind what was found.
+/// The tail that begins with the token held: a list's elements go behind what was found.
 #[cycle(term)]
 fn tail<'a>(
     alloc: Global,
-    found: Vec<Node<'a>>,
-    l: Lexeme<'a>,
+    found: &mut Vec<Node<'a>>,
+    l: &mut Lexeme<'a>,
     depth: u32,
-) -> Result<(Vec<Node<'a>>, Option<Box<Node<'a>>>, Reader<'a>), Fault>
-    ensures { Gives (Unit {0}) (λ x. (chain x.0.items (tail_tree x.1), place x.2)) result (chained found.entry.items (terms.tail_at (terms.term_at depth) (lexeme_of l.entry))) }
+) -> Result<Option<Box<Node<'a>>>, Fault>
+    ensures { Gives (Unit {0}) (λ x. (chain found.new.items (tail_tree x), place l.new.after)) result (chained found.old.items (terms.tail_at (terms.term_at depth) (lexeme_of l.old))) }
 {
     if spells_list(l.token) {
         proper(alloc, found, l, depth)
     } else {
-        improper(alloc, found, l, depth)
+        improper(alloc, l, depth)
     }
 }
 
-/// The tail that begins with the token `l`, which begins a list.
+/// The tail that begins with the token held, which begins a list.
 #[cycle(term)]
 fn proper<'a>(
     alloc: Global,
-    found: Vec<Node<'a>>,
-    l: Lexeme<'a>,
+    found: &mut Vec<Node<'a>>,
+    l: &mut Lexeme<'a>,
     depth: u32,
-) -> Result<(Vec<Node<'a>>, Option<Box<Node<'a>>>, Reader<'a>), Fault>
-    requires { terms.spells_list (token_of l.token) ≡ true }
-    ensures { Gives (Unit {0}) (λ x. (chain x.0.items (tail_tree x.1), place x.2)) result (chained found.entry.items (terms.tail_at (terms.term_at depth) (lexeme_of l.entry))) }
+) -> Result<Option<Box<Node<'a>>>, Fault>
+    requires { terms.spells_list (token_of l.old.token) ≡ true }
+    ensures { Gives (Unit {0}) (λ x. (chain found.new.items (tail_tree x), place l.new.after)) result (chained found.old.items (terms.tail_at (terms.term_at depth) (lexeme_of l.old))) }
 {
     if depth == 0 {
         return Err(too_deep(l));
@@ -280,38 +267,88 @@ fn proper<'a>(
     spliced(alloc, found, l, depth - 1)
 }
 
-/// The tail that begins with the token `l`, which begins a list whose elements may nest `depth` deep.
+/// The tail that begins with the token held, which begins a list whose elements may nest `depth` deep.
 #[cycle(term)]
 fn spliced<'a>(
     alloc: Global,
-    found: Vec<Node<'a>>,
-    l: Lexeme<'a>,
+    found: &mut Vec<Node<'a>>,
+    l: &mut Lexeme<'a>,
     depth: u32,
-) -> Result<(Vec<Node<'a>>, Option<Box<Node<'a>>>, Reader<'a>), Fault>
-    requires { terms.spells_list (token_of l.token) ≡ true }
-    ensures { Gives (Unit {0}) (λ x. (chain x.0.items (tail_tree x.1), place x.2)) result (splicing found.entry.items (terms.term_at depth) (lexeme_of l.entry) (token_of l.entry.token)) }
+) -> Result<Option<Box<Node<'a>>>, Fault>
+    requires { terms.spells_list (token_of l.old.token) ≡ true }
+    ensures { Gives (Unit {0}) (λ x. (chain found.new.items (tail_tree x), place l.new.after)) result (splicing found.old.items (terms.term_at depth) (lexeme_of l.old) (token_of l.old.token)) }
 {
     match l.token {
-        Token::OpenList => rest(alloc, found, l.after, depth),
+        Token::OpenList => rest(alloc, found, l, depth),
         _ => {
-            let (elements, r) = strings(found, l)?;
-            Ok((elements, None, r))
+            strings(alloc, found, l)?;
+            Ok(None)
         }
     }
 }
 
-/// The tail that begins with the token `l`, which begins no list.
+/// The tail that begins with the token held, which begins no list.
 #[cycle(term)]
 fn improper<'a>(
     alloc: Global,
-    found: Vec<Node<'a>>,
-    l: Lexeme<'a>,
+    l: &mut Lexeme<'a>,
     depth: u32,
-) -> Result<(Vec<Node<'a>>, Option<Box<Node<'a>>>, Reader<'a>), Fault>
-    requires { terms.spells_list (token_of l.token) ≡ false }
-    ensures { Gives (Unit {0}) (λ x. (chain x.0.items (tail_tree x.1), place x.2)) result (ending found.entry.items (terms.term_at depth (lexeme_of l.entry))) }
+) -> Result<Option<Box<Node<'a>>>, Fault>
+    requires { terms.spells_list (token_of l.old.token) ≡ false }
+    ensures { Gives (Unit {0}) (λ x. (tail_tree x, place l.new.after)) result (terms.term_at depth (lexeme_of l.old)) }
 {
-    let (node, r) = term(alloc, l, depth)?;
+    let node = term(alloc, l, depth)?;
     let tail = Box::new(alloc, node)?;
-    Ok((found, Some(tail), r))
+    Ok(Some(tail))
+}
+
+/// The value behind a map's arrow, which is held.
+#[cycle(term)]
+fn value<'a>(alloc: Global, l: &mut Lexeme<'a>, depth: u32) -> Result<(), Fault>
+    ensures { Gives (Unit {0}) (λ _. place l.new.after) result (terms.value_at (terms.term_at depth) (place l.old.after)) }
+{
+    advance(l)?;
+    let _ = term(alloc, l, depth)?;
+    Ok(())
+}
+
+/// The map's pair that begins with the token held: whether another follows, which is then held.
+#[cycle(term)]
+fn pair<'a>(alloc: Global, l: &mut Lexeme<'a>, depth: u32) -> Result<bool, Fault>
+    ensures { Gives (terms.kept depth (lexeme_of l.old)) (λ more. terms.follow_by more (lexeme_of l.new)) result (terms.pair_at (terms.term_at depth) (lexeme_of l.old)) }
+{
+    let _ = term(alloc, l, depth)?;
+    want(l, Wanted::Arrow)?;
+    value(alloc, l, depth)?;
+    follow(l)
+}
+
+/// The map's pairs from the token held on; held then is the first token that is no comma.
+#[cycle(term)]
+fn pairs<'a>(alloc: Global, l: &mut Lexeme<'a>, depth: u32) -> Result<(), Fault>
+    ensures { Gives (terms.kept depth (lexeme_of l.old)) (λ _. lexeme_of l.new) result (terms.parts_at (terms.pair_at (terms.term_at depth)) (lexeme_of l.old)) }
+{
+    // Each pair takes a byte at least.
+    for _turn in 0..l.after.rest.len() + 1 {
+        match pair(alloc, l, depth) {
+            Err(fault) => return Err(fault),
+            Ok(false) => return Ok(()),
+            Ok(true) => {}
+        }
+    }
+    Err(unended(l))
+}
+
+/// The map that begins with the token held, whose keys and values may nest `depth` deep.
+#[cycle(term)]
+fn map<'a>(alloc: Global, l: &mut Lexeme<'a>, depth: u32) -> Result<Node<'a>, Fault>
+    ensures { Gives (IsOkAnd (lexing.lexeme_at (place l.old.after)) (terms.kept depth)) (λ x. (x, place l.new.after)) result (terms.map_at (terms.term_at depth) (lexeme_of l.old)) }
+{
+    let first = *l;
+    advance(l)?;
+    if !closes_tuple(l.token) {
+        pairs(alloc, l, depth)?;
+        tuple_end(l)?;
+    }
+    kept(first, l.after, Sort::Map)
 }

@@ -10,19 +10,33 @@ pub(crate) struct Large<'a> {
     ghost outside: { is_large (number text.now) ≡ true },
 }
 
-/// A token that begins no term.
+/// A token that begins no term, but for `fun`.
 #[derive(Clone, Copy, Debug, PartialEq, Eq)]
 pub(crate) enum Mark {
+    /// `}`, of a tuple or a map.
     CloseTuple,
     CloseList,
+    CloseBinary,
     Comma,
     Bar,
+    Arrow,
+    Colon,
+    Slash,
     /// A full stop.
     Stop,
     /// The word `fun`, bare.
     Fun,
-    /// A mark that stands in no term, or only in terms that are none of these.
+    /// A mark that stands in no term.
     Other,
+}
+
+/// What stands between quotes, or a bare word.
+#[derive(Clone, Copy, Debug)]
+pub(crate) enum Body<'a> {
+    /// The text that is meant.
+    Plain(&'a str),
+    /// A text with escapes.
+    Escaped(&'a str),
 }
 
 /// A token.
@@ -30,9 +44,12 @@ pub(crate) enum Mark {
 pub(crate) enum Token<'a> {
     Integer(i64),
     Large(Large<'a>),
-    Atom(&'a str),
-    Text(&'a str),
+    Float,
+    Atom(Body<'a>),
+    Text(Body<'a>),
     OpenTuple,
     OpenList,
+    OpenMap,
+    OpenBinary,
     Mark(Mark),
 }

@@ -11,7 +11,7 @@ use crate::blanks::text_of;
 use crate::bytes::{as_text, is_accented, is_accented_lower, is_name};
 use crate::moves::ahead;
 use crate::reader::Reader;
-use crate::tokens::{Mark, Token};
+use crate::tokens::{Body, Mark, Token};
 use bx_terms::Fault;
 
 /// How many bytes a name's letter at the front has, or 0 where none begins.
@@ -59,7 +59,7 @@ pub(crate) fn word<'a>(r: Reader<'a>) -> (Token<'a>, Reader<'a>)
     if text == "fun" {
         (Token::Mark(Mark::Fun), after)
     } else {
-        (Token::Atom(text), after)
+        (Token::Atom(Body::Plain(text)), after)
     }
 }
 

@@ -1,5 +1,5 @@
 use Rattle.std.proofs.Common.{◌+◌, ◌*◌}
-use Rattle.bx_text.proofs.tests.+show.Given as goal
+use Rattle.bx_tests_texts.proofs.texts.+show.Given as goal
 
 abbrev pub decreases-show : goal.decreases-show
 decreases-show l = 3 * l.levels + 2

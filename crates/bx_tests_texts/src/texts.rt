@@ -1,7 +1,7 @@
 //! Texts with what they spell, or their first refusal, worked out by hand.
 
-use crate::{Node, Reader, View, Word, atom_at, next_term};
 use bx_terms::Fault;
+use bx_text::{Node, Reader, View, atom_at, next_term};
 use std::alloc::{AllocError, Global};
 use std::process::Abort;
 use std::test::Fail;
@@ -27,6 +27,7 @@ fn show(out: &mut String, node: &Node<'_>, levels: u32) -> Result<(), AllocError
             }
             out.push_str("]")
         }
+        View::Other(sort, text) => write!(out, "{sort:?} {text}"),
     }
 }
 
@@ -75,7 +76,50 @@ fn first(alloc: Global, text: &[u8]) -> Result<String, AllocError> {
     }
 }
 
-static TERMS: [(&[u8], &str); 36] = [
+static TERMS: [(&[u8], &str); 67] = [
+    (b"1.5.", "Float 1.5 4"),
+    (b"-0.5e10.", "Float -0.5e10 8"),
+    (b"1.5E+3.", "Float 1.5E+3 7"),
+    (b"0.0e-007.", "Float 0.0e-007 9"),
+    (b"12.50.", "Float 12.50 6"),
+    (b"#{}.", "Map #{} 4"),
+    (b"#{a => 1.5, \"k\"=>[]}.", "Map #{a => 1.5, \"k\"=>[]} 21"),
+    (b"#{#{}=>{},b=>#{c=>d}}.", "Map #{#{}=>{},b=>#{c=>d}} 22"),
+    (b"#{a%}\n=>b}.", "Map #{a%}\n=>b} 11"),
+    (b"<<>>.", "Binary <<>> 5"),
+    (
+        b"<<1,\"ab\":8/utf8,-2:16>>.",
+        "Binary <<1,\"ab\":8/utf8,-2:16>> 24",
+    ),
+    (
+        b"<<\"a\" \"b\"/'utf8'>>.",
+        "Binary <<\"a\" \"b\"/'utf8'>> 19",
+    ),
+    (b"<<1/'ut\\x66\\070'>>.", "Binary <<1/'ut\\x66\\070'>> 19"),
+    (b"fun a:b/1.", "Fun fun a:b/1 10"),
+    (b"fun 'k k' : f / 2.", "Fun fun 'k k' : f / 2 18"),
+    (b"fun a:b/-1.", "Fun fun a:b/-1 11"),
+    (
+        b"{f,fun a:b/1,<<\"x\">>}.",
+        "{f,Fun fun a:b/1,Binary <<\"x\">>} 22",
+    ),
+    (b"1. ", "1 2"),
+    (b"1.", "1 2"),
+    (b"'a\\nb'.", "a\nb 7"),
+    (b"'\\x{e9}\\101\\^A'.", "\u{E9}A\u{1} 16"),
+    (b"'\\x{E9}' .", "\u{E9} 10"),
+    (
+        b"\"\\b\\d\\e\\f\\n\\r\\s\\t\\v\".",
+        "[8,127,27,12,10,13,32,9,11] 21",
+    ),
+    (b"\"\\8\\q\\\\\\'\\\"\".", "[56,113,92,39,34] 13"),
+    (b"\"\\777\\1\\12x\".", "[511,1,10,120] 13"),
+    (b"\"\\1234\\18\".", "[83,52,1,56] 11"),
+    (b"\"\\^@\\^_\\^z\\^[\".", "[0,31,26,27] 15"),
+    (b"\"\\x41\\x{10FFFF}\\x{0000041}\".", "[65,1114111,65] 28"),
+    (b"\"\\\n\\\xC3\xA9\".", "[10,233] 8"),
+    (b"\"a\" %c\n \"\\x{62}\"\"\".", "[97,98] 19"),
+    (b"[a|\"b\\x63\"].", "[a,98,99] 12"),
     (b"a.", "a 2"),
     (b" a . b", "a 4"),
     (b"a.%c", "a 2"),
@@ -114,12 +158,73 @@ static TERMS: [(&[u8], &str); 36] = [
     (b" \n%b", "none"),
 ];
 
-static REFUSALS: [(&[u8], &str); 107] = [
+static REFUSALS: [(&[u8], &str); 161] = [
+    (b"'\\xZZ'.", "R3 1"),
+    (b"'\\x{}'", "R3 1"),
+    (b"'\\x{110000}'", "R3 1"),
+    (b"\"\\x{d800}\"", "R3 1"),
+    (b"'\\^1'", "R3 1"),
+    (b"'\\x'", "R3 1"),
+    (b"'\\x4'", "R3 1"),
+    (b"'\\x{41'", "R3 1"),
+    (b"'\\x\xFF", "R3 1"),
+    (b"'\\^\xFF", "R3 1"),
+    (b"'\\x{4\xFF", "R3 1"),
+    (b"\n'a\n\\xq", "R3 2"),
+    (b"\"a\n\\xq\xFF", "R3 1"),
+    (b"1.5.5.", "R3 1"),
+    (b"#a", "R3 1"),
+    (b"=a", "R3 1"),
+    (b"<a", "R3 1"),
+    (b">a", "R3 1"),
+    (b"fun A:b/1", "R3 1"),
+    (b"=>.", "R4 1"),
+    (b">>.", "R4 1"),
+    (b"1.5e.", "R4 1"),
+    (b"1.5e+ ", "R4 1"),
+    (b"1.5e5x.", "R4 1"),
+    (b"#{a}", "R4 1"),
+    (b"#{a,b}", "R4 1"),
+    (b"#{a=>}", "R4 1"),
+    (b"#{a=>b,}", "R4 1"),
+    (b"#{a=>b]", "R4 1"),
+    (b"<<a>>", "R4 1"),
+    (b"<<1:a>>", "R4 1"),
+    (b"<<1/latin1>>", "R4 1"),
+    (b"<<1,>>", "R4 1"),
+    (b"<<1}", "R4 1"),
+    (b"<<1.5>>", "R4 1"),
+    (b"fun a:b/c.", "R4 1"),
+    (b"fun\nfun:a/1.", "R4 2"),
+    (b"fun a:fun/1.", "R4 1"),
+    (b"fun a/1.", "R4 1"),
+    (b"fun a. ", "R4 1"),
+    (b"'\\x", "R6 1"),
+    (b"'\\", "R6 1"),
+    (b"'\\x{41", "R6 1"),
+    (b"'\\x{110000", "R6 1"),
+    (b"'\\^", "R6 1"),
+    (b"'\\1", "R6 1"),
+    (b"\n'a\n\\q", "R6 3"),
+    (b"#{", "R6 1"),
+    (b"#{a=>b", "R6 1"),
+    (b"#{a=", "R6 1"),
+    (b"<<", "R6 1"),
+    (b"<<1\n", "R6 2"),
+    (b"<<1:", "R6 1"),
+    (b"<<1>", "R6 1"),
+    (b"fun", "R6 1"),
+    (b"fun\n", "R6 2"),
+    (b"fun a", "R6 1"),
+    (b"fun a:b/", "R6 1"),
+    (b"1.5", "R6 1"),
+    (b"'\\\xFF", "R7 1"),
+    (b"'\\1\xFF", "R7 1"),
+    (b"\"a\n\\q\xFF", "R7 2"),
+    (b"#{a=>\n\xFF", "R7 2"),
+    (b"'\\n\xE2\x82'", "R7 1"),
     // No token begins here.
     (b"1.a.", "R3 1"),
-    (b"1.5.", "R3 1"),
-    (b"{a,\n1.5}.", "R3 2"),
-    (b"[1 1.5].", "R3 1"),
     (b"--1.", "R3 1"),
     (b"-a.", "R3 1"),
     (b"_a.", "R3 1"),
@@ -132,12 +237,6 @@ static REFUSALS: [(&[u8], &str); 107] = [
     (b"a\xC3\x97.", "R3 1"),
     (b"\xC2\xA0a.", "R3 1"),
     (b"\xEF\xBB\xBFa.", "R3 1"),
-    (b"'a\\n'.", "R3 1"),
-    (b"\n'a\n\\q", "R3 2"),
-    (b"\"a\n\\q\xFF", "R3 1"),
-    (b"#{}.", "R3 1"),
-    (b"<<>>.", "R3 1"),
-    (b"=>.", "R3 1"),
     (b">=", "R3 1"),
     (b".a", "R3 1"),
     (b"#\xFF", "R3 1"),
@@ -170,7 +269,6 @@ static REFUSALS: [(&[u8], &str); 107] = [
     (b"}.", "R4 1"),
     (b"|.", "R4 1"),
     (b"fun.", "R4 1"),
-    (b"fun a:b/1.", "R4 1"),
     (b"{fun}.", "R4 1"),
     (b"a:b.", "R4 1"),
     (b"a/1.", "R4 1"),
@@ -228,7 +326,7 @@ static REFUSALS: [(&[u8], &str); 107] = [
     (b"\"\xED\xA0\x80\".", "R7 1"),
 ];
 
-static DEPTHS: [(&str, usize, &str, &str); 14] = [
+static DEPTHS: [(&str, usize, &str, &str); 21] = [
     ("[", 257, "", "R5 1"),
     ("{", 257, "", "R5 1"),
     ("[\n", 257, "", "R5 257"),
@@ -238,14 +336,21 @@ static DEPTHS: [(&str, usize, &str, &str); 14] = [
     ("{", 256, "\"\"", "R5 1"),
     ("[", 255, "\"a\"", "R6 1"),
     ("[", 256, "\"a", "R6 1"),
-    ("[", 256, "\"\\q\"", "R3 1"),
+    ("[", 256, "\"\\q\"", "R5 1"),
+    ("[", 256, "\"\\xq\"", "R3 1"),
+    ("#{", 257, "", "R5 1"),
+    ("[", 256, "<<", "R5 1"),
+    ("[", 255, "<<\"a\"", "R5 1"),
+    ("[", 255, "<<1", "R6 1"),
+    ("[", 256, "1.5", "R6 1"),
+    ("[", 256, "fun a:b/1", "R6 1"),
     ("[", 256, "a", "R6 1"),
     ("[a|", 257, "", "R5 1"),
     ("[a|", 256, "\"\"", "R5 1"),
     ("[a|", 256, "b", "R6 1"),
 ];
 
-static ATOMS: [(&[u8], usize, &str); 19] = [
+static ATOMS: [(&[u8], usize, &str); 21] = [
     (b"ab:c", 0, "ab 2"),
     (b"ab:c", 3, "c 4"),
     (b"ab:c", 1, "b 2"),
@@ -263,7 +368,9 @@ static ATOMS: [(&[u8], usize, &str); 19] = [
     (b"\xFF", 0, "none"),
     (b"'a", 0, "R6 1"),
     (b"a\n'b", 2, "R6 2"),
-    (b"'\\n'", 0, "R3 1"),
+    (b"'\\n'", 0, "\n 4"),
+    (b"'\\xq'", 0, "R3 1"),
+    (b"a\n'\\x{6B}'b", 2, "k 10"),
     (b"'\xFF'", 0, "R7 1"),
 ];
 
@@ -403,7 +510,16 @@ fn atoms(rt: HostRuntime) -> Result<(), Fail> {
 }
 
 /// Texts of one term each, and whether the terms are the same.
-static PAIRS: [(&[u8], &[u8], bool); 22] = [
+static PAIRS: [(&[u8], &[u8], bool); 31] = [
+    (b"1.5.", b"1.5. ", true),
+    (b"1.5.", b"1.50.", false),
+    (b"1.5.", b"2.5.", false),
+    (b"#{}.", b"#{}.%", true),
+    (b"#{}.", b"{}.", false),
+    (b"<<1>>.", b"<<2>>.", false),
+    (b"fun a:b/1.", b"fun a:b/2.", false),
+    (b"'\\x61b'.", b"'\\x61b'.", true),
+    (b"'\\x61b'.", b"'\\x61c'.", false),
     (b"{a,[1,'b c'|d],\"e\"}.", b"{a,[1,'b c'|d],\"e\"}.", true),
     (b"a.", b"a. b", true),
     (b"'a'.", b"'a'.%", true),
@@ -439,7 +555,5 @@ fn sameness_of_terms(rt: HostRuntime) -> Result<(), Fail> {
         };
         assert_eq!(rt; same, *wanted, "{one:?} {other:?}");
     }
-    assert!(rt; Word::borrowed("ab").same(&Word::borrowed("ab")));
-    assert!(rt; !Word::borrowed("ab").same(&Word::borrowed("ac")));
     Ok(())
 }

@@ -1,0 +1,5 @@
+//! Tests of term texts, over public calls alone.
+#![tactic(auto)]
+
+#[cfg(test)]
+mod texts;

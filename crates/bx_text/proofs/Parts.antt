@@ -1,0 +1,34 @@
+-- Parts in a loop: a map's pairs, a binary's segments.
+use Rattle.std.proofs.Common.{◌≡◌, ℕ, zero, suc, ◌+◌, ◌-◌, ◌<◌, ◌⊎◌, inl, inr, Bool, true, false, Result, Ok, Err, IsOk, refl, sym, ap, ◌∙◌, subst, arith}
+use Rattle.bx_terms.specs.Outcomes.{Gives, ◌>>=◌}
+use Rattle.bx_terms.specs.declared.faults.Fault.{Fault}
+use Rattle.bx_text.specs.Place.{Place}
+use Rattle.bx_text.specs.Token.{Lexeme}
+use Rattle.bx_text.specs.Tree.{Tree}
+use Rattle.bx_text.specs.Terms.{Follow, next, end, follow_at, want, is_arrow, passed, value_at, pair_at, go_through, parts, term_at}
+use Rattle.bx_text.proofs.Outcomes.{gives_err}
+use Rattle.bx_text.proofs.Rows.{turns}
+
+pub parts_step : (size turn : ℕ) (part : Lexeme → Result Follow Fault) (l n : Lexeme) → turn < size → part l ≡ Ok (next n) → parts part (size - (turn + 1)) n ≡ parts part (size - turn) l
+parts_step size turn part l n t h = sym (ap (λ k. parts part k l) (turns size turn t) ∙ ap (λ r. r >>= go_through (parts part (size - (turn + 1)))) h)
+
+pub parts_end : (size turn : ℕ) (part : Lexeme → Result Follow Fault) (l m : Lexeme) → turn < size → part l ≡ Ok (end m) → parts part (size - turn) l ≡ Ok m
+parts_end size turn part l m t h = ap (λ k. parts part k l) (turns size turn t) ∙ ap (λ r. r >>= go_through (parts part (size - (turn + 1)))) h
+
+pub parts_fail : {X Y : Type 0} (T U : Type 0) (v : X → Follow) (w : Y → Lexeme) (e : Fault) (size turn : ℕ) (part : Lexeme → Result Follow Fault) (l : Lexeme) (said : Result Lexeme Fault)
+    → turn < size → (T → U) → parts part (size - turn) l ≡ said → Gives T v (Err e) (part l) → Gives U w (Err e) said
+parts_fail T U v w e size turn part l said t f s h =
+    gives_err v w e (part l) said f (λ g. sym s ∙ ap (λ k. parts part k l) (turns size turn t) ∙ ap (λ r. r >>= go_through (parts part (size - (turn + 1)))) g) h
+
+-- a pair that was read begins with a term
+begun_on : {A : Type 0} (f : Place → Result A Fault) (r : Result (Tree × Place) Fault) (y : A) → (passed r >>= f) ≡ Ok y → IsOk r
+begun_on f (Ok x) y h = refl
+begun_on f (Err e) y h = cc
+
+then_begun : (term : Lexeme → Result (Tree × Place) Fault) (r : Result (Tree × Place) Fault) (f : Follow) → (passed r >>= want is_arrow >>= value_at term >>= follow_at) ≡ Ok f → IsOk r
+then_begun term (Ok x) f h = refl
+then_begun term (Err e) f h = cc
+
+pub pair_begun : (d turn : ℕ) (here first : Lexeme) (f : Follow) → (turn ≡ 0 → here ≡ first) → (0 < turn → IsOk (term_at d first)) → pair_at (term_at d) here ≡ Ok f → IsOk (term_at d first)
+pair_begun d zero here first f s g h = subst (λ l. IsOk (term_at d l)) (s refl) (then_begun (term_at d) (term_at d here) f h)
+pair_begun d (suc turn) here first f s g h = g (omega arith)

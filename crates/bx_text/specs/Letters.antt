@@ -1,0 +1,8 @@
+-- The text that a word keeps.
+use Rattle.std.specs.Prelude.{ℕ, List, string_bytes}
+use Rattle.bx_text.specs.declared.word.Letters.{Letters}
+use Rattle.bx_text.specs.declared.word.Letters.TheVariants.{Borrowed, Owned}
+
+abbrev pub letters_text : Letters → List ℕ
+letters_text (Borrowed text) = text.now
+letters_text (Owned text) = string_bytes text

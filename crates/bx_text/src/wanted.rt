@@ -1,0 +1,49 @@
+//! Tokens that alone may stand in a place.
+
+ghost use Rattle.std.specs.Prelude.{◌≡◌};
+ghost use Rattle.bx_terms.specs.Outcomes.{Gives};
+ghost use Rattle.bx_text.specs.Place.{place};
+ghost use Rattle.bx_text.specs.Token.{token_of, lexeme_of};
+ghost use Rattle.bx_text.specs.Terms as terms;
+
+use crate::lexemes::Lexeme;
+use crate::lexing::advance;
+use crate::tokens::{Mark, Token};
+use bx_terms::Fault;
+
+/// Which token is wanted.
+#[derive(Clone, Copy, Debug, PartialEq, Eq)]
+pub(crate) enum Wanted {
+    Atom,
+    Integer,
+    Colon,
+    Slash,
+    Arrow,
+}
+
+/// Whether the token is the one that is wanted.
+fn passes(wanted: Wanted, token: Token<'_>) -> bool
+    ensures { result ≡ terms.passes wanted (token_of token.entry) }
+{
+    match (wanted, token) {
+        (Wanted::Atom, Token::Atom(_)) => true,
+        (Wanted::Integer, Token::Integer(_)) => true,
+        (Wanted::Integer, Token::Large(_)) => true,
+        (Wanted::Colon, Token::Mark(Mark::Colon)) => true,
+        (Wanted::Slash, Token::Mark(Mark::Slash)) => true,
+        (Wanted::Arrow, Token::Mark(Mark::Arrow)) => true,
+        _ => false,
+    }
+}
+
+/// Goes on to the next token, which is to be the one that is wanted.
+pub(crate) fn want<'a>(l: &mut Lexeme<'a>, wanted: Wanted) -> Result<(), Fault>
+    ensures { Gives ⊥ (λ _. place l.new.after) result (terms.want (terms.passes wanted) (place l.old.after)) }
+{
+    advance(l)?;
+    if passes(wanted, l.token) {
+        Ok(())
+    } else {
+        Err(Fault::BadTerm { line: l.line })
+    }
+}
