@@ -22,7 +22,7 @@ use Rattle.bx_listing.specs.Words.{operand_word}
 use Rattle.bx_listing.specs.Operands.{operand, bad_operand, label, register, simple}
 use Rattle.bx_listing.specs.Rows.{members, listed_of, listed_in, listed, is_even, is_label, is_x, list_of, pairs_of, amounts_of, amounts_in, amounts, heap_of, slot, row, agrees, agreed, formed_item, Read}
 use Rattle.bx_listing.proofs.GoodReadings.{given, after_read, after_wanted}
-use Rattle.bx_listing.proofs.Written.{Written, AllWritten, parts_written, an_integer_term, an_atom_term, a_tuple_term, a_list_term, Elements, no_elements, an_element_first, Rest, no_rest, a_last, a_first}
+use Rattle.bx_listing.proofs.Written.{Written, AllWritten, parts_written, an_integer_term, an_atom_term, a_tuple_term, a_list_term, an_other_term, Elements, no_elements, an_element_first, Rest, no_rest, a_last, a_first}
 use Rattle.bx_listing.proofs.Worded.{IsOperandWord, operand_word_is}
 use Rattle.bx_listing.specs.ListedItems.{Tuple, Target, IsRegister, IsOperand, AreMembers, no_member, a_member, IsList, IsSlot, an_operand, a_list, pairs, AreAmounts, a_size, amounts as some_amounts, no_label, to_x0, AreSlots, no_slot, a_slot}
 use Rattle.bx_listing.proofs.ListedOperands.{at_word, operand_is, operand_read, target_is, target_read, register_is, register_read}
@@ -90,6 +90,7 @@ last_proper t ts an_integer_term e = absurd (cc)
 last_proper t ts an_atom_term e = absurd (cc)
 last_proper t ts (a_tuple_term r) e = absurd (cc)
 last_proper t ts (a_list_term r) e = absurd (cc)
+last_proper t ts an_other_term e = absurd (cc)
 
 first_proper : (t : Tree) (o : Option (List Tree)) (ts : List Tree) → Written t → ((us : List Tree) → o ≡ Some us → AllWritten us) → option_map (λ us. t ∷ us) o ≡ Some ts → AllWritten ts
 first_proper t (Some us) ts w more e = let same : t ∷ us ≡ ts = cc in subst AllWritten same (w, more us refl)
@@ -105,6 +106,7 @@ elements_written t ts (a_list_term r) e = proper_written ts r e
 elements_written t ts an_integer_term e = absurd (cc)
 elements_written t ts an_atom_term e = absurd (cc)
 elements_written t ts (a_tuple_term r) e = absurd (cc)
+elements_written t ts an_other_term e = absurd (cc)
 
 list_written : (t : Tree) (ts : List Tree) → Written t → IsList t ts → AllWritten ts
 list_written t ts w (l, e, h) = elements_written l ts (parts_written w (codes "list") (l ∷ []) e).0 h
