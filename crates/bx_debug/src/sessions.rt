@@ -160,7 +160,7 @@ impl<'a> Session<'a> {
     ///
     /// `BeforeStart` exactly where there are fewer before it. Memory is taken only where it moves.
     pub fn back(&mut self, alloc: Global, count: usize) -> Result<(), Fault>
-        ensures { Does (0 < count) self.old self.new result (back count self.old) }
+        ensures { Does ((0 < count) × (count ≤ self.old.at)) self.old self.new result (back count self.old) }
     {
         if count > self.at {
             return Err(Fault::BeforeStart);
@@ -173,7 +173,8 @@ impl<'a> Session<'a> {
     ///
     /// `AfterEnd` exactly where there are fewer behind it. Memory is taken only where it moves.
     pub fn forward(&mut self, alloc: Global, count: usize) -> Result<(), Fault>
-        ensures { Does (0 < count) self.old self.new result (forward count self.old) }
+        ensures { Does ((0 < count) × (count ≤ length self.old.choices - self.old.at)) self.old self.new result
+            (forward count self.old) }
     {
         if count > self.choices.len() - self.at {
             return Err(Fault::AfterEnd);
