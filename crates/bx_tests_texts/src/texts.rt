@@ -158,7 +158,7 @@ static TERMS: [(&[u8], &str); 67] = [
     (b" \n%b", "none"),
 ];
 
-static REFUSALS: [(&[u8], &str); 161] = [
+static FIRST_REFUSALS: [(&[u8], &str); 54] = [
     (b"'\\xZZ'.", "R3 1"),
     (b"'\\x{}'", "R3 1"),
     (b"'\\x{110000}'", "R3 1"),
@@ -213,6 +213,9 @@ static REFUSALS: [(&[u8], &str); 161] = [
     (b"<<1\n", "R6 2"),
     (b"<<1:", "R6 1"),
     (b"<<1>", "R6 1"),
+];
+
+static MORE_REFUSALS: [(&[u8], &str); 54] = [
     (b"fun", "R6 1"),
     (b"fun\n", "R6 2"),
     (b"fun a", "R6 1"),
@@ -269,6 +272,9 @@ static REFUSALS: [(&[u8], &str); 161] = [
     (b"}.", "R4 1"),
     (b"|.", "R4 1"),
     (b"fun.", "R4 1"),
+];
+
+static LAST_REFUSALS: [(&[u8], &str); 53] = [
     (b"{fun}.", "R4 1"),
     (b"a:b.", "R4 1"),
     (b"a/1.", "R4 1"),
@@ -389,8 +395,18 @@ fn terms(rt: HostRuntime) -> Result<(), Fail> {
 }
 
 #[test]
-fn refusals(rt: HostRuntime) -> Result<(), Fail> {
-    check(rt.alloc(), &rt, &REFUSALS)
+fn first_refusals(rt: HostRuntime) -> Result<(), Fail> {
+    check(rt.alloc(), &rt, &FIRST_REFUSALS)
+}
+
+#[test]
+fn more_refusals(rt: HostRuntime) -> Result<(), Fail> {
+    check(rt.alloc(), &rt, &MORE_REFUSALS)
+}
+
+#[test]
+fn last_refusals(rt: HostRuntime) -> Result<(), Fail> {
+    check(rt.alloc(), &rt, &LAST_REFUSALS)
 }
 
 /// What follows so many times the same text.
