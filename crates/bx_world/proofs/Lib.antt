@@ -1,8 +1,5 @@
-pub mod Compared
 pub mod Viewed
-pub mod Finding
 pub mod Changing
 pub mod Lifelines
-pub mod Applying
-pub mod Lawful
-pub mod Members
+pub mod Undoing
+pub mod Elements

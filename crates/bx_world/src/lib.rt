@@ -1,22 +1,20 @@
 //! Worlds of processes and channels, stepped by one choice at a time.
 #![tactic(auto)]
 
+mod asking;
 mod choices;
+mod delivering;
 mod lanes;
-pub mod laws;
-mod outcomes;
+mod lives;
+mod output;
 mod procs;
-mod rows;
-mod runs;
+mod requests;
 mod slots;
-mod texts;
-mod world;
+mod statuses;
+mod turns;
 
 pub use bx_proc::Status;
 pub use choices::{Choice, Choices};
 pub use lanes::Lanes;
-pub use outcomes::{Outcome, Standing};
-pub use rows::{Output, Statuses};
-pub use runs::{RunEnd, advance};
-pub use texts::{choice_text, outcome_text};
-pub use world::{ArcWorld, RcWorld, World};
+pub use output::Output;
+pub use statuses::Statuses;

@@ -1,7 +1,6 @@
 -- What can be seen of a world.
-use Rattle.std.specs.Prelude.{ℕ, List, [], ◌∷◌, map, Option, Some, None, slice_get}
+use Rattle.std.specs.Prelude.{ℕ, List, [], ◌∷◌, map, Option, Some, None}
 use Rattle.bx_terms.specs.declared.kinds.Trap.{Trap}
-use Rattle.bx_terms.specs.declared.places.Place.{Place}
 use Rattle.bx_proc.specs.declared.parts.Status.{Status}
 use Rattle.bx_proc.specs.declared.parts.Status.TheVariants as states
 use Rattle.bx_world.specs.declared.choices.Choice.{Choice}
@@ -23,15 +22,3 @@ standing_of None (choice ∷ more) = Open (choice ∷ more)
 
 abbrev pub seen : State → Outcome
 seen w = record { state = standing_of w.trap (enabled w); statuses = map status_of w.processes; output = w.output }
-
--- where a process stands; one that has ended, and one whose function was not there, stands nowhere
-abbrev pub place_of : Life → Option Place
-place_of (Live process) = process.place
-place_of (Gone reason) = None
-
-abbrev pub place_at : Option Life → Option Place
-place_at None = None
-place_at (Some one) = place_of one
-
-abbrev pub place_in : ℕ → State → Option Place
-place_in p w = place_at (slice_get w.processes p)

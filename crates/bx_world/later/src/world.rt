@@ -6,7 +6,7 @@ ghost use Rattle.bx_load.specs.Image.{export};
 ghost use Rattle.bx_world.specs.World.{started};
 ghost use Rattle.bx_world.specs.Enabled.{enabled, can};
 ghost use Rattle.bx_world.specs.Choosing.{applied};
-ghost use Rattle.bx_world.specs.Seen.{seen, standing_of, place_in};
+ghost use Rattle.bx_world.specs.Seen.{seen, standing_of};
 
 use crate::choices::{Choice, Choices};
 use crate::lanes::Lanes;
@@ -15,7 +15,7 @@ use crate::procs::Procs;
 use bx_load::Image;
 use bx_proc::{Effect, Proc};
 use bx_share::{ArcHold, Hold, RcHold};
-use bx_terms::{AtomId, Fault, Place, Trap};
+use bx_terms::{AtomId, Fault, Trap};
 use std::alloc::Global;
 use std::marker::Model;
 
@@ -169,22 +169,6 @@ impl<P: Hold<Proc>, C: Hold<Lanes>> World<P, C> {
             return Ok(Standing::Quiet);
         }
         Ok(Standing::Open(Choices::of(choices)))
-    }
-
-    /// Why nothing happens any more, and whose run it was; `None` where the world has not trapped.
-    #[inline(always)]
-    pub fn trap(&self) -> Option<(Trap, u32)>
-        ensures { result ≡ self.now.trap }
-    {
-        self.trap
-    }
-
-    /// Where the process of that pid stands; `None` where there is none, where it has ended, and where it has no place.
-    #[inline(always)]
-    pub fn place(&self, pid: u32) -> Option<Place>
-        ensures { result ≡ place_in pid self.now }
-    {
-        self.procs.place(pid)
     }
 
     /// Whether both are equal.

@@ -1,0 +1,264 @@
+//! The processes of a world, by pid.
+
+ghost use Rattle.std.specs.Prelude.{◌≡◌, ◌≢◌, ◌∷◌, ◌++◌, [], ◌<◌, ◌≤◌, length, map, slice_get, IsTrue, IfOk, OnOk, OnErr, option_and_then};
+ghost use Rattle.bx_terms.specs.Outcomes.{Does};
+ghost use Rattle.bx_signals.specs.Waiting.{front};
+ghost use Rattle.bx_world.specs.World.{Life, Live};
+ghost use Rattle.bx_world.specs.Lives.{life};
+ghost use Rattle.bx_world.specs.Enabled.{may_run, may_expire, may_at, choices_from};
+ghost use Rattle.bx_world.specs.Lifetimes.{lives_run, lives_told, lives_expired};
+ghost use Rattle.bx_world.specs.Births.{lives_answered, lives_born};
+ghost use Rattle.bx_world.specs.Seen.{status_of};
+ghost use Rattle.bx_world.specs.declared.choices.Choice.TheVariants.{Run, Expire};
+
+use crate::choices::Choice;
+use crate::delivering::lose;
+use crate::lanes::Lanes;
+use crate::lives::{answer_slot, expire_slot, run_slot, slot_may_expire, slot_may_run, tell_slot};
+use crate::requests::Birth;
+use crate::slots::Slot;
+use crate::statuses::Statuses;
+use crate::turns::Turn;
+use bx_load::Image;
+use bx_proc::{Answer, Proc, Status};
+use bx_share::{Hold, Same};
+use bx_terms::{Class, Fault, Term, fixed};
+use std::alloc::{AllocError, Global};
+use std::marker::Model;
+
+/// At most 1,024 processes, those that have ended included.
+#[derive(Drop)]
+pub struct Procs<P: Hold<Proc>> {
+    slots: Vec<Slot<P>>,
+}
+
+impl<P: Hold<Proc>> Model for Procs<P> {
+    ghost use Rattle.std.specs.Prelude.{List, map, length, ◌≤◌};
+    ghost use Rattle.std.specs.Coded.{coded_list};
+    ghost use Rattle.bx_terms.specs.TreeCode.{tree_code};
+    ghost use Rattle.bx_proc.specs.contracts.process.Proc as process;
+    ghost use Rattle.bx_world.specs.World.{Life, life_code};
+
+    ghost Value = { List Life };
+
+    ghost coded = { coded_list (life_code process.the_row.coded tree_code) };
+
+    ghost use Rattle.bx_world.specs.Lives.{life};
+
+    ghost view = { λ a. map (life P.shown) a.slots.items };
+
+    ghost invariant = { λ a. length a.slots.items ≤ 1024 };
+}
+
+impl<P: Hold<Proc>> Procs<P> {
+    /// One process, of pid 0.
+    pub(crate) fn new(alloc: Global, first: Proc) -> Result<Procs<P>, AllocError>
+        ensures { IfOk result (λ procs. procs ≡ Live first ∷ []) }
+    {
+        let holder = P::put(alloc, first)?;
+        let mut slots = Vec::new(alloc);
+        slots.push(Slot::Live(holder))?;
+        Ok(Procs { slots })
+    }
+
+    /// Runs one instruction of the process of that pid, where it can run.
+    #[inline(always)]
+    pub(crate) fn run<C: Hold<Lanes>>(
+        &mut self,
+        alloc: Global,
+        image: &Image,
+        lanes: &mut C,
+        pid: u32,
+    ) -> Result<Turn, Fault>
+        ensures { Does (IsTrue (may_at may_run (slice_get self.old pid))) (self.old, C.shown lanes.old) (self.new, C.shown lanes.new) result (lives_run image.now pid (C.shown lanes.old) self.old) }
+    {
+        let at = pid as usize;
+        if at >= self.slots.len() {
+            return Err(Fault::NotEnabled);
+        }
+        run_slot(alloc, image, &mut self.slots[at], lanes, pid)
+    }
+
+    /// The first signal between two processes takes effect.
+    #[inline(always)]
+    pub(crate) fn tell<C: Hold<Lanes>>(
+        &mut self,
+        alloc: Global,
+        lanes: &mut C,
+        from: u32,
+        pid: u32,
+    ) -> Result<Turn, Fault>
+        ensures { Does (Unit {0}) (self.old, C.shown lanes.old) (self.new, C.shown lanes.new) result (lives_told from pid (C.shown lanes.old) self.old) }
+    {
+        let at = pid as usize;
+        if at >= self.slots.len() {
+            let lanes = lanes.edit(alloc)?;
+            lose(lanes, from, pid)?;
+            return Ok(Turn::Ran);
+        }
+        tell_slot(alloc, &mut self.slots[at], lanes, from, pid)
+    }
+
+    /// The wait of the process of that pid is over, where it can expire.
+    pub(crate) fn expire(&mut self, alloc: Global, pid: u32) -> Result<(), Fault>
+        ensures { Does (IsTrue (may_at may_expire (slice_get self.old pid))) self.old self.new result (lives_expired pid self.old) }
+    {
+        let at = pid as usize;
+        if at >= self.slots.len() {
+            return Err(Fault::NotEnabled);
+        }
+        expire_slot(alloc, &mut self.slots[at])
+    }
+
+    /// The process of that pid, which asks for a birth, gets its child.
+    pub(crate) fn bear<C: Hold<Lanes>>(
+        &mut self,
+        alloc: Global,
+        image: &Image,
+        lanes: &mut C,
+        pid: u32,
+        birth: Birth,
+    ) -> Result<Turn, Fault>
+        ensures { Does (Unit {0}) (self.old, C.shown lanes.old) (self.new, C.shown lanes.new) result (lives_born image.now pid birth (C.shown lanes.old) self.old) }
+    {
+        let count = self.slots.len();
+        let arguments = birth.arguments.as_slice();
+        if count >= 1024 || arguments.len() > 255 {
+            let limit = Answer::Fault(Class::Error, Term::atom(fixed::SYSTEM_LIMIT));
+            return self.answer(alloc, image, lanes, pid, None, &limit);
+        }
+        let place = image.entry(birth.module, birth.function, arguments.len() as u32);
+        let mut child = Proc::new(alloc, place, arguments)?;
+        if birth.linked {
+            child.add_link(pid)?;
+        }
+        self.push(alloc, child)?;
+        let other = if birth.linked { Some(count as u32) } else { None };
+        let value = Answer::Value(Term::pid(count as u32));
+        let turn = match self.answer(alloc, image, lanes, pid, other, &value) {
+            Ok(turn) => turn,
+            Err(refused) => {
+                self.pop();
+                return Err(refused);
+            }
+        };
+        if let Turn::Trapped(_) = &turn {
+            self.pop();
+        }
+        Ok(turn)
+    }
+
+    /// Answers the process of that pid, which has asked for a birth.
+    fn answer<C: Hold<Lanes>>(
+        &mut self,
+        alloc: Global,
+        image: &Image,
+        lanes: &mut C,
+        pid: u32,
+        child: Option<u32>,
+        answer: &Answer,
+    ) -> Result<Turn, Fault>
+        ensures { Does (Unit {0}) (self.old, C.shown lanes.old) (self.new, C.shown lanes.new) result (lives_answered image.now pid child answer.now (C.shown lanes.old) self.old) }
+    {
+        let at = pid as usize;
+        if at >= self.slots.len() {
+            return Err(Fault::NotEnabled);
+        }
+        answer_slot(alloc, image, &mut self.slots[at], lanes, pid, child, answer)
+    }
+
+    /// A process more; where memory runs out, nothing has changed.
+    fn push(&mut self, alloc: Global, process: Proc) -> Result<(), AllocError>
+        requires { length self.old < 1024 }
+        ensures ok { OnOk result (self.new ≡ self.old ++ Live process ∷ []) }
+        ensures err { OnErr result (self.new ≡ self.old) }
+    {
+        let holder = P::put(alloc, process)?;
+        self.slots.push(Slot::Live(holder))?;
+        Ok(())
+    }
+
+    /// The last process is no more.
+    fn pop(&mut self)
+        ensures { self.new ≡ front self.old }
+    {
+        let _ = self.slots.pop();
+    }
+
+    /// Whether there is a process of that pid that can run.
+    #[inline(always)]
+    pub(crate) fn may_run(&self, pid: u32) -> bool
+        ensures { result ≡ may_at may_run (slice_get self.now pid) }
+    {
+        let at = pid as usize;
+        at < self.slots.len() && slot_may_run(&self.slots[at])
+    }
+
+    /// Whether there is a process of that pid whose wait can expire.
+    pub(crate) fn may_expire(&self, pid: u32) -> bool
+        ensures { result ≡ may_at may_expire (slice_get self.now pid) }
+    {
+        let at = pid as usize;
+        at < self.slots.len() && slot_may_expire(&self.slots[at])
+    }
+
+    /// Puts a run of each process that can run last, by rising pid. Memory is taken only where there is one.
+    pub(crate) fn push_runs(&self, choices: &mut Vec<Choice>) -> Result<(), AllocError>
+        ensures ok { OnOk result (choices.new.items ≡ choices.old.items ++ choices_from may_run Run 0 self.now) }
+        ensures err { OnErr result (choices_from may_run Run 0 self.now ≢ []) }
+    {
+        for pid in 0..self.slots.len() {
+            if slot_may_run(&self.slots[pid]) {
+                choices.push(Choice::Run(pid as u32))?;
+            }
+        }
+        Ok(())
+    }
+
+    /// Puts an expiration of each wait that can expire last, by rising pid. Memory is taken only where there is one.
+    pub(crate) fn push_expirations(&self, choices: &mut Vec<Choice>) -> Result<(), AllocError>
+        ensures ok { OnOk result (choices.new.items ≡ choices.old.items ++ choices_from may_expire Expire 0 self.now) }
+        ensures err { OnErr result (choices_from may_expire Expire 0 self.now ≢ []) }
+    {
+        for pid in 0..self.slots.len() {
+            if slot_may_expire(&self.slots[pid]) {
+                choices.push(Choice::Expire(pid as u32))?;
+            }
+        }
+        Ok(())
+    }
+
+    /// Where the process of that pid stands; `None` where there is none, where it has ended, and where it has no place.
+    pub(crate) fn place(&self, pid: u32) -> Option<Place>
+        ensures { result ≡ option_and_then place_of (slice_get self.now pid) }
+    {
+        match self.slots.get(pid as usize)? {
+            Slot::Live(holder) => holder.see().place(),
+            Slot::Gone(_) => None,
+        }
+    }
+
+    /// The same processes, each behind one more holder.
+    #[tactic(auto, using(crate::proofs::Viewed::all_seen))]
+    pub(crate) fn share(&self, alloc: Global) -> Result<Procs<P>, AllocError>
+        ensures { IfOk result (λ procs. procs ≡ self.now) }
+    {
+        let mut slots = Vec::new(alloc);
+        for slot in &self.slots {
+            slots.push(share_slot(alloc, slot)?)?;
+        }
+        Ok(Procs { slots })
+    }
+
+    /// How each process stands, by pid.
+    #[tactic(auto, using(crate::proofs::Viewed::all_seen))]
+    pub(crate) fn statuses(&self, alloc: Global) -> Result<Statuses, AllocError>
+        ensures { IfOk result (λ statuses. statuses ≡ map status_of self.now) }
+    {
+        let mut statuses = Vec::new(alloc);
+        for slot in &self.slots {
+            statuses.push(slot_status(alloc, slot)?)?;
+        }
+        Ok(Statuses::of(statuses))
+    }
+}

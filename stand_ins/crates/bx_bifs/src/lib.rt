@@ -1,0 +1,6 @@
+//! Natives.
+#![tactic(auto)]
+
+mod natives;
+
+pub use natives::Native;

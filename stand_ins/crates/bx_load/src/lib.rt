@@ -1,0 +1,6 @@
+//! Loaded code.
+#![tactic(auto)]
+
+mod image;
+
+pub use image::Image;
