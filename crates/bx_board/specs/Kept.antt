@@ -1,0 +1,88 @@
+-- What a board keeps, and what each call of it is.
+use Rattle.std.specs.Prelude.{◌≡◌, ◌≢◌, ◌⊎◌, ◌↔◌, ℕ, ◌+◌, ◌<◌, true, false, IsTrue, List, [], ◌∷◌, ◌++◌, length, Option, None, Some, Result, Ok, Err, IsSome, refl, Bool}
+use Rattle.std.specs.Coded.{Coded, code_by, coded×, coded_list, coded_bool}
+use Rattle.bx_terms.specs.declared.atom_table.AtomId.{AtomId}
+use Rattle.bx_terms.specs.declared.faults.Fault.{Fault}
+use Rattle.bx_terms.specs.declared.faults.Fault.TheVariants.{Memory, NoEntry, NotLeased, Foreign, Twice, Unfinished}
+use Rattle.bx_load.specs.Image.{Loaded}
+use Rattle.bx_world.specs.Running.{Ended}
+use Rattle.bx_plan.specs.Planned.{Planned}
+use Rattle.bx_plan.specs.Trees.{IsTree}
+use Rattle.bx_chains.specs.Chains.{AreChains, Chained, above, chain_count}
+use Rattle.bx_board.specs.declared.slots.Slot.{Slot}
+use Rattle.bx_board.specs.declared.slots.Slot.TheVariants.{Waiting, Leased, Done}
+use Rattle.bx_board.specs.declared.slots.Event.{Event}
+use Rattle.bx_board.specs.declared.slots.Event.TheVariants.{Lease, Submit, GiveBack, Stop}
+use Rattle.bx_board.specs.Jobs.{Entry, Job, Work, end_of, work_of}
+use Rattle.bx_board.specs.Machine.{Frontier, standing, is_waiting, is_done, is_free, May, after, initial, replay, IsLegal}
+
+-- the campaign, how it stands, and the events that led there
+pub record Kept : Type 0 where
+  pub job : Job
+  pub state : Frontier
+  pub events : List Event
+
+abbrev pub begun_with : Job → Kept
+begun_with job = record { job = job; state = initial job; events = [] }
+
+-- one event more
+abbrev pub then : Kept → Event → Kept
+then b e = record { job = b.job; state = after b.job b.state e; events = b.events ++ e ∷ [] }
+
+pub record IsKept (b : Kept) : Type 0 where
+  pub tree : IsTree b.job.plan.tree
+  pub chains : AreChains b.job.plan b.job.chains
+  -- the events, each of which might happen, lead to the state
+  pub replayed : b.state ≡ replay b.job (initial b.job) b.events
+  pub legal : IsLegal b.job (initial b.job) b.events
+  pub count : length b.state.slots ≡ chain_count b.job.chains
+  pub root : IsTrue (is_done (standing b.state 0))
+  -- a chain that was leased stands on one that is done
+  pub born : (n : ℕ) → 0 < n → is_waiting (standing b.state n) ≡ false → IsTrue (is_done (standing b.state (above b.job.chains n)))
+  -- an end that was handed in is that of the chain's path
+  pub sound : (n : ℕ) (e : Ended) → standing b.state n ≡ Done e → e ≡ end_of (work_of b.job n)
+  -- no worker holds two
+  pub one : (k m n : ℕ) → standing b.state m ≡ Leased k → standing b.state n ≡ Leased k → m ≡ n
+
+-- ---- what the calls are
+
+abbrev pub Happens : Kept → Event → Kept → Type 0
+Happens old e new = May old.job old.state e × (new ≡ then old e)
+
+-- a lease: a free chain, or none, exactly where none may be leased
+abbrev pub Leases : Kept → ℕ → Option Work → Kept → Type 0
+Leases old k None new = (new ≡ old) × ((n : ℕ) → May old.job old.state (Lease k n) → ⊥)
+Leases old k (Some work) new = (n : ℕ) × Happens old (Lease k n) new × (work ≡ work_of old.job n)
+
+-- the work is that of a chain of the campaign
+abbrev pub IsOf : Job → Work → ℕ → Type 0
+IsOf job work n = (n < chain_count job.chains) × (work ≡ work_of job n)
+
+abbrev pub Submits : Kept → ℕ → Work → Kept → Type 0
+Submits old k work new = (n : ℕ) × IsOf old.job work n × Happens old (Submit k n) new
+
+-- why a piece is refused: it is no chain's of this campaign; else that chain is done; else this worker doesn't hold it
+abbrev pub RefusesPiece : Fault → Kept → ℕ → Work → Type 0
+RefusesPiece Foreign b k work = (n : ℕ) → IsOf b.job work n → ⊥
+RefusesPiece Twice b k work = (n : ℕ) × IsOf b.job work n × IsTrue (is_done (standing b.state n))
+RefusesPiece NotLeased b k work = (n : ℕ) × IsOf b.job work n × (is_done (standing b.state n) ≡ false) × (standing b.state n ≢ Leased k)
+RefusesPiece fault b k work = ⊥
+
+abbrev pub GivesBack : Kept → ℕ → Kept → Type 0
+GivesBack old k new = (n : ℕ) × Happens old (GiveBack k n) new
+
+abbrev pub IsAllDone : Kept → Type 0
+IsAllDone b = (n : ℕ) → n < chain_count b.job.chains → IsTrue (is_done (standing b.state n))
+
+-- what a proof tells two of them apart by
+abbrev pub kept_code : Coded Loaded → Coded AtomId → Coded Planned → Coded Chained → Coded Slot → Coded Event → Coded Kept
+kept_code image atom plan chains slot event =
+    code_by ((Loaded × (Entry × (Planned × Chained))) × ((List Slot × Bool) × List Event))
+    (coded× (coded× image (coded× (coded× atom atom) (coded× plan chains))) (coded× (coded× (coded_list slot) coded_bool) (coded_list event)))
+    (λ b. ((b.job.image, (b.job.start, (b.job.plan, b.job.chains))), ((b.state.slots, b.state.stopped), b.events)))
+    (λ t. record {
+      job = record { image = t.0.0; start = t.0.1.0; plan = t.0.1.1.0; chains = t.0.1.1.1 };
+      state = record { slots = t.1.0.0; stopped = t.1.0.1 };
+      events = t.1.1;
+    })
+    (λ _. refl)

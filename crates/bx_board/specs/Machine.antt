@@ -1,0 +1,82 @@
+-- The machine that workers share: how each chain stands, which events may happen, and what each changes. Chain 0, the
+-- root, is done from the start. A chain that waits is free once the chain that it stands on is done, and unborn until then.
+use Rattle.std.specs.Prelude.{◌≡◌, ℕ, zero, suc, ◌+◌, ◌-◌, ◌&&◌, not, nat_lt, Bool, true, false, IsTrue, List, [], ◌∷◌, length, replicate, slice_index_or, slice_set}
+use Rattle.bx_chains.specs.Chains.{above, chain_count, one_if}
+use Rattle.bx_board.specs.declared.slots.Slot.{Slot}
+use Rattle.bx_board.specs.declared.slots.Slot.TheVariants.{Waiting, Leased, Done}
+use Rattle.bx_board.specs.declared.slots.Event.{Event}
+use Rattle.bx_board.specs.declared.slots.Event.TheVariants.{Lease, Submit, GiveBack, Stop}
+use Rattle.bx_board.specs.Jobs.{Job, end_of, work_of}
+
+pub record Frontier : Type 0 where
+  -- by chain
+  pub slots : List Slot
+  pub stopped : Bool
+
+abbrev pub standing : Frontier → ℕ → Slot
+standing s n = slice_index_or s.slots n Waiting
+
+abbrev pub is_waiting : Slot → Bool
+is_waiting Waiting = true
+is_waiting (Leased k) = false
+is_waiting (Done e) = false
+
+abbrev pub is_leased : Slot → Bool
+is_leased Waiting = false
+is_leased (Leased k) = true
+is_leased (Done e) = false
+
+abbrev pub is_done : Slot → Bool
+is_done Waiting = false
+is_done (Leased k) = false
+is_done (Done e) = true
+
+abbrev pub is_free : Job → Frontier → ℕ → Bool
+is_free job s n = nat_lt n (length s.slots) && is_waiting (standing s n) && is_done (standing s (above job.chains n))
+
+abbrev pub is_unborn : Job → Frontier → ℕ → Bool
+is_unborn job s n = nat_lt n (length s.slots) && is_waiting (standing s n) && not (is_done (standing s (above job.chains n)))
+
+abbrev pub Holds : Frontier → ℕ → Type 0
+Holds s k = (n : ℕ) × (standing s n ≡ Leased k)
+
+-- a chain is leased where it is free, nothing was stopped and the worker holds none; it is handed in or given back by the
+-- worker that holds it; a campaign is stopped once
+abbrev pub May : Job → Frontier → Event → Type 0
+May job s (Lease k n) = IsTrue (is_free job s n) × (s.stopped ≡ false) × (Holds s k → ⊥)
+May job s (Submit k n) = standing s n ≡ Leased k
+May job s (GiveBack k n) = standing s n ≡ Leased k
+May job s Stop = s.stopped ≡ false
+
+abbrev pub with_slot : Frontier → ℕ → Slot → Frontier
+with_slot s n slot = record { slots = slice_set s.slots n slot; stopped = s.stopped }
+
+abbrev pub after : Job → Frontier → Event → Frontier
+after job s (Lease k n) = with_slot s n (Leased k)
+after job s (Submit k n) = with_slot s n (Done (end_of (work_of job n)))
+after job s (GiveBack k n) = with_slot s n Waiting
+after job s Stop = record { slots = s.slots; stopped = true }
+
+abbrev pub initial : Job → Frontier
+initial job = record { slots = Done (end_of (work_of job 0)) ∷ replicate (chain_count job.chains - 1) Waiting; stopped = false }
+
+-- the state after a list of events, from that one on
+abbrev pub replay : Job → Frontier → List Event → Frontier
+replay job s [] = s
+replay job s (e ∷ es) = replay job (after job s e) es
+
+-- each event might happen when it did
+abbrev pub IsLegal : Job → Frontier → List Event → Type 0
+IsLegal job s [] = Unit {0}
+IsLegal job s (e ∷ es) = May job s e × IsLegal job (after job s e) es
+
+-- how many numbers below a bound pass a test
+abbrev pub how_many : (ℕ → Bool) → ℕ → ℕ
+how_many p zero = 0
+how_many p (suc n) = how_many p n + one_if (p n)
+
+abbrev pub is_held : Frontier → ℕ → Bool
+is_held s n = is_leased (standing s n)
+
+abbrev pub is_finished : Frontier → ℕ → Bool
+is_finished s n = is_done (standing s n)

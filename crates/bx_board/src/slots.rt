@@ -1,0 +1,32 @@
+//! How a chain of a campaign stands, and what has happened to it.
+
+use bx_proc::Proc;
+use bx_share::ArcHold;
+use bx_world::{Lanes, RunEnd};
+
+/// Where a list of choices has led, in a world whose parts threads may share.
+pub type ArcEnd = RunEnd<ArcHold<Proc>, ArcHold<Lanes>>;
+
+/// How a chain stands.
+#[derive(Drop)]
+pub enum Slot {
+    /// Nobody has it. It is free where the chain that it stands on is done, else unborn.
+    Waiting,
+    /// This worker holds it.
+    Leased(usize),
+    /// It was run: this is its end.
+    Done(ArcHold<ArcEnd>),
+}
+
+/// What changes a campaign: each names the worker, and the chain's number.
+#[derive(Clone, Copy, Debug, PartialEq, Eq)]
+pub enum Event {
+    /// The worker took the chain, which was free.
+    Lease(usize, usize),
+    /// The worker handed in the chain's end.
+    Submit(usize, usize),
+    /// The worker gave the chain back undone.
+    GiveBack(usize, usize),
+    /// No chain is leased from then on.
+    Stop,
+}

@@ -1,0 +1,219 @@
+//! A chain on its way: leased with the end that it goes on from, and worked.
+
+ghost use Rattle.std.specs.Prelude.{⊤, ◌≡◌, ◌<◌, length, IfOk, IfErr, OnErr, Ok};
+ghost use Rattle.bx_terms.specs.Outcomes.{Gives};
+ghost use Rattle.bx_plan.specs.Trees.{parent, path, IsTree};
+ghost use Rattle.bx_board.specs.Jobs.{end_of};
+ghost use Rattle.bx_board.specs.Working.{run_up_to, work_at, IsSpan};
+
+use crate::slots::ArcEnd;
+use bx_load::Image;
+use bx_plan::{Plan, Schedule};
+use bx_share::{ArcHold, Hold};
+use bx_terms::{AtomId, Fault};
+use bx_world::advance;
+use std::alloc::{AllocError, Global};
+use std::marker::Model;
+
+/// A chain of a plan's tree: nodes in a row, and the chain's number.
+#[derive(Clone, Copy, Debug, PartialEq, Eq)]
+pub(crate) struct Span {
+    pub(crate) chain: usize,
+    pub(crate) first: usize,
+    pub(crate) last: usize,
+}
+
+/// A chain to be run, with the end of the run that it goes on from.
+#[derive(Drop)]
+pub struct Lease<'a> {
+    pub(crate) image: &'a Image,
+    pub(crate) start: (AtomId, AtomId),
+    pub(crate) plan: &'a Plan,
+    pub(crate) span: Span,
+    pub(crate) from: ArcHold<ArcEnd>,
+}
+
+impl<'a> Model for Lease<'a> {
+    ghost use Rattle.std.specs.Prelude.{◌≡◌};
+    ghost use Rattle.bx_plan.specs.Trees.{parent};
+    ghost use Rattle.bx_terms.specs.contracts.atom_table.AtomId as ids;
+    ghost use Rattle.bx_asm.specs.contracts.unit.Unit as unit;
+    ghost use Rattle.bx_load.specs.Image.{loaded_code};
+    ghost use Rattle.bx_world.specs.contracts.choices.Choice as choices;
+    ghost use Rattle.bx_board.specs.Jobs.{Work, work_code};
+
+    ghost Value = { Work };
+
+    ghost coded = { work_code (loaded_code unit.the_row.coded) ids.the_row.coded choices.the_row.coded };
+
+    ghost use Rattle.bx_board.specs.Working.{run_up_to, work_at, IsSpan};
+
+    ghost view = { λ l. work_at l.image.now l.start l.plan.now l.span.last };
+
+    ghost invariant = { λ l. IsSpan l.plan.now.tree l.span.first l.span.last × (l.from ≡ run_up_to l.image.now l.start l.plan.now.tree (parent l.plan.now.tree l.span.first)) };
+}
+
+/// A chain that was run, with its end.
+#[derive(Drop)]
+pub struct Piece<'a> {
+    pub(crate) image: &'a Image,
+    pub(crate) start: (AtomId, AtomId),
+    pub(crate) plan: &'a Plan,
+    pub(crate) span: Span,
+    pub(crate) end: ArcHold<ArcEnd>,
+}
+
+impl<'a> Model for Piece<'a> {
+    ghost use Rattle.std.specs.Prelude.{◌≡◌};
+    ghost use Rattle.bx_terms.specs.contracts.atom_table.AtomId as ids;
+    ghost use Rattle.bx_asm.specs.contracts.unit.Unit as unit;
+    ghost use Rattle.bx_load.specs.Image.{loaded_code};
+    ghost use Rattle.bx_world.specs.contracts.choices.Choice as choices;
+    ghost use Rattle.bx_board.specs.Jobs.{Work, work_code};
+
+    ghost Value = { Work };
+
+    ghost coded = { work_code (loaded_code unit.the_row.coded) ids.the_row.coded choices.the_row.coded };
+
+    ghost use Rattle.bx_board.specs.Working.{run_up_to, work_at, IsSpan};
+
+    ghost view = { λ p. work_at p.image.now p.start p.plan.now p.span.last };
+
+    ghost invariant = { λ p. IsSpan p.plan.now.tree p.span.first p.span.last × (p.end ≡ run_up_to p.image.now p.start p.plan.now.tree p.span.last) };
+}
+
+impl<'a> Lease<'a> {
+    /// The code that is run.
+    pub fn image(&self) -> &'a Image
+        ensures { result.now ≡ self.now.image }
+    {
+        self.image
+    }
+
+    /// The module and the function that the run starts with.
+    pub fn start(&self) -> (AtomId, AtomId)
+        ensures { result ≡ self.now.start }
+    {
+        self.start
+    }
+
+    /// All the choices from the start to the chain's last node.
+    pub fn path(&self, alloc: Global) -> Result<Schedule, AllocError>
+        ensures { IfOk result (λ path. path ≡ self.now.path) }
+    {
+        self.plan.path(alloc, self.span.last)
+    }
+}
+
+impl<'a> Piece<'a> {
+    /// The code that was run.
+    pub fn image(&self) -> &'a Image
+        ensures { result.now ≡ self.now.image }
+    {
+        self.image
+    }
+
+    /// The module and the function that the run started with.
+    pub fn start(&self) -> (AtomId, AtomId)
+        ensures { result ≡ self.now.start }
+    {
+        self.start
+    }
+
+    /// All the choices from the start to the chain's last node.
+    pub fn path(&self, alloc: Global) -> Result<Schedule, AllocError>
+        ensures { IfOk result (λ path. path ≡ self.now.path) }
+    {
+        self.plan.path(alloc, self.span.last)
+    }
+
+    /// Where those choices lead.
+    pub fn end(&self) -> &ArcEnd
+        ensures { result.now ≡ end_of self.now }
+    {
+        self.end.see()
+    }
+}
+
+/// An end that goes on apart from that one.
+fn branch(alloc: Global, from: &ArcEnd) -> Result<ArcEnd, Fault>
+    ensures { Gives ⊤ (λ end. end) result (Ok from.now) }
+{
+    let world = from.world.snapshot(alloc)?;
+    Ok(ArcEnd {
+        world,
+        applied: from.applied,
+        refused: from.refused,
+    })
+}
+
+/// Runs a chain from the end of what it stands on.
+fn run_chain(
+    alloc: Global,
+    image: &Image,
+    start: (AtomId, AtomId),
+    plan: &Plan,
+    span: Span,
+    from: &ArcEnd,
+) -> Result<ArcEnd, Fault>
+    requires span { IsSpan plan.now.tree span.first span.last }
+    requires from { from.now ≡ run_up_to image.now start plan.now.tree (parent plan.now.tree span.first) }
+    ensures { Gives ⊤ (λ end. end) result (Ok (run_up_to image.now start plan.now.tree span.last)) }
+{
+    let _nodes = plan.nodes();
+    let mut end = branch(alloc, from)?;
+    let past = span.last + 1;
+    for node in span.first..past {
+        let choice = plan.choice(node);
+        advance(alloc, &mut end, image, choice)?;
+    }
+    Ok(end)
+}
+
+/// Runs a leased chain, one choice at a time, from the end that the lease holds.
+///
+/// Memory is all that it may lack, and then the lease comes back.
+pub fn work<'a>(alloc: Global, lease: Lease<'a>) -> Result<Piece<'a>, (Fault, Lease<'a>)>
+    ensures ok { IfOk result (λ piece. piece ≡ lease.entry) }
+    ensures err { IfErr result (λ refused. (refused.0 ≡ Fault.Memory) × (refused.1 ≡ lease.entry)) }
+{
+    let Lease {
+        image,
+        start,
+        plan,
+        span,
+        from,
+    } = lease;
+    let end = match run_chain(alloc, image, start, plan, span, from.see()) {
+        Ok(end) => end,
+        Err(fault) => return Err((
+            fault,
+            Lease {
+                image,
+                start,
+                plan,
+                span,
+                from,
+            },
+        )),
+    };
+    match ArcHold::put(alloc, end) {
+        Ok(end) => Ok(Piece {
+            image,
+            start,
+            plan,
+            span,
+            end,
+        }),
+        Err(_) => Err((
+            Fault::Memory,
+            Lease {
+                image,
+                start,
+                plan,
+                span,
+                from,
+            },
+        )),
+    }
+}
