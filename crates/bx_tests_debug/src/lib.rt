@@ -1,0 +1,7 @@
+//! Tests of the debugger's sessions, over their public calls alone.
+#![tactic(auto)]
+
+#[cfg(test)]
+mod samples;
+#[cfg(test)]
+mod sessions;
