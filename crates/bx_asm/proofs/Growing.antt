@@ -1,82 +1,115 @@
 -- A draft that grows by items.
-use Rattle.std.proofs.Common.{◌≡◌, ℕ, ◌+◌, ◌<◌, ◌≤◌, List, [], ◌∷◌, ◌++◌, length, map, take, drop, get_or, refl, ap, sym, subst, ◌∙◌, arith, length-append, append_assoc, Bool, true, false, cond}
-use Rattle.std.proofs.lemmas.List.{append-nil, map-append, take_more, take_all, length-map, length-take}
-use Rattle.std.specs.Prelude.{Option, Some, None}
-use Rattle.bx_listing.specs.declared.items.Item.{Item}
-use Rattle.bx_listing.specs.declared.items.PlacedItem.{PlacedItem}
-use Rattle.bx_listing.specs.Code.{items_of}
-use Rattle.bx_asm.specs.declared.drafts.Draft.{Draft}
-use Rattle.bx_asm.specs.declared.operands.NumberedItem.{NumberedItem}
-use Rattle.bx_asm.specs.Spelling.{spelled}
-use Rattle.bx_asm.specs.Limits.{first, or_else, register_fault, has_registers, count}
-use Rattle.bx_listing.specs.ListedCode.{ListedFunction}
+use Rattle.std.proofs.Common.{◌≡◌, ℕ, zero, suc, ◌+◌, ◌<◌, ◌≤◌, List, [], ◌∷◌, ◌++◌, length, map, take, drop, get_or, refl, ap, sym, subst, ◌∙◌, arith, add-one, length-append, append_assoc, Bool, true, false, cond}
+use Rattle.std.proofs.lemmas.List.{append-nil, map-append, take_more, take_all, length-map, length-take, drop_more}
+use Rattle.std.proofs.lemmas.Option.{slice_get-map}
 use Rattle.std.proofs.lemmas.Grind.{flat_map-append}
+use Rattle.std.specs.Prelude.{Option, Some, None, option_map, option_and_then, slice_get, ◌&&◌}
+use Rattle.std.specs.List.{list_all}
+use Rattle.bx_ops.specs.Opcodes.{opcode}
+use Rattle.bx_listing.specs.Items.{Item, PlacedItem}
+use Rattle.bx_listing.specs.Code.{items_of}
+use Rattle.bx_listing.specs.ListedCode.{ListedFunction}
+use Rattle.bx_asm.specs.declared.numbering.Draft.{Draft}
+use Rattle.bx_asm.specs.declared.operands.NumberedItem.{NumberedItem}
 use Rattle.bx_asm.specs.declared.unit.Head.{Head}
-use Rattle.bx_asm.specs.Drafts.{ExtendsTables, Spells, Grows, IsFit, tables_of, head_of, all_items}
-use Rattle.bx_asm.proofs.Numbering.{spells_push}
-use Rattle.bx_asm.proofs.Rows.{drop_next}
+use Rattle.bx_asm.specs.Drafts.{ExtendsTables, SpellsItem, Spells, Grows, tables_of, head_of, all_items, as_list, at_number}
+use Rattle.bx_asm.specs.Limits.{first, or_else, register_fault, has_registers, is_register, count}
+use Rattle.bx_asm.specs.Operands.{Tables}
+use Rattle.bx_asm.proofs.Firsts.{first_at}
+use Rattle.bx_asm.proofs.Growth.{row_more}
+
+spells_more : (t u : Tables) → ExtendsTables t u → (ns : List NumberedItem) (is : List Item) → Spells t ns is → Spells u ns is
+spells_more t u more [] [] e = tt
+spells_more t u more [] (i ∷ is) e = e
+spells_more t u more (n ∷ ns) [] e = e
+spells_more t u more (n ∷ ns) (i ∷ is) e = (
+  record { number = e.0.number; row = row_more t u more n.operands.items i.operands e.0.row },
+  spells_more t u more ns is e.1,
+)
+
+spells_push : (t : Tables) (ns : List NumberedItem) (is : List Item) (n : NumberedItem) (i : Item) → Spells t ns is → SpellsItem t n i → Spells t (ns ++ n ∷ []) (is ++ i ∷ [])
+spells_push t [] [] n i e here = (here, tt)
+spells_push t [] (j ∷ is) n i e here = absurd e
+spells_push t (m ∷ ns) [] n i e here = absurd e
+spells_push t (m ∷ ns) (j ∷ is) n i e here = (e.0, spells_push t ns is n i e.1 here)
 
 pub grows_none : (d : Draft) → Grows d d []
 grows_none d = record {
   spells = λ code e. subst (Spells (tables_of d) d.items.items) (sym (append-nil code)) e;
   length_is = omega arith;
-  fits = λ fit. fit;
 }
 
 pub grows_then : (a b c : Draft) (xs ys : List Item) → Grows a b xs → Grows b c ys → Grows a c (xs ++ ys)
 grows_then a b c xs ys one two = record {
   spells = λ code e. subst (Spells (tables_of c) c.items.items) (append_assoc code xs ys) (two.spells (code ++ xs) (one.spells code e));
   length_is = omega (arith, one.length_is, two.length_is, length-append xs ys);
-  fits = λ fit. two.fits (one.fits fit);
 }
 
 pub grows_by : (a b : Draft) (n : NumberedItem) (i : Item) → ExtendsTables (tables_of a) (tables_of b) → b.items.items ≡ a.items.items ++ n ∷ []
-    → spelled (tables_of b) n.number n.operands.items ≡ Some i
-    → length b.literals.items ≤ length a.literals.items + 1 → length b.imports.keys ≤ length a.imports.keys + 1 → Grows a b (i ∷ [])
-grows_by a b n i more items here literals imports = record {
-  spells = λ code e. subst (λ (ns : List NumberedItem). Spells (tables_of b) ns (code ++ i ∷ [])) (sym items) (spells_push (tables_of a) (tables_of b) more a.items.items code n i here e);
+    → SpellsItem (tables_of b) n i → Grows a b (i ∷ [])
+grows_by a b n i more items here = record {
+  spells = λ code e. subst (λ (ns : List NumberedItem). Spells (tables_of b) ns (code ++ i ∷ [])) (sym items)
+      (spells_push (tables_of b) a.items.items code n i (spells_more (tables_of a) (tables_of b) more a.items.items code e) here);
   length_is = ap length items ∙ length-append a.items.items (n ∷ []);
-  fits = λ fit. record {
-    literals = omega (arith, fit.literals, ap length items, length-append a.items.items (n ∷ []));
-    imports = omega (arith, fit.imports, ap length items, length-append a.items.items (n ∷ []));
-  };
 }
 
--- the items of one more
-pub items_next : (ps : List PlacedItem) (i : ℕ) (p : PlacedItem) → i < length ps → p ≡ get_or ps i p → items_of (take (i + 1) ps) ≡ items_of (take i ps) ++ p.item ∷ []
-items_next ps i p h here =
-    ap items_of (take_more ps i p h) ∙ map-append (λ (q : PlacedItem). q.item) (take i ps) (get_or ps i p ∷ [])
-    ∙ ap (λ (q : PlacedItem). items_of (take i ps) ++ q.item ∷ []) (sym here)
+take_suc : {A : Type 0} (xs : List A) (k : ℕ) → take (suc k) xs ≡ take k xs ++ at_number k xs
+take_suc [] zero = refl
+take_suc [] (suc k) = refl
+take_suc (x ∷ xs) zero = refl
+take_suc (x ∷ xs) (suc k) = ap (λ (ys : List _). x ∷ ys) (take_suc xs k)
 
--- an item of a row with no fault has registers in range
-pub registers_here : (ps : List PlacedItem) (i : ℕ) (p : PlacedItem) → i < length ps → p ≡ get_or ps i p → first register_fault (drop i ps) ≡ None
-    → (has_registers p.item ≡ true) × (first register_fault (drop (i + 1) ps) ≡ None)
-registers_here ps i p h here none = by (has_registers p.item) (sym (ap (first register_fault) (drop_next ps i p h) ∙ ap (λ (q : PlacedItem). first register_fault (q ∷ drop (i + 1) ps)) (sym here)) ∙ none)
+-- what stands at a number comes behind what stands before it
+pub take_at : {A : Type 0} (xs : List A) (k : ℕ) → take (k + 1) xs ≡ take k xs ++ at_number k xs
+take_at xs k = ap (λ (n : ℕ). take n xs) (add-one k) ∙ take_suc xs k
+
+pub grows_next : (a b c : Draft) (is : List Item) (k : ℕ) → Grows a b (take k is) → Grows b c (at_number k is) → Grows a c (take (k + 1) is)
+grows_next a b c is k one two = subst (Grows a c) (sym (take_at is k)) (grows_then a b c (take k is) (at_number k is) one two)
+
+-- a function without a fault has none at a number, and none behind
+pub none_at : (ps : List PlacedItem) (k : ℕ) → first register_fault (drop k ps) ≡ None
+    → (option_and_then register_fault (slice_get ps k) ≡ None) × (first register_fault (drop (k + 1) ps) ≡ None)
+none_at ps k none = by (option_and_then register_fault (slice_get ps k)) (sym (first_at register_fault ps k) ∙ none)
   where
-    by : (b : Bool) → or_else (cond b None (Some p.line)) (first register_fault (drop (i + 1) ps)) ≡ None → (b ≡ true) × (first register_fault (drop (i + 1) ps) ≡ None)
-    by true e = (refl, e)
-    by false e = absurd (cc)
+    by : (o : Option ℕ) → or_else o (first register_fault (drop (k + 1) ps)) ≡ None → (o ≡ None) × (first register_fault (drop (k + 1) ps) ≡ None)
+    by (Some b) e = absurd (cc)
+    by None e = (refl, e)
 
-pub length-items : (ps : List PlacedItem) (i : ℕ) → length (items_of (take i ps)) ≤ i
-length-items ps i = omega (arith, length-map (take i ps) (λ (q : PlacedItem). q.item), length-take i ps)
+both : (a b : Bool) (line : ℕ) → cond (a && b) None (Some line) ≡ None → a ≡ true
+both true b line e = refl
+both false b line e = absurd (cc)
 
--- one item more of a row
-pub grows_next : (a b c : Draft) (ps : List PlacedItem) (i : ℕ) (p : PlacedItem) → i < length ps → p ≡ get_or ps i p
-    → Grows a b (items_of (take i ps)) → Grows b c (p.item ∷ []) → Grows a c (items_of (take (i + 1) ps))
-grows_next a b c ps i p h here one two = subst (Grows a c) (sym (items_next ps i p h here)) (grows_then a b c (items_of (take i ps)) (p.item ∷ []) one two)
+-- the item there has its registers in range
+pub registers_there : (ps : List PlacedItem) (k : ℕ) (i : Item) → Some i ≡ option_map (λ (p : PlacedItem). p.item) (slice_get ps k)
+    → option_and_then register_fault (slice_get ps k) ≡ None → list_all is_register i.operands ≡ true
+registers_there ps k i is none = by (slice_get ps k) is none
+  where
+    by : (o : Option PlacedItem) → Some i ≡ option_map (λ (p : PlacedItem). p.item) o → option_and_then register_fault o ≡ None → list_all is_register i.operands ≡ true
+    by None is none = absurd (cc)
+    by (Some p) is none = let same : i ≡ p.item = cc in ap (λ (j : Item). list_all is_register j.operands) same ∙ both _ _ p.line none
+
+pub grows_there : (a b : Draft) (ps : List PlacedItem) (k : ℕ) (i : Item) → Some i ≡ option_map (λ (p : PlacedItem). p.item) (slice_get ps k) → Grows a b (i ∷ []) → Grows a b (at_number k (items_of ps))
+grows_there a b ps k i is more =
+    let here : slice_get (items_of ps) k ≡ Some i = slice_get-map (λ (p : PlacedItem). p.item) ps k ∙ sym is in
+    subst (Grows a b) (sym (ap as_list here)) more
+
+pub grows_nowhere : (d : Draft) (ps : List PlacedItem) (k : ℕ) → None ≡ option_map (λ (p : PlacedItem). p.item) (slice_get ps k) → Grows d d (at_number k (items_of ps))
+grows_nowhere d ps k is =
+    let here : slice_get (items_of ps) k ≡ None = slice_get-map (λ (p : PlacedItem). p.item) ps k ∙ sym is in
+    subst (Grows d d) (sym (ap as_list here)) (grows_none d)
+
+pub count_next : (fs : List ListedFunction) (i : ℕ) (f : ListedFunction) → i < length fs → f ≡ get_or fs i f → count (drop i fs) ≡ length f.items + count (drop (i + 1) fs)
+count_next fs i f h here = ap count (drop_more fs i f h) ∙ ap (λ (g : ListedFunction). length g.items + count (drop (i + 1) fs)) (sym here)
 
 -- a row that shows nothing shows nothing here, and nothing behind
 pub first_none : {A B : Type 0} (f : A → Option B) (xs : List A) (i : ℕ) (x : A) → i < length xs → x ≡ get_or xs i x → first f (drop i xs) ≡ None
     → (f x ≡ None) × (first f (drop (i + 1) xs) ≡ None)
 first_none {B = B} f xs i x h here none =
-    by (f x) (sym (ap (first f) (drop_next xs i x h) ∙ ap (λ y. or_else (f y) (first f (drop (i + 1) xs))) (sym here)) ∙ none)
+    by (f x) (sym (ap (first f) (drop_more xs i x h) ∙ ap (λ y. or_else (f y) (first f (drop (i + 1) xs))) (sym here)) ∙ none)
   where
     by : (o : Option B) → or_else o (first f (drop (i + 1) xs)) ≡ None → (o ≡ None) × (first f (drop (i + 1) xs) ≡ None)
     by (Some b) e = absurd (cc)
     by None e = (refl, e)
-
-pub count_next : (fs : List ListedFunction) (i : ℕ) (f : ListedFunction) → i < length fs → f ≡ get_or fs i f → count (drop i fs) ≡ length f.items + count (drop (i + 1) fs)
-count_next fs i f h here = ap count (drop_next fs i f h) ∙ ap (λ (g : ListedFunction). length g.items + count (drop (i + 1) fs)) (sym here)
 
 all_items_next : (fs : List ListedFunction) (i : ℕ) (f : ListedFunction) → i < length fs → f ≡ get_or fs i f → all_items (take (i + 1) fs) ≡ all_items (take i fs) ++ items_of f.items
 all_items_next fs i f h here =

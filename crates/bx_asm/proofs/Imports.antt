@@ -1,12 +1,10 @@
 -- The functions that are called by name: what a set of them holds after one more.
-use Rattle.std.proofs.Common.{◌≡◌, ℕ, ◌+◌, ◌<◌, Bool, List, [], ◌∷◌, ◌++◌, length, get_or, drop, refl, ap, sym, ◌∙◌}
-use Rattle.std.specs.Prelude.{Option, Some, None, if◌then◌else◌, IsSome}
+use Rattle.std.proofs.Common.{◌≡◌, List, [], ◌∷◌, ◌++◌, refl}
+use Rattle.std.specs.Prelude.{if◌then◌else◌}
 use Rattle.std.specs.List.{list_any}
 use Rattle.bx_listing.specs.contracts.items.ImportPartialEq.TheImpl as imports
 use Rattle.bx_listing.specs.declared.items.Import.{Import}
-use Rattle.bx_listing.specs.declared.items.PlacedItem.{PlacedItem}
-use Rattle.bx_asm.specs.Limits.{same_import, first, or_else}
-use Rattle.bx_asm.proofs.Rows.{drop_next}
+use Rattle.bx_asm.specs.Limits.{same_import}
 
 -- the set tells imports apart by module, function and arity
 pub inserted : (held : List Import) (i : Import) → (if list_any ((imports.eq-value).it i) held then held else held ++ i ∷ []) ≡ (if list_any (same_import i) held then held else held ++ i ∷ [])

@@ -4,8 +4,8 @@ use Rattle.std.proofs.lemmas.List.{append-nil}
 use Rattle.std.specs.Prelude.{Option, Some, None, nat_eq}
 use Rattle.std.specs.List.{list_any}
 use Rattle.bx_listing.specs.ListedCode.{ListedFunction}
-use Rattle.bx_asm.specs.Limits.{again, labels, all_labels}
-use Rattle.bx_asm.proofs.Rows.{drop_next}
+use Rattle.bx_asm.specs.Limits.{again, labels, all_labels, operands_of}
+use Rattle.std.proofs.lemmas.List.{drop_more}
 
 -- where none of the first row stands twice, the second is looked at behind it
 pub again_none : (seen xs ys : List ℕ) → again seen xs ≡ None → again seen (xs ++ ys) ≡ again (seen ++ xs) ys
@@ -30,19 +30,19 @@ again_some seen (x ∷ xs) ys n e = by (list_any (nat_eq x) seen) e (again_some 
     by true e ih = e
     by false e ih = ih e
 
-labels_from : (fs : List ListedFunction) (i : ℕ) (f : ListedFunction) → i < length fs → f ≡ get_or fs i f → all_labels (drop i fs) ≡ labels f.items ++ all_labels (drop (i + 1) fs)
-labels_from fs i f h here = ap all_labels (drop_next fs i f h) ∙ ap (λ (g : ListedFunction). labels g.items ++ all_labels (drop (i + 1) fs)) (sym here)
+labels_from : (fs : List ListedFunction) (i : ℕ) (f : ListedFunction) → i < length fs → f ≡ get_or fs i f → all_labels (drop i fs) ≡ labels (operands_of f) ++ all_labels (drop (i + 1) fs)
+labels_from fs i f h here = ap all_labels (drop_more fs i f h) ∙ ap (λ (g : ListedFunction). labels (operands_of g) ++ all_labels (drop (i + 1) fs)) (sym here)
 
 -- the labels of one function more: none of them stood, so the rest is looked at behind them
-pub again_next : (fs : List ListedFunction) (i : ℕ) (f : ListedFunction) (seen : List ℕ) → i < length fs → f ≡ get_or fs i f → again seen (labels f.items) ≡ None
-    → again seen (all_labels (drop i fs)) ≡ again (seen ++ labels f.items) (all_labels (drop (i + 1) fs))
-again_next fs i f seen h here none = ap (again seen) (labels_from fs i f h here) ∙ again_none seen (labels f.items) _ none
+pub again_next : (fs : List ListedFunction) (i : ℕ) (f : ListedFunction) (seen : List ℕ) → i < length fs → f ≡ get_or fs i f → again seen (labels (operands_of f)) ≡ None
+    → again seen (all_labels (drop i fs)) ≡ again (seen ++ labels (operands_of f)) (all_labels (drop (i + 1) fs))
+again_next fs i f seen h here none = ap (again seen) (labels_from fs i f h here) ∙ again_none seen (labels (operands_of f)) _ none
 
 pub keys_next : (fs : List ListedFunction) (i : ℕ) (f : ListedFunction) (seen : List ℕ) → i < length fs → f ≡ get_or fs i f
-    → seen ++ all_labels (drop i fs) ≡ (seen ++ labels f.items) ++ all_labels (drop (i + 1) fs)
-keys_next fs i f seen h here = ap (λ (ls : List ℕ). seen ++ ls) (labels_from fs i f h here) ∙ sym (append_assoc seen (labels f.items) _)
+    → seen ++ all_labels (drop i fs) ≡ (seen ++ labels (operands_of f)) ++ all_labels (drop (i + 1) fs)
+keys_next fs i f seen h here = ap (λ (ls : List ℕ). seen ++ ls) (labels_from fs i f h here) ∙ sym (append_assoc seen (labels (operands_of f)) _)
 
 -- one of them stood
-pub again_here : (fs : List ListedFunction) (i : ℕ) (f : ListedFunction) (seen : List ℕ) (n : ℕ) → i < length fs → f ≡ get_or fs i f → again seen (labels f.items) ≡ Some n
+pub again_here : (fs : List ListedFunction) (i : ℕ) (f : ListedFunction) (seen : List ℕ) (n : ℕ) → i < length fs → f ≡ get_or fs i f → again seen (labels (operands_of f)) ≡ Some n
     → again seen (all_labels (drop i fs)) ≡ Some n
-again_here fs i f seen n h here some = ap (again seen) (labels_from fs i f h here) ∙ again_some seen (labels f.items) _ n some
+again_here fs i f seen n h here some = ap (again seen) (labels_from fs i f h here) ∙ again_some seen (labels (operands_of f)) _ n some

@@ -1,8 +1,10 @@
-pub mod Growing
+pub mod Readers
+pub mod Firsts
 pub mod Imports
 pub mod Labels
-pub mod Numbering
-pub mod Rows
-pub mod SameCode
+pub mod Registers
+pub mod MarkNumbers
+pub mod Growth
+pub mod Growing
 pub mod Units
-pub mod Marks
+pub mod SameCode

@@ -4,23 +4,31 @@ use Rattle.std.specs.Prelude.{slice_get, unwrap_or}
 use Rattle.std.specs.List.{flat_map}
 use Rattle.std.proofs.lemmas.List.{take_more_same, take_all}
 use Rattle.std.proofs.lemmas.Option.{unwrap_or-slice_get}
-use Rattle.bx_listing.specs.declared.items.Item.{Item}
-use Rattle.bx_listing.specs.declared.items.Item.TheVariants.{Line}
+use Rattle.bx_ops.specs.declared.opcode.Op.TheVariants.{Line}
+use Rattle.bx_listing.specs.Items.{Item}
+use Rattle.bx_listing.specs.declared.items.Operand.{Operand}
+use Rattle.bx_listing.specs.declared.items.Operand.TheVariants.{Nil}
 use Rattle.bx_listing.specs.Code.{Code, CodeFunction, items}
 use Rattle.bx_asm.specs.Unit.{code_head}
 use Rattle.bx_asm.proofs.Units.{take_front, drop_front}
 
 -- rows that were the same so far, and whose next elements are, are the same one further
-pub same_element : {A : Type 0} (xs ys : List A) (i : ℕ) (d : A) → i < length xs → i < length ys → take i xs ≡ take i ys → get_or xs i d ≡ get_or ys i d → take (i + 1) xs ≡ take (i + 1) ys
-same_element xs ys i d = take_more_same xs ys i d
+so_far : {A : Type 0} (d : A) (xs ys : List A) (i : ℕ) → i < length xs → i < length ys → take i xs ≡ take i ys → slice_get xs i ≡ slice_get ys i → take (i + 1) xs ≡ take (i + 1) ys
+so_far d xs ys i hx hy same next =
+    take_more_same xs ys i d hx hy same (sym (unwrap_or-slice_get xs i d) ∙ ap (λ o. unwrap_or o d) next ∙ unwrap_or-slice_get ys i d)
 
-pub same_so_far : (xs ys : List Item) (i : ℕ) → i < length xs → i < length ys → take i xs ≡ take i ys → slice_get xs i ≡ slice_get ys i → take (i + 1) xs ≡ take (i + 1) ys
-same_so_far xs ys i hx hy so_far next =
-    take_more_same xs ys i Line hx hy so_far (sym (unwrap_or-slice_get xs i Line) ∙ ap (λ o. unwrap_or o Line) next ∙ unwrap_or-slice_get ys i Line)
+pub same_so_far : (xs ys : List Operand) (i : ℕ) → i < length xs → i < length ys → take i xs ≡ take i ys → slice_get xs i ≡ slice_get ys i → take (i + 1) xs ≡ take (i + 1) ys
+same_so_far xs ys i = so_far Nil xs ys i
+
+pub same_items_so_far : (xs ys : List Item) (i : ℕ) → i < length xs → i < length ys → take i xs ≡ take i ys → slice_get xs i ≡ slice_get ys i → take (i + 1) xs ≡ take (i + 1) ys
+same_items_so_far xs ys i = so_far (record { op = Line; operands = [] }) xs ys i
 
 -- rows of one length that are the same as far as they go are the same
 pub same_whole : {A : Type 0} (xs ys : List A) (i : ℕ) → length xs ≤ i → length ys ≤ i → take i xs ≡ take i ys → xs ≡ ys
 same_whole xs ys i hx hy e = sym (take_all i xs hx) ∙ e ∙ take_all i ys hy
+
+pub same_item : (i j : Item) → i.op ≡ j.op → i.operands ≡ j.operands → i ≡ j
+same_item i j op operands = λ k. record { op = op k; operands = operands k }
 
 abbrev flat : List CodeFunction → List Item
 flat fs = flat_map (λ f. f.items) fs

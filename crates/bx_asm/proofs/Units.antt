@@ -1,21 +1,24 @@
 -- The items of a unit, found by their numbers.
 use Rattle.std.proofs.Common.{◌≡◌, ℕ, zero, suc, ◌+◌, ◌<◌, ◌≤◌, List, [], ◌∷◌, ◌++◌, length, map, take, drop, get_or, refl, ap, sym, subst, ◌∙◌, arith, length-drop, length-append}
-use Rattle.std.specs.Prelude.{Option, Some, None, option_map, slice_get, IsSome, is_some, unwrap_or}
-use Rattle.std.specs.List.{All, flat_map}
+use Rattle.std.specs.Prelude.{Option, Some, None, option_map, slice_get, unwrap_or}
+use Rattle.std.specs.List.{flat_map}
 use Rattle.std.proofs.lemmas.List.{take-append-drop, take_all, length-take-le, length-map}
 use Rattle.std.proofs.lemmas.Option.{slice_get-map, slice_get-get_or, slice_get_past}
+use Rattle.bx_ops.specs.Opcodes.{opcode}
+use Rattle.bx_ops.specs.declared.opcode.Op.{Op}
+use Rattle.bx_ops.specs.declared.opcode.Op.TheVariants.{IntCodeEnd}
+use Rattle.bx_ops.proofs.OpcodeLemmas.{with_number-number}
+use Rattle.bx_listing.specs.Items.{Item, PlacedItem}
 use Rattle.bx_listing.specs.ListedCode.{ListedFunction}
-use Rattle.bx_listing.specs.declared.items.PlacedItem.{PlacedItem}
 use Rattle.bx_listing.specs.Code.{CodeFunction, function_code_of, items_of}
-use Rattle.bx_asm.specs.Drafts.{Spells, head_of, all_items}
-use Rattle.bx_listing.specs.declared.items.Item.{Item}
-use Rattle.bx_listing.specs.declared.items.Item.TheVariants.{Line}
 use Rattle.bx_asm.specs.declared.operands.NumberedItem.{NumberedItem}
 use Rattle.bx_asm.specs.declared.unit.Head.{Head}
+use Rattle.bx_asm.specs.Drafts.{Spells, head_of, all_items}
 use Rattle.bx_asm.specs.Limits.{count}
 use Rattle.bx_asm.specs.Operands.{Tables}
-use Rattle.bx_asm.specs.Spelling.{spelled}
-use Rattle.bx_asm.specs.Unit.{functions, spelled_item, IsSpelled, IsUnit, total, code_head}
+use Rattle.bx_asm.specs.Spelling.{op_of, spelled_item}
+use Rattle.bx_asm.specs.Unit.{functions, IsUnit, total, code_head}
+use Rattle.bx_asm.proofs.Growth.{row_spelled}
 
 -- shared out among the functions and taken together again, the items are what they were
 pub items-functions : (hs : List Head) (is : List Item) → total hs ≡ length is → flat_map (λ f. f.items) (functions hs is) ≡ is
@@ -25,32 +28,23 @@ items-functions (h ∷ hs) is e =
     ap (λ (xs : List Item). take h.count is ++ xs) (items-functions hs (drop h.count is) (omega (arith, length-drop h.count is)))
     ∙ take-append-drop h.count is
 
-some_or : (o : Option Item) → IsSome o → o ≡ Some (unwrap_or o Line)
-some_or (Some i) h = refl
-some_or None h = absurd (cc)
-
-spelled_here : (t : Tables) (i : NumberedItem) → IsSpelled t i → spelled t i.number i.operands.items ≡ Some (spelled_item t i)
-unfolding spelled_item
-spelled_here t i h = some_or (spelled t i.number i.operands.items) h
-
 -- what stands at a number spells the item of that number
-pub item_at : (t : Tables) (hs : List Head) (is : List NumberedItem) (k : ℕ) (i : NumberedItem) → IsUnit t hs is → k < length is → i ≡ get_or is k i
-    → slice_get (flat_map (λ f. f.items) (functions hs (map (spelled_item t) is))) k ≡ spelled t i.number i.operands.items
+pub item_at : (t : Tables) (hs : List Head) (is : List NumberedItem) (k : ℕ) (i : NumberedItem) → IsUnit hs is → k < length is → i ≡ get_or is k i
+    → slice_get (flat_map (λ f. f.items) (functions hs (map (spelled_item t) is))) k ≡ Some (spelled_item t i)
 item_at t hs is k i unit within here =
     ap (λ xs. slice_get xs k) (items-functions hs (map (spelled_item t) is) (unit.shared_out ∙ sym (length-map is (spelled_item t))))
     ∙ slice_get-map (spelled_item t) is k
     ∙ ap (option_map (spelled_item t)) (slice_get-get_or is k i within ∙ ap Some (sym here))
-    ∙ sym (spelled_here t i (subst (IsSpelled t) (sym here) (unit.spelled k i within)))
 
 -- nothing stands past the last
-pub no_item_at : (t : Tables) (hs : List Head) (is : List NumberedItem) (k : ℕ) → IsUnit t hs is → length is ≤ k
+pub no_item_at : (t : Tables) (hs : List Head) (is : List NumberedItem) (k : ℕ) → IsUnit hs is → length is ≤ k
     → slice_get (flat_map (λ f. f.items) (functions hs (map (spelled_item t) is))) k ≡ None
 no_item_at t hs is k unit past =
     ap (λ xs. slice_get xs k) (items-functions hs (map (spelled_item t) is) (unit.shared_out ∙ sym (length-map is (spelled_item t))))
     ∙ slice_get_past _ k (omega (arith, length-map is (spelled_item t)))
 
 -- there are as many items as are stored
-pub length_of_items : (t : Tables) (hs : List Head) (is : List NumberedItem) → IsUnit t hs is → length (flat_map (λ f. f.items) (functions hs (map (spelled_item t) is))) ≡ length is
+pub length_of_items : (t : Tables) (hs : List Head) (is : List NumberedItem) → IsUnit hs is → length (flat_map (λ f. f.items) (functions hs (map (spelled_item t) is))) ≡ length is
 length_of_items t hs is unit =
     ap length (items-functions hs (map (spelled_item t) is) (unit.shared_out ∙ sym (length-map is (spelled_item t))))
     ∙ length-map is (spelled_item t)
@@ -63,7 +57,7 @@ heads-of (h ∷ hs) is e =
     λ k. record { name = h.name; arity = h.arity; entry = h.entry; count = own k } ∷ rest k
 
 -- the stored heads are those of the functions
-pub heads_of_functions : (t : Tables) (hs : List Head) (is : List NumberedItem) → IsUnit t hs is → map code_head (functions hs (map (spelled_item t) is)) ≡ hs
+pub heads_of_functions : (t : Tables) (hs : List Head) (is : List NumberedItem) → IsUnit hs is → map code_head (functions hs (map (spelled_item t) is)) ≡ hs
 heads_of_functions t hs is unit = heads-of hs (map (spelled_item t) is) (unit.shared_out ∙ sym (length-map is (spelled_item t)))
 
 pub take_front : {A : Type 0} (xs ys : List A) → take (length xs) (xs ++ ys) ≡ xs
@@ -74,24 +68,19 @@ pub drop_front : {A : Type 0} (xs ys : List A) → drop (length xs) (xs ++ ys) �
 drop_front [] ys = refl
 drop_front (x ∷ xs) ys = drop_front xs ys
 
+opcode_of : (n : ℕ) (op : Op) → n ≡ (opcode op).number → op_of n ≡ op
+opcode_of n op e = ap op_of e ∙ ap (λ (o : Option Op). unwrap_or o IntCodeEnd) (with_number-number op)
+
 -- what every item of a row spells is what the row spells
 unwrapped : (t : Tables) (ns : List NumberedItem) (is : List Item) → Spells t ns is → map (spelled_item t) ns ≡ is
-unfolding spelled_item
 unwrapped t [] [] e = refl
-unwrapped t [] (i ∷ is) e = absurd (cc)
-unwrapped t (n ∷ ns) [] e = absurd (cc)
+unwrapped t [] (i ∷ is) e = absurd e
+unwrapped t (n ∷ ns) [] e = absurd e
 unwrapped t (n ∷ ns) (i ∷ is) e =
-    let here : spelled t n.number n.operands.items ≡ Some i = cc in
-    let rest : Spells t ns is = cc in
-    let head = ap (λ o. unwrap_or o Line) here in
-    let tail = unwrapped t ns is rest in
-    λ k. head k ∷ tail k
-
-all_spelled : (t : Tables) (ns : List NumberedItem) (is : List Item) → Spells t ns is → All (IsSpelled t) ns
-all_spelled t [] is e k d h = absurd (omega arith)
-all_spelled t (n ∷ ns) [] e k d h = absurd (cc)
-all_spelled t (n ∷ ns) (i ∷ is) e zero d h = let here : spelled t n.number n.operands.items ≡ Some i = cc in ap is_some here
-all_spelled t (n ∷ ns) (i ∷ is) e (suc k) d h = let rest : Spells t ns is = cc in all_spelled t ns is rest k d (omega arith)
+    let op = opcode_of n.number i.op e.0.number in
+    let row = row_spelled t n.operands.items i.operands e.0.row in
+    let tail = unwrapped t ns is e.1 in
+    λ k. record { op = op k; operands = row k } ∷ tail k
 
 -- the items of each function are its own, and there are as many as there are items
 functions-of : (fs : List ListedFunction) → functions (map head_of fs) (all_items fs) ≡ map function_code_of fs
@@ -112,10 +101,9 @@ count-of : (fs : List ListedFunction) → count fs ≡ length (all_items fs)
 count-of [] = refl
 count-of (f ∷ fs) = omega (arith, count-of fs, length-append (items_of f.items) (all_items fs), length-map f.items (λ (q : PlacedItem). q.item))
 
-pub unit_of : (t : Tables) (ns : List NumberedItem) (fs : List ListedFunction) → count fs ≤ 1000000 → Spells t ns (all_items fs) → IsUnit t (map head_of fs) ns
+pub unit_of : (t : Tables) (ns : List NumberedItem) (fs : List ListedFunction) → count fs ≤ 1000000 → Spells t ns (all_items fs) → IsUnit (map head_of fs) ns
 unit_of t ns fs few e = record {
   few = omega (arith, few, count-of fs, ap length (sym (unwrapped t ns (all_items fs) e)), length-map ns (spelled_item t));
-  spelled = all_spelled t ns (all_items fs) e;
   shared_out = total-of fs ∙ ap length (sym (unwrapped t ns (all_items fs) e)) ∙ length-map ns (spelled_item t);
 }
 

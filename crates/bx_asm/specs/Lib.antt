@@ -1,8 +1,14 @@
+pub mod Source
+pub mod Instr
+pub mod Members
+pub mod Instructed
 pub mod Operands
+pub mod Looked
+pub mod Decoding
 pub mod Spelling
-pub mod Decoded
+pub mod Numbered
 pub mod Marks
 pub mod Unit
-pub mod Limits
 pub mod Drafts
+pub mod Limits
 pub mod Wanting

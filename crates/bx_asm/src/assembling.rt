@@ -13,17 +13,22 @@ use bx_listing::Listing;
 use bx_terms::Fault;
 use std::alloc::Global;
 
-/// The numbered code of a listing, or the first fault: R16, R15, R12, R13, R14 in this order, each over the whole
-/// listing, the first in item order.
+const MOST_IMPORTS: usize = 65_535;
+
+/// The numbered code of a listing, or the first fault: R16, R15, R12, R13, R14 in this order, each over the whole listing, the
+/// first in item order.
 ///
-/// Memory is wanting only where the listing calls a function by its name, where it has a label that is looked at, or
-/// where it has no fault.
+/// Memory is wanting only where the listing calls a function by its name and is within all other limits of size, where it has
+/// a label that is looked at, or where it has no fault.
 pub fn assemble(alloc: Global, listing: &Listing) -> Result<Unit, Fault>
     ensures { Gives (TakesMemory listing.now) (λ u. u) result (assembled listing.now) }
 {
+    if !is_within(listing) {
+        return Err(Fault::TooLarge);
+    }
     let functions = listing.functions();
     let imports = imports_of(alloc, functions)?;
-    if !is_within(listing, imports.len()) {
+    if imports.len() > MOST_IMPORTS {
         return Err(Fault::TooLarge);
     }
     if let Some(line) = register_faults(functions) {
@@ -36,6 +41,6 @@ pub fn assemble(alloc: Global, listing: &Listing) -> Result<Unit, Fault>
     if let Some(function) = entry_faults(functions) {
         return Err(Fault::EntryMissing { function });
     }
-    let unit = Unit::of(alloc, listing)?;
+    let unit = Unit::of(alloc, listing, imports)?;
     Ok(unit)
 }

@@ -2,13 +2,21 @@
 #![tactic(auto)]
 
 mod assembling;
-mod drafts;
-mod instructions;
+mod decoding;
+mod instruction;
 mod limits;
+mod lookup;
+mod members;
+mod numbered;
+mod numbering;
 mod operands;
 mod sameness;
 mod unit;
 
 pub use assembling::assemble;
-pub use instructions::{CodeRegister, CodeSource, Instruction};
+pub use instruction::{CallKind, Comparison, Instruction, Key, Kind, Mismatch, Register, Source};
+pub use lookup::Lookup;
+pub use members::{Pairs, Sources, YRegisters};
+pub use numbered::{Numbered, Spelt};
+pub use operands::Operand;
 pub use unit::{Head, Unit};

@@ -1,8 +1,9 @@
 //! Operands of numbered instructions.
 
+use bx_listing::Amount;
+use bx_ops::Bif;
 use bx_terms::AtomId;
 use smallvec::SmallVec;
-use std::alloc::Global;
 
 /// An operand: what stands in an instruction itself, or a number in a table of its unit.
 #[derive(Clone, Copy, Debug)]
@@ -13,13 +14,24 @@ pub enum Operand {
     Atom(AtomId),
     Nil,
     /// A literal, by its number in the unit's table.
-    Literal(u32),
+    Literal(usize),
     /// A label to go to.
     Label(u32),
-    /// A function of any module, by its number in the unit's table of imports.
-    Import(u32),
+    /// That there is no label to go to.
+    NoLabel,
+    /// The number of a label that stands here.
+    Place(u32),
     /// A plain number.
     Number(u32),
+    /// A number of arguments.
+    Arity(u32),
+    /// A function of any module, by its number in the unit's table of imports.
+    Import(usize),
+    Bif(Bif),
+    /// How much of a kind of heap is asked for.
+    Amount(Amount),
+    /// The operands that follow are the members of a list of so many.
+    List(usize),
 }
 
 impl Default for Operand {
@@ -28,9 +40,9 @@ impl Default for Operand {
     }
 }
 
-/// An item as it is stored: its opcode's number, and its operands, all of which lie in the item itself.
+/// An item as it is stored: its opcode's number and its operands, of which up to three lie in the item itself.
 #[derive(Debug, Drop)]
 pub struct NumberedItem {
     pub number: u32,
-    pub operands: SmallVec<Operand, 6>,
+    pub operands: SmallVec<Operand, 3>,
 }

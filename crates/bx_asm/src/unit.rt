@@ -1,16 +1,15 @@
 //! A module's numbered code.
 
-ghost use Rattle.std.specs.Prelude.{◌||◌, ◌==◌, ◌≡◌, ◌≤◌, ◌+◌, ◌++◌, ◌↔◌, IsTrue, IfOk, OnOk, None, map, length, option_map, slice_get};
-ghost use Rattle.bx_asm.specs.Decoded.{item_of};
-ghost use Rattle.bx_asm.specs.Marks.{mark_at};
-ghost use Rattle.bx_asm.specs.Drafts.{IsFit, Grows, all_items, head_of};
-ghost use Rattle.bx_listing.specs.Code.{items, code};
+ghost use Rattle.std.specs.Prelude.{◌≡◌, ◌≤◌, ◌+◌, ◌++◌, IfOk, OnOk, None, map, length, option_map, option_and_then, slice_get};
+ghost use Rattle.bx_listing.specs.Code.{items, code, items_of};
+ghost use Rattle.bx_asm.specs.Drafts.{Grows, all_items, head_of, at_number};
 ghost use Rattle.bx_asm.specs.Limits.{first, register_fault, register_faults, count};
+ghost use Rattle.bx_asm.specs.Numbered.{item_of};
 
-use crate::drafts::Draft;
-use crate::instructions::{Instruction, LABEL, LINE, Lookup};
+use crate::lookup::Lookup;
+use crate::numbered::Numbered;
+use crate::numbering::Draft;
 use crate::operands::NumberedItem;
-use crate::sameness::{same_exports, same_heads, same_items};
 use bx_listing::{Export, Function, Import, Listing};
 use bx_terms::{AtomId, Term};
 use indexmap::IndexSet;
@@ -28,7 +27,7 @@ pub struct Head {
 
 /// A module's code as opcode numbers with operands, and the tables of what the operands name.
 ///
-/// A clause sees a unit as the code form that its numbers spell.
+/// A clause sees a unit as the code form that its numbers and tables spell.
 #[derive(Debug, Drop)]
 pub struct Unit {
     name: AtomId,
@@ -42,31 +41,38 @@ pub struct Unit {
 impl Model for Unit {
     ghost use Rattle.std.specs.Prelude.{map};
     ghost use Rattle.bx_listing.specs.Code.{Code, code_code};
+    ghost use Rattle.bx_listing.specs.Items.{item_code};
     ghost use Rattle.bx_terms.specs.contracts.atom_table.AtomId as atom;
     ghost use Rattle.bx_listing.specs.contracts.code_form.Export as export;
-    ghost use Rattle.bx_listing.specs.contracts.items.Item as item;
+    ghost use Rattle.bx_ops.specs.contracts.opcode.Op as op;
+    ghost use Rattle.bx_listing.specs.contracts.items.Operand as operand;
 
     ghost Value = { Code };
 
-    ghost coded = { code_code atom.the_row.coded export.the_row.coded item.the_row.coded };
+    ghost coded = { code_code atom.the_row.coded export.the_row.coded (item_code op.the_row.coded operand.the_row.coded) };
 
-    ghost use Rattle.bx_asm.specs.Unit.{functions, spelled_item, IsUnit};
+    ghost use Rattle.bx_asm.specs.Spelling.{spelled_item};
+    ghost use Rattle.bx_asm.specs.Unit.{functions, IsUnit};
 
     ghost view = { λ u. record { name = u.name; exports = u.exports.items; functions = functions u.heads.items (map (spelled_item (record { literals = u.literals.items; imports = u.imports.keys })) u.items.items) } };
 
-    ghost invariant = { λ u. IsUnit (record { literals = u.literals.items; imports = u.imports.keys }) u.heads.items u.items.items };
+    ghost invariant = { λ u. IsUnit u.heads.items u.items.items };
 }
 
 impl Unit {
-    ghost use Rattle.bx_asm.specs.Unit.{code_head};
+    ghost use Rattle.bx_asm.specs.Unit.{code_head, total};
 
-    /// The numbered code of a listing whose sizes and registers are in range.
-    pub(crate) fn of(alloc: Global, listing: &Listing) -> Result<Unit, AllocError>
+    /// The numbered code of a listing whose sizes and registers are in range, which calls those functions by name.
+    pub(crate) fn of(
+        alloc: Global,
+        listing: &Listing,
+        imports: IndexSet<Import>,
+    ) -> Result<Unit, AllocError>
         requires few { count listing.now.functions ≤ 1000000 }
         requires registers { register_faults listing.now ≡ None }
         ensures { IfOk result (λ u. u ≡ code listing.now) }
     {
-        let mut draft = Draft::new(alloc);
+        let mut draft = Draft::new(alloc, imports);
         let mut heads = Vec::new(alloc);
         add_functions(alloc, &mut draft, &mut heads, listing.functions())?;
         let exports = Vec::from_slice(alloc, listing.exports())?;
@@ -102,7 +108,8 @@ impl Unit {
     /// Its functions, each with how many items are its own, in order.
     #[tactic(auto, using(crate::proofs::Units::heads_of_functions))]
     pub fn functions(&self) -> &[Head]
-        ensures { result.now ≡ map code_head self.now.functions }
+        ensures heads { result.now ≡ map code_head self.now.functions }
+        ensures few { total result.now ≤ 1000000 }
     {
         self.heads.as_slice()
     }
@@ -116,53 +123,25 @@ impl Unit {
         self.items.len()
     }
 
-    /// Whether both hold the same code: the names, the exports, the functions and what their items spell.
-    #[tactic(auto, using(crate::proofs::SameCode::same_code))]
-    pub fn same(&self, other: &Unit) -> bool
-        ensures { IsTrue result ↔ (self.now ≡ other.now) }
-    {
-        self.name() == other.name()
-            && same_exports(self.exports(), other.exports())
-            && same_heads(self.functions(), other.functions())
-            && same_items(self, other)
-    }
-
-    /// The item of this number, from 0, or none past the last.
+    /// The item of this number, from 0; `None` past the last.
     #[inline(always)]
     #[tactic(auto, using(crate::proofs::Units::item_at, crate::proofs::Units::no_item_at))]
-    pub fn instruction(&self, number: usize) -> Option<Instruction<'_>>
+    pub fn item(&self, number: usize) -> Option<Numbered<'_>>
         ensures { option_map item_of result ≡ slice_get (items self.now) number }
     {
         if number >= self.items.len() {
             return None;
         }
-        let lookup = Lookup {
-            literals: &self.literals,
-            imports: &self.imports,
-        };
-        lookup.instruction(&self.items[number])
+        let item = &self.items[number];
+        Some(Numbered {
+            number: item.number,
+            operands: item.operands.as_slice(),
+            tables: Lookup {
+                literals: &self.literals,
+                imports: &self.imports,
+            },
+        })
     }
-
-    /// Whether there is an item of this number, from 0, and it is a mark: a label or a line, and no instruction. It is told
-    /// by the opcode's number alone.
-    #[inline(always)]
-    #[tactic(auto, using(crate::proofs::Marks::mark_here, crate::proofs::Marks::no_mark))]
-    pub fn is_mark(&self, number: usize) -> bool
-        ensures { result ≡ mark_at (items self.now) number }
-    {
-        if number >= self.items.len() {
-            return false;
-        }
-        marks(self.items[number].number)
-    }
-}
-
-/// Whether items of this opcode are marks.
-#[inline(always)]
-fn marks(opcode: u32) -> bool
-    ensures { result ≡ (opcode == 1 || opcode == 153) }
-{
-    opcode == LABEL || opcode == LINE
 }
 
 /// Numbers the items of all functions, and notes how many each has.
@@ -172,17 +151,44 @@ fn add_functions(
     heads: &mut Vec<Head>,
     functions: &[Function],
 ) -> Result<(), AllocError>
-    requires fit { IsFit draft.old }
     requires few { length draft.old.items.items + count functions.now ≤ 1000000 }
     requires registers { first (λ f. first register_fault f.items) functions.now ≡ None }
     ensures items { OnOk result (Grows draft.old draft.new (all_items functions.now)) }
     ensures heads { OnOk result (heads.new.items ≡ heads.old.items ++ map head_of functions.now) }
 {
     for function in functions {
-        draft.add_all(alloc, function.items())?;
+        add_items(alloc, draft, function)?;
         heads.push(make_head(function))?;
     }
     Ok(())
+}
+
+/// Numbers the items of a function.
+fn add_items(alloc: Global, draft: &mut Draft, function: &Function) -> Result<(), AllocError>
+    requires { first register_fault function.now.items ≡ None }
+    ensures { OnOk result (Grows draft.old draft.new (items_of function.now.items)) }
+{
+    for number in 0..function.item_count() {
+        add_item(alloc, draft, function, number)?;
+    }
+    Ok(())
+}
+
+/// Numbers the item of that number, where there is one.
+#[tactic(auto, using(crate::proofs::Growing::registers_there, crate::proofs::Growing::grows_there, crate::proofs::Growing::grows_nowhere))]
+fn add_item(
+    alloc: Global,
+    draft: &mut Draft,
+    function: &Function,
+    number: usize,
+) -> Result<(), AllocError>
+    requires { option_and_then register_fault (slice_get function.now.items number) ≡ None }
+    ensures { OnOk result (Grows draft.old draft.new (at_number number (items_of function.now.items))) }
+{
+    match function.item(number) {
+        Some(item) => draft.add(alloc, item),
+        None => Ok(()),
+    }
 }
 
 /// A function's name and entry, and how many items are its own.
@@ -194,6 +200,6 @@ fn make_head(function: &Function) -> Head
         name: function.name(),
         arity: function.arity(),
         entry: function.entry(),
-        count: function.items().len() as u32,
+        count: function.item_count() as u32,
     }
 }

@@ -1,6 +1,6 @@
 -- The last of the functions.
 use Rattle.std.proofs.Common.{◌≡◌, ℕ, suc, ◌-◌, ◌<◌, List, [], ◌∷◌, ◌++◌, length, get_or, slice_set, ap, ◌∙◌, arith}
-use Rattle.bx_listing.specs.declared.items.Item.{Item}
+use Rattle.bx_listing.specs.Items.{Item}
 use Rattle.bx_listing.specs.ListedCode.{ListedFunction}
 use Rattle.bx_listing.specs.Listing.{with_item}
 

@@ -3,19 +3,20 @@ use Rattle.std.proofs.Common.{◌≡◌, ℕ, List, [], ◌∷◌, ◌++◌, Opt
 use Rattle.std.proofs.lemmas.List.{append-nil}
 use Rattle.bx_terms.specs.declared.atom_table.AtomId.{AtomId}
 use Rattle.bx_text.specs.Tree.{Tree}
-use Rattle.bx_listing.specs.declared.items.Item.{Item}
-use Rattle.bx_listing.specs.declared.items.PlacedItem.{PlacedItem}
+use Rattle.bx_listing.specs.Items.{Item, PlacedItem}
 use Rattle.bx_listing.specs.declared.words.FormWord.{FormWord}
 use Rattle.bx_listing.specs.declared.words.FormWord.TheVariants as words
 use Rattle.bx_listing.specs.Reading.{Table, read, and_then, ◌>>=◌, give, named}
 use Rattle.bx_listing.specs.Shape.{Shape, bare, tagged, other, shape, number, word}
 use Rattle.bx_listing.specs.Words.{form_word}
 use Rattle.bx_listing.specs.HeadForms.{begun, function_form}
-use Rattle.bx_listing.specs.ItemForms.{tagged_item, item}
+use Rattle.bx_listing.specs.Rows.{tuple_item}
+use Rattle.bx_listing.specs.ItemForms.{read_as, item}
 use Rattle.bx_listing.specs.Forms.{Forms, ends, broken, form}
 use Rattle.bx_listing.specs.ListedCode.{ListedFunction}
 use Rattle.bx_listing.specs.Listing.{with_item, with_optional, with_form_item, with_form, part_of, part, functions}
-use Rattle.bx_listing.specs.Listed.{Tuple, IsItem, IsFunction, AreItems, no_more, an_annotation, an_item, AreFunctions, no_function, a_function}
+use Rattle.bx_listing.specs.ListedItems.{Tuple, IsItem}
+use Rattle.bx_listing.specs.Listed.{IsFunction, AreItems, no_more, an_annotation, an_item, AreFunctions, no_function, a_function}
 use Rattle.bx_listing.proofs.GoodReadings.{given, after_read}
 use Rattle.bx_listing.proofs.Written.{Written, FormsWritten}
 use Rattle.bx_listing.proofs.Worded.{IsFormWord, form_word_is}
@@ -164,7 +165,7 @@ item_added line t b c front f i h = by (shape t) h
     as_item : (s : Shape) → (item line s).run b ≡ read c i → (with_form line (front ++ f ∷ []) s).run b ≡ read c (with_optional line i (front ++ f ∷ []))
     as_item s h = ap (λ r. r.run b) (with_some line front f s) ∙ ap (λ o. and_then o (λ i. give (with_optional line i (front ++ f ∷ [])))) h
 
-    of_word : (text : List ℕ) (k : FormWord) (parts : List Tree) → (item line (tagged text parts)).run b ≡ read c i → (tagged_item line text k parts).run b ≡ read c i
+    of_word : (text : List ℕ) (k : FormWord) (parts : List Tree) → (item line (tagged text parts)).run b ≡ read c i → (tuple_item line [] text k parts >>= λ r. give (read_as r)).run b ≡ read c i
         → (part_of line (front ++ f ∷ []) text parts k).run b ≡ read c (with_optional line i (front ++ f ∷ []))
     of_word text words.Function parts h same = absurd (cc)
     of_word text k parts h same = as_item (tagged text parts) h

@@ -10,7 +10,8 @@ use Rattle.bx_listing.specs.Reading.{Table, read, and_then, ◌>>=◌, give, nam
 use Rattle.bx_listing.specs.Shape.{Shape, bare, tagged, other, shape, number, word, list_elements}
 use Rattle.bx_listing.specs.Words.{form_word}
 use Rattle.bx_listing.specs.HeadForms.{bad_form, head, module_of, module_name, offer_in, offer, are_offers, named_offer_of, named_offer, named_offers, offers, exports_of, exports_form, is_attributes_of, is_attributes, is_labels_of, is_labels}
-use Rattle.bx_listing.specs.Listed.{Tuple, Number, IsExport, AreExports, no_export, an_export, IsExports, IsAttributes, IsLabels}
+use Rattle.bx_listing.specs.ListedItems.{Tuple, Number}
+use Rattle.bx_listing.specs.Listed.{IsExport, AreExports, no_export, an_export, IsExports, IsAttributes, IsLabels}
 use Rattle.bx_listing.proofs.GoodReadings.{given, after_read, after_wanted, mapped}
 use Rattle.bx_listing.proofs.Worded.{IsFormWord, form_word_is}
 use Rattle.bx_listing.proofs.ListedOperands.{at_word, names_are, names_read}

@@ -1,7 +1,6 @@
 -- What is read as an operand is one, and is read so wherever it is one.
-use Rattle.std.proofs.Common.{◌≡◌, ℕ, ℤ, Bool, true, false, List, [], ◌∷◌, Option, Some, None, codes, refl, ap, ◌∙◌, if◌then◌else◌}
+use Rattle.std.proofs.Common.{◌≡◌, ℕ, ℤ, Bool, true, false, List, [], ◌∷◌, ◌++◌, Option, Some, None, codes, refl, sym, ap, ◌∙◌, if◌then◌else◌}
 use Rattle.std.specs.Prelude.{option_map, nat_eq}
-use Rattle.std.proofs.lemmas.Bool.Decides.{Decides-eqb}
 use Rattle.bx_terms.specs.declared.atom_table.AtomId.{AtomId}
 use Rattle.bx_terms.specs.declared.faults.Fault.TheVariants as faults
 use Rattle.bx_terms.specs.Naming.{naming}
@@ -9,25 +8,28 @@ use Rattle.bx_terms.specs.Refusals.{at_line}
 use Rattle.bx_terms.specs.Tree as term
 use Rattle.bx_text.specs.Number.{is_large}
 use Rattle.bx_text.specs.Tree.{Tree, integer, atom, tuple, list, nil, cons}
+use Rattle.bx_ops.specs.GuardBifs.{guard_bif_with}
+use Rattle.bx_ops.specs.declared.guard_bif.Bif.{Bif}
+use Rattle.bx_ops.specs.declared.sorts.Sort.{Sort}
+use Rattle.bx_ops.specs.declared.sorts.Sort.TheVariants as sorts
 use Rattle.bx_listing.specs.declared.items.Import.{Import}
-use Rattle.bx_listing.specs.declared.items.Register.{Register}
-use Rattle.bx_listing.specs.declared.items.Register.TheVariants as registers
-use Rattle.bx_listing.specs.declared.items.Source.{Source}
-use Rattle.bx_listing.specs.declared.items.Source.TheVariants as sources
+use Rattle.bx_listing.specs.declared.items.Amount.{Amount}
+use Rattle.bx_listing.specs.declared.items.Operand.{Operand}
+use Rattle.bx_listing.specs.declared.items.Operand.TheVariants as operands
 use Rattle.bx_listing.specs.declared.words.OperandWord.{OperandWord}
 use Rattle.bx_listing.specs.declared.words.OperandWord.TheVariants as words
 use Rattle.bx_listing.specs.Reading.{Table, read, and_then, ◌>>=◌, give, refuse, named, outcome}
 use Rattle.bx_listing.specs.Shape.{Shape, bare, tagged, other, shape, elements, number, word}
 use Rattle.bx_listing.specs.Words.{operand_word}
 use Rattle.bx_listing.specs.Literals.{literal}
-use Rattle.bx_listing.specs.Operands.{operand, untyped, untyped_of, register_of, plain_register, register, label_of, label_in, label, bad_operand, same_arity, import_of, import_in, import, atom_word, atom_of, atom_in, atom_operand, integer_source, source_of, word_source, source_in, source, within_height}
-use Rattle.bx_listing.specs.Listed.{Tuple, Atom, AtomOperand, Target, IsRegister, in_x, in_y, in_typed, IsSource, a_register, an_integer, an_atom, a_nil, a_literal, IsImport}
 use Rattle.bx_listing.specs.ListedTerms.{Names}
-use Rattle.bx_listing.proofs.Rows.{untyped_tagged}
+use Rattle.bx_listing.specs.Operands.{operand, untyped, untyped_of, register_of, plain_register, register, only_y, label_of, label_in, label, bad_operand, callee_of, callee_in, callee, amount_of, amount_in, amount, external, atom_word, atom_of, atom_in, atom_operand, atom_source, integer_source, source_of, word_source, source_in, source, value_of, value_in, value, within_height, fail_label, bif_named, plain, simple}
+use Rattle.bx_listing.proofs.Elements.{untyped_tagged}
 use Rattle.bx_listing.proofs.GoodReadings.{given, after_read, after_wanted, wanted_read, outcome_read, mapped}
 use Rattle.bx_listing.proofs.Written.{Written, parts_written}
 use Rattle.bx_listing.proofs.ListedTerms.{term_is, term_read}
 use Rattle.bx_listing.proofs.Worded.{IsOperandWord, operand_word_is}
+use Rattle.bx_listing.specs.ListedItems.{Tuple, Atom, AtomOperand, IntegerOperand, Target, Number, IsRegister, in_x, in_y, in_typed, IsValue, an_integer, an_atom, IsSource, a_register, a_value, a_nil, a_literal, IsCallee, IsAmount, IsBif, IsNumbered, IsLabelled, IsPlain, IsOperand}
 
 -- a tuple that begins with a word, by what the word is
 pub at_word : (t : Tree) {text word : List ℕ} {parts : List Tree} → shape t ≡ tagged text parts → text ≡ word → Tuple t word parts
@@ -63,21 +65,6 @@ atom_is line t b c a e =
 pub atom_read : (line : ℕ) (t : Tree) (b c : Table) (a : AtomId) → Atom b t a c → (atom_word line t).run b ≡ read c a
 atom_read line t b c a h = ap (λ o. (operand line o >>= named line).run b) h.1 ∙ names_read line h.0 b c a h.2
 
-pub atom_operand_is : (line : ℕ) (t : Tree) (b c : Table) (a : AtomId) → (atom_operand line t).run b ≡ read c a → AtomOperand b t a c
-atom_operand_is line t b c a h = by (shape t) refl h
-  where
-    of_word : (text : List ℕ) (k : OperandWord) (parts : List Tree) → IsOperandWord text k → shape t ≡ tagged text parts → (atom_of line k parts).run b ≡ read c a → AtomOperand b t a c
-    of_word text words.Atom (u ∷ []) is e h = (u, at_word t e is, atom_is line u b c a h)
-    of_word text k parts is e h = absurd (cc)
-
-    by : (s : Shape) → shape t ≡ s → (atom_in line s).run b ≡ read c a → AtomOperand b t a c
-    by (tagged text parts) e h = of_word text (operand_word text) parts (operand_word_is text) e h
-    by (bare text) e h = absurd (cc)
-    by other e h = absurd (cc)
-
-pub atom_operand_read : (line : ℕ) (t : Tree) (b c : Table) (a : AtomId) → AtomOperand b t a c → (atom_operand line t).run b ≡ read c a
-atom_operand_read line t b c a h = ap (λ s. (atom_in line s).run b) h.1 ∙ atom_read line h.0 b c a h.2
-
 pub target_is : (t : Tree) (n : ℕ) → label t ≡ Some n → Target t n
 target_is t n h = by (shape t) refl h
   where
@@ -93,12 +80,12 @@ target_is t n h = by (shape t) refl h
 pub target_read : (t : Tree) (n : ℕ) → Target t n → label t ≡ Some n
 target_read t n h = ap label_in h.1 ∙ h.2
 
-plain_is : (t : Tree) (q : Register) → plain_register (shape t) ≡ Some q → IsRegister t q
-plain_is t q h = by (shape t) refl h
+plain_register_is : (t : Tree) (q : Operand) → plain_register (shape t) ≡ Some q → IsRegister t q
+plain_register_is t q h = by (shape t) refl h
   where
     of_word : (text : List ℕ) (k : OperandWord) (parts : List Tree) → IsOperandWord text k → shape t ≡ tagged text parts → register_of k parts ≡ Some q → IsRegister t q
-    of_word text words.X (n ∷ []) is e h = mapped (IsRegister t) registers.X (number n) q h (λ k at. in_x (at_word t e is) at)
-    of_word text words.Y (n ∷ []) is e h = mapped (IsRegister t) registers.Y (number n) q h (λ k at. in_y (at_word t e is) at)
+    of_word text words.X (n ∷ []) is e h = mapped (IsRegister t) operands.X (number n) q h (λ k at. in_x (at_word t e is) at)
+    of_word text words.Y (n ∷ []) is e h = mapped (IsRegister t) operands.Y (number n) q h (λ k at. in_y (at_word t e is) at)
     of_word text k parts is e h = absurd (cc)
 
     by : (s : Shape) → shape t ≡ s → plain_register s ≡ Some q → IsRegister t q
@@ -107,15 +94,15 @@ plain_is t q h = by (shape t) refl h
     by other e h = absurd (cc)
 
 -- R of `{tr,R,T}`, or the whole
-unwrapped_is : (t inner : Tree) (text : List ℕ) (k : OperandWord) (row : List Tree) (q : Register) → IsOperandWord text k → shape t ≡ tagged text (inner ∷ row)
-    → ((q : Register) → register inner ≡ Some q → IsRegister inner q) → plain_register (shape (untyped_of t k (untyped inner) row)) ≡ Some q → IsRegister t q
+unwrapped_is : (t inner : Tree) (text : List ℕ) (k : OperandWord) (row : List Tree) (q : Operand) → IsOperandWord text k → shape t ≡ tagged text (inner ∷ row)
+    → ((q : Operand) → register inner ≡ Some q → IsRegister inner q) → plain_register (shape (untyped_of t k (untyped inner) row)) ≡ Some q → IsRegister t q
 unwrapped_is t inner text words.Typed (type ∷ []) q is e under h = in_typed (at_word t e is) (under q h)
-unwrapped_is t inner text k row q is e under h = plain_is t q h
+unwrapped_is t inner text k row q is e under h = plain_register_is t q h
 
-pub register_is : (t : Tree) (q : Register) → register t ≡ Some q → IsRegister t q
+pub register_is : (t : Tree) (q : Operand) → register t ≡ Some q → IsRegister t q
 register_is (tuple s (cons (atom r text) (cons inner rest))) q h =
     unwrapped_is (tuple s (cons (atom r text) (cons inner rest))) inner text (operand_word text) (elements rest) q (operand_word_is text) refl (register_is inner) h
-register_is t q h = plain_is t q h
+register_is t q h = plain_register_is t q h
 
 alone_stays : (t inner : Tree) (k : OperandWord) → untyped_of t k inner [] ≡ t
 alone_stays t inner words.Typed = refl
@@ -127,80 +114,98 @@ untyped_alone (tuple s (cons (atom r w) (cons c rest))) n text e =
     ap (untyped_of (tuple s (cons (atom r w) (cons c rest))) (operand_word w) (untyped c)) none ∙ alone_stays (tuple s (cons (atom r w) (cons c rest))) (untyped c) (operand_word w)
 untyped_alone t n text e = absurd (cc)
 
-pub register_read : {t : Tree} {q : Register} → IsRegister t q → register t ≡ Some q
+pub register_read : {t : Tree} {q : Operand} → IsRegister t q → register t ≡ Some q
 register_read (in_x {t = t} {n = n} {k = k} e h) =
-    ap (λ u. plain_register (shape u)) (untyped_alone t n (codes "x") e) ∙ (ap plain_register e ∙ ap (option_map registers.X) h)
+    ap (λ u. plain_register (shape u)) (untyped_alone t n (codes "x") e) ∙ (ap plain_register e ∙ ap (option_map operands.X) h)
 register_read (in_y {t = t} {n = n} {k = k} e h) =
-    ap (λ u. plain_register (shape u)) (untyped_alone t n (codes "y") e) ∙ (ap plain_register e ∙ ap (option_map registers.Y) h)
+    ap (λ u. plain_register (shape u)) (untyped_alone t n (codes "y") e) ∙ (ap plain_register e ∙ ap (option_map operands.Y) h)
 register_read (in_typed {t = t} {inner = inner} {type = type} e h) =
     ap (λ u. plain_register (shape u)) (untyped_tagged t inner type (codes "tr") e) ∙ register_read h
 
--- the two arities agree
-abbrev pub SameArity : Table → ℕ → Tree → Import → Table → Type 0
-SameArity before arity t i behind = IsImport before t i behind × (arity ≡ i.arity)
+-- the atom of `{atom,A}`
+source_atom_is : (line : ℕ) (t u : Tree) (b c : Table) (x : Operand) → Tuple t (codes "atom") (u ∷ []) → (atom_source line u).run b ≡ read c x → AtomOperand b t x c
+source_atom_is line t u b c x e h =
+    after_read ((atom_word line u).run b) (λ a. give (operands.Atom a)) c x (λ d y e1 h1.
+    given (λ x c. AtomOperand b t x c) (operands.Atom y) x d c h1 (u, y, e, atom_is line u b d y e1, refl)) h
 
-pub import_is : (line arity : ℕ) (t : Tree) (b c : Table) (i : Import) → (import line arity t).run b ≡ read c i → SameArity b arity t i c
-import_is line arity t b c i h = by (shape t) refl h
+source_atom_read : (line : ℕ) (u : Tree) (b c : Table) (a : AtomId) → Atom b u a c → (atom_source line u).run b ≡ read c (operands.Atom a)
+source_atom_read line u b c a h = ap (λ o. and_then o (λ a. give (operands.Atom a))) (atom_read line u b c a h)
+
+pub atom_operand_is : (line : ℕ) (t : Tree) (b c : Table) (x : Operand) → (atom_operand line t).run b ≡ read c x → AtomOperand b t x c
+atom_operand_is line t b c x h = by (shape t) refl h
   where
-    same : (j : Import) (d : Table) (yes : Bool) → (yes ≡ true → arity ≡ j.arity) → IsImport b t j d → (if yes then give j else bad_operand line).run d ≡ read c i → SameArity b arity t i c
-    same j d true is all h = given (SameArity b arity t) j i d c h (all, is refl)
-    same j d false is all h = absurd (cc)
-
-    of_word : (text : List ℕ) (k : OperandWord) (parts : List Tree) → IsOperandWord text k → shape t ≡ tagged text parts → (import_of line arity k parts).run b ≡ read c i → SameArity b arity t i c
-    of_word text words.External (m ∷ f ∷ a ∷ []) is e h =
-        after_read ((atom_word line m).run b) (λ owner. atom_word line f >>= λ function. operand line (number a) >>= λ count. same_arity line arity (record { «module» = owner; function = function; arity = count })) c i (λ b1 owner e1.
-        after_read ((atom_word line f).run b1) (λ function. operand line (number a) >>= λ count. same_arity line arity (record { «module» = owner; function = function; arity = count })) c i (λ b2 function e2.
-        after_wanted (faults.BadOperand line) (number a) (λ count. same_arity line arity (record { «module» = owner; function = function; arity = count })) b2 c i (λ count e3.
-        same (record { «module» = owner; function = function; arity = count }) b2 (nat_eq arity count) (Decides-eqb arity count).0
-        (m, f, a, b1, at_word t e is, atom_is line m b b1 owner e1, atom_is line f b1 b2 function e2, e3)))) h
+    of_word : (text : List ℕ) (k : OperandWord) (parts : List Tree) → IsOperandWord text k → shape t ≡ tagged text parts → (atom_of line k parts).run b ≡ read c x → AtomOperand b t x c
+    of_word text words.Atom (u ∷ []) is e h = source_atom_is line t u b c x (at_word t e is) h
     of_word text k parts is e h = absurd (cc)
 
-    by : (s : Shape) → shape t ≡ s → (import_in line arity s).run b ≡ read c i → SameArity b arity t i c
+    by : (s : Shape) → shape t ≡ s → (atom_in line s).run b ≡ read c x → AtomOperand b t x c
     by (tagged text parts) e h = of_word text (operand_word text) parts (operand_word_is text) e h
     by (bare text) e h = absurd (cc)
     by other e h = absurd (cc)
 
-pub import_read : (line : ℕ) (t : Tree) (b c : Table) (i : Import) → IsImport b t i c → (import line i.arity t).run b ≡ read c i
-import_read line t b c i h =
-    let (m, f, a, between, is, owner, function, count) = h in
-    ap (λ s. (import_in line i.arity s).run b) is
-    ∙ ap (λ o. and_then o (λ owner. atom_word line f >>= λ function. operand line (number a) >>= λ count. same_arity line i.arity (record { «module» = owner; function = function; arity = count }))) (atom_read line m b between i.«module» owner)
-    ∙ ap (λ o. and_then o (λ function. operand line (number a) >>= λ count. same_arity line i.arity (record { «module» = i.«module»; function = function; arity = count }))) (atom_read line f between c i.function function)
-    ∙ ap (λ o. (operand line o >>= λ count. same_arity line i.arity (record { «module» = i.«module»; function = i.function; arity = count })).run c) count
-    ∙ ap (λ (yes : Bool). (if yes then give i else bad_operand line).run c) ((Decides-eqb i.arity i.arity).1 refl)
+pub atom_operand_read : (line : ℕ) (t : Tree) (b c : Table) (x : Operand) → AtomOperand b t x c → (atom_operand line t).run b ≡ read c x
+atom_operand_read line t b c x (u, a, e, h, is) = ap (λ s. (atom_in line s).run b) e ∙ source_atom_read line u b c a h ∙ ap (read c) (sym is)
 
-pub source_is : (line : ℕ) (t : Tree) (b c : Table) (x : Source) → Written t → (source line t).run b ≡ read c x → IsSource b t x c
+-- the integer of `{integer,I}`
+integer_is : (line : ℕ) (t n : Tree) (b c : Table) (x : Operand) → Tuple t (codes "integer") (n ∷ []) → (integer_source line n).run b ≡ read c x → IntegerOperand t x × (b ≡ c)
+integer_is line t (integer s n) b c x e h = whole (is_large n) refl h
+  where
+    whole : (large : Bool) → is_large n ≡ large → ((if large then refuse (faults.LiteralRange line) else give n) >>= λ n. give (operands.Integer n)).run b ≡ read c x → IntegerOperand t x × (b ≡ c)
+    whole true is h = absurd (cc)
+    whole false is h = given (λ x c. IntegerOperand t x × (b ≡ c)) (operands.Integer n) x b c h ((s, n, e, is, refl), refl)
+integer_is line t _ b c x e h = absurd (cc)
+
+integer_read : (line : ℕ) (t : Tree) (b : Table) (x : Operand) → IntegerOperand t x → (n : Tree) → Tuple t (codes "integer") (n ∷ []) → (integer_source line n).run b ≡ read b x
+integer_read line t b x (s, n, e, is, same) m e2 =
+    let here : m ≡ integer s n = cc in
+    ap (λ m. (integer_source line m).run b) here
+    ∙ ap (λ (large : Bool). ((if large then refuse (faults.LiteralRange line) else give n) >>= λ n. give (operands.Integer n)).run b) is
+    ∙ ap (read b) (sym same)
+
+pub value_is : (line : ℕ) (t : Tree) (b c : Table) (x : Operand) → (value line t).run b ≡ read c x → IsValue b t x c
+value_is line t b c x h = by (shape t) refl h
+  where
+    of_integer : (n : Tree) → Tuple t (codes "integer") (n ∷ []) → (integer_source line n).run b ≡ read c x → IsValue b t x c
+    of_integer n e h = let (is, same) = integer_is line t n b c x e h in rw (← same) (an_integer is)
+
+    of_word : (text : List ℕ) (k : OperandWord) (parts : List Tree) → IsOperandWord text k → shape t ≡ tagged text parts → (value_of line k parts).run b ≡ read c x → IsValue b t x c
+    of_word text words.Integer (n ∷ []) is e h = of_integer n (at_word t e is) h
+    of_word text words.Atom (a ∷ []) is e h = an_atom (source_atom_is line t a b c x (at_word t e is) h)
+    of_word text words.Float (f ∷ []) is e h = absurd (cc)
+    of_word text k parts is e h = absurd (cc)
+
+    by : (s : Shape) → shape t ≡ s → (value_in line s).run b ≡ read c x → IsValue b t x c
+    by (tagged text parts) e h = of_word text (operand_word text) parts (operand_word_is text) e h
+    by (bare text) e h = absurd (cc)
+    by other e h = absurd (cc)
+
+pub value_read : (line : ℕ) {b c : Table} {t : Tree} {x : Operand} → IsValue b t x c → (value line t).run b ≡ read c x
+value_read line {b = b} (an_integer {t = t} {o = o} (s, n, e, is, same)) = ap (λ u. (value_in line u).run b) e ∙ integer_read line t b o (s, n, e, is, same) (integer s n) e
+value_read line {b = b} (an_atom {t = t} {o = o} {behind = c} (u, a, e, h, is)) = ap (λ u. (value_in line u).run b) e ∙ source_atom_read line u b c a h ∙ ap (read c) (sym is)
+
+pub source_is : (line : ℕ) (t : Tree) (b c : Table) (x : Operand) → Written t → (source line t).run b ≡ read c x → IsSource b t x c
 source_is line t b c x w h = by (shape t) refl h
   where
-    whole : (n : ℤ) (large : Bool) → is_large n ≡ large → ((if large then refuse (faults.LiteralRange line) else give n) >>= λ n. give (sources.Integer n)).run b ≡ read c x → (is_large n ≡ false → IsSource b t (sources.Integer n) b) → IsSource b t x c
-    whole n true is h k = absurd (cc)
-    whole n false is h k = given (IsSource b t) (sources.Integer n) x b c h (k is)
-
-    of_integer : (n : Tree) → Tuple t (codes "integer") (n ∷ []) → (integer_source line n).run b ≡ read c x → IsSource b t x c
-    of_integer (integer s n) e h = whole n (is_large n) refl h (λ small_n. an_integer e small_n)
-    of_integer _ e h = absurd (cc)
-
     kept : (u : Tree) (d : Table) (o : Option term.Tree) → (literal line u).run b ≡ read d o → Tuple t (codes "literal") (u ∷ []) → (within_height line o).run d ≡ read c x → IsSource b t x c
-    kept u d (Some y) l e h = let found = term_is line u b d y (parts_written w (codes "literal") (u ∷ []) e).0 l in given (IsSource b t) (sources.Literal y) x d c h (a_literal e found.0 found.1)
+    kept u d (Some y) l e h = let found = term_is line u b d y (parts_written w (codes "literal") (u ∷ []) e).0 l in given (IsSource b t) (operands.Literal y) x d c h (a_literal e found.0 found.1)
     kept u d None l e h = absurd (cc)
 
-    as_register : (operand line (option_map sources.Register (register t))).run b ≡ read c x → IsSource b t x c
-    as_register h =
-        wanted_read (IsSource b t) (faults.BadOperand line) (option_map sources.Register (register t)) b c x h (λ y e.
-        mapped (λ y. IsSource b t y b) sources.Register (register t) y e (λ q at. a_register (register_is t q at)))
+    of_integer : (n : Tree) → Tuple t (codes "integer") (n ∷ []) → (integer_source line n).run b ≡ read c x → IsSource b t x c
+    of_integer n e h = let (is, same) = integer_is line t n b c x e h in rw (← same) (a_value (an_integer is))
+
+    as_register : (operand line (register t)).run b ≡ read c x → IsSource b t x c
+    as_register h = wanted_read (IsSource b t) (faults.BadOperand line) (register t) b c x h (λ y e. a_register (register_is t y e))
 
     of_word : (text : List ℕ) (k : OperandWord) (parts : List Tree) → IsOperandWord text k → shape t ≡ tagged text parts → (source_of line t k parts).run b ≡ read c x → IsSource b t x c
     of_word text words.Integer (n ∷ []) is e h = of_integer n (at_word t e is) h
-    of_word text words.Atom (a ∷ []) is e h =
-        after_read ((atom_word line a).run b) (λ a. give (sources.Atom a)) c x (λ d y e1 h1.
-        given (IsSource b t) (sources.Atom y) x d c h1 (an_atom (a, at_word t e is, atom_is line a b d y e1))) h
+    of_word text words.Atom (a ∷ []) is e h = a_value (an_atom (source_atom_is line t a b c x (at_word t e is) h))
     of_word text words.Literal (u ∷ []) is e h =
         after_read ((literal line u).run b) (within_height line) c x (λ d o e1 h1. kept u d o e1 (at_word t e is) h1) h
     of_word text words.Float (f ∷ []) is e h = absurd (cc)
     of_word text k parts is e h = as_register h
 
     of_bare : (text : List ℕ) (k : OperandWord) → IsOperandWord text k → shape t ≡ bare text → (word_source line k).run b ≡ read c x → IsSource b t x c
-    of_bare text words.Nil is e h = given (IsSource b t) sources.Nil x b c h (a_nil (bare_word t text e ∙ ap Some is))
+    of_bare text words.Nil is e h = given (IsSource b t) operands.Nil x b c h (a_nil (bare_word t text e ∙ ap Some is))
     of_bare text k is e h = absurd (cc)
 
     by : (s : Shape) → shape t ≡ s → (source_in line t s).run b ≡ read c x → IsSource b t x c
@@ -209,19 +214,136 @@ source_is line t b c x w h = by (shape t) refl h
     by other e h = absurd (cc)
 
 -- a register stands in a tuple of its own words
-register_tuple : (line : ℕ) {t : Tree} {q : Register} → IsRegister t q → source line t ≡ operand line (option_map sources.Register (register t))
+register_tuple : (line : ℕ) {t : Tree} {q : Operand} → IsRegister t q → source line t ≡ operand line (register t)
 register_tuple line (in_x {t = t} e h) = ap (source_in line t) e
 register_tuple line (in_y {t = t} e h) = ap (source_in line t) e
 register_tuple line (in_typed {t = t} e h) = ap (source_in line t) e
 
-pub source_read : (line : ℕ) {b c : Table} {t : Tree} {x : Source} → IsSource b t x c → (source line t).run b ≡ read c x
+pub source_read : (line : ℕ) {b c : Table} {t : Tree} {x : Operand} → IsSource b t x c → (source line t).run b ≡ read c x
 source_read line {b = b} (a_register {t = t} {r = r} q) =
-    ap (λ s. s.run b) (register_tuple line q) ∙ ap (λ o. (operand line (option_map sources.Register o)).run b) (register_read q)
-source_read line {b = b} (an_integer {t = t} {s = s} {n = n} e is) =
-    ap (λ u. (source_in line t u).run b) e
-    ∙ ap (λ (large : Bool). ((if large then refuse (faults.LiteralRange line) else give n) >>= λ n. give (sources.Integer n)).run b) is
-source_read line {b = b} (an_atom {t = t} {a = a} {behind = c} (u, e, h)) =
-    ap (λ u. (source_in line t u).run b) e ∙ ap (λ o. and_then o (λ a. give (sources.Atom a))) (atom_read line u b c a h)
+    ap (λ s. s.run b) (register_tuple line q) ∙ ap (λ o. (operand line o).run b) (register_read q)
+source_read line {b = b} (a_value {t = t} {o = o} (an_integer (s, n, e, is, same))) = ap (λ u. (source_in line t u).run b) e ∙ integer_read line t b o (s, n, e, is, same) (integer s n) e
+source_read line {b = b} (a_value {t = t} {behind = c} (an_atom (u, a, e, h, is))) = ap (λ s. (source_in line t s).run b) e ∙ source_atom_read line u b c a h ∙ ap (read c) (sym is)
 source_read line {b = b} (a_nil {t = t} e) = ap (λ u. (source_in line t u).run b) (word_bare t (codes "nil") e)
 source_read line {b = b} (a_literal {t = t} {u = u} {x = x} {behind = c} e l low) =
     ap (λ u. (source_in line t u).run b) e ∙ ap (λ o. and_then o (within_height line)) (term_read line u b c x l low)
+
+-- a function of any module
+pub callee_is : (line : ℕ) (t : Tree) (b c : Table) (x : Operand) → (callee line t).run b ≡ read c x → IsCallee b t x c
+callee_is line t b c x h = by (shape t) refl h
+  where
+    of_word : (text : List ℕ) (k : OperandWord) (parts : List Tree) → IsOperandWord text k → shape t ≡ tagged text parts → (callee_of line k parts).run b ≡ read c x → IsCallee b t x c
+    of_word text words.External (m ∷ f ∷ a ∷ []) is e h =
+        after_read ((atom_word line m).run b) (λ owner. atom_word line f >>= λ function. operand line (number a) >>= λ count. give (operands.Import (record { «module» = owner; function = function; arity = count }))) c x (λ b1 owner e1.
+        after_read ((atom_word line f).run b1) (λ function. operand line (number a) >>= λ count. give (operands.Import (record { «module» = owner; function = function; arity = count }))) c x (λ b2 function e2.
+        after_wanted (faults.BadOperand line) (number a) (λ count. give (operands.Import (record { «module» = owner; function = function; arity = count }))) b2 c x (λ count e3 h3.
+        given (λ x c. IsCallee b t x c) (operands.Import (record { «module» = owner; function = function; arity = count })) x b2 c h3
+        (m, f, a, b1, record { «module» = owner; function = function; arity = count }, at_word t e is, atom_is line m b b1 owner e1, atom_is line f b1 b2 function e2, e3, refl)))) h
+    of_word text k parts is e h = absurd (cc)
+
+    by : (s : Shape) → shape t ≡ s → (callee_in line s).run b ≡ read c x → IsCallee b t x c
+    by (tagged text parts) e h = of_word text (operand_word text) parts (operand_word_is text) e h
+    by (bare text) e h = absurd (cc)
+    by other e h = absurd (cc)
+
+pub callee_read : (line : ℕ) (t : Tree) (b c : Table) (x : Operand) → IsCallee b t x c → (callee line t).run b ≡ read c x
+callee_read line t b c x (m, f, a, between, i, is, owner, function, count, same) =
+    ap (λ s. (callee_in line s).run b) is
+    ∙ ap (λ o. and_then o (λ owner. atom_word line f >>= λ function. operand line (number a) >>= λ count. give (operands.Import (record { «module» = owner; function = function; arity = count })))) (atom_read line m b between i.«module» owner)
+    ∙ ap (λ o. and_then o (λ function. operand line (number a) >>= λ count. give (operands.Import (record { «module» = i.«module»; function = function; arity = count })))) (atom_read line f between c i.function function)
+    ∙ ap (λ o. (operand line o >>= λ count. give (operands.Import (record { «module» = i.«module»; function = i.function; arity = count }))).run c) count
+    ∙ ap (read c) (sym same)
+
+-- how much of a kind of heap
+pub amount_is : (line : ℕ) (t : Tree) (b c : Table) (x : Operand) → (amount line t).run b ≡ read c x → IsAmount b t x c
+amount_is line t b c x h = by (shape t) refl h
+  where
+    of_parts : (text : List ℕ) (parts : List Tree) → shape t ≡ tagged text parts → (amount_of line text parts).run b ≡ read c x → IsAmount b t x c
+    of_parts text (n ∷ []) e h =
+        after_read ((named line text).run b) (λ kind. operand line (number n) >>= λ count. give (operands.Amount (record { kind = kind; count = count }))) c x (λ b1 kind e1.
+        after_wanted (faults.BadOperand line) (number n) (λ count. give (operands.Amount (record { kind = kind; count = count }))) b1 c x (λ count e2 h2.
+        given (λ x c. IsAmount b t x c) (operands.Amount (record { kind = kind; count = count })) x b1 c h2
+        (text, n, record { kind = kind; count = count }, e, names_are line text b b1 kind e1, e2, refl))) h
+    of_parts text parts e h = absurd (cc)
+
+    by : (s : Shape) → shape t ≡ s → (amount_in line s).run b ≡ read c x → IsAmount b t x c
+    by (tagged text parts) e h = of_parts text parts e h
+    by (bare text) e h = absurd (cc)
+    by other e h = absurd (cc)
+
+pub amount_read : (line : ℕ) (t : Tree) (b c : Table) (x : Operand) → IsAmount b t x c → (amount line t).run b ≡ read c x
+amount_read line t b c x (text, n, a, is, kind, count, same) =
+    ap (λ s. (amount_in line s).run b) is
+    ∙ ap (λ o. and_then o (λ kind. operand line (number n) >>= λ count. give (operands.Amount (record { kind = kind; count = count })))) (names_read line text b c a.kind kind)
+    ∙ ap (λ o. (operand line o >>= λ count. give (operands.Amount (record { kind = a.kind; count = count }))).run c) count
+    ∙ ap (read c) (sym same)
+
+only_y_is : (o : Option Operand) (x : Operand) → only_y o ≡ Some x → (n : ℕ) × (o ≡ Some (operands.Y n)) × (x ≡ operands.Y n)
+only_y_is (Some (operands.Y n)) x e = let same : x ≡ operands.Y n = cc in (n, refl, same)
+only_y_is (Some _) x e = absurd (cc)
+only_y_is None x e = absurd (cc)
+
+mapped_is : {A : Type 0} (f : A → Operand) (o : Option A) (x : Operand) → option_map f o ≡ Some x → (n : A) × (o ≡ Some n) × (x ≡ f n)
+mapped_is f (Some n) x e = let same : x ≡ f n = cc in (n, refl, same)
+mapped_is f None x e = absurd (cc)
+
+bif_is : (n : ℕ) (o : Option (List ℕ)) (x : Operand) → bif_named n o ≡ Some x → (text : List ℕ) × (bif : Bif) × (o ≡ Some text) × (guard_bif_with text n ≡ Some bif) × (x ≡ operands.Bif bif)
+bif_is n (Some text) x e = let (bif, is, same) = mapped_is operands.Bif (guard_bif_with text n) x e in (text, bif, refl, is, same)
+bif_is n None x e = absurd (cc)
+
+bif_read : (n : ℕ) (t : Tree) (x : Operand) → IsBif n t x → bif_named n (word t) ≡ Some x
+bif_read n t x (text, bif, w, is, same) = ap (bif_named n) w ∙ ap (option_map operands.Bif) is ∙ ap Some (sym same)
+
+labelled_is : (f : ℕ → Operand) (t : Tree) (x : Operand) → option_map f (label t) ≡ Some x → IsLabelled f t x
+labelled_is f t x e = let (n, at, same) = mapped_is f (label t) x e in (n, target_is t n at, same)
+
+labelled_read : (f : ℕ → Operand) (t : Tree) (x : Operand) → IsLabelled f t x → option_map f (label t) ≡ Some x
+labelled_read f t x (n, at, same) = ap (option_map f) (target_read t n at) ∙ ap Some (sym same)
+
+numbered_read : (f : ℕ → Operand) (t : Tree) (x : Operand) → IsNumbered f t x → option_map f (number t) ≡ Some x
+numbered_read f t x (n, at, same) = ap (option_map f) at ∙ ap Some (sym same)
+
+plain_is : (s : Sort) (t : Tree) (x : Operand) → plain s t ≡ Some x → IsPlain s t x
+plain_is sorts.Register t x e = register_is t x e
+plain_is sorts.YRegister t x e = let (n, at, same) = only_y_is (register t) x e in (n, register_is t (operands.Y n) at, same)
+plain_is sorts.Target t x e = labelled_is operands.Label t x e
+plain_is sorts.Fail t x e = labelled_is fail_label t x e
+plain_is sorts.Place t x e = mapped_is operands.Place (number t) x e
+plain_is sorts.Number t x e = mapped_is operands.Number (number t) x e
+plain_is sorts.Arity t x e = mapped_is operands.Arity (number t) x e
+plain_is sorts.Bif0 t x e = bif_is 0 (word t) x e
+plain_is sorts.Bif1 t x e = bif_is 1 (word t) x e
+plain_is sorts.Bif2 t x e = bif_is 2 (word t) x e
+plain_is sorts.Mark t x e = let same : x ≡ operands.Nil = cc in same
+plain_is s t x e = absurd (cc)
+
+plain_read : (s : Sort) (t : Tree) (x : Operand) → IsPlain s t x → plain s t ≡ Some x
+plain_read sorts.Register t x h = register_read h
+plain_read sorts.YRegister t x (n, at, same) = ap only_y (register_read at) ∙ ap Some (sym same)
+plain_read sorts.Target t x h = labelled_read operands.Label t x h
+plain_read sorts.Fail t x h = labelled_read fail_label t x h
+plain_read sorts.Place t x h = numbered_read operands.Place t x h
+plain_read sorts.Number t x h = numbered_read operands.Number t x h
+plain_read sorts.Arity t x h = numbered_read operands.Arity t x h
+plain_read sorts.Bif0 t x h = bif_read 0 t x h
+plain_read sorts.Bif1 t x h = bif_read 1 t x h
+plain_read sorts.Bif2 t x h = bif_read 2 t x h
+plain_read sorts.Mark t x h = ap Some (sym h)
+plain_read s t x h = absurd h
+
+pub operand_is : (line : ℕ) (s : Sort) (t : Tree) (b c : Table) (x : Operand) → Written t → (simple line s t).run b ≡ read c x → IsOperand b s t x c
+operand_is line sorts.Source t b c x w h = source_is line t b c x w h
+operand_is line sorts.Value t b c x w h = value_is line t b c x h
+operand_is line sorts.Atom t b c x w h = atom_operand_is line t b c x h
+operand_is line sorts.Callee t b c x w h = callee_is line t b c x h
+operand_is line sorts.Amount t b c x w h = amount_is line t b c x h
+operand_is line s t b c x w h =
+    wanted_read (λ x c. IsPlain s t x × (b ≡ c)) (faults.BadOperand line) (plain s t) b c x h (λ y e. (plain_is s t y e, refl))
+
+pub operand_read : (line : ℕ) (s : Sort) (t : Tree) (b c : Table) (x : Operand) → IsOperand b s t x c → (simple line s t).run b ≡ read c x
+operand_read line sorts.Source t b c x h = source_read line h
+operand_read line sorts.Value t b c x h = value_read line h
+operand_read line sorts.Atom t b c x h = atom_operand_read line t b c x h
+operand_read line sorts.Callee t b c x h = callee_read line t b c x h
+operand_read line sorts.Amount t b c x h = amount_read line t b c x h
+operand_read line s t b c x (h, same) = ap (λ o. (operand line o).run b) (plain_read s t x h) ∙ ap (λ b. read b x) same

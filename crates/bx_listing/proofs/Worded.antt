@@ -22,13 +22,10 @@ IsFormWord text forms.Attributes = text ≡ codes "attributes"
 IsFormWord text forms.Labels = text ≡ codes "labels"
 IsFormWord text forms.Function = text ≡ codes "function"
 IsFormWord text forms.Annotation = text ≡ codes "%"
-IsFormWord text forms.Label = text ≡ codes "label"
-IsFormWord text forms.Line = text ≡ codes "line"
-IsFormWord text forms.FuncInfo = text ≡ codes "func_info"
-IsFormWord text forms.Move = text ≡ codes "move"
-IsFormWord text forms.Jump = text ≡ codes "jump"
-IsFormWord text forms.Return = text ≡ codes "return"
-IsFormWord text forms.CallExtOnly = text ≡ codes "call_ext_only"
+IsFormWord text forms.Test = text ≡ codes "test"
+IsFormWord text forms.Bif = text ≡ codes "bif"
+IsFormWord text forms.GcBif = text ≡ codes "gc_bif"
+IsFormWord text forms.Raise = text ≡ codes "raise"
 IsFormWord text _ = Unit {0}
 
 abbrev pub IsOperandWord : List ℕ → OperandWord → Type 0
@@ -41,6 +38,8 @@ IsOperandWord text operands.Atom = text ≡ codes "atom"
 IsOperandWord text operands.Nil = text ≡ codes "nil"
 IsOperandWord text operands.Literal = text ≡ codes "literal"
 IsOperandWord text operands.External = text ≡ codes "extfunc"
+IsOperandWord text operands.List = text ≡ codes "list"
+IsOperandWord text operands.Amounts = text ≡ codes "alloc"
 IsOperandWord text _ = Unit {0}
 
 pub form_word_is : (text : List ℕ) → IsFormWord text (form_word text)
@@ -51,16 +50,10 @@ form_word_is text =
     tested (IsFormWord text) text (codes "labels") forms.Labels _ (λ e. e) (
     tested (IsFormWord text) text (codes "function") forms.Function _ (λ e. e) (
     tested (IsFormWord text) text (codes "%") forms.Annotation _ (λ e. e) (
-    tested (IsFormWord text) text (codes "label") forms.Label _ (λ e. e) (
-    tested (IsFormWord text) text (codes "line") forms.Line _ (λ e. e) (
-    tested (IsFormWord text) text (codes "func_info") forms.FuncInfo _ (λ e. e) (
-    tested (IsFormWord text) text (codes "move") forms.Move _ (λ e. e) (
-    tested (IsFormWord text) text (codes "jump") forms.Jump _ (λ e. e) (
-    tested (IsFormWord text) text (codes "return") forms.Return _ (λ e. e) (
-    tested (IsFormWord text) text (codes "call_ext_only") forms.CallExtOnly _ (λ e. e) (
-    tested (IsFormWord text) text (codes "test") forms.Test _ (λ e. tt) (
-    tested (IsFormWord text) text (codes "bif") forms.Bif _ (λ e. tt) (
-    tested (IsFormWord text) text (codes "gc_bif") forms.GcBif _ (λ e. tt) tt)))))))))))))))
+    tested (IsFormWord text) text (codes "test") forms.Test _ (λ e. e) (
+    tested (IsFormWord text) text (codes "bif") forms.Bif _ (λ e. e) (
+    tested (IsFormWord text) text (codes "gc_bif") forms.GcBif _ (λ e. e) (
+    tested (IsFormWord text) text (codes "raise") forms.Raise _ (λ e. e) tt)))))))))
 
 pub operand_word_is : (text : List ℕ) → IsOperandWord text (operand_word text)
 operand_word_is text =
@@ -73,4 +66,6 @@ operand_word_is text =
     tested (IsOperandWord text) text (codes "atom") operands.Atom _ (λ e. e) (
     tested (IsOperandWord text) text (codes "nil") operands.Nil _ (λ e. e) (
     tested (IsOperandWord text) text (codes "literal") operands.Literal _ (λ e. e) (
-    tested (IsOperandWord text) text (codes "extfunc") operands.External _ (λ e. e) tt)))))))))
+    tested (IsOperandWord text) text (codes "extfunc") operands.External _ (λ e. e) (
+    tested (IsOperandWord text) text (codes "list") operands.List _ (λ e. e) (
+    tested (IsOperandWord text) text (codes "alloc") operands.Amounts _ (λ e. e) tt)))))))))))

@@ -5,9 +5,8 @@ use Rattle.std.specs.Prelude.{ℕ, List, map, refl}
 use Rattle.std.specs.List.{flat_map}
 use Rattle.std.specs.Coded.{Coded, code_by, coded×, coded_ℕ, coded_list}
 use Rattle.bx_terms.specs.declared.atom_table.AtomId.{AtomId}
-use Rattle.bx_listing.specs.declared.items.Item.{Item}
-use Rattle.bx_listing.specs.declared.items.PlacedItem.{PlacedItem}
 use Rattle.bx_listing.specs.declared.code_form.Export.{Export}
+use Rattle.bx_listing.specs.Items.{Item, PlacedItem}
 use Rattle.bx_listing.specs.ListedCode.{ListedFunction, ListedModule}
 
 -- a function, its items in order

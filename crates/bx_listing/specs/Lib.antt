@@ -1,3 +1,5 @@
+pub mod Items
+pub mod Stored
 pub mod ListedCode
 pub mod Code
 pub mod Reading
@@ -7,11 +9,16 @@ pub mod Words
 pub mod Literals
 pub mod LiteralRows
 pub mod Operands
+pub mod Ways
+pub mod Formed
+pub mod Rows
 pub mod ItemForms
 pub mod Forms
 pub mod FormsOf
 pub mod HeadForms
 pub mod Listing
 pub mod ListedTerms
+pub mod ListedItems
 pub mod Listed
 pub mod Refused
+pub mod Fits

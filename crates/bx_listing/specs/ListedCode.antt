@@ -2,7 +2,7 @@
 use Rattle.std.specs.Prelude.{ℕ, List, refl}
 use Rattle.std.specs.Coded.{Coded, code_by, coded×, coded_ℕ, coded_list}
 use Rattle.bx_terms.specs.declared.atom_table.AtomId.{AtomId}
-use Rattle.bx_listing.specs.declared.items.PlacedItem.{PlacedItem}
+use Rattle.bx_listing.specs.Items.{PlacedItem}
 use Rattle.bx_listing.specs.declared.code_form.Export.{Export}
 
 -- a function, its items in order

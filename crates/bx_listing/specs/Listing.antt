@@ -7,7 +7,7 @@ use Rattle.bx_terms.specs.declared.atom_table.AtomId.{AtomId}
 use Rattle.bx_text.specs.Tree.{Tree, span_of}
 use Rattle.bx_text.specs.Place.{Place}
 use Rattle.bx_listing.specs.declared.code_form.Export.{Export}
-use Rattle.bx_listing.specs.declared.items.Item.{Item}
+use Rattle.bx_listing.specs.Items.{Item}
 use Rattle.bx_listing.specs.declared.words.FormWord.{FormWord}
 use Rattle.bx_listing.specs.declared.words.FormWord.TheVariants as words
 use Rattle.bx_listing.specs.Reading.{Reading, ◌>>=◌, from_result, give, refuse, named}

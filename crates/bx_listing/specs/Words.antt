@@ -5,6 +5,7 @@ use Rattle.bx_listing.specs.declared.words.FormWord.TheVariants as forms
 use Rattle.bx_listing.specs.declared.words.OperandWord.{OperandWord}
 use Rattle.bx_listing.specs.declared.words.OperandWord.TheVariants as operands
 
+-- the words of the head and of functions, those that set a way of writing apart, and the others, as the names of opcodes are
 abbrev pub form_word : List ℕ → FormWord
 form_word word =
     if bytes_eq word (codes "module") then forms.Module
@@ -13,17 +14,11 @@ form_word word =
     else if bytes_eq word (codes "labels") then forms.Labels
     else if bytes_eq word (codes "function") then forms.Function
     else if bytes_eq word (codes "%") then forms.Annotation
-    else if bytes_eq word (codes "label") then forms.Label
-    else if bytes_eq word (codes "line") then forms.Line
-    else if bytes_eq word (codes "func_info") then forms.FuncInfo
-    else if bytes_eq word (codes "move") then forms.Move
-    else if bytes_eq word (codes "jump") then forms.Jump
-    else if bytes_eq word (codes "return") then forms.Return
-    else if bytes_eq word (codes "call_ext_only") then forms.CallExtOnly
     else if bytes_eq word (codes "test") then forms.Test
     else if bytes_eq word (codes "bif") then forms.Bif
     else if bytes_eq word (codes "gc_bif") then forms.GcBif
-    else forms.Unknown
+    else if bytes_eq word (codes "raise") then forms.Raise
+    else forms.Named
 
 -- `tr` stands before a register whose type is known, and `extfunc` before a function of any module
 abbrev pub operand_word : List ℕ → OperandWord
@@ -38,4 +33,6 @@ operand_word word =
     else if bytes_eq word (codes "nil") then operands.Nil
     else if bytes_eq word (codes "literal") then operands.Literal
     else if bytes_eq word (codes "extfunc") then operands.External
+    else if bytes_eq word (codes "list") then operands.List
+    else if bytes_eq word (codes "alloc") then operands.Amounts
     else operands.Unknown

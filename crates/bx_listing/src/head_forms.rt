@@ -5,7 +5,8 @@ ghost use Rattle.bx_listing.specs.HeadForms.{module_name, offer, are_offers, nam
 ghost use Rattle.bx_listing.specs.Seen.{seen};
 ghost use Rattle.bx_listing.specs.Reading.{Reads};
 
-use crate::code_form::{Export, Function};
+use crate::code_form::Export;
+use crate::listing::Function;
 use crate::operands::name_atom;
 use crate::shapes::{Shape, list_elements, number, shape_of, word};
 use crate::words::{FormWord, form_word};

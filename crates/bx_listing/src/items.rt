@@ -1,49 +1,14 @@
-//! Instructions and marks as a listing writes them.
+//! Instructions and marks as a listing writes them: an opcode with a row of operands.
 //!
 //! Every number is kept as it was read, from 0 to 4294967295; which of them are in range is asked when code is assembled.
 
-ghost use Rattle.std.specs.Prelude.{◌≡◌, ◌↔◌, IsTrue};
+ghost use Rattle.std.specs.Prelude.{◌≡◌, ◌↔◌, IsTrue, IfOk};
+ghost use Rattle.bx_listing.specs.Items.{seen_item};
 
+use bx_ops::{Bif, Op};
+use bx_share::{Same, same_rows};
 use bx_terms::{AtomId, Term};
-
-/// A register, by its number.
-///
-/// Source: The BEAM Book, "The Registers".
-#[derive(Clone, Copy, Debug, PartialEq, Eq)]
-pub enum Register {
-    /// A register of the process.
-    X(u32),
-    /// A register of the top stack frame.
-    Y(u32),
-}
-
-/// What an instruction reads: a register, or a value that stands in the instruction.
-///
-/// A literal that is an integer, an atom or the empty list stays a literal, as it was written.
-#[derive(Debug, Drop)]
-pub enum Source {
-    Register(Register),
-    Integer(i64),
-    Atom(AtomId),
-    Nil,
-    Literal(Term),
-}
-
-impl Source {
-    /// Whether both are the same register or the same value, written in the same way.
-    pub fn same(&self, other: &Source) -> bool
-        ensures { IsTrue result ↔ (self.now ≡ other.now) }
-    {
-        match (self, other) {
-            (Source::Register(register), Source::Register(other)) => register == other,
-            (Source::Integer(value), Source::Integer(other)) => value == other,
-            (Source::Atom(atom), Source::Atom(other)) => atom == other,
-            (Source::Nil, Source::Nil) => true,
-            (Source::Literal(term), Source::Literal(other)) => term.same(other),
-            _ => false,
-        }
-    }
-}
+use std::alloc::{AllocError, Global};
 
 /// A function that is called by its name, in whichever module it stands.
 #[derive(Clone, Copy, Debug, PartialEq, Eq, Hash)]
@@ -53,103 +18,109 @@ pub struct Import {
     pub arity: u32,
 }
 
-/// What becomes of the caller's stack frame and of the place to return to.
+/// How much of a kind of heap an instruction asks for.
 #[derive(Clone, Copy, Debug, PartialEq, Eq)]
-pub enum CallKind {
-    /// There is no frame; the callee returns to where the caller would have.
-    Only,
+pub struct Amount {
+    pub kind: AtomId,
+    pub count: u32,
 }
 
-/// One item of a function: an instruction, a label or a line mark.
+/// An operand. What stands in a list follows the list's length.
 ///
-/// Each variant is one form in which items are written, and never one name: all tests will share a variant, and so will
-/// all calls of a function by its name. What differs between the names of one form is an operand.
-///
-/// Source: `genop.tab` of Erlang/OTP.
+/// Source: `genop.tab` of Erlang/OTP, and The BEAM Book, "The Registers".
 #[derive(Debug, Drop)]
-pub enum Item {
-    /// `{label,N}`: a place to go to.
+pub enum Operand {
+    /// A register of the process.
+    X(u32),
+    /// A register of the top stack frame.
+    Y(u32),
+    Integer(i64),
+    Atom(AtomId),
+    Nil,
+    /// A literal that is an integer, an atom or the empty list stays a literal, as it was written.
+    Literal(Term),
+    /// A label to go to.
     Label(u32),
-    /// `{line,T}`: a mark of the source line, whose operand is dropped.
-    Line,
-    /// `{func_info,{atom,M},{atom,F},A}`: no clause of the function fits.
-    FuncInfo {
-        module: AtomId,
-        function: AtomId,
-        arity: u32,
-    },
-    /// `{move,S,D}`: the destination gets the source's value.
-    Move {
-        source: Source,
-        destination: Register,
-    },
-    /// `{jump,{f,L}}`: go to the label.
-    Jump(u32),
-    /// `return`: go back to the caller.
-    Return,
-    /// `{call_ext_only,A,{extfunc,M,F,A}}`: call a function by its name.
-    CallExt {
-        kind: CallKind,
-        import: Import,
-    },
+    /// `{f,0}` where no label has to be.
+    NoLabel,
+    /// The number of a label item.
+    Place(u32),
+    /// A plain number.
+    Number(u32),
+    /// A number of arguments.
+    Arity(u32),
+    Import(Import),
+    Bif(Bif),
+    /// A member of `{alloc,[{KIND,N},..]}`.
+    Amount(Amount),
+    /// The operands that follow are the members of a list of so many.
+    List(usize),
 }
 
-impl Item {
-    /// Whether both are of one form, with the same operands.
-    pub fn same(&self, other: &Item) -> bool
-        ensures { IsTrue result ↔ (self.now ≡ other.now) }
-    {
+impl Same for Operand {
+    /// Whether both are the same, written in the same way.
+    fn same(&self, other: &Operand) -> bool {
         match (self, other) {
-            (Item::Label(label), Item::Label(other)) => label == other,
-            (Item::Line, Item::Line) => true,
-            (
-                Item::FuncInfo {
-                    module,
-                    function,
-                    arity,
-                },
-                Item::FuncInfo {
-                    module: other_module,
-                    function: other_function,
-                    arity: other_arity,
-                },
-            ) => module == other_module && function == other_function && arity == other_arity,
-            (
-                Item::Move {
-                    source,
-                    destination,
-                },
-                Item::Move {
-                    source: other_source,
-                    destination: other_destination,
-                },
-            ) => destination == other_destination && source.same(other_source),
-            (Item::Jump(label), Item::Jump(other)) => label == other,
-            (Item::Return, Item::Return) => true,
-            (
-                Item::CallExt { kind, import },
-                Item::CallExt {
-                    kind: other_kind,
-                    import: other_import,
-                },
-            ) => kind == other_kind && import == other_import,
+            (Operand::X(number), Operand::X(other)) => number == other,
+            (Operand::Y(number), Operand::Y(other)) => number == other,
+            (Operand::Integer(value), Operand::Integer(other)) => value == other,
+            (Operand::Atom(atom), Operand::Atom(other)) => atom == other,
+            (Operand::Nil, Operand::Nil) => true,
+            (Operand::Literal(term), Operand::Literal(other)) => term.same(other),
+            (Operand::Label(label), Operand::Label(other)) => label == other,
+            (Operand::NoLabel, Operand::NoLabel) => true,
+            (Operand::Place(label), Operand::Place(other)) => label == other,
+            (Operand::Number(number), Operand::Number(other)) => number == other,
+            (Operand::Arity(number), Operand::Arity(other)) => number == other,
+            (Operand::Import(import), Operand::Import(other)) => import == other,
+            (Operand::Bif(bif), Operand::Bif(other)) => bif == other,
+            (Operand::Amount(amount), Operand::Amount(other)) => amount == other,
+            (Operand::List(count), Operand::List(other)) => count == other,
             _ => false,
         }
     }
 }
 
-/// An item, and the line from 1 on which its form begins.
-#[derive(Debug, Drop)]
-pub struct PlacedItem {
-    pub line: usize,
-    pub item: Item,
+impl Operand {
+    /// The same operand once more; a literal's term is shared.
+    pub fn copy(&self, alloc: Global) -> Result<Operand, AllocError>
+        ensures { IfOk result (λ operand. operand ≡ self.now) }
+    {
+        Ok(match self {
+            Operand::X(number) => Operand::X(*number),
+            Operand::Y(number) => Operand::Y(*number),
+            Operand::Integer(value) => Operand::Integer(*value),
+            Operand::Atom(atom) => Operand::Atom(*atom),
+            Operand::Nil => Operand::Nil,
+            Operand::Literal(term) => Operand::Literal(term.copy(alloc)?),
+            Operand::Label(label) => Operand::Label(*label),
+            Operand::NoLabel => Operand::NoLabel,
+            Operand::Place(label) => Operand::Place(*label),
+            Operand::Number(number) => Operand::Number(*number),
+            Operand::Arity(number) => Operand::Arity(*number),
+            Operand::Import(import) => Operand::Import(*import),
+            Operand::Bif(bif) => Operand::Bif(*bif),
+            Operand::Amount(amount) => Operand::Amount(*amount),
+            Operand::List(count) => Operand::List(*count),
+        })
+    }
 }
 
-impl PlacedItem {
-    /// Whether both are the same item on the same line.
-    pub fn same(&self, other: &PlacedItem) -> bool
-        ensures { IsTrue result ↔ (self.now ≡ other.now) }
+/// An instruction, a label or a line mark: an opcode, and the operands that its row of the table has, in order.
+///
+/// Source: `genop.tab` of Erlang/OTP.
+#[derive(Clone, Copy)]
+pub struct Item<'a> {
+    pub op: Op,
+    pub operands: &'a [Operand],
+}
+
+impl<'a> Item<'a> {
+    /// Whether both have the same opcode and the same operands.
+    #[tactic(auto, using(bx_ops::proofs::Equality::op_same))]
+    pub fn same(self, other: Item<'_>) -> bool
+        ensures { IsTrue result ↔ (seen_item self.entry ≡ seen_item other.entry) }
     {
-        self.line == other.line && self.item.same(&other.item)
+        self.op == other.op && same_rows(self.operands, other.operands)
     }
 }

@@ -3,16 +3,19 @@
 
 mod code_form;
 mod head_forms;
-mod item_forms;
 mod items;
 pub mod laws;
+mod listing;
 mod literals;
 mod operands;
 mod parts;
 mod reading;
+mod rows;
 mod shapes;
+mod ways;
 mod words;
 
-pub use code_form::{Export, Function, Listing};
-pub use items::{CallKind, Import, Item, PlacedItem, Register, Source};
+pub use code_form::{Code, CodeFunction, Export};
+pub use items::{Amount, Import, Item, Operand};
+pub use listing::{Function, Listing, code_of};
 pub use reading::read_listing;

@@ -1,14 +1,16 @@
-//! The operands of instructions.
+//! The operands of instructions, by their sorts.
 
-ghost use Rattle.std.specs.Prelude.{◌≡◌, IfOk};
+ghost use Rattle.std.specs.Prelude.{◌≡◌, IfOk, option_map};
 ghost use Rattle.bx_terms.specs.declared.faults.Fault.TheVariants.{Unsupported};
-ghost use Rattle.bx_listing.specs.Operands.{untyped, register, label, atom_word, atom_operand, integer_source, atom_source, literal_source, source_of, source, external, import};
+ghost use Rattle.bx_listing.specs.Operands.{untyped, register, only_y, label, atom_word, atom_operand, integer_source, atom_source, literal_source, source_of, source, value, external, callee, amount, fail_label, bif_named, plain, simple};
+ghost use Rattle.bx_listing.specs.Shape.{word};
 ghost use Rattle.bx_listing.specs.Reading.{Table, named, Reads};
 
-use crate::items::{Import, Register, Source};
+use crate::items::{Amount, Import, Operand};
 use crate::literals::literal;
 use crate::shapes::{Shape, number, shape_of, word};
 use crate::words::{OperandWord, operand_word};
+use bx_ops::{Sort, bif_by_name};
 use bx_terms::{AtomId, Atoms, Fault, Name};
 use bx_text::{Node, View};
 use std::alloc::{AllocError, Global};
@@ -42,15 +44,25 @@ fn untyped<'v, 'a>(node: &'v Node<'a>) -> &'v Node<'a>
 }
 
 /// The register of `{x,N}` or `{y,N}`, with or without its type.
-pub(crate) fn register(node: &Node) -> Option<Register>
+pub(crate) fn register(node: &Node) -> Option<Operand>
     ensures { result ≡ register node.now }
 {
     let Shape::Tagged(word, [operand]) = shape_of(untyped(node)) else {
         return None;
     };
     match operand_word(word) {
-        OperandWord::X => Some(Register::X(number(operand)?)),
-        OperandWord::Y => Some(Register::Y(number(operand)?)),
+        OperandWord::X => Some(Operand::X(number(operand)?)),
+        OperandWord::Y => Some(Operand::Y(number(operand)?)),
+        _ => None,
+    }
+}
+
+/// The register of `{y,N}`.
+fn y_register(node: &Node) -> Option<Operand>
+    ensures { result ≡ only_y (register node.now) }
+{
+    match register(node) {
+        Some(Operand::Y(number)) => Some(Operand::Y(number)),
         _ => None,
     }
 }
@@ -79,35 +91,30 @@ fn atom_word(alloc: Global, atoms: &mut Atoms, line: usize, node: &Node) -> Resu
 }
 
 /// The atom of `{atom,A}`.
-pub(crate) fn atom_operand(
+fn atom_operand(
     alloc: Global,
     atoms: &mut Atoms,
     line: usize,
     node: &Node,
-) -> Result<AtomId, Fault>
+) -> Result<Operand, Fault>
     ensures { Reads (Unit {0}) (λ atom. atom) atoms.old atoms.new result (atom_operand line node.now) }
 {
     let Shape::Tagged(word, [operand]) = shape_of(node) else {
         return Err(Fault::BadOperand { line });
     };
     match operand_word(word) {
-        OperandWord::Atom => atom_word(alloc, atoms, line, operand),
+        OperandWord::Atom => atom_source(alloc, atoms, line, operand),
         _ => Err(Fault::BadOperand { line }),
     }
 }
 
 /// A register, or a value that stands in the instruction.
-pub(crate) fn source(
-    alloc: Global,
-    atoms: &mut Atoms,
-    line: usize,
-    node: &Node,
-) -> Result<Source, Fault>
+fn source(alloc: Global, atoms: &mut Atoms, line: usize, node: &Node) -> Result<Operand, Fault>
     ensures { Reads (Unit {0}) (λ source. source) atoms.old atoms.new result (source line node.now) }
 {
     match shape_of(node) {
         Shape::Bare(word) => match operand_word(word) {
-            OperandWord::Nil => Ok(Source::Nil),
+            OperandWord::Nil => Ok(Operand::Nil),
             _ => Err(Fault::BadOperand { line }),
         },
         Shape::Tagged(word, parts) => tagged_source(
@@ -130,7 +137,7 @@ fn tagged_source(
     node: &Node,
     word: OperandWord,
     parts: &[Node],
-) -> Result<Source, Fault>
+) -> Result<Operand, Fault>
     ensures { Reads (Unit {0}) (λ source. source) atoms.old atoms.new result (source_of line node.now word parts.now) }
 {
     match (word, parts) {
@@ -138,19 +145,31 @@ fn tagged_source(
         (OperandWord::Atom, [atom]) => atom_source(alloc, atoms, line, atom),
         (OperandWord::Literal, [term]) => literal_source(alloc, atoms, line, term),
         (OperandWord::Float, [_]) => Err(unsupported(alloc, line, "float")?),
-        _ => match register(node) {
-            Some(register) => Ok(Source::Register(register)),
-            None => Err(Fault::BadOperand { line }),
-        },
+        _ => register(node).ok_or(Fault::BadOperand { line }),
+    }
+}
+
+/// An atom or an integer.
+fn value(alloc: Global, atoms: &mut Atoms, line: usize, node: &Node) -> Result<Operand, Fault>
+    ensures { Reads (Unit {0}) (λ value. value) atoms.old atoms.new result (value line node.now) }
+{
+    let Shape::Tagged(word, [operand]) = shape_of(node) else {
+        return Err(Fault::BadOperand { line });
+    };
+    match operand_word(word) {
+        OperandWord::Integer => integer_source(line, operand),
+        OperandWord::Atom => atom_source(alloc, atoms, line, operand),
+        OperandWord::Float => Err(unsupported(alloc, line, "float")?),
+        _ => Err(Fault::BadOperand { line }),
     }
 }
 
 // The integer of `{integer,I}`.
-fn integer_source(line: usize, node: &Node) -> Result<Source, Fault>
+fn integer_source(line: usize, node: &Node) -> Result<Operand, Fault>
     ensures { (texts : Table) → Reads (Unit {0}) (λ source. source) texts texts result (integer_source line node.now) }
 {
     match node.view() {
-        View::Integer(value) => Ok(Source::Integer(value)),
+        View::Integer(value) => Ok(Operand::Integer(value)),
         View::Large(_) => Err(Fault::LiteralRange { line }),
         _ => Err(Fault::BadOperand { line }),
     }
@@ -158,11 +177,11 @@ fn integer_source(line: usize, node: &Node) -> Result<Source, Fault>
 
 // The atom of `{atom,A}`.
 #[tactic(auto, using(crate::proofs::Readings::refuses_first))]
-fn atom_source(alloc: Global, atoms: &mut Atoms, line: usize, node: &Node) -> Result<Source, Fault>
+fn atom_source(alloc: Global, atoms: &mut Atoms, line: usize, node: &Node) -> Result<Operand, Fault>
     ensures { Reads (Unit {0}) (λ source. source) atoms.old atoms.new result (atom_source line node.now) }
 {
     let atom = atom_word(alloc, atoms, line, node)?;
-    Ok(Source::Atom(atom))
+    Ok(Operand::Atom(atom))
 }
 
 // The term of `{literal,T}`.
@@ -172,11 +191,11 @@ fn literal_source(
     atoms: &mut Atoms,
     line: usize,
     node: &Node,
-) -> Result<Source, Fault>
+) -> Result<Operand, Fault>
     ensures { Reads (Unit {0}) (λ source. source) atoms.old atoms.new result (literal_source line node.now) }
 {
     match literal(alloc, atoms, line, node)? {
-        Some(term) => Ok(Source::Literal(term)),
+        Some(term) => Ok(Operand::Literal(term)),
         None => Err(Fault::LiteralRange { line }),
     }
 }
@@ -189,21 +208,15 @@ pub(crate) fn unsupported(alloc: Global, line: usize, name: &str) -> Result<Faul
     Ok(Fault::Unsupported { line, name })
 }
 
-/// The function of `{extfunc,M,F,A}`, which takes `arity` arguments.
-pub(crate) fn import(
-    alloc: Global,
-    atoms: &mut Atoms,
-    line: usize,
-    arity: u32,
-    node: &Node,
-) -> Result<Import, Fault>
-    ensures { Reads (Unit {0}) (λ callee. callee) atoms.old atoms.new result (import line arity node.now) }
+/// The function of `{extfunc,M,F,A}`.
+fn callee(alloc: Global, atoms: &mut Atoms, line: usize, node: &Node) -> Result<Operand, Fault>
+    ensures { Reads (Unit {0}) (λ callee. callee) atoms.old atoms.new result (callee line node.now) }
 {
     let Shape::Tagged(word, [module, function, count]) = shape_of(node) else {
         return Err(Fault::BadOperand { line });
     };
     match operand_word(word) {
-        OperandWord::External => external(alloc, atoms, line, arity, module, function, count),
+        OperandWord::External => external(alloc, atoms, line, module, function, count),
         _ => Err(Fault::BadOperand { line }),
     }
 }
@@ -213,21 +226,91 @@ fn external(
     alloc: Global,
     atoms: &mut Atoms,
     line: usize,
-    arity: u32,
     module: &Node,
     function: &Node,
     count: &Node,
-) -> Result<Import, Fault>
-    ensures { Reads (Unit {0}) (λ callee. callee) atoms.old atoms.new result (external line arity module.now function.now count.now) }
+) -> Result<Operand, Fault>
+    ensures { Reads (Unit {0}) (λ callee. callee) atoms.old atoms.new result (external line module.now function.now count.now) }
 {
     let module = atom_word(alloc, atoms, line, module)?;
     let function = atom_word(alloc, atoms, line, function)?;
     match number(count) {
-        Some(count) if count == arity => Ok(Import {
+        Some(arity) => Ok(Operand::Import(Import {
             module,
             function,
             arity,
-        }),
-        _ => Err(Fault::BadOperand { line }),
+        })),
+        None => Err(Fault::BadOperand { line }),
+    }
+}
+
+/// `{KIND,N}`, which a tuple of two is whose first is an atom.
+#[tactic(auto, using(crate::proofs::Readings::refuses_first))]
+fn amount(alloc: Global, atoms: &mut Atoms, line: usize, node: &Node) -> Result<Operand, Fault>
+    ensures { Reads (Unit {0}) (λ amount. amount) atoms.old atoms.new result (amount line node.now) }
+{
+    let Shape::Tagged(kind, [count]) = shape_of(node) else {
+        return Err(Fault::BadOperand { line });
+    };
+    let kind = name_atom(alloc, atoms, line, kind)?;
+    match number(count) {
+        Some(count) => Ok(Operand::Amount(Amount { kind, count })),
+        None => Err(Fault::BadOperand { line }),
+    }
+}
+
+fn fail_label(node: &Node) -> Option<Operand>
+    ensures { result ≡ option_map fail_label (label node.now) }
+{
+    match label(node)? {
+        0 => Some(Operand::NoLabel),
+        number => Some(Operand::Label(number)),
+    }
+}
+
+/// The guard BIF of this name and so many arguments.
+fn bif(arity: usize, node: &Node) -> Option<Operand>
+    ensures { result ≡ bif_named arity (word node.now) }
+{
+    Some(Operand::Bif(bif_by_name(word(node)?, arity)?))
+}
+
+/// An operand of a sort in which no atom is named.
+fn plain(sort: Sort, node: &Node) -> Option<Operand>
+    ensures { result ≡ plain sort node.now }
+{
+    match sort {
+        Sort::Register => register(node),
+        Sort::YRegister => y_register(node),
+        Sort::Target => Some(Operand::Label(label(node)?)),
+        Sort::Fail => fail_label(node),
+        Sort::Place => Some(Operand::Place(number(node)?)),
+        Sort::Number => Some(Operand::Number(number(node)?)),
+        Sort::Arity => Some(Operand::Arity(number(node)?)),
+        Sort::Bif0 => bif(0, node),
+        Sort::Bif1 => bif(1, node),
+        Sort::Bif2 => bif(2, node),
+        Sort::Mark => Some(Operand::Nil),
+        Sort::Source | Sort::Value | Sort::Atom | Sort::Callee | Sort::Amount => None,
+    }
+}
+
+/// An operand of a sort.
+pub(crate) fn simple(
+    alloc: Global,
+    atoms: &mut Atoms,
+    line: usize,
+    sort: Sort,
+    node: &Node,
+) -> Result<Operand, Fault>
+    ensures { Reads (Unit {0}) (λ operand. operand) atoms.old atoms.new result (simple line sort node.now) }
+{
+    match sort {
+        Sort::Source => source(alloc, atoms, line, node),
+        Sort::Value => value(alloc, atoms, line, node),
+        Sort::Atom => atom_operand(alloc, atoms, line, node),
+        Sort::Callee => callee(alloc, atoms, line, node),
+        Sort::Amount => amount(alloc, atoms, line, node),
+        _ => plain(sort, node).ok_or(Fault::BadOperand { line }),
     }
 }

@@ -2,15 +2,17 @@
 
 ghost use Rattle.std.specs.Prelude.{◌≡◌, OnOk};
 ghost use Rattle.bx_listing.specs.Listing.{with_item, with_optional, part, part_of, with_form_item, with_form, begun_function};
+ghost use Rattle.bx_listing.specs.ItemForms.{read_as, item};
 ghost use Rattle.bx_listing.specs.Seen.{seen};
 ghost use Rattle.bx_listing.specs.Reading.{Reads};
 
-use crate::code_form::Function;
 use crate::head_forms::function_form;
-use crate::item_forms::item;
-use crate::items::{Item, PlacedItem};
+use crate::items::Operand;
+use crate::listing::Function;
+use crate::rows::read_item;
 use crate::shapes::Shape;
 use crate::words::{FormWord, form_word};
+use bx_ops::Op;
 use bx_terms::{Atoms, Fault};
 use bx_text::Node;
 use std::alloc::{AllocError, Global};
@@ -20,6 +22,7 @@ pub(crate) fn part(
     alloc: Global,
     atoms: &mut Atoms,
     functions: &mut Vec<Function>,
+    operands: &mut Vec<Operand>,
     line: usize,
     form: Shape,
 ) -> Result<(), Fault>
@@ -28,12 +31,13 @@ pub(crate) fn part(
     match form {
         Shape::Tagged(text, parts) => match form_word(text) {
             FormWord::Function => begin_function(alloc, atoms, functions, line, parts),
-            _ => add_form(alloc, atoms, functions, line, form),
+            _ => add_form(alloc, atoms, functions, operands, line, form),
         },
-        _ => add_form(alloc, atoms, functions, line, form),
+        _ => add_form(alloc, atoms, functions, operands, line, form),
     }
 }
 
+#[tactic(auto, using(crate::proofs::Readings::refuses_first, crate::proofs::Readings::memory_after))]
 fn begin_function(
     alloc: Global,
     atoms: &mut Atoms,
@@ -53,6 +57,7 @@ fn add_form(
     alloc: Global,
     atoms: &mut Atoms,
     functions: &mut Vec<Function>,
+    operands: &mut Vec<Operand>,
     line: usize,
     form: Shape,
 ) -> Result<(), Fault>
@@ -61,7 +66,7 @@ fn add_form(
     if functions.is_empty() {
         return Err(Fault::BadForm { line });
     }
-    add_form_item(alloc, atoms, functions, line, form)
+    add_form_item(alloc, atoms, functions, operands, line, form)
 }
 
 #[tactic(auto, using(crate::proofs::Readings::refuses_first, crate::proofs::Readings::memory_after))]
@@ -69,29 +74,45 @@ fn add_form_item(
     alloc: Global,
     atoms: &mut Atoms,
     functions: &mut Vec<Function>,
+    operands: &mut Vec<Operand>,
     line: usize,
     form: Shape,
 ) -> Result<(), Fault>
     ensures { Reads (Unit {0}) (λ done. functions.new.items) atoms.old atoms.new result (with_form_item line functions.old.items (seen form.entry)) }
 {
-    let item = item(alloc, atoms, line, form)?;
-    add_item(functions, line, item)?;
+    let op = item(alloc, atoms, operands, line, form)?;
+    add_item(functions, operands, line, op)?;
     Ok(())
+}
+
+/// Reads an item: its opcode, with its operands in place of those that are there; `None` for an annotation.
+fn item(
+    alloc: Global,
+    atoms: &mut Atoms,
+    operands: &mut Vec<Operand>,
+    line: usize,
+    form: Shape,
+) -> Result<Option<Op>, Fault>
+    ensures { Reads (Unit {0}) (λ op. read_as (op, operands.new.items)) atoms.old atoms.new result (item line (seen form.entry)) }
+{
+    operands.clear();
+    read_item(alloc, atoms, line, operands, form)
 }
 
 /// Adds an item to the last function.
 fn add_item(
     functions: &mut Vec<Function>,
+    operands: &mut Vec<Operand>,
     line: usize,
-    item: Option<Item>,
+    op: Option<Op>,
 ) -> Result<(), AllocError>
-    ensures { OnOk result (functions.new.items ≡ with_optional line item functions.old.items) }
+    ensures { OnOk result (functions.new.items ≡ with_optional line (read_as (op, operands.old.items)) functions.old.items) }
 {
-    let Some(item) = item else {
+    let Some(op) = op else {
         return Ok(());
     };
     if let Some(function) = functions.last_mut() {
-        function.add(PlacedItem { line, item })?;
+        function.add(line, op, operands)?;
     }
     Ok(())
 }

@@ -10,8 +10,10 @@ ghost use Rattle.bx_listing.specs.Forms.{next_form, forms, last_line};
 ghost use Rattle.bx_listing.specs.Listing as listings;
 ghost use Rattle.bx_listing.specs.Reading.{Reads};
 
-use crate::code_form::{Export, Function, Listing};
+use crate::code_form::Export;
 use crate::head_forms::{exports_form, is_attributes, is_labels, module_name};
+use crate::items::Operand;
+use crate::listing::{Function, Listing};
 use crate::operands::name_atom;
 use crate::parts::part;
 use crate::shapes::shape_of;
@@ -86,9 +88,10 @@ fn functions(alloc: Global, atoms: &mut Atoms, reader: Reader) -> Result<Vec<Fun
     ensures { Reads (Unit {0}) (λ functions. functions.items) atoms.old atoms.new result (listings.functions [] (forms (place reader.entry))) }
 {
     let mut functions = Vec::new(alloc);
+    let mut operands = Vec::new(alloc);
     let mut here = reader;
     while let Some((form, behind)) = next_form(alloc, here)? {
-        take_form(alloc, atoms, &mut functions, form)?;
+        take_form(alloc, atoms, &mut functions, &mut operands, form)?;
         here = behind;
     }
     Ok(functions)
@@ -98,11 +101,19 @@ fn take_form(
     alloc: Global,
     atoms: &mut Atoms,
     functions: &mut Vec<Function>,
+    operands: &mut Vec<Operand>,
     form: Node,
 ) -> Result<(), Fault>
     ensures { Reads (Unit {0}) (λ done. functions.new.items) atoms.old atoms.new result (listings.part (span_of form.entry).line functions.old.items (shape form.entry)) }
 {
-    part(alloc, atoms, functions, form.span().line, shape_of(&form))
+    part(
+        alloc,
+        atoms,
+        functions,
+        operands,
+        form.span().line,
+        shape_of(&form),
+    )
 }
 
 /// Reads a listing: the forms `{module,M}`, `{exports,[{F,A},..]}`, `{attributes,T}` (which may be missing) and

@@ -12,18 +12,12 @@ pub(crate) enum FormWord {
     Labels,
     Function,
     Annotation,
-    Label,
-    Line,
-    FuncInfo,
-    Move,
-    Jump,
-    Return,
-    CallExtOnly,
     Test,
     Bif,
     GcBif,
-    /// Any other word.
-    Unknown,
+    Raise,
+    /// Any other word, as the names of opcodes are.
+    Named,
 }
 
 /// The word with which an operand begins.
@@ -40,6 +34,9 @@ pub(crate) enum OperandWord {
     Nil,
     Literal,
     External,
+    List,
+    /// `alloc`, of a heap's parts.
+    Amounts,
     /// Any other word.
     Unknown,
 }
@@ -54,17 +51,11 @@ pub(crate) fn form_word(text: &str) -> FormWord
         "labels" => FormWord::Labels,
         "function" => FormWord::Function,
         "%" => FormWord::Annotation,
-        "label" => FormWord::Label,
-        "line" => FormWord::Line,
-        "func_info" => FormWord::FuncInfo,
-        "move" => FormWord::Move,
-        "jump" => FormWord::Jump,
-        "return" => FormWord::Return,
-        "call_ext_only" => FormWord::CallExtOnly,
         "test" => FormWord::Test,
         "bif" => FormWord::Bif,
         "gc_bif" => FormWord::GcBif,
-        _ => FormWord::Unknown,
+        "raise" => FormWord::Raise,
+        _ => FormWord::Named,
     }
 }
 
@@ -82,6 +73,8 @@ pub(crate) fn operand_word(text: &str) -> OperandWord
         "nil" => OperandWord::Nil,
         "literal" => OperandWord::Literal,
         "extfunc" => OperandWord::External,
+        "list" => OperandWord::List,
+        "alloc" => OperandWord::Amounts,
         _ => OperandWord::Unknown,
     }
 }

@@ -5,7 +5,6 @@ pub mod LabelRows
 pub mod LoadLaws
 pub mod NameTests
 pub mod PlaceLaws
-pub mod Rows
-pub mod SameRows
+pub mod SameImages
 pub mod TableRows
 pub mod TargetSteps

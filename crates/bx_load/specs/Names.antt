@@ -2,7 +2,7 @@
 use Rattle.std.specs.Prelude.{ℕ, List, ◌++◌, Option, codes, decimal, slice_get}
 use Rattle.bx_terms.specs.declared.places.Place.{Place}
 use Rattle.bx_terms.specs.Printed.{printed_name}
-use Rattle.bx_asm.specs.Spelling.{◌>>=◌}
+use Rattle.bx_terms.specs.Options.{◌>>=◌}
 use Rattle.bx_load.specs.Image.{Loaded}
 
 -- the name of the module of that number

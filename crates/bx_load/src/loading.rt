@@ -56,7 +56,7 @@ fn has_name(units: &[Unit], name: AtomId) -> bool
 }
 
 /// Whether two modules have one name.
-#[tactic(auto, using(crate::proofs::Rows::drop_next))]
+#[tactic(auto, using(std::proofs::lemmas::List::drop_more))]
 fn has_twice(units: &[Unit]) -> bool
     ensures { result ≡ has_twice units.now }
 {

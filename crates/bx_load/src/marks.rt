@@ -1,9 +1,10 @@
 //! The items of one module: marks, labels and the instructions behind them.
 
-ghost use Rattle.std.specs.Prelude.{◌≡◌, ◌≤◌, ◌<◌, length, option_map, option_and_then, slice_get};
+ghost use Rattle.std.specs.Prelude.{◌≡◌, ◌≤◌, ◌<◌, length, is_some, option_map, option_and_then, slice_get};
 ghost use Rattle.bx_listing.specs.Code.{items};
-ghost use Rattle.bx_asm.specs.Decoded.{item_of};
-ghost use Rattle.bx_asm.specs.Limits.{label_of};
+ghost use Rattle.bx_asm.specs.Decoding.{instruction_of};
+ghost use Rattle.bx_asm.specs.Instructed.{instr_of};
+ghost use Rattle.bx_asm.specs.Marks.{label_of};
 ghost use Rattle.bx_load.specs.Image.{is_mark, at, after_in, unmarked};
 ghost use Rattle.bx_load.specs.Items.{passes_at};
 
@@ -12,19 +13,29 @@ use bx_asm::{Instruction, Unit};
 /// The instruction of that number; none past the last item and at a mark.
 #[inline(always)]
 pub(crate) fn instruction_in(unit: &Unit, number: u32) -> Option<Instruction<'_>>
-    ensures { option_map item_of result ≡ option_and_then unmarked (slice_get (items unit.now) number) }
+    ensures { option_map instr_of result ≡ option_and_then instruction_of (slice_get (items unit.now) number) }
 {
-    if is_mark_at(unit, number) {
-        return None;
-    }
-    unit.instruction(number as usize)
+    unit.item(number as usize)?.instruction()
 }
 
 #[inline(always)]
 pub(crate) fn is_mark_at(unit: &Unit, number: u32) -> bool
     ensures { result ≡ passes_at is_mark (items unit.now) number }
 {
-    unit.is_mark(number as usize)
+    match unit.item(number as usize) {
+        Some(item) => item.is_mark(),
+        None => false,
+    }
+}
+
+/// Whether there is an item of that number that is no mark.
+pub(crate) fn has_instruction_in(unit: &Unit, number: u32) -> bool
+    ensures { result ≡ is_some (option_and_then unmarked (slice_get (items unit.now) number)) }
+{
+    match unit.item(number as usize) {
+        Some(item) => !item.is_mark(),
+        None => false,
+    }
 }
 
 /// The number of the first item from that number on that is no mark, or else the number of items.
@@ -59,8 +70,5 @@ pub(crate) fn after_in(unit: &Unit, number: u32) -> u32
 pub(crate) fn label_at(unit: &Unit, number: u32) -> Option<u32>
     ensures { result ≡ option_and_then label_of (slice_get (items unit.now) number) }
 {
-    match unit.instruction(number as usize)? {
-        Instruction::Label(label) => Some(label),
-        _ => None,
-    }
+    unit.item(number as usize)?.label()
 }

@@ -1,14 +1,14 @@
 //! The instructions.
 
 ghost use Rattle.std.specs.Prelude.{◌≡◌, Ok};
-ghost use Rattle.bx_asm.specs.Decoded.{source_of, register_of};
+ghost use Rattle.bx_asm.specs.Instructed.{source_of};
 ghost use Rattle.bx_proc.specs.Rows.{copied, jump_row, return_row, call_row, MoveTakes, CallTakes};
 ghost use Rattle.bx_proc.specs.Stops.{Turns, Makes};
 
 use crate::parts::Effect;
 use crate::process::Proc;
 use crate::stops::Stop;
-use bx_asm::{CodeRegister, CodeSource};
+use bx_asm::{Register, Source};
 use bx_terms::{Class, Place, Term, Trap, fixed};
 use std::alloc::Global;
 
@@ -19,10 +19,10 @@ impl Proc {
     pub(crate) fn copy_to(
         &mut self,
         alloc: Global,
-        source: CodeSource<'_>,
-        destination: CodeRegister,
+        source: Source<'_>,
+        destination: Register,
     ) -> Result<(), Stop>
-        ensures { Turns (MoveTakes (source_of source.entry) (register_of destination) self.old) self.old self.new result (copied (source_of source.entry) (register_of destination) self.old) }
+        ensures { Turns (MoveTakes (source_of source.entry) destination self.old) self.old self.new result (copied (source_of source.entry) destination self.old) }
     {
         let value = self.value_of(alloc, source)?;
         self.write(destination, value)

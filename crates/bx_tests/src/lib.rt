@@ -1,19 +1,11 @@
-//! Tests of the crates from listings up to the engines, over their public calls alone.
+//! Tests of the crates from worlds up to the engines, over their public calls alone.
 #![tactic(auto)]
 
 #[cfg(test)]
-mod code;
-#[cfg(test)]
 mod engines;
-#[cfg(test)]
-mod listings;
-#[cfg(test)]
-mod loading;
 #[cfg(test)]
 mod reports;
 #[cfg(test)]
 mod samples;
-#[cfg(test)]
-mod texts;
 #[cfg(test)]
 mod worlds;

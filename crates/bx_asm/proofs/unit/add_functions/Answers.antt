@@ -1,7 +1,7 @@
 use Rattle.std.proofs.Common.{◌≡◌, ◌+◌, ◌++◌, List, ◌∷◌, [], length, sym, ap, subst, ◌∙◌, arith}
 use Rattle.std.specs.Prelude.{None}
 use Rattle.std.proofs.lemmas.List.{append-nil, length-map}
-use Rattle.bx_listing.specs.declared.items.PlacedItem.{PlacedItem}
+use Rattle.bx_listing.specs.Items.{PlacedItem}
 use Rattle.bx_listing.specs.Code.{items_of}
 use Rattle.bx_asm.specs.declared.unit.Head.{Head}
 use Rattle.bx_asm.specs.Drafts.{Grows, head_of}
@@ -9,23 +9,9 @@ use Rattle.bx_asm.specs.Limits.{first, register_fault}
 use Rattle.bx_asm.proofs.Growing.{first_none, count_next, grows_none, grows_function, heads_next}
 use Rattle.bx_asm.proofs.unit.add_functions.Goals as goal
 
-pub add_all-requires-clause-registers : goal.add_all-requires-clause-registers
-add_all-requires-clause-registers c =
-    ap (first register_fault) c.items.ensures
-    ∙ (first_none (λ f. first register_fault f.items) c.args.functions.now c.loop-function.function-index c.function-item.result c.loop-function-test.true c.function-item.is c.loop-function.invariant.2).0
-
-pub add_all-requires-clause-fit : goal.add_all-requires-clause-fit
-add_all-requires-clause-fit c = c.loop-function.invariant.0.fits c.requires.fit
-
-pub add_all-requires-clause-room : goal.add_all-requires-clause-room
-add_all-requires-clause-room c =
-    omega (
-      arith,
-      c.loop-function.invariant.3,
-      c.requires.few,
-      ap length c.items.ensures,
-      count_next c.args.functions.now c.loop-function.function-index c.function-item.result c.loop-function-test.true c.function-item.is,
-    )
+pub add_items-requires : goal.add_items-requires
+add_items-requires c =
+    (first_none (λ f. first register_fault f.items) c.args.functions.now c.loop-function.function-index c.function-item.result c.loop-function-test.true c.function-item.is c.loop-function.invariant.2).0
 
 pub make_head-requires : goal.make_head-requires
 make_head-requires c =
@@ -44,8 +30,8 @@ loop-function-preserved c =
     let fs = c.args.functions.now in
     let i = c.loop-function.function-index in
     let f = c.function-item.result in
-    let more : Grows c.loop-function.draft c.add_all.new.self (items_of f.items) = subst (λ ps. Grows c.loop-function.draft c.add_all.new.self (items_of ps)) c.items.ensures c.in_ok-add_all.ensures in (
-      grows_function c.args.draft.now c.loop-function.draft c.add_all.new.self fs i f c.loop-function-test.true c.function-item.is c.loop-function.invariant.0 more,
+    let more : Grows c.loop-function.draft c.add_items.new.draft (items_of f.items) = c.in_ok-add_items.ensures in (
+      grows_function c.args.draft.now c.loop-function.draft c.add_items.new.draft fs i f c.loop-function-test.true c.function-item.is c.loop-function.invariant.0 more,
       c.in_ok-push.ensures.items ∙ ap (λ (h : Head). c.loop-function.heads.items ++ h ∷ []) c.make_head.ensures
           ∙ ap (λ (hs : List Head). hs ++ head_of f ∷ []) c.loop-function.invariant.1
           ∙ sym (heads_next c.args.heads.now.items fs i f c.loop-function-test.true c.function-item.is),

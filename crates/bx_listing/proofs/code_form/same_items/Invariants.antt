@@ -1,6 +1,5 @@
 use Rattle.std.proofs.Common.{◌≡◌, take, length}
 use Rattle.bx_listing.proofs.code_form.same_items.Given as goal
 
--- rows of one length that are the same so far
-abbrev pub invariant-loop-at : goal.invariant-loop-at
-invariant-loop-at l = (length l.xs ≡ length l.ys) × (take l.at l.xs ≡ take l.at l.ys)
+abbrev pub invariant-loop-number : goal.invariant-loop-number
+invariant-loop-number l = (length l.one.items ≡ length l.other.items) × (take l.number l.one.items ≡ take l.number l.other.items)

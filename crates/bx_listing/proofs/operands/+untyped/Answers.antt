@@ -1,5 +1,5 @@
 use Rattle.std.proofs.Common.{sym, ◌∙◌, arith}
-use Rattle.bx_listing.proofs.Rows.{typed_falls, typed_inner}
+use Rattle.bx_listing.proofs.Elements.{typed_falls, typed_inner}
 use Rattle.bx_listing.proofs.operands.+untyped.Goals as goal
 
 pub untyped-requires : goal.untyped-requires

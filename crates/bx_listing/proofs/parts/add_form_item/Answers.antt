@@ -9,4 +9,4 @@ use Rattle.bx_listing.proofs.parts.add_form_item.Goals as goal
 pub returns-in_err-add_item : goal.returns-in_err-add_item
 returns-in_err-add_item c =
     let p = err_from_is_err_and c.from_residual-in_err-add_item.result c.from_residual-in_err-add_item.ensures.1 in
-    rw (p.1, p.2) (memory_after _ _ (item c.args.line (seen c.args.form)) _ (λ i. give (with_optional c.args.line i c.args.functions.now.items)) c.in_ok-item.ensures)
+    rw (p.1, p.2) (memory_after _ _ (item c.args.line (seen c.args.form)) _ (λ i. give (with_optional c.args.line i c.args.functions.now.items)) c.in_ok-op.ensures)

@@ -5,11 +5,11 @@ use Rattle.bx_listing.specs.Forms.{forms}
 use Rattle.bx_listing.specs.Listing as listings
 use Rattle.bx_listing.proofs.reading.functions.Given as goal
 
-abbrev pub invariant-loop-functions : goal.invariant-loop-functions
-invariant-loop-functions l = record {
+abbrev pub invariant-loop-operands : goal.invariant-loop-operands
+invariant-loop-operands l = record {
   so_far : (listings.functions l.functions.items (forms (place l.here))).run l.atoms ≡ (listings.functions [] (forms (place l.fn.reader))).run l.fn.atoms;
   grown : Begins l.fn.atoms l.atoms;
 }
 
-abbrev pub decreases-loop-functions : goal.decreases-loop-functions
-decreases-loop-functions l = length l.here.rest.now
+abbrev pub decreases-loop-operands : goal.decreases-loop-operands
+decreases-loop-operands l = length l.here.rest.now

@@ -1,0 +1,219 @@
+//! Operands looked at where they lie: nothing is copied, and no memory is taken.
+
+ghost use Rattle.std.specs.Prelude.{◌≡◌, Option, option_map};
+ghost use Rattle.bx_asm.specs.Operands.{operand_of, row_of};
+ghost use Rattle.bx_asm.specs.Decoding.{as_source, as_register, as_y, as_label, as_fail, as_place, as_number, as_atom, as_import, as_bif, members, sources_behind, registers_behind, pairs_behind, label_alone, y_alone, source_alone, first_number};
+ghost use Rattle.bx_asm.specs.Instructed.{source_of, sources_of, registers_of, pairs_of};
+ghost use Rattle.bx_asm.specs.Looked.{tables};
+
+use crate::instruction::{Register, Source};
+use crate::members::{Pairs, Sources, YRegisters, source};
+use crate::operands::Operand;
+use bx_listing::Import;
+use bx_ops::Bif;
+use bx_terms::{AtomId, Term};
+use indexmap::IndexSet;
+
+/// The tables that operands name.
+#[derive(Clone, Copy)]
+pub struct Lookup<'a> {
+    pub(crate) literals: &'a [Term],
+    pub(crate) imports: &'a IndexSet<Import>,
+}
+
+impl<'a> Lookup<'a> {
+    #[inline(always)]
+    #[tactic(auto, using(crate::proofs::Readers::source_is))]
+    pub fn source(self, operand: Operand) -> Source<'a>
+        ensures { source_of result ≡ as_source (operand_of (tables self.entry) operand) }
+    {
+        source(self.literals, operand)
+    }
+
+    #[inline(always)]
+    #[tactic(auto, using(crate::proofs::Readers::register_is))]
+    pub fn register(self, operand: Operand) -> Option<Register>
+        ensures { result ≡ as_register (operand_of (tables self.entry) operand) }
+    {
+        match operand {
+            Operand::X(number) => Some(Register::X(number)),
+            Operand::Y(number) => Some(Register::Y(number)),
+            _ => None,
+        }
+    }
+
+    #[inline(always)]
+    #[tactic(auto, using(crate::proofs::Readers::y_is))]
+    pub fn y(self, operand: Operand) -> Option<u16>
+        ensures { result ≡ as_y (operand_of (tables self.entry) operand) }
+    {
+        match operand {
+            Operand::Y(number) => Some(number),
+            _ => None,
+        }
+    }
+
+    #[inline(always)]
+    #[tactic(auto, using(crate::proofs::Readers::label_is))]
+    pub fn label(self, operand: Operand) -> Option<u32>
+        ensures { result ≡ as_label (operand_of (tables self.entry) operand) }
+    {
+        match operand {
+            Operand::Label(label) => Some(label),
+            _ => None,
+        }
+    }
+
+    #[inline(always)]
+    #[tactic(auto, using(crate::proofs::Readers::fail_is))]
+    pub fn fail(self, operand: Operand) -> Option<Option<u32>>
+        ensures { result ≡ as_fail (operand_of (tables self.entry) operand) }
+    {
+        match operand {
+            Operand::Label(label) => Some(Some(label)),
+            Operand::NoLabel => Some(None),
+            _ => None,
+        }
+    }
+
+    #[tactic(auto, using(crate::proofs::Readers::place_is))]
+    pub fn place(self, operand: Operand) -> Option<u32>
+        ensures { result ≡ as_place (operand_of (tables self.entry) operand) }
+    {
+        match operand {
+            Operand::Place(label) => Some(label),
+            _ => None,
+        }
+    }
+
+    #[inline(always)]
+    #[tactic(auto, using(crate::proofs::Readers::number_is))]
+    pub fn number(self, operand: Operand) -> Option<u32>
+        ensures { result ≡ as_number (operand_of (tables self.entry) operand) }
+    {
+        match operand {
+            Operand::Number(number) => Some(number),
+            _ => None,
+        }
+    }
+
+    #[inline(always)]
+    #[tactic(auto, using(crate::proofs::Readers::atom_is))]
+    pub fn atom(self, operand: Operand) -> Option<AtomId>
+        ensures { result ≡ as_atom (operand_of (tables self.entry) operand) }
+    {
+        match operand {
+            Operand::Atom(atom) => Some(atom),
+            _ => None,
+        }
+    }
+
+    #[inline(always)]
+    #[tactic(auto, using(crate::proofs::Readers::bif_is))]
+    pub fn bif(self, operand: Operand) -> Option<Bif>
+        ensures { result ≡ as_bif (operand_of (tables self.entry) operand) }
+    {
+        match operand {
+            Operand::Bif(bif) => Some(bif),
+            _ => None,
+        }
+    }
+
+    #[inline(always)]
+    #[tactic(auto, using(crate::proofs::Readers::import_is))]
+    pub fn import(self, operand: Operand) -> Option<Import>
+        ensures { result ≡ as_import (operand_of (tables self.entry) operand) }
+    {
+        match operand {
+            Operand::Import(number) => self.imports.get_index(number).copied(),
+            _ => None,
+        }
+    }
+
+    /// The members of the list that the row ends in.
+    #[inline(always)]
+    #[tactic(auto, using(crate::proofs::Readers::list_is))]
+    fn members(self, row: &'a [Operand]) -> Option<&'a [Operand]>
+        ensures { option_map (λ os. row_of (tables self.entry) os.now) result ≡ members (row_of (tables self.entry) row.now) }
+    {
+        match row {
+            [Operand::List(_), members @ ..] => Some(members),
+            _ => None,
+        }
+    }
+
+    /// The sources that the row ends in.
+    #[inline(always)]
+    #[tactic(auto, using(crate::proofs::Readers::sources_are))]
+    pub fn sources(self, row: &'a [Operand]) -> Option<Sources<'a>>
+        ensures { option_map sources_of result ≡ sources_behind (row_of (tables self.entry) row.now) }
+    {
+        let operands = self.members(row)?;
+        let literals = self.literals;
+        Some(Sources { operands, literals })
+    }
+
+    /// The y registers that the row ends in.
+    #[inline(always)]
+    #[tactic(auto, using(crate::proofs::Readers::registers_are))]
+    pub fn registers(self, row: &'a [Operand]) -> Option<YRegisters<'a>>
+        ensures { option_map registers_of result ≡ registers_behind (row_of (tables self.entry) row.now) }
+    {
+        let operands = self.members(row)?;
+        Some(YRegisters { operands })
+    }
+
+    /// The keys with labels that the row ends in.
+    #[inline(always)]
+    #[tactic(auto, using(crate::proofs::Readers::pairs_are))]
+    pub fn pairs(self, row: &'a [Operand]) -> Option<Pairs<'a>>
+        ensures { option_map pairs_of result ≡ pairs_behind (row_of (tables self.entry) row.now) }
+    {
+        let operands = self.members(row)?;
+        Some(Pairs { operands })
+    }
+
+    /// The label that is the only operand.
+    #[inline(always)]
+    pub fn label_alone(self, row: &[Operand]) -> Option<u32>
+        ensures { result ≡ label_alone (row_of (tables self.entry) row.now) }
+    {
+        match row {
+            [target] => self.label(*target),
+            _ => None,
+        }
+    }
+
+    /// The y register that is the only operand.
+    #[inline(always)]
+    pub fn y_alone(self, row: &[Operand]) -> Option<u16>
+        ensures { result ≡ y_alone (row_of (tables self.entry) row.now) }
+    {
+        match row {
+            [tag] => self.y(*tag),
+            _ => None,
+        }
+    }
+
+    /// The source that is the only operand.
+    #[inline(always)]
+    pub fn source_alone(self, row: &[Operand]) -> Option<Source<'a>>
+        ensures { option_map source_of result ≡ source_alone (row_of (tables self.entry) row.now) }
+    {
+        match row {
+            [value] => Some(self.source(*value)),
+            _ => None,
+        }
+    }
+
+    /// The number that is the first operand.
+    #[inline(always)]
+    pub fn first_number(self, row: &[Operand]) -> Option<u32>
+        ensures { result ≡ first_number (row_of (tables self.entry) row.now) }
+    {
+        match row {
+            [number, ..] => self.number(*number),
+            _ => None,
+        }
+    }
+}

@@ -1,0 +1,7 @@
+//! Numbered code back to its code form, from the numbers and the tables alone.
+#![tactic(auto)]
+
+mod disassembling;
+mod operands;
+
+pub use disassembling::{disassemble, disassemble_image};

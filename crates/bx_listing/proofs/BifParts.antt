@@ -1,0 +1,28 @@
+-- The parts of a form, as slices of them.
+use Rattle.std.proofs.Common.{◌≡◌, ℕ, suc, ◌<◌, ◌≤◌, ◌-◌, length, take, drop, get_or, List, [], ◌∷◌, refl, sym, ap, ◌∙◌, arith}
+use Rattle.std.proofs.Math.Seq.{take-length}
+use Rattle.bx_text.specs.Tree.{Tree}
+use Rattle.bx_listing.specs.Shape.{word, list_elements}
+use Rattle.bx_listing.specs.Ways.{Formed, bif_form, bif_called, gc_bif_form, gc_bif_called}
+
+all_left : (n k : ℕ) (ts : List Tree) → n ≡ length ts → take n ts ≡ ts
+all_left n k ts e = ap (λ n. take n ts) e ∙ take-length ts
+
+pub bif_parts : (line : ℕ) (ts : List Tree) (b a : Tree) → 3 ≤ length ts → b ≡ get_or ts 0 b → a ≡ get_or ts 2 a
+    → bif_form line ts ≡ bif_called line (take 2 ts) (take 1 (drop 1 ts)) (take (length ts - 3) (drop 3 ts)) (word b) (list_elements a)
+bif_parts line [] b a h p q = absurd (omega (arith, h))
+bif_parts line (x ∷ []) b a h p q = absurd (omega (arith, h))
+bif_parts line (x ∷ y ∷ []) b a h p q = absurd (omega (arith, h))
+bif_parts line (x ∷ y ∷ z ∷ ts) b a h p q =
+    let n : length (x ∷ y ∷ z ∷ ts) - 3 ≡ length ts = omega arith in
+    rw (p, q, all_left _ 0 ts n) refl
+
+pub gc_bif_parts : (line : ℕ) (ts : List Tree) (b a : Tree) → 4 ≤ length ts → b ≡ get_or ts 0 b → a ≡ get_or ts 3 a
+    → gc_bif_form line ts ≡ gc_bif_called line (take 3 ts) (take (length ts - 4) (drop 4 ts)) (word b) (list_elements a)
+gc_bif_parts line [] b a h p q = absurd (omega (arith, h))
+gc_bif_parts line (x ∷ []) b a h p q = absurd (omega (arith, h))
+gc_bif_parts line (x ∷ y ∷ []) b a h p q = absurd (omega (arith, h))
+gc_bif_parts line (x ∷ y ∷ z ∷ []) b a h p q = absurd (omega (arith, h))
+gc_bif_parts line (x ∷ y ∷ z ∷ w ∷ ts) b a h p q =
+    let n : length (x ∷ y ∷ z ∷ w ∷ ts) - 4 ≡ length ts = omega arith in
+    rw (p, q, all_left _ 0 ts n) refl

@@ -1,0 +1,8 @@
+-- What a form shows: its opcode, and the terms that stand as its operands.
+use Rattle.std.specs.Prelude.{List, ◌++◌}
+use Rattle.bx_text.specs.Tree.{Tree}
+use Rattle.bx_ops.specs.declared.opcode.Op.{Op}
+use Rattle.bx_listing.specs.declared.ways.Form.{Form}
+
+abbrev pub formed : Form → Op × List Tree
+formed f = (f.op, f.before.now ++ (f.list.now ++ f.behind.now))

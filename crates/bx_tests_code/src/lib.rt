@@ -1,0 +1,13 @@
+//! Tests of assembling, disassembling and loading, over their public calls alone.
+#![tactic(auto)]
+
+#[cfg(test)]
+mod assembling;
+#[cfg(test)]
+mod disassembling;
+#[cfg(test)]
+mod loading;
+#[cfg(test)]
+mod samples;
+#[cfg(test)]
+mod units;
