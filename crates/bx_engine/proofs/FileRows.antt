@@ -5,9 +5,11 @@ use Rattle.std.proofs.lemmas.List.{drop_more, drop-map, drop-set-lt, drop-drop, 
 use Rattle.bx_listing.specs.Code.{Code}
 use Rattle.bx_listing.specs.Reading.{Table}
 use Rattle.std.specs.Prelude.{IsOk}
+use Rattle.bx_terms.specs.Outcomes.{Gives}
+use Rattle.bx_terms.specs.declared.faults.Fault.{Fault}
 use Rattle.bx_terms.specs.declared.faults.Fault.TheVariants.{Memory}
 use Rattle.bx_engine.specs.declared.failures.Failure.TheVariants.{Refused, Read, Write, Start}
-use Rattle.bx_engine.specs.Units.{ClearBefore, FileGives, FilesGive, ◌>>=◌, unit_in, units_from, units_of}
+use Rattle.bx_engine.specs.Units.{ClearBefore, FileGives, FilesGive, ◌>>=◌, fault_in, in_file, unit_in, units_from, units_of}
 use Rattle.bx_engine.specs.declared.failures.Failure.{Failure}
 
 -- the bytes of the next file
@@ -73,11 +75,19 @@ none_before texts k given now done before = ap (units_from 0 texts []) (sym (app
 -- a fault of the next file, or that it can't be read, is what all files come to
 pub failed_files : {X Y A B : Type 0} (one : X → A) (all : Y → B) (k : ℕ) (failure : Failure) (said : Result A Failure) (clear : ℕ → Type 0) (whole : Result B Failure)
     → FileGives one k (Err failure) said → (said ≡ Err failure → whole ≡ Err failure) → clear k → FilesGive all (Err failure) clear whole
-failed_files one all k (Refused Memory file) said clear whole gives on here = tt
+failed_files one all k (Refused Memory file) said clear whole gives on here = gives
 failed_files one all k (Refused fault file) said clear whole gives on here = on gives
 failed_files one all k (Read file) said clear whole gives on here = subst clear (sym gives) here
 failed_files one all k Write said clear whole gives on here = absurd gives
 failed_files one all k Start said clear whole gives on here = absurd gives
+
+-- the fault of a text is that of its file
+pub fault_of_file : {X A : Type 0} (takes : Type 0) (view : X → A) (n : ℕ) (fault : Fault) (said : Result A Fault) → Gives takes view (Err fault) said → FileGives view n (Err (fault_in n fault)) (in_file n said)
+fault_of_file takes view n Memory said gives = refl
+fault_of_file takes view n fault said gives = ap (in_file n) gives
+
+pub file_fails : {X A : Type 0} (takes : Type 0) (view : X → A) (n : ℕ) (fault : Fault) (failure : Failure) (said : Result A Fault) → Gives takes view (Err fault) said → failure ≡ fault_in n fault → FileGives view n (Err failure) (in_file n said)
+file_fails takes view n fault failure said gives e = subst (λ f. FileGives view n (Err f) (in_file n said)) (sym e) (fault_of_file takes view n fault said gives)
 
 same_length : {A : Type 0} (rem : A → Option (List ℕ)) (old : List A) (given : List (List ℕ)) → map rem old ≡ map (λ text. Some text) given → length given ≡ length old
 same_length rem old given known = sym (length-map given (λ text. Some text)) ∙ ap length (sym known) ∙ length-map old rem

@@ -1,6 +1,6 @@
 -- The text of a failure has no line feed, where the files' names have none.
-use Rattle.std.proofs.Common.{◌≡◌, ◌<◌, ◌≤◌, ◌+◌, ◌/◌, ◌%◌, ◌==◌, ◌&&◌, ℕ, Bool, true, false, true≢false, zero, suc, cond, List, [], ◌∷◌, ◌++◌, Option, Some, None, arith, ap, codes, decimal, not, refl, sym, nat_lt, nat_le, slice_get}
-use Rattle.std.specs.Prelude.{IfSome}
+use Rattle.std.proofs.Common.{◌≡◌, ◌<◌, ◌≤◌, ◌+◌, ◌/◌, ◌%◌, ◌==◌, ◌∙◌, ◌&&◌, ℕ, Bool, true, false, true≢false, zero, suc, cond, List, [], ◌∷◌, ◌++◌, Option, Some, None, arith, ap, codes, decimal, not, refl, sym, nat_lt, nat_le, slice_get}
+use Rattle.std.specs.Prelude.{IfSome, option_map}
 use Rattle.std.specs.Fmt.{digit_glyph, digits, digits_onto}
 use Rattle.std.specs.List.{list_all}
 use Rattle.std.specs.Option.{option_map_or}
@@ -10,7 +10,7 @@ use Rattle.bx_terms.specs.declared.faults.Fault.{Fault}
 use Rattle.bx_terms.specs.declared.faults.Fault.TheVariants.{TooManyAtoms, AtomTooLong, BadToken, BadTerm, TooDeep, Truncated, NotUtf8, BadForm, Unsupported, BadOperand, LiteralRange, LabelTwice, LabelMissing, EntryMissing, RegisterRange, TooLarge, ModuleTwice, ExportMissing, TooManyModules, NotEnabled, Halted, BeforeStart, AfterEnd, BadLine, NameTwice, TooLong, NotIndependent, NotLeased, Foreign, Twice, Unfinished, NoEntry, BadCommand, Workers, Memory}
 use Rattle.bx_engine.specs.FaultLines.{at_line, counted, detail_of, is_plain, name_at, named, raw_text, spelled, text_of, titled_text}
 use Rattle.bx_engine.specs.Lines.{is_unbroken}
-use Rattle.bx_engine.specs.Refusals.{title_of}
+use Rattle.bx_terms.specs.Refusals.{refusal}
 use Rattle.bx_engine.specs.declared.failures.Failure.{Failure}
 use Rattle.bx_engine.specs.declared.failures.Failure.TheVariants.{Refused, Read, Write, Start}
 
@@ -115,7 +115,7 @@ pub record IsTitle (title : ℕ × List ℕ) : Type 0 where
   pub number : (1 ≤ title.0) × (title.0 ≤ 34)
   pub name : is_unbroken title.1 ≡ true
 
-pub titled : (fault : Fault) → IfSome (title_of fault) IsTitle
+pub titled : (fault : Fault) → IfSome (refusal fault) IsTitle
 titled (TooManyAtoms x) = record { number = (omega arith, omega arith); name = refl }
 titled (AtomTooLong x) = record { number = (omega arith, omega arith); name = refl }
 titled (BadToken x) = record { number = (omega arith, omega arith); name = refl }
@@ -184,7 +184,16 @@ name_stays before (Some i) names a h = go names i h
 
 pub text_stays : (failure : Failure) (names : List (List ℕ)) → list_all is_unbroken names ≡ true → is_unbroken (text_of failure names) ≡ true
 text_stays (Refused fault file) names h =
-    titled_stays (title_of fault) (detail_of fault) (named (codes " in ") (name_at file names)) (titled fault) (detail_stays fault) (name_stays (codes " in ") file names refl h)
+    titled_stays (refusal fault) (detail_of fault) (named (codes " in ") (name_at file names)) (titled fault) (detail_stays fault) (name_stays (codes " in ") file names refl h)
 text_stays (Read file) names h = joined (codes "bxemu: read") (named (codes " ") (name_at (Some file) names)) refl (name_stays (codes " ") (Some file) names refl h)
 text_stays Write names h = refl
 text_stays Start names h = refl
+
+-- the number and the name of a refusal are its row
+pub title_is : (row : Option (ℕ × List ℕ)) (number : ℕ) (name other : List ℕ) → Some number ≡ option_map (λ r. r.0) row → name ≡ option_map_or (λ r. r.1) row other → Some (number, name) ≡ row
+title_is None number name other e f = absurd (cc)
+title_is (Some r) number name other e f = let first : number ≡ r.0 = cc in ap (λ n. Some (n, name)) first ∙ ap (λ t. Some (r.0, t)) f
+
+pub untitled : (row : Option (ℕ × List ℕ)) → None ≡ option_map (λ r. r.0) row → None ≡ row
+untitled None e = refl
+untitled (Some r) e = absurd (cc)

@@ -16,7 +16,7 @@ use Rattle.bx_terms.specs.declared.faults.Fault.TheVariants.{BeforeStart, AfterE
 use Rattle.bx_terms.specs.declared.faults.Fault.TheVariants.{NameTwice, TooLong, NotIndependent}
 use Rattle.bx_terms.specs.declared.faults.Fault.TheVariants.{NotLeased, Foreign, Twice, Unfinished}
 use Rattle.bx_terms.specs.declared.faults.Fault.TheVariants.{NoEntry, BadCommand, Workers, Memory}
-use Rattle.bx_engine.specs.Refusals.{title_of}
+use Rattle.bx_terms.specs.Refusals.{refusal}
 use Rattle.bx_engine.specs.declared.failures.Failure.{Failure}
 use Rattle.bx_engine.specs.declared.failures.Failure.TheVariants.{Refused, Read, Write, Start}
 
@@ -94,7 +94,7 @@ titled_text None detail file = codes "bxemu: memory"
 
 abbrev pub refusal_text : Fault → Option (List ℕ) → List ℕ
 refusal_text fault file =
-    titled_text (title_of fault) (detail_of fault) (named (codes " in ") file)
+    titled_text (refusal fault) (detail_of fault) (named (codes " in ") file)
 
 abbrev pub unread_text : Option (List ℕ) → List ℕ
 unread_text file = codes "bxemu: read" ++ named (codes " ") file
@@ -112,7 +112,7 @@ line_of failure names = text_of failure names ++ codes "\n"
 
 -- 1: an input was refused, 2: a bad start, 3: memory, 4: a file or stream
 abbrev pub status_of : Failure → ℕ
-status_of (Refused fault file) = option_map_or (λ _. 1) (title_of fault) 3
+status_of (Refused fault file) = option_map_or (λ _. 1) (refusal fault) 3
 status_of (Read file) = 4
 status_of Write = 4
 status_of Start = 2

@@ -1,4 +1,3 @@
-pub mod Refusals
 pub mod FaultLines
 pub mod Lines
 pub mod Inputs

@@ -12,7 +12,7 @@ use Rattle.bx_world.specs.Running.{Ended, ran, unchosen}
 use Rattle.bx_world.specs.Seen.{seen}
 use Rattle.bx_board.specs.Texts.{report_lines}
 use Rattle.bx_board.specs.declared.reports.Scheduled.{Scheduled}
-use Rattle.bx_engine.specs.Starts.{start_in}
+use Rattle.bx_engine.specs.Starts.{start_in, token_in}
 use Rattle.bx_engine.specs.Units.{◌>>=◌}
 use Rattle.bx_engine.specs.Loads.{ClearUpTo, image_of, of_no_file, plan_in}
 use Rattle.bx_engine.specs.declared.failures.Failure.{Failure}
@@ -67,13 +67,17 @@ run_of start given planned = or_start (start_in start) >>= λ names. run_behind 
 abbrev pub ClearStart : List ℕ → List (List ℕ) → ℕ → Type 0
 ClearStart start given n = IsSome (start_in start) × ClearUpTo given n
 
+-- an atom begins the start, so that it is read into memory
+abbrev pub TakesMemory : List ℕ → Type 0
+TakesMemory start = IsSome (token_in start 0)
+
 -- What an engine wrote, of whose files the bytes are known: the whole text, or nothing; where the writer failed, nothing is said of how
--- much of the text it took.
-abbrev pub Writes : Option (List ℕ) → Option (List ℕ) → Result (Unit {0}) Failure → (ℕ → Type 0) → Result (List ℕ) Failure → Type 0
-Writes old new (Ok done) clear (Ok text) = Appends old new text
-Writes old new (Ok done) clear (Err failure) = ⊥
-Writes old new (Err (failures.Refused Memory file)) clear said = Keeps old new
-Writes old new (Err (failures.Refused fault file)) clear said = (said ≡ Err (failures.Refused fault file)) × Keeps old new
-Writes old new (Err (failures.Read file)) clear said = clear file × Keeps old new
-Writes old new (Err failures.Write) clear said = IsOk said
-Writes old new (Err failures.Start) clear said = (said ≡ Err failures.Start) × Keeps old new
+-- much of the text it took. Want of memory comes only where `takes` holds, and is no file's fault.
+abbrev pub Writes : Type 0 → Option (List ℕ) → Option (List ℕ) → Result (Unit {0}) Failure → (ℕ → Type 0) → Result (List ℕ) Failure → Type 0
+Writes takes old new (Ok done) clear (Ok text) = Appends old new text
+Writes takes old new (Ok done) clear (Err failure) = ⊥
+Writes takes old new (Err (failures.Refused Memory file)) clear said = takes × (file ≡ None) × Keeps old new
+Writes takes old new (Err (failures.Refused fault file)) clear said = (said ≡ Err (failures.Refused fault file)) × Keeps old new
+Writes takes old new (Err (failures.Read file)) clear said = clear file × Keeps old new
+Writes takes old new (Err failures.Write) clear said = IsOk said
+Writes takes old new (Err failures.Start) clear said = (said ≡ Err failures.Start) × Keeps old new

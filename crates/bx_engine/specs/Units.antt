@@ -1,5 +1,5 @@
 -- The code of the listings in order, or the first fault: each file is read and assembled before the next one is looked at.
-use Rattle.std.specs.Prelude.{◌≡◌, ℕ, ◌+◌, List, [], ◌∷◌, ◌++◌, Some, Result, Ok, Err, IsOk, ⊤, ◌<◌, if◌then◌else◌, length, nat_lt, take}
+use Rattle.std.specs.Prelude.{◌≡◌, ℕ, ◌+◌, List, [], ◌∷◌, ◌++◌, None, Some, Result, Ok, Err, IsOk, ◌<◌, if◌then◌else◌, length, nat_lt, take}
 use Rattle.bx_terms.specs.declared.faults.Fault.{Fault}
 use Rattle.bx_terms.specs.declared.faults.Fault.TheVariants.{TooLarge, Memory}
 use Rattle.bx_text.specs.Place.{place_in}
@@ -18,6 +18,11 @@ infixl 10 ◌>>=◌
 abbrev pub ◌>>=◌ : {A B E : Type 0} → Result A E → (A → Result B E) → Result B E
 (Ok x) >>= f = f x
 (Err e) >>= f = Err e
+
+-- a fault of the file of that number; want of memory is no file's fault
+abbrev pub fault_in : ℕ → Fault → Failure
+fault_in n Memory = Refused Memory None
+fault_in n fault = Refused fault (Some n)
 
 -- the fault of the file of that number
 abbrev pub in_file : {A : Type 0} → ℕ → Result A Fault → Result A Failure
@@ -57,7 +62,7 @@ units_of texts given = units_from 0 texts [] given
 -- The answer for the file of that number: what it comes to, or that it can't be read; want of memory is no file's fault.
 abbrev pub FileGives : {X A : Type 0} → (X → A) → ℕ → Result X Failure → Result A Failure → Type 0
 FileGives view n (Ok x) said = said ≡ Ok (view x)
-FileGives view n (Err (Refused Memory file)) said = ⊤
+FileGives view n (Err (Refused Memory file)) said = file ≡ None
 FileGives view n (Err (Refused fault file)) said = said ≡ Err (Refused fault file)
 FileGives view n (Err (Read file)) said = file ≡ n
 FileGives view n (Err failure) said = ⊥
@@ -66,7 +71,7 @@ FileGives view n (Err failure) said = ⊥
 -- which nothing is at fault, as `clear` says.
 abbrev pub FilesGive : {X A : Type 0} → (X → A) → Result X Failure → (ℕ → Type 0) → Result A Failure → Type 0
 FilesGive view (Ok x) clear said = said ≡ Ok (view x)
-FilesGive view (Err (Refused Memory file)) clear said = ⊤
+FilesGive view (Err (Refused Memory file)) clear said = file ≡ None
 FilesGive view (Err (Refused fault file)) clear said = said ≡ Err (Refused fault file)
 FilesGive view (Err (Read file)) clear said = clear file
 FilesGive view (Err failure) clear said = ⊥

@@ -3,7 +3,8 @@
 ghost use Rattle.std.specs.Prelude.{◌≡◌, ◌++◌, ◌<◌, ◌≤◌, IfOk, OnOk, codes, decimal, length, map, option_map, string_bytes, take, take_while};
 ghost use Rattle.std.specs.Io.KnownBytes.{Appends};
 ghost use Rattle.bx_engine.specs.FaultLines.{counted, detail_of, is_plain, line_of, name_at, named, raw_text, refusal_text, status_of, text_of, unread_text};
-ghost use Rattle.bx_engine.specs.Refusals.{title_of};
+ghost use Rattle.bx_terms.specs.Refusals.{refusal};
+ghost use Rattle.bx_engine.specs.Units.{fault_in};
 
 use bx_terms::Fault;
 use itoa::Buffer;
@@ -39,6 +40,16 @@ impl From<AllocError> for Failure {
 }
 
 impl Failure {
+    /// The fault of the file of that number; want of memory is no file's fault.
+    pub(crate) fn in_file(fault: Fault, file: usize) -> Failure
+        ensures { result ≡ fault_in file fault }
+    {
+        match fault {
+            Fault::Memory => Failure::Refused(Fault::Memory, None),
+            fault => Failure::Refused(fault, Some(file)),
+        }
+    }
+
     /// The status that the program ends with: 1 for a refused input, 2 for a bad start, 3 for want
     /// of memory, 4 for a file or a stream.
     fn status(&self) -> u8
@@ -113,46 +124,12 @@ fn write_unread<W: Write>(file: Option<&str>, writer: &mut W) -> io::Result<()>
 }
 
 /// The refusal's number and name, or `None` for want of memory.
+#[tactic(auto, using(crate::proofs::LineLemmas::title_is, crate::proofs::LineLemmas::untitled))]
 fn title(fault: &Fault) -> Option<(u8, &'static str)>
-    ensures { option_map (λ t. (t.0, t.1.now)) result ≡ title_of fault.now }
+    ensures { option_map (λ t. (t.0, t.1.now)) result ≡ refusal fault.now }
 {
-    Some(match fault {
-        Fault::TooManyAtoms { .. } => (1, "TooManyAtoms"),
-        Fault::AtomTooLong { .. } => (2, "AtomTooLong"),
-        Fault::BadToken { .. } => (3, "BadToken"),
-        Fault::BadTerm { .. } => (4, "BadTerm"),
-        Fault::TooDeep { .. } => (5, "TooDeep"),
-        Fault::Truncated { .. } => (6, "Truncated"),
-        Fault::NotUtf8 { .. } => (7, "NotUtf8"),
-        Fault::BadForm { .. } => (8, "BadForm"),
-        Fault::Unsupported { .. } => (9, "Unsupported"),
-        Fault::BadOperand { .. } => (10, "BadOperand"),
-        Fault::LiteralRange { .. } => (11, "LiteralRange"),
-        Fault::LabelTwice { .. } => (12, "LabelTwice"),
-        Fault::LabelMissing { .. } => (13, "LabelMissing"),
-        Fault::EntryMissing { .. } => (14, "EntryMissing"),
-        Fault::RegisterRange { .. } => (15, "RegisterRange"),
-        Fault::TooLarge => (16, "TooLarge"),
-        Fault::ModuleTwice => (17, "ModuleTwice"),
-        Fault::ExportMissing => (18, "ExportMissing"),
-        Fault::TooManyModules => (19, "TooManyModules"),
-        Fault::NotEnabled => (20, "NotEnabled"),
-        Fault::Halted => (21, "Halted"),
-        Fault::BeforeStart => (22, "BeforeStart"),
-        Fault::AfterEnd => (23, "AfterEnd"),
-        Fault::BadLine { .. } => (24, "BadLine"),
-        Fault::NameTwice { .. } => (25, "NameTwice"),
-        Fault::TooLong { .. } => (26, "TooLong"),
-        Fault::NotIndependent { .. } => (27, "NotIndependent"),
-        Fault::NotLeased => (28, "NotLeased"),
-        Fault::Foreign => (29, "Foreign"),
-        Fault::Twice => (30, "Twice"),
-        Fault::Unfinished => (31, "Unfinished"),
-        Fault::NoEntry => (32, "NoEntry"),
-        Fault::BadCommand { .. } => (33, "BadCommand"),
-        Fault::Workers => (34, "Workers"),
-        Fault::Memory => return None,
-    })
+    let number = fault.number()?;
+    Some((number, fault.name()))
 }
 
 /// Writes a refusal's number and name.
@@ -288,6 +265,3 @@ fn is_plain_code(code: u8) -> bool
 {
     code >= 32 && code != 127
 }
-
-#[cfg(test)]
-mod tests;

@@ -14,6 +14,8 @@ pub const INPUT_LIMIT: usize = 16_777_216;
 /// The most times that a reader is asked for more.
 const MOST_ASKS: u32 = 33_554_434;
 
+const _: () = prove!(MOST_ASKS == 33_554_434);
+
 /// The bytes that a reader is asked for at a time.
 const CHUNK: usize = 65_536;
 
@@ -99,6 +101,3 @@ fn ask<R: Read>(reader: &mut R, chunk: &mut [u8], bytes: &mut Vec<u8>) -> Result
         Err(_) => Err(Unread::Memory),
     }
 }
-
-#[cfg(test)]
-mod tests;

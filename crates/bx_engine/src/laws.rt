@@ -4,7 +4,7 @@ ghost use Rattle.std.specs.List.{list_all};
 ghost use Rattle.bx_engine.specs.FaultLines.{line_of};
 ghost use Rattle.bx_engine.specs.Inputs.{IsUnread, IsWhole, input_limit};
 ghost use Rattle.bx_engine.specs.Lines.{IsLine, is_unbroken};
-ghost use Rattle.bx_engine.specs.Refusals.{title_of};
+ghost use Rattle.bx_terms.specs.Refusals.{refusal};
 ghost use Rattle.bx_engine.specs.declared.failures.Failure.{Failure};
 ghost use Rattle.bx_engine.specs.declared.inputs.Unread.TheVariants.{TooLarge};
 ghost use Rattle.bx_terms.specs.declared.faults.Fault.{Fault};
@@ -17,7 +17,7 @@ pub fn a_failure_is_one_line()
 
 /// A refusal's number is one of 1 to 34.
 pub fn refusals_are_numbered()
-    ensures { (fault : Fault) → IfSome (title_of fault) (λ title. (1 ≤ title.0) × (title.0 ≤ 34)) }
+    ensures { (fault : Fault) → IfSome (refusal fault) (λ title. (1 ≤ title.0) × (title.0 ≤ 34)) }
 {}
 
 /// An input that was read is all that there was, and one that is too large is past the limit.

@@ -43,6 +43,6 @@ pub fn plan_in<R: Read>(alloc: Global, file: usize, reader: &mut R) -> Result<Pl
     };
     match read_plan(alloc, &text) {
         Ok(plan) => Ok(plan),
-        Err(fault) => Err(Failure::Refused(fault, Some(file))),
+        Err(fault) => Err(Failure::in_file(fault, file)),
     }
 }

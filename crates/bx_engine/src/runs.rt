@@ -1,13 +1,13 @@
 //! `run`: the report of a plan's schedules, each run alone from the start.
 
-ghost use Rattle.std.specs.Prelude.{⊤, ◌≡◌, ◌⊎◌, ◌++◌, ◌∷◌, [], List, ℕ, Ok, OnOk, IfErr, Some, map, option_map, slice_get, string_bytes};
+ghost use Rattle.std.specs.Prelude.{⊤, ◌≡◌, ◌⊎◌, ◌++◌, ◌∷◌, [], List, ℕ, Ok, OnOk, IfErr, IsOk, Some, map, option_map, slice_get, string_bytes};
 ghost use Rattle.std.specs.Io.KnownBytes.{Keeps};
 ghost use Rattle.bx_terms.specs.Outcomes.{Gives};
 ghost use Rattle.bx_plan.specs.Planned.{schedules};
 ghost use Rattle.bx_world.specs.Running.{ran, unchosen};
 ghost use Rattle.bx_engine.specs.Loads.{ClearUpTo};
 ghost use Rattle.bx_engine.specs.Units.{FilesGive};
-ghost use Rattle.bx_engine.specs.Runs.{ClearStart, Writes, report_in, reported, run_behind, run_of, scheduled, world_at};
+ghost use Rattle.bx_engine.specs.Runs.{ClearStart, TakesMemory, Writes, report_in, reported, run_behind, run_of, scheduled, world_at};
 
 use crate::failures::Failure;
 use crate::loads::{image_of, plan_in};
@@ -24,7 +24,7 @@ use std::io::{Read, Write};
 
 /// The world at the start that was named; `NoEntry` where the module does not export that function of no arguments.
 fn world_at(alloc: Global, image: &Image, start: &Start) -> Result<RcWorld, Fault>
-    ensures { Gives ⊤ (λ world. world) result (world_at image.now start.now) }
+    ensures { Gives (IsOk (world_at image.now start.now)) (λ world. world) result (world_at image.now start.now) }
 {
     let atoms = image.atoms();
     let (Some(module), Some(function)) = (atoms.find(start.module()), atoms.find(start.function()))
@@ -122,7 +122,8 @@ fn keep(report: &mut Report, one: Scheduled) -> Result<(), AllocError>
 
 /// The text of the report of the plan's schedules, each run alone from the start.
 fn report_of(alloc: Global, image: &Image, start: &Start, plan: &Plan) -> Result<String, Fault>
-    ensures { Gives ⊤ (λ text. string_bytes text) result (report_in image.now start.now (schedules plan.now)) }
+    ensures { Gives (IsOk (world_at image.now start.now)) (λ text. string_bytes text) result
+        (report_in image.now start.now (schedules plan.now)) }
 {
     let world = world_at(alloc, image, start)?;
     let report = reported(alloc, image, &world, plan)?;
@@ -158,8 +159,8 @@ fn text_of<R: Read>(
 ///
 /// The failure is the first of these: the start is no such thing; a listing, in the order given, can't be read or is refused when it
 /// is read or assembled; the listings can't be loaded together; the plan can't be read or is refused; `NoEntry`, where the module
-/// does not export that function of no arguments. Nothing is written then, whatever the readers are. Want of memory may come at any time before the text is
-/// whole, and only where memory was refused.
+/// does not export that function of no arguments. Nothing is written then, whatever the readers are. Want of memory may come at any
+/// time between the first atom of the start and the whole text, and is no file's fault.
 pub fn run_text<R: Read, W: Write>(
     alloc: Global,
     listings: &mut [R],
@@ -168,7 +169,7 @@ pub fn run_text<R: Read, W: Write>(
     writer: &mut W,
 ) -> Result<(), Failure>
     ensures written { (given : List (List ℕ)) → (planned : List ℕ) → map R.remaining listings.old ≡ map (λ text. Some text) given → R.remaining plan.old ≡ Some planned
-        → Writes (W.contents writer.old) (W.contents writer.new) result (ClearStart start.now given) (run_of start.now given planned) }
+        → Writes (TakesMemory start.now) (W.contents writer.old) (W.contents writer.new) result (ClearStart start.now given) (run_of start.now given planned) }
     ensures unwritten { IfErr result (λ failure. (failure ≡ Failure.Write) ⊎ Keeps (W.contents writer.old) (W.contents writer.new)) }
 {
     let start = match start_of(alloc, start) {

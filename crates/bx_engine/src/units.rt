@@ -43,7 +43,7 @@ fn unit_in(alloc: Global, atoms: &mut Atoms, file: usize, text: &[u8]) -> Result
 {
     match unit_of(alloc, atoms, text) {
         Ok(unit) => Ok(unit),
-        Err(fault) => Err(Failure::Refused(fault, Some(file))),
+        Err(fault) => Err(Failure::in_file(fault, file)),
     }
 }
 

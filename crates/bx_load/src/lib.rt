@@ -13,6 +13,3 @@ mod tables;
 
 pub use image::Image;
 pub use loading::{LoadRefused, load};
-
-#[cfg(test)]
-mod tests;

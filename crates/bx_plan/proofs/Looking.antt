@@ -1,7 +1,8 @@
 -- Looking a schedule up.
 use Rattle.std.proofs.Common.{◌≡◌, ℕ, ◌<◌, zero, suc, length, subst, List, [], ◌∷◌, Option, Some, None, refl, sym, ap, ◌∙◌, map, option_map, slice_get}
-use Rattle.std.specs.Prelude.{MatchOption, IfOk, OnErr, Result, Ok, Err}
-use Rattle.std.specs.declared.alloc.AllocError.{AllocError}
+use Rattle.std.specs.Prelude.{MatchOption, Result, Ok}
+use Rattle.bx_terms.specs.Outcomes.{Gives}
+use Rattle.bx_terms.specs.declared.faults.Fault.{Fault}
 use Rattle.std.specs.List.{AllByRecursion}
 use Rattle.bx_world.specs.declared.choices.Choice.{Choice}
 use Rattle.bx_plan.specs.Planned.{Planned, IsPlanned, schedule_at, schedules}
@@ -29,14 +30,17 @@ ends_found n (line ∷ lines) (suc i) h = ends_found n lines i h.1
 pub ends_within : (plan : Planned) (i : ℕ) (result : Option ℕ) → IsPlanned plan → result ≡ option_map (λ line. line.1) (slice_get plan.lines i) → MatchOption result (Unit {0}) (λ end. end < length plan.tree.paths)
 ends_within plan i result is e = subst (λ r. MatchOption r (Unit {0}) (λ end. end < length plan.tree.paths)) (sym e) (ends_found (length plan.tree.paths) plan.lines i is.within)
 
--- the schedule of a line is the path to its end
-shown_at : (plan : Planned) (found : Option (List ℕ × ℕ)) (end : ℕ) (answer : Result (List Choice) AllocError) → option_map (λ line. line.1) found ≡ Some end → IfOk answer (λ choices. choices ≡ path plan.tree end) → OnErr answer (0 < length (path plan.tree end)) → Shows (option_map (schedule_at plan.tree) found) answer
-shown_at plan None end answer e ok err = cc
-shown_at plan (Some line) end (Ok choices) e ok err = let same : line.1 ≡ end = cc in ok ∙ ap (path plan.tree) (sym same)
-shown_at plan (Some line) end (Err error) e ok err = let same : line.1 ≡ end = cc in subst (λ n. 0 < length (path plan.tree n)) (sym same) err
+-- the answer for a path
+abbrev pub GivesPath : Planned → ℕ → Result (List Choice) Fault → Type 0
+GivesPath plan end answer = Gives (0 < length (path plan.tree end)) (λ choices. choices) answer (Ok (path plan.tree end))
 
-pub shown : (plan : Planned) (i end : ℕ) (answer : Result (List Choice) AllocError) → option_map (λ line. line.1) (slice_get plan.lines i) ≡ Some end → IfOk answer (λ choices. choices ≡ path plan.tree end) → OnErr answer (0 < length (path plan.tree end)) → Shows (slice_get (schedules plan) i) answer
-shown plan i end answer e ok err = subst (λ found. Shows found answer) (sym (slice_get-map (schedule_at plan.tree) plan.lines i)) (shown_at plan (slice_get plan.lines i) end answer e ok err)
+-- the schedule of a line is the path to its end
+shown_at : (plan : Planned) (found : Option (List ℕ × ℕ)) (end : ℕ) (answer : Result (List Choice) Fault) → option_map (λ line. line.1) found ≡ Some end → GivesPath plan end answer → Shows (option_map (schedule_at plan.tree) found) answer
+shown_at plan None end answer e given = cc
+shown_at plan (Some line) end answer e given = let same : line.1 ≡ end = cc in subst (λ n. GivesPath plan n answer) (sym same) given
+
+pub shown : (plan : Planned) (i end : ℕ) (answer : Result (List Choice) Fault) → option_map (λ line. line.1) (slice_get plan.lines i) ≡ Some end → GivesPath plan end answer → Shows (slice_get (schedules plan) i) answer
+shown plan i end answer e given = subst (λ found. Shows found answer) (sym (slice_get-map (schedule_at plan.tree) plan.lines i)) (shown_at plan (slice_get plan.lines i) end answer e given)
 
 missing : (plan : Planned) (found : Option (List ℕ × ℕ)) → option_map (λ line. line.1) found ≡ None → option_map (schedule_at plan.tree) found ≡ None
 missing plan None e = refl

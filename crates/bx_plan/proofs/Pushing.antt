@@ -1,6 +1,5 @@
 -- One schedule more in a plan's lines and tree.
 use Rattle.std.proofs.Common.{◌≡◌, ℕ, ◌<◌, ◌≤◌, List, [], ◌∷◌, ◌++◌, Some, length, get_or, map, refl, sym, ap, ◌∙◌, arith, subst, length-append}
-use Rattle.std.specs.Prelude.{string_bytes}
 use Rattle.std.specs.List.{AllByRecursion}
 use Rattle.std.proofs.lemmas.List.{map-append}
 use Rattle.std.proofs.Math.ListN.{get_or-append}
@@ -62,7 +61,7 @@ module _ (lines : List (List ℕ × ℕ)) (old new : Tree) (is : IsPlanned (reco
     few_after = omega (arith, ap length walked.0, walked.1)
 
     -- the same of the lines as they are kept
-    module _ (items after : List NamedEnd) (line : NamedEnd) (items_are : lines ≡ lines_view items) (after_is : after ≡ items ++ line ∷ []) (name : string_bytes line.name ≡ schedule.0) (ends : line.end ≡ end) where
+    module _ (items after : List NamedEnd) (line : NamedEnd) (items_are : lines ≡ lines_view items) (after_is : after ≡ items ++ line ∷ []) (name : line.name ≡ schedule.0) (ends : line.end ≡ end) where
       lines_after : lines_view after ≡ lines ++ (schedule.0, end) ∷ []
       lines_after =
           ap lines_view after_is ∙ map-append line_view items (line ∷ [])

@@ -1,5 +1,5 @@
 -- A plan while its lines are read.
-use Rattle.std.specs.Prelude.{◌≡◌, ℕ, ◌≤◌, ◌<◌, Bool, true, false, List, [], ◌∷◌, ◌++◌, length, Result, Ok, Err}
+use Rattle.std.specs.Prelude.{◌≡◌, ◌⊎◌, ℕ, ◌≤◌, ◌<◌, Bool, true, false, List, [], ◌∷◌, ◌++◌, length, Result, Ok, Err}
 use Rattle.std.specs.BTreeSet.{contains}
 use Rattle.std.specs.Ordering.{nat_cmp}
 use Rattle.std.specs.Cmp.Lexicographic.{slice_cmp}
@@ -35,3 +35,7 @@ Adds takes new (Err fault) said = said ≡ Err fault
 abbrev pub Pushes : Builder → Builder → Named → Bool → Type 0
 Pushes old new schedule true = (so_far new ≡ so_far old ++ schedule ∷ []) × IsBuilding new
 Pushes old new schedule false = 1000000 < node_count (choices_of (so_far old ++ schedule ∷ []))
+
+-- Want of memory comes before the tree has grown, or while another node has room.
+abbrev pub HasRoom : Builder → Builder → Type 0
+HasRoom old new = (new.tree ≡ old.tree) ⊎ (length new.tree.paths ≤ 1000001)

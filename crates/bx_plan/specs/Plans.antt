@@ -1,9 +1,8 @@
 -- What a plan's text is read as: named schedules in the order of their lines, or the first fault.
 use Rattle.std.specs.Prelude.{◌≡◌, ℕ, ◌+◌, ◌≤◌, ◌<◌, Bool, ◌||◌, if◌then◌else◌, nat_lt, List, [], ◌∷◌, ◌++◌, length, map, Option, None, Some, Result, Ok, Err}
-use Rattle.std.specs.declared.alloc.AllocError.{AllocError}
 use Rattle.std.specs.List.{list_any}
 use Rattle.std.specs.Str.{bytes_eq}
-use Rattle.bx_terms.specs.Outcomes.{◌>>=◌}
+use Rattle.bx_terms.specs.Outcomes.{◌>>=◌, Gives}
 use Rattle.bx_terms.specs.declared.faults.Fault.{Fault}
 use Rattle.bx_terms.specs.declared.faults.Fault.TheVariants.{BadLine, NameTwice, TooLong}
 use Rattle.bx_world.specs.declared.choices.Choice.{Choice}
@@ -62,7 +61,6 @@ TakesMemory [] = ⊥
 TakesMemory (line ∷ lines) = TakesFirst (line_of line) (TakesMemory lines)
 
 -- The schedule that was asked for. Memory is wanted only where it makes a choice.
-abbrev pub Shows : Option Named → Result (List Choice) AllocError → Type 0
+abbrev pub Shows : Option Named → Result (List Choice) Fault → Type 0
 Shows None answer = ⊥
-Shows (Some schedule) (Ok choices) = choices ≡ schedule.1
-Shows (Some schedule) (Err e) = 0 < length schedule.1
+Shows (Some schedule) answer = Gives (0 < length schedule.1) (λ choices. choices) answer (Ok schedule.1)

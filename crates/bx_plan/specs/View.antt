@@ -1,5 +1,5 @@
 -- What a plan holds.
-use Rattle.std.specs.Prelude.{ℕ, List, map, string_bytes}
+use Rattle.std.specs.Prelude.{ℕ, List, map}
 use Rattle.bx_plan.specs.declared.plans.NamedEnd.{NamedEnd}
 use Rattle.bx_plan.specs.declared.trees.Step.{Step}
 use Rattle.bx_plan.specs.Edges.{steps_view}
@@ -7,7 +7,7 @@ use Rattle.bx_plan.specs.Planned.{Planned}
 use Rattle.bx_plan.specs.Trees.{tree_of}
 
 abbrev pub line_view : NamedEnd → List ℕ × ℕ
-line_view line = (string_bytes line.name, line.end)
+line_view line = (line.name, line.end)
 
 abbrev pub lines_view : List NamedEnd → List (List ℕ × ℕ)
 lines_view lines = map line_view lines

@@ -12,6 +12,3 @@ mod trees;
 pub use entries::{choice_of, read_choices};
 pub use numbers::number_of;
 pub use plans::{Plan, Schedule, read_plan};
-
-#[cfg(test)]
-mod tests;

@@ -1,6 +1,6 @@
 //! Plans, and the reading of their texts.
 
-ghost use Rattle.std.specs.Prelude.{◌≡◌, ◌↔◌, length, option_map, slice_get, IsTrue};
+ghost use Rattle.std.specs.Prelude.{◌≡◌, ◌↔◌, length, option_map, slice_get, IfOk, IsTrue};
 ghost use Rattle.bx_terms.specs.Outcomes.{Gives};
 ghost use Rattle.bx_plan.specs.Planned.{schedules};
 ghost use Rattle.bx_plan.specs.Plans.{plan_of, TakesMemory};
@@ -14,7 +14,7 @@ use crate::parts::Parts;
 use crate::trees::{Growing, Step};
 use bx_terms::Fault;
 use bx_world::Choice;
-use std::alloc::Global;
+use std::alloc::{AllocError, Global};
 use std::collections::BTreeSet;
 use std::marker::Model;
 
@@ -49,10 +49,41 @@ impl Schedule {
     }
 }
 
+/// The name of a schedule, as its line spells it.
+#[derive(Drop)]
+struct LineName {
+    text: String,
+}
+
+impl Model for LineName {
+    ghost use Rattle.std.specs.Prelude.{List, ℕ, string_bytes};
+
+    ghost Value = { List ℕ };
+
+    ghost view = { λ a. string_bytes a.text };
+}
+
+impl LineName {
+    /// The name that `text` spells.
+    fn new(alloc: Global, text: &str) -> Result<LineName, AllocError>
+        ensures { IfOk result (λ name. name ≡ text.now) }
+    {
+        let text = String::from_str(alloc, text)?;
+        Ok(LineName { text })
+    }
+
+    /// The name's text.
+    fn as_str(&self) -> &str
+        ensures { result.now ≡ self.now }
+    {
+        self.text.as_str()
+    }
+}
+
 /// A line that names a schedule: its name, and the node at which it ends.
 #[derive(Drop)]
 struct NamedEnd {
-    name: String,
+    name: LineName,
     end: usize,
 }
 

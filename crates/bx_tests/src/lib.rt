@@ -6,13 +6,23 @@ mod code;
 #[cfg(test)]
 mod engines;
 #[cfg(test)]
+mod failures;
+#[cfg(test)]
+mod inputs;
+#[cfg(test)]
 mod listings;
 #[cfg(test)]
 mod loading;
 #[cfg(test)]
+mod places;
+#[cfg(test)]
+mod plans;
+#[cfg(test)]
 mod reports;
 #[cfg(test)]
 mod samples;
+#[cfg(test)]
+mod starts;
 #[cfg(test)]
 mod texts;
 #[cfg(test)]

@@ -1,10 +1,11 @@
 //! The program over a runtime: its words, its files, and the status that it ends with.
-ghost use Rattle.std.specs.Prelude.{◌≡◌, ◌≢◌, ◌≤◌, ◌⊎◌, ◌++◌, ◌∷◌, [], IfErr, IfOk, map, string_bytes};
+ghost use Rattle.std.specs.Prelude.{◌≡◌, ◌≢◌, ◌≤◌, ◌↔◌, ◌⊎◌, ◌++◌, ◌∷◌, [], IfErr, IfOk, IsOk, map, string_bytes};
 ghost use Rattle.std.specs.Io.KnownBytes.{Keeps};
 ghost use Rattle.std.specs.IoError.{error_kind};
 ghost use Rattle.std.specs.declared.io.ErrorKind.TheVariants.{OutOfMemory};
 ghost use Rattle.clap.specs.Words.{kind_of};
 ghost use Rattle.bx_terms.specs.declared.faults.Fault.TheVariants.{Memory};
+ghost use Rattle.bxemu.specs.Statuses.{status_after};
 
 use crate::commands::{Order, command_of};
 use bx_engine::{Failure, fault_line, run_text, start_of};
@@ -36,12 +37,22 @@ where
                 Ok(names) => names,
                 Err(_) => return fault_line(&memory(), &[], errors),
             };
-            match run(rt, start, names.as_slice(), output) {
-                Ok(()) => 0,
-                Err(failure) => fault_line(&failure, names.as_slice(), errors),
-            }
+            let ended = run(rt, start, names.as_slice(), output);
+            told(&ended, names.as_slice(), errors)
         }
         Err(error) => explain(rt, &error, errors),
+    }
+}
+
+/// The status that a run ends with: 0 where it was done, and else that of its failure, whose line is written to `errors`.
+fn told<W: Write>(ended: &Result<(), Failure>, names: &[String], errors: &mut W) -> u8
+    ensures status { result ≡ status_after ended.now }
+    ensures done { (result ≡ 0) ↔ IsOk ended.now }
+    ensures few { result ≤ 4 }
+{
+    match ended {
+        Ok(()) => 0,
+        Err(failure) => fault_line(failure, names, errors),
     }
 }
 

@@ -1,14 +1,14 @@
 //! Building a plan line by line.
 
-ghost use Rattle.std.specs.Prelude.{◌≡◌, ◌≤◌, ◌<◌, ◌++◌, ◌∷◌, [], length, MatchBool, IfOk, Some};
-ghost use Rattle.bx_plan.specs.Building.{so_far, IsBuilding, Adds, Pushes};
+ghost use Rattle.std.specs.Prelude.{◌≡◌, ◌≤◌, ◌<◌, ◌++◌, ◌∷◌, [], length, MatchBool, IfOk, OnErr, Some};
+ghost use Rattle.bx_plan.specs.Building.{so_far, HasRoom, IsBuilding, Adds, Pushes};
 ghost use Rattle.bx_plan.specs.Lines.{IsHeading, entries_in};
 ghost use Rattle.bx_plan.specs.Nodes.{nodes_of};
 ghost use Rattle.bx_plan.specs.Planned.{schedules};
 ghost use Rattle.bx_plan.specs.Plans.{with_read, with_schedule, choices_of, TakesFirst};
 ghost use Rattle.bx_plan.specs.Reading.{line_of, tail_of, spread};
 
-use super::{Builder, NamedEnd, Plan};
+use super::{Builder, LineName, NamedEnd, Plan};
 use crate::entries;
 use crate::lines::{Heading, Line, line_of};
 use crate::trees::Growing;
@@ -69,13 +69,14 @@ impl<'a> Builder<'a> {
     fn push(&mut self, heading: Heading<'a>) -> Result<bool, AllocError>
         requires building { IsBuilding self.old }
         requires heading { IsHeading heading }
-        ensures { IfOk result (Pushes self.old self.new (heading.entry.name.now, spread (entries_in heading.entry.tail.now))) }
+        ensures ok { IfOk result (Pushes self.old self.new (heading.entry.name.now, spread (entries_in heading.entry.tail.now))) }
+        ensures err { OnErr result (HasRoom self.old self.new) }
     {
         let choices = spread_tail(self.alloc, heading.tail)?;
         let Some(end) = self.tree.walk(choices.as_slice())? else {
             return Ok(false);
         };
-        let name = String::from_str(self.alloc, heading.name)?;
+        let name = LineName::new(self.alloc, heading.name)?;
         self.lines.push(NamedEnd { name, end })?;
         self.names.insert(heading.name)?;
         Ok(true)

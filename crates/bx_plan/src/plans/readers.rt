@@ -1,6 +1,7 @@
 //! What a plan shows of its schedules and of its tree.
 
-ghost use Rattle.std.specs.Prelude.{◌≡◌, ◌<◌, length, option_map, slice_get, IfOk, OnErr, MatchOption, None};
+ghost use Rattle.std.specs.Prelude.{◌≡◌, ◌<◌, length, option_map, slice_get, IfOk, OnErr, MatchOption, None, Ok};
+ghost use Rattle.bx_terms.specs.Outcomes.{Gives};
 ghost use Rattle.bx_plan.specs.Edges.{steps_view};
 ghost use Rattle.bx_plan.specs.Planned.{schedules, IsPlanned};
 ghost use Rattle.bx_plan.specs.Plans.{Shows};
@@ -8,6 +9,7 @@ ghost use Rattle.bx_plan.specs.Trees.{path, parent, choice, tree_of, IsTree};
 
 use super::{Plan, Schedule};
 use crate::trees::Step;
+use bx_terms::Fault;
 use bx_world::Choice;
 use std::alloc::{AllocError, Global};
 
@@ -16,11 +18,12 @@ impl Plan {
     ///
     /// It takes time in proportion to its choices, and memory where there are any.
     #[tactic(auto, using(crate::proofs::Looking::none_at))]
-    pub fn schedule(&self, alloc: Global, number: usize) -> Option<Result<Schedule, AllocError>>
-        ensures { MatchOption result (slice_get (schedules self.now) number ≡ None) (Shows (slice_get (schedules self.now) number)) }
+    pub fn schedule(&self, alloc: Global, number: usize) -> Option<Result<Schedule, Fault>>
+        ensures { MatchOption result (slice_get (schedules self.now) number ≡ None)
+            (Shows (slice_get (schedules self.now) number)) }
     {
         let end = self.end(number)?;
-        Some(self.path(alloc, end))
+        Some(self.schedule_to(alloc, end))
     }
 
     /// The node at which the schedule of this number, from 0, ends; none past the last.
@@ -75,6 +78,15 @@ impl Plan {
     {
         let choices = path_to(alloc, self.steps.as_slice(), node)?;
         Ok(Schedule { choices })
+    }
+
+    /// The schedule that ends at a node.
+    fn schedule_to(&self, alloc: Global, node: usize) -> Result<Schedule, Fault>
+        requires { node < length self.now.tree.paths }
+        ensures { Gives (0 < length (path self.now.tree node)) (λ schedule. schedule) result
+            (Ok (path self.now.tree node)) }
+    {
+        Ok(self.path(alloc, node)?)
     }
 }
 

@@ -120,7 +120,8 @@ impl Growing {
     fn step(&mut self, at: usize, choice: Choice) -> Result<Option<usize>, AllocError>
         requires within { at < length self.old.paths }
         requires few { length self.old.paths ≤ 1000001 }
-        ensures { IfOk result (Steps self.old self.new (path self.old at) choice) }
+        ensures ok { IfOk result (Steps self.old self.new (path self.old at) choice) }
+        ensures err { OnErr result ((self.new ≡ self.old) × (length self.old.paths ≤ 1000000)) }
     {
         if let Some(node) = self.child(at, choice) {
             return Ok(Some(node));
@@ -138,7 +139,8 @@ impl Growing {
     /// would be nodes too many.
     pub(crate) fn walk(&mut self, choices: &[Choice]) -> Result<Option<usize>, AllocError>
         requires { length self.old.paths ≤ 1000001 }
-        ensures { IfOk result (Walks self.old self.new choices.now) }
+        ensures ok { IfOk result (Walks self.old self.new choices.now) }
+        ensures err { OnErr result (length self.new.paths ≤ 1000000) }
     {
         let mut at = self.root();
         for choice in choices {

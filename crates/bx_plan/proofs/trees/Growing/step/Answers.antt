@@ -6,8 +6,8 @@ use Rattle.bx_plan.proofs.Members.{has_at}
 use Rattle.bx_plan.proofs.Walking.{with_node_old}
 use Rattle.bx_plan.proofs.trees.Growing.step.Goals as goal
 
-pub returns-in-Some : goal.returns-in-Some
-returns-in-Some c =
+pub returns-in-Some-clause-ok : goal.returns-in-Some-clause-ok
+returns-in-Some-clause-ok c =
     let nodes = c.args.self.now.paths in
     let to = path c.args.self.now c.args.at ++ c.args.choice ∷ [] in
     let same : with_node nodes to ≡ nodes = with_node_old nodes to (has_at nodes to c.in-Some.node c.in-Some.ensures.0 c.in-Some.ensures.1) in

@@ -1,10 +1,8 @@
-//! Loading and looking up where there is memory. The numbers of items are counted in the listings by hand.
+//! Where labels lead, and places in print. The numbers of items are counted in the listing by hand.
 
-use super::*;
-use bx_asm::{Instruction, Unit, assemble};
-use bx_listing::read_listing;
-use bx_terms::{Atoms, Fault, Place};
-use std::alloc::Global;
+use crate::samples::image;
+use bx_asm::Instruction;
+use bx_terms::Place;
 use std::test::Fail;
 
 /// Thirteen items: f/0 begins with the label that is item 3, g/1 with item 9, and nothing stands behind item 10 but marks.
@@ -16,21 +14,8 @@ const QUOTED: &str = "{module,'k k'}. {exports,[{f,0},{g,1}]}. {attributes,[]}. 
 {label,3}. {func_info,{atom,'k k'},{atom,g},1}.
 {label,4}. return. {label,5}. {line,[]}.";
 
-fn unit(alloc: Global, atoms: &mut Atoms, text: &str) -> Result<Unit, Fault> {
-    let listing = read_listing(alloc, atoms, text.as_bytes())?;
-    assemble(alloc, &listing)
-}
-
 fn at(item: u32) -> Place {
     Place { module: 0, item }
-}
-
-/// The image of that module alone.
-fn quoted(alloc: Global) -> Result<Option<Image>, Fault> {
-    let mut atoms = Atoms::new(alloc)?;
-    let mut units = Vec::new(alloc);
-    units.push(unit(alloc, &mut atoms, QUOTED)?)?;
-    Ok(load(alloc, atoms, units).ok())
 }
 
 /// Whether the place is of that item of the first module.
@@ -43,9 +28,7 @@ fn is_item(place: Option<Place>, item: u32) -> bool {
 
 #[test]
 fn labels_of_a_module(rt: HostRuntime) -> Result<(), Fail> {
-    let Some(image) = quoted(rt.alloc())? else {
-        return Err(Fail::from("refused"));
-    };
+    let image = image(rt.alloc(), &[QUOTED])?;
     assert!(rt; is_item(image.target(0, 1), 2));
     assert!(rt; is_item(image.target(0, 5), 13));
     assert!(rt; image.target(0, 6).is_none());
@@ -55,9 +38,7 @@ fn labels_of_a_module(rt: HostRuntime) -> Result<(), Fail> {
 
 #[test]
 fn behind_instructions(rt: HostRuntime) -> Result<(), Fail> {
-    let Some(image) = quoted(rt.alloc())? else {
-        return Err(Fail::from("refused"));
-    };
+    let image = image(rt.alloc(), &[QUOTED])?;
     assert!(rt; matches!(image.instruction(at(6)), Some(Instruction::Jump(5))));
     assert!(rt; image.instruction(at(12)).is_none());
     assert!(rt; image.after(at(2)) == at(5));
@@ -69,9 +50,7 @@ fn behind_instructions(rt: HostRuntime) -> Result<(), Fail> {
 #[test]
 fn places_in_print(rt: HostRuntime) -> Result<(), Fail> {
     let alloc = rt.alloc();
-    let Some(image) = quoted(alloc)? else {
-        return Err(Fail::from("refused"));
-    };
+    let image = image(alloc, &[QUOTED])?;
     let here = image.place_name(alloc, at(5))?;
     assert!(rt; here.as_str() == "'k k':5");
     let nowhere = image.place_name(

@@ -1,4 +1,7 @@
-use crate::inputs::{Unread, read_input};
+//! Inputs that are read piece by piece, by what a run over them tells.
+
+use bx_engine::{Failure, run_text};
+use bx_terms::Fault;
 use std::io;
 use std::io::{ErrorKind, Read};
 use std::test::Fail;
@@ -54,54 +57,61 @@ impl Read for Interrupted {
     }
 }
 
-#[test]
-fn reads_bytes_in_order(rt: HostRuntime) -> Result<(), Fail> {
-    for text in [
-        b"".as_slice(),
-        b"\x00".as_slice(),
-        b"{module,m}.\xff".as_slice(),
-    ] {
-        let mut reader = text;
-        let bytes = read_input(rt.alloc(), &mut reader)?;
-        assert!(rt; bytes.as_slice() == text, "{text:?}");
-    }
-    Ok(())
+/// What came of a run over one listing.
+#[derive(Clone, Copy, Debug, PartialEq, Eq)]
+enum Told {
+    Ran,
+    /// It was read whole, and no form stands in it.
+    NoForm,
+    TooLarge,
+    ReadFailed,
+    Other,
+}
+
+fn told<R: Read + Drop>(rt: &HostRuntime, listing: R, mut plan: R) -> (Told, R) {
+    let mut listings = [listing];
+    let mut report = Vec::new(rt.alloc());
+    let told = match run_text(rt.alloc(), &mut listings, "m:f", &mut plan, &mut report) {
+        Ok(()) => Told::Ran,
+        Err(Failure::Refused(Fault::BadForm { line: 1 }, Some(0))) => Told::NoForm,
+        Err(Failure::Refused(Fault::TooLarge, Some(0))) => Told::TooLarge,
+        Err(Failure::Read(0)) => Told::ReadFailed,
+        Err(_) => Told::Other,
+    };
+    let [listing] = listings;
+    (told, listing)
 }
 
 #[test]
-fn takes_an_input_up_to_the_limit(rt: HostRuntime) -> Result<(), Fail> {
+fn takes_an_input_up_to_the_limit(rt: HostRuntime) {
     for (left, piece) in [(70_000, 7), (16_777_216, 65_536), (16_777_216, 50_000)] {
-        let mut reader = FailAt::new(left, piece);
-        let bytes = read_input(rt.alloc(), &mut reader)?;
-        assert_eq!(rt; bytes.len(), left);
+        let (told, reader) = told(&rt, FailAt::new(left, piece), FailAt::new(0, 1));
+        assert_eq!(rt; told, Told::NoForm, "{left}");
         assert_eq!(rt; reader.left, 0);
     }
     for left in [16_777_217, 20_000_000] {
-        let refused = read_input(rt.alloc(), &mut FailAt::new(left, 65_536));
-        assert!(rt; refused.err() == Some(Unread::TooLarge), "{left}");
+        let (told, _) = told(&rt, FailAt::new(left, 65_536), FailAt::new(0, 1));
+        assert_eq!(rt; told, Told::TooLarge, "{left}");
     }
-    Ok(())
 }
 
 #[test]
-fn passes_on_the_first_fault(rt: HostRuntime) -> Result<(), Fail> {
+fn passes_on_the_first_fault(rt: HostRuntime) {
     let mut reader = FailAt::new(10, 4);
     reader.interrupted_at = 1;
-    assert_eq!(rt; read_input(rt.alloc(), &mut reader)?.len(), 10);
+    assert_eq!(rt; told(&rt, reader, FailAt::new(0, 1)).0, Told::NoForm);
     for fails_at in 0..4 {
         let mut reader = FailAt::new(10, 4);
         reader.fails_at = fails_at;
-        let refused = read_input(rt.alloc(), &mut reader);
-        assert!(rt; refused.err() == Some(Unread::Failed), "at {fails_at}");
+        let (told, reader) = told(&rt, reader, FailAt::new(0, 1));
+        assert_eq!(rt; told, Told::ReadFailed, "at {fails_at}");
         assert_eq!(rt; reader.calls, fails_at + 1);
     }
-    Ok(())
 }
 
 #[test]
 fn asks_so_often_and_no_more(rt: HostRuntime) {
-    let mut reader = Interrupted { calls: 0 };
-    let refused = read_input(rt.alloc(), &mut reader);
-    assert!(rt; refused.err() == Some(Unread::Failed));
+    let (told, reader) = told(&rt, Interrupted { calls: 0 }, Interrupted { calls: 0 });
+    assert_eq!(rt; told, Told::ReadFailed);
     assert_eq!(rt; reader.calls, 33_554_434);
 }
