@@ -12,6 +12,3 @@ mod stops;
 
 pub use parts::{Effect, Pending, Status};
 pub use process::Proc;
-
-#[cfg(test)]
-mod tests;
