@@ -8,3 +8,4 @@ pub mod BitLaws
 pub mod TermLaws
 pub mod NameLaws
 pub mod Arities
+pub mod Building

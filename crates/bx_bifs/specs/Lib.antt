@@ -9,3 +9,4 @@ pub mod Arithmetic
 pub mod Kinds
 pub mod Parts
 pub mod Guards
+pub mod Values

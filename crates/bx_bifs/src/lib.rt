@@ -11,6 +11,7 @@ mod native_names;
 mod natives;
 mod parts;
 mod shifts;
+mod values;
 
 pub use given::Given;
 pub use guard_names::{guard_bif, is_guard};
@@ -19,3 +20,4 @@ pub use kinds::{is_atom, is_integer, is_list, is_pid, is_tuple, truth};
 pub use native_names::native;
 pub use natives::{Native, is_ask};
 pub use parts::{element, element_from_zero, head, length, size, tail};
+pub use values::native_value;

@@ -1,3 +1,7 @@
-pub mod Keeping
-pub mod Running
-pub mod Refusing
+pub mod Attempts
+pub mod Elements
+pub mod Linking
+pub mod Noting
+pub mod Registers
+pub mod Tabling
+pub mod Writing

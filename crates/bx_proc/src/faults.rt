@@ -1,68 +1,68 @@
 //! What becomes of a fault.
 
-ghost use Rattle.std.specs.Prelude.{◌≡◌, ◌<◌, ◌∷◌, [], Ok};
-ghost use Rattle.bx_terms.specs.Tree.{height, tuple, listed};
-ghost use Rattle.bx_proc.specs.declared.parts.Effect.TheVariants as effects;
-ghost use Rattle.bx_proc.specs.Faults.{reason, within_height, ended, raised, effect_of, RaisingTakes};
-ghost use Rattle.bx_proc.specs.Stops.{Reads, Makes, Shows};
+ghost use Rattle.std.specs.Prelude.{◌≡◌, Ok};
+ghost use Rattle.bx_proc.specs.Faults.{reason, pair, within_height, raised, caught_at};
+ghost use Rattle.bx_proc.specs.Calls.{raised_by};
+ghost use Rattle.bx_proc.specs.Stops.{Reads, Makes};
 
-use crate::parts::{Effect, Pending, Status};
+use crate::parts::{Effect, Pending};
 use crate::process::Proc;
 use crate::stops::Stop;
-use bx_terms::{Class, Term, TermRefusal, Trap, fixed};
+use bx_asm::CallKind;
+use bx_terms::{Class, Place, Term, TermRefusal, Trap, fixed};
 use std::alloc::Global;
 
 impl Proc {
     /// Raises a fault: it is caught in the stack, or the process ends.
-    #[inline(always)]
-    pub(crate) fn raise(&mut self, alloc: Global, class: Class, value: Term) -> Result<Effect, Stop>
-        ensures { Makes (RaisingTakes class value self.old) self.old self.new result (raised class value self.old) }
-    {
-        match self.settle(alloc, class, value)? {
-            Some(reason) => Ok(Effect::Ended(reason)),
-            None => Ok(Effect::Ran),
-        }
-    }
-
-    /// Raises a fault, and hands out the reason with which the process ended, where it did.
     #[inline(never)]
-    fn settle(&mut self, alloc: Global, class: Class, value: Term) -> Result<Option<Term>, Stop>
-        ensures { Shows (RaisingTakes class value self.old) effect_of self.old self.new result (raised class value self.old) }
+    pub(crate) fn raise(&mut self, alloc: Global, class: Class, value: Term) -> Result<Effect, Stop>
+        ensures { Makes (Unit {0}) self.old self.new result (raised class value self.old) }
     {
         let Some((above, place)) = self.frames.handler() else {
             let reason = reason(alloc, class, value)?;
-            let told = self.close(alloc, reason)?;
-            return Ok(Some(told));
+            return Ok(Effect::Ended(reason));
         };
+        self.catch_at(above, place, class, value);
+        Ok(Effect::Ran)
+    }
+
+    /// Raises a fault of what a call by name would have run.
+    #[inline(never)]
+    pub(crate) fn raise_by(
+        &mut self,
+        alloc: Global,
+        kind: CallKind,
+        class: Class,
+        value: Term,
+    ) -> Result<Effect, Stop>
+        ensures { Makes (Unit {0}) self.old self.new result (raised_by kind class value self.old) }
+    {
+        let CallKind::Last(size) = kind else {
+            return self.raise(alloc, class, value);
+        };
+        let cp = self.saved(size as u64)?;
+        let Some((above, place)) = self.frames.handler_below() else {
+            let reason = reason(alloc, class, value)?;
+            return Ok(Effect::Ended(reason));
+        };
+        self.catch_at(above, place, class, value);
+        self.cp = cp;
+        Ok(Effect::Ran)
+    }
+
+    /// The frames above go, and the fault waits to be looked at.
+    fn catch_at(&mut self, above: usize, place: Place, class: Class, value: Term)
+        ensures { self.new ≡ caught_at above place class value self.old }
+    {
         self.frames.cut(above);
         self.place = Some(place);
         self.fault = Some(Pending { class, value });
-        Ok(None)
-    }
-
-    /// Ends the process.
-    #[inline(always)]
-    pub(crate) fn end(&mut self, alloc: Global, reason: Term) -> Result<Effect, Stop>
-        ensures { Makes (0 < height reason) self.old self.new result (Ok (ended reason self.old)) }
-    {
-        let told = self.close(alloc, reason)?;
-        Ok(Effect::Ended(told))
-    }
-
-    /// Ends the process, and hands out the reason.
-    #[inline(never)]
-    fn close(&mut self, alloc: Global, reason: Term) -> Result<Term, Stop>
-        ensures { Shows (0 < height reason) effects.Ended self.old self.new result (Ok (ended reason self.old)) }
-    {
-        let told = reason.copy(alloc)?;
-        self.status = Status::Ended(reason);
-        Ok(told)
     }
 }
 
 /// The reason with which a process ends that did not catch a fault.
 fn reason(alloc: Global, class: Class, value: Term) -> Result<Term, Stop>
-    ensures { Reads (0 < height (reason class value)) (λ r. r) result (within_height (reason class value)) }
+    ensures { Reads (Unit {0}) (λ r. r) result (within_height (reason class value)) }
 {
     match class {
         Class::Exit => Ok(value),
@@ -75,8 +75,8 @@ fn reason(alloc: Global, class: Class, value: Term) -> Result<Term, Stop>
 }
 
 /// A tuple of two.
-fn pair(alloc: Global, first: Term, second: Term) -> Result<Term, Stop>
-    ensures { Reads (Unit {0}) (λ t. t) result (within_height (tuple (listed (first ∷ second ∷ [])))) }
+pub(crate) fn pair(alloc: Global, first: Term, second: Term) -> Result<Term, Stop>
+    ensures { Reads (Unit {0}) (λ t. t) result (within_height (pair first second)) }
 {
     let mut elements = Vec::with_capacity(alloc, 2)?;
     elements.push(first)?;

@@ -1,14 +1,23 @@
 //! One process, and what a run of one instruction makes of it.
 #![tactic(auto)]
 
+mod asking;
+mod building;
+mod calls;
+mod catching;
+mod choosing;
 mod faults;
-pub mod laws;
+mod moving;
 mod parts;
 mod process;
 mod reading;
-mod rows;
-mod stepping;
+mod receiving;
+mod running;
+mod settling;
+mod signals;
+mod stacking;
 mod stops;
+mod table;
 
-pub use parts::{Effect, Pending, Status};
+pub use parts::{Answer, Arguments, Effect, Pending, Status};
 pub use process::Proc;

@@ -2,8 +2,11 @@
 
 ghost use Rattle.std.specs.Prelude.{◌≡◌, ◌↔◌, IfOk, IsTrue};
 
+use bx_bifs::Native;
+use bx_share::{Same, same_rows};
 use bx_terms::{Class, Term, Trap};
 use std::alloc::{AllocError, Global};
+use std::marker::Model;
 
 /// A fault that was caught, until the instruction at the place where it is caught looks at it.
 ///
@@ -71,11 +74,55 @@ impl Status {
     }
 }
 
+/// The arguments of a native that a process asked for, seen as the list of them.
+#[derive(Debug, Drop)]
+pub struct Arguments {
+    terms: Vec<Term>,
+}
+
+impl Model for Arguments {
+    ghost use Rattle.std.specs.Prelude.{List};
+    ghost use Rattle.std.specs.Coded.{coded_list};
+    ghost use Rattle.bx_terms.specs.Tree.{Tree};
+    ghost use Rattle.bx_terms.specs.TreeCode.{tree_code};
+
+    ghost Value = { List Tree };
+
+    ghost coded = { coded_list tree_code };
+
+    ghost view = { λ a. a.terms.items };
+}
+
+impl Arguments {
+    pub(crate) fn of(terms: Vec<Term>) -> Arguments
+        ensures { result ≡ terms.items }
+    {
+        Arguments { terms }
+    }
+
+    /// The arguments, the first of them in front.
+    pub fn as_slice(&self) -> &[Term]
+        ensures { result.now ≡ self.now }
+    {
+        self.terms.as_slice()
+    }
+}
+
+impl Same for Arguments {
+    fn same(&self, other: &Arguments) -> bool {
+        same_rows(&self.terms, &other.terms)
+    }
+}
+
 /// What a run of one instruction was.
 #[derive(Debug, Drop)]
 pub enum Effect {
     /// It ran, and nobody else has a part in it.
     Ran,
+    /// The process asks others for a native, with these arguments, and is to be answered.
+    Ask(Native, Arguments),
+    /// A message goes to the process with this pid.
+    Send(u32, Term),
     /// The process ended, with this reason.
     Ended(Term),
     /// It could not run: nothing has changed.
@@ -83,15 +130,29 @@ pub enum Effect {
 }
 
 impl Effect {
-    /// Whether both are the same, with the same reason.
+    /// Whether both are the same, with the same terms.
     pub fn same(&self, other: &Effect) -> bool
         ensures { IsTrue result ↔ (self.now ≡ other.now) }
     {
         match (self, other) {
             (Effect::Ran, Effect::Ran) => true,
+            (Effect::Ask(native, terms), Effect::Ask(other, others)) => {
+                *native == *other && terms.same(others)
+            }
+            (Effect::Send(to, message), Effect::Send(other, told)) => {
+                *to == *other && message.same(told)
+            }
             (Effect::Ended(reason), Effect::Ended(other)) => reason.same(other),
             (Effect::Trap(kind), Effect::Trap(other)) => *kind == *other,
             _ => false,
         }
     }
+}
+
+/// What a process is answered that asked for a native.
+#[derive(Debug, Drop)]
+pub enum Answer {
+    Value(Term),
+    /// A fault's class and value, which the process raises.
+    Fault(Class, Term),
 }

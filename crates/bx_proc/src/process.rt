@@ -5,6 +5,7 @@ ghost use Rattle.bx_terms.specs.Outcomes.{Gives};
 ghost use Rattle.bx_proc.specs.Process.{born, can_run, StandsAs};
 
 use crate::parts::{Pending, Status};
+use bx_bifs::Native;
 use bx_cells::{Frames, Links, Registers};
 use bx_mail::Mailbox;
 use bx_share::Copied;
@@ -27,6 +28,10 @@ pub struct Proc {
     pub(crate) links: Links,
     pub(crate) trap_exit: bool,
     pub(crate) status: Status,
+    /// Of a process that waits for a time: where it goes on when that is over.
+    pub(crate) expires: Option<Place>,
+    /// What it asked for and was not answered yet.
+    pub(crate) asked: Option<Native>,
 }
 
 impl Model for Proc {
@@ -36,12 +41,13 @@ impl Model for Proc {
     ghost use Rattle.bx_cells.specs.contracts.values.Value as held;
     ghost use Rattle.bx_proc.specs.contracts.parts.Pending as pending;
     ghost use Rattle.bx_proc.specs.contracts.parts.Status as states;
+    ghost use Rattle.bx_bifs.specs.contracts.natives.Native as natives;
 
     ghost Value = { Process };
 
-    ghost coded = { process_code tree_code held.the_row.coded places.the_row.coded pending.the_row.coded states.the_row.coded };
+    ghost coded = { process_code tree_code held.the_row.coded places.the_row.coded pending.the_row.coded states.the_row.coded natives.the_row.coded };
 
-    ghost view = { λ a. record { x = a.x; cp = a.cp; frames = a.frames; place = a.place; fault = a.fault; mailbox = a.mailbox; links = a.links; trap_exit = a.trap_exit; status = a.status } };
+    ghost view = { λ a. record { x = a.x; cp = a.cp; frames = a.frames; place = a.place; fault = a.fault; mailbox = a.mailbox; links = a.links; trap_exit = a.trap_exit; status = a.status; expires = a.expires; asked = a.asked } };
 }
 
 impl Proc {
@@ -61,6 +67,8 @@ impl Proc {
             links: Links::new(alloc),
             trap_exit: false,
             status: Status::Ready,
+            expires: None,
+            asked: None,
         })
     }
 
@@ -110,6 +118,8 @@ impl Proc {
         self.cp == other.cp
             && self.place == other.place
             && self.trap_exit == other.trap_exit
+            && self.expires == other.expires
+            && self.asked == other.asked
             && self.status.same(&other.status)
             && same_fault(self.fault.as_ref(), other.fault.as_ref())
     }
@@ -132,6 +142,8 @@ impl Copied for Proc {
             links: self.links.copy(alloc)?,
             trap_exit: self.trap_exit,
             status: self.status.copy(alloc)?,
+            expires: self.expires,
+            asked: self.asked,
         })
     }
 }

@@ -1,9 +1,11 @@
 //! What an instruction reads and writes.
 
-ghost use Rattle.std.specs.Prelude.{◌≡◌, ◌<◌, Ok, Err, MatchResult};
-ghost use Rattle.std.specs.Result.{IsOkAnd};
+ghost use Rattle.std.specs.Prelude.{◌≡◌, Ok, Err, MatchResult, option_map};
 ghost use Rattle.bx_asm.specs.Instructed.{source_of};
-ghost use Rattle.bx_proc.specs.Reading.{value_at, held_in, written, carried, Shares, Fills};
+ghost use Rattle.bx_asm.specs.declared.instruction.Register.TheVariants.{X, Y};
+ghost use Rattle.bx_cells.specs.TopFrame.{y_cell};
+ghost use Rattle.bx_proc.specs.Looking.{tree_of};
+ghost use Rattle.bx_proc.specs.Reading.{value_at, held_in, written, both_written, carried, carried_in, term_in, term_at};
 ghost use Rattle.bx_proc.specs.Stops.{Reads, Turns};
 
 use crate::process::Proc;
@@ -13,11 +15,30 @@ use bx_cells::Value;
 use bx_terms::{Term, Trap};
 use std::alloc::Global;
 
+/// A term that is looked at: where it lies, or as an instruction spells it.
+#[derive(Debug, Drop)]
+pub(crate) enum Seen<'a> {
+    Held(&'a Term),
+    Spelled(Term),
+}
+
+impl Seen<'_> {
+    #[inline(always)]
+    pub(crate) fn term(&self) -> &Term
+        ensures { result.now ≡ tree_of self.now }
+    {
+        match self {
+            Seen::Held(term) => term,
+            Seen::Spelled(term) => term,
+        }
+    }
+}
+
 impl Proc {
-    /// What a source gives, to be kept. Want of memory is the answer only for a tuple or a list cell.
+    /// What a source gives, to be kept.
     #[inline(always)]
     pub(crate) fn value_of(&self, alloc: Global, source: Source<'_>) -> Result<Value, Stop>
-        ensures { Reads (IsOkAnd (value_at (source_of source.entry) self.now) Shares) (λ v. v) result (value_at (source_of source.entry) self.now) }
+        ensures { Reads (Unit {0}) (λ v. v) result (value_at (source_of source.entry) self.now) }
     {
         match source {
             Source::Register(register) => carried(alloc, self.held(register)?),
@@ -28,9 +49,17 @@ impl Proc {
         }
     }
 
+    /// What a register holds, to be kept in another.
+    #[inline(always)]
+    pub(crate) fn carried(&self, alloc: Global, register: Register) -> Result<Value, Stop>
+        ensures { Reads (Unit {0}) (λ v. v) result (carried_in register self.now) }
+    {
+        carried(alloc, self.held(register)?)
+    }
+
     /// What a register holds.
     #[inline(always)]
-    fn held(&self, register: Register) -> Result<&Value, Trap>
+    pub(crate) fn held(&self, register: Register) -> Result<&Value, Trap>
         ensures { MatchResult result (λ v. held_in register self.now ≡ Ok v.now) (λ trap. held_in register self.now ≡ Err trap) }
     {
         let cell = match register {
@@ -43,10 +72,49 @@ impl Proc {
         }
     }
 
-    /// Puts `value` into a register. Memory is taken only for an x register that holds nothing.
+    /// The term that a register holds.
+    #[inline(always)]
+    pub(crate) fn term(&self, register: Register) -> Result<&Term, Trap>
+        ensures { MatchResult result (λ t. term_in register self.now ≡ Ok t.now) (λ trap. term_in register self.now ≡ Err trap) }
+    {
+        match self.held(register)? {
+            Value::Term(term) => Ok(term),
+            _ => Err(Trap::NotATerm),
+        }
+    }
+
+    /// The term that a source gives, to be looked at.
+    #[inline(always)]
+    pub(crate) fn seen<'a>(&'a self, source: Source<'a>) -> Result<Seen<'a>, Trap>
+        ensures { MatchResult result (λ s. term_at (source_of source.entry) self.now ≡ Ok (tree_of s)) (λ trap. term_at (source_of source.entry) self.now ≡ Err trap) }
+    {
+        Ok(match source {
+            Source::Register(register) => Seen::Held(self.term(register)?),
+            Source::Integer(value) => Seen::Spelled(Term::int(value)),
+            Source::Atom(atom) => Seen::Spelled(Term::atom(atom)),
+            Source::Nil => Seen::Spelled(Term::nil()),
+            Source::Literal(term) => Seen::Held(term),
+        })
+    }
+
+    /// The term that a source gives, to be kept.
+    #[inline(always)]
+    pub(crate) fn term_of(&self, alloc: Global, source: Source<'_>) -> Result<Term, Stop>
+        ensures { Reads (Unit {0}) (λ t. t) result (term_at (source_of source.entry) self.now) }
+    {
+        match source {
+            Source::Register(register) => Ok(self.term(register)?.copy(alloc)?),
+            Source::Integer(value) => Ok(Term::int(value)),
+            Source::Atom(atom) => Ok(Term::atom(atom)),
+            Source::Nil => Ok(Term::nil()),
+            Source::Literal(term) => Ok(term.copy(alloc)?),
+        }
+    }
+
+    /// Puts `value` into a register. Memory is taken only for an x register.
     #[inline(always)]
     pub(crate) fn write(&mut self, register: Register, value: Value) -> Result<(), Stop>
-        ensures { Turns (Fills register self.old) self.old self.new result (written register value self.old) }
+        ensures { Turns (Unit {0}) self.old self.new result (written register value self.old) }
     {
         match register {
             Register::X(number) => match self.x.set(number, value) {
@@ -59,12 +127,79 @@ impl Proc {
             },
         }
     }
+
+    /// What a y register holds, where it holds something.
+    #[inline(always)]
+    pub(crate) fn y_cell(&self, number: u16) -> Result<Option<&Value>, Trap>
+        ensures { MatchResult result (λ cell. y_cell number self.now.frames ≡ Ok (option_map (λ v. v.now) cell)) (λ trap. y_cell number self.now.frames ≡ Err trap) }
+    {
+        self.frames.get(number)
+    }
+
+    /// Puts `value` into a y register, which takes no memory.
+    fn write_y(&mut self, number: u16, value: Value) -> Result<(), Stop>
+        ensures { Turns ⊥ self.old self.new result (written (Y number) value self.old) }
+    {
+        match self.frames.set(number, value) {
+            Ok(()) => Ok(()),
+            Err((trap, _)) => Err(Stop::Trapped(trap)),
+        }
+    }
+
+    /// Puts values into two registers, one after the other, or into none. Memory is taken only for x registers.
+    #[tactic(auto, using(crate::proofs::Writing::y_and_x))]
+    pub(crate) fn write_both(
+        &mut self,
+        one: Register,
+        value: Value,
+        other: Register,
+        more: Value,
+    ) -> Result<(), Stop>
+        ensures { Turns (Unit {0}) self.old self.new result (both_written one value other more self.old) }
+    {
+        match (one, other) {
+            (Register::X(first), Register::X(second)) => {
+                match self.x.set_two(first, value, second, more) {
+                    Ok(()) => Ok(()),
+                    Err(_) => Err(Stop::Memory),
+                }
+            }
+            (Register::X(first), Register::Y(second)) => {
+                self.write_x_and_y(first, value, second, more)
+            }
+            (Register::Y(first), Register::X(second)) => {
+                self.write_x_and_y(second, more, first, value)
+            }
+            (Register::Y(first), Register::Y(second)) => {
+                self.write_ys(first, value, second, more)
+            }
+        }
+    }
+
+    /// Puts values into an x and a y register, or into none.
+    fn write_x_and_y(&mut self, x: u16, value: Value, y: u16, more: Value) -> Result<(), Stop>
+        ensures { Turns (Unit {0}) self.old self.new result (both_written (X x) value (Y y) more self.old) }
+    {
+        self.y_cell(y)?;
+        self.write(Register::X(x), value)?;
+        self.write_y(y, more)
+    }
+
+    /// Puts values into two y registers, one after the other, or into none.
+    fn write_ys(&mut self, first: u16, value: Value, second: u16, more: Value) -> Result<(), Stop>
+        ensures { Turns ⊥ self.old self.new result (both_written (Y first) value (Y second) more self.old) }
+    {
+        self.y_cell(first)?;
+        self.y_cell(second)?;
+        self.write_y(first, value)?;
+        self.write_y(second, more)
+    }
 }
 
 /// A copy of what an instruction may carry from one register to another.
 #[inline(always)]
 fn carried(alloc: Global, value: &Value) -> Result<Value, Stop>
-    ensures { Reads (Shares value.now) (λ v. v) result (carried value.now) }
+    ensures { Reads (Unit {0}) (λ v. v) result (carried value.now) }
 {
     match value {
         Value::Term(term) => Ok(Value::Term(term.copy(alloc)?)),

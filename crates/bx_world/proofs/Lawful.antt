@@ -6,7 +6,7 @@ use Rattle.bx_load.specs.Image.{Loaded}
 use Rattle.bx_proc.specs.declared.parts.Effect.{Effect}
 use Rattle.bx_proc.specs.declared.parts.Effect.TheVariants as effects
 use Rattle.bx_proc.specs.Process.{Process}
-use Rattle.bx_proc.specs.Stepping.{stepped}
+use Rattle.bx_proc.specs.Stepping.{attempted}
 use Rattle.bx_world.specs.declared.choices.Choice.{Choice}
 use Rattle.bx_world.specs.declared.choices.Choice.TheVariants.{Run, Deliver}
 use Rattle.bx_world.specs.World.{Life, Live, Gone, State}
@@ -26,11 +26,13 @@ trap_turned : (p : ℕ) (w : State) (process : Process) (effect : Effect) (trap 
 trap_turned p w process effects.Ran trap free is = let no : None ≡ Some trap = sym free ∙ is in cc
 trap_turned p w process (effects.Ended reason) trap free is = let no : None ≡ Some trap = sym free ∙ is in cc
 trap_turned p w process (effects.Trap kind) trap free is = ap (λ t. record w { trap = t }) is
+trap_turned p w process (effects.Ask native ts) trap free is = ap (λ t. record w { trap = t }) is
+trap_turned p w process (effects.Send to t) trap free is = ap (λ t. record w { trap = t }) is
 
 trap_run : (image : Loaded) (p : ℕ) (w : State) (o : Option Life) (trap : Trap × ℕ) → w.trap ≡ None → (run_of image p w o).trap ≡ Some trap → run_of image p w o ≡ record w { trap = Some trap }
 trap_run image p w None trap free is = let no : None ≡ Some trap = sym free ∙ is in cc
 trap_run image p w (Some (Gone reason)) trap free is = let no : None ≡ Some trap = sym free ∙ is in cc
-trap_run image p w (Some (Live q)) trap free is = trap_turned p w (stepped image p q).0 (stepped image p q).1 trap free is
+trap_run image p w (Some (Live q)) trap free is = trap_turned p w (attempted image p q).0 (attempted image p q).1 trap free is
 
 pub trap_alone : (image : Loaded) (choice : Choice) (w : State) (trap : Trap × ℕ) → w.trap ≡ None → (chosen image choice w).trap ≡ Some trap → chosen image choice w ≡ record w { trap = Some trap }
 trap_alone image (Run p) w trap free is = trap_run image p w (slice_get w.processes p) trap free is

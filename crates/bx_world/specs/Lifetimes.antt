@@ -6,7 +6,7 @@ use Rattle.bx_terms.specs.declared.faults.Fault.TheVariants.{NotEnabled}
 use Rattle.bx_load.specs.Image.{Loaded}
 use Rattle.bx_proc.specs.declared.parts.Effect.{Effect}
 use Rattle.bx_proc.specs.Process.{Process, can_run}
-use Rattle.bx_proc.specs.Stepping.{stepped}
+use Rattle.bx_proc.specs.Stepping.{attempted}
 use Rattle.bx_world.specs.World.{Life, Live, Gone}
 
 abbrev pub alive : Process × Effect → Life × Effect
@@ -14,7 +14,7 @@ alive done = (Live done.0, done.1)
 
 -- a run of a process that can run, whatever it was
 abbrev pub life_run : Loaded → ℕ → Life → Result (Life × Effect) Fault
-life_run image p (Live process) = if can_run process then Ok (alive (stepped image p process)) else Err NotEnabled
+life_run image p (Live process) = if can_run process then Ok (alive (attempted image p process)) else Err NotEnabled
 life_run image p (Gone reason) = Err NotEnabled
 
 abbrev pub found_run : Loaded → ℕ → Option Life → Result (Life × Effect) Fault

@@ -123,6 +123,7 @@ impl<P: Hold<Proc>, C: Hold<Lanes>> World<P, C> {
             Effect::Ran => {}
             Effect::Ended(reason) => self.procs.end(pid, reason),
             Effect::Trap(kind) => self.trap = Some((kind, pid)),
+            Effect::Ask(_, _) | Effect::Send(_, _) => self.trap = Some((Trap::Unsupported, pid)),
         }
         Ok(())
     }

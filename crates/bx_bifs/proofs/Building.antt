@@ -1,0 +1,82 @@
+-- Lists and tuples that natives build.
+use Rattle.std.proofs.Common.{◌≡◌, ℕ, zero, suc, ◌+◌, ◌<◌, ◌≤◌, max, ℤ, pos, negsuc, ◌<ℤ◌, List, [], ◌∷◌, ◌++◌, length, Option, Some, None, true, false, refl, sym, ap, ◌∙◌, append_assoc, append-nil, arith}
+use Rattle.std.specs.Prelude.{Bool, option_map, nat_le, nat_lt, if◌then◌else◌, slice_set}
+use Rattle.std.proofs.lemmas.Int.{ints}
+use Rattle.std.proofs.lemmas.Bool.Decides.{nat_tests}
+use Rattle.bx_terms.specs.declared.kinds.Trap.TheVariants.{TermHeight}
+use Rattle.bx_terms.specs.Tree.{Tree, nil, cons, tuple, listed, height}
+use Rattle.bx_bifs.specs.declared.given.Given.{Given}
+use Rattle.bx_bifs.specs.declared.given.Given.TheVariants.{Value, Trap}
+use Rattle.bx_bifs.specs.Given.{badarg}
+use Rattle.bx_bifs.specs.Values.{elements, built, ahead, put_at}
+
+-- those taken already, before those of the rest
+abbrev pub before : List Tree → Option (List Tree) → Option (List Tree)
+before taken more = option_map (λ ts. taken ++ ts) more
+
+one_moved : (taken : List Tree) (t : Tree) (more : Option (List Tree)) → before taken (option_map (λ ts. t ∷ ts) more) ≡ before (taken ++ t ∷ []) more
+one_moved taken t None = refl
+one_moved taken t (Some ts) = ap Some (sym (append_assoc taken (t ∷ []) ts))
+
+pub one_more : (taken new : List Tree) (list head tail : Tree) (all : Option (List Tree)) → list ≡ cons head tail → new ≡ taken ++ head ∷ [] → before taken (elements list) ≡ all → before new (elements tail) ≡ all
+one_more taken new list head tail all is more whole =
+    ap (λ ts. before ts (elements tail)) more ∙ sym (one_moved taken head (elements tail)) ∙ sym (ap (λ t. before taken (elements t)) is) ∙ whole
+
+pub at_start : (more : Option (List Tree)) → before [] more ≡ more
+at_start None = refl
+at_start (Some ts) = refl
+
+pub at_end : (taken : List Tree) → before taken (elements nil) ≡ Some taken
+at_end taken = ap Some (append-nil taken)
+
+pub elements_listed : (ts : List Tree) → elements (listed ts) ≡ Some ts
+elements_listed [] = refl
+elements_listed (t ∷ ts) = ap (option_map (λ us. t ∷ us)) (elements_listed ts)
+
+-- a cell more at the front of the rest
+pub one_ahead : (ts : List Tree) (t rest : Tree) → ahead (ts ++ t ∷ []) rest ≡ ahead ts (cons t rest)
+one_ahead [] t rest = refl
+one_ahead (u ∷ ts) t rest = ap (cons u) (one_ahead ts t rest)
+
+-- a list is as high as its rest at least
+ahead_high : (ts : List Tree) (rest : Tree) → height rest ≤ height (ahead ts rest)
+ahead_high [] rest = omega arith
+ahead_high (t ∷ ts) rest = omega (arith, ahead_high ts rest)
+
+high : (t : Tree) (b : Bool) → nat_le (height t) 10000 ≡ b → 10000 < height t → (if b then Value t else Trap TermHeight) ≡ Trap TermHeight
+high t true e h = absurd (grind (arith, nat_tests))
+high t false e h = refl
+
+low : (t : Tree) (b : Bool) → nat_le (height t) 10000 ≡ b → height t ≤ 10000 → (if b then Value t else Trap TermHeight) ≡ Value t
+low t true e h = refl
+low t false e h = absurd (grind (arith, nat_tests))
+
+pub too_high : (ts : List Tree) (t rest : Tree) → 10000 < height (cons t rest) → Trap TermHeight ≡ built (ahead (ts ++ t ∷ []) rest)
+too_high ts t rest h =
+    let all = ahead (ts ++ t ∷ []) rest in
+    let more : height (cons t rest) ≤ height (ahead ts (cons t rest)) = ahead_high ts (cons t rest) in
+    let same : height (ahead ts (cons t rest)) ≡ height all = ap height (sym (one_ahead ts t rest)) in
+    sym (high all (nat_le (height all) 10000) refl (omega arith))
+
+pub none_ahead : (t : Tree) → height t ≤ 10000 → Value t ≡ built t
+none_ahead t h = sym (low t (nat_le (height t) 10000) refl h)
+
+-- an element in the place of another
+pub put_before : (t : Tree) (ts : List Tree) (place : ℤ) → place <ℤ pos 1 → badarg ≡ put_at place t ts
+put_before t ts (pos zero) h = refl
+put_before t ts (pos (suc n)) h = absurd (omega (arith, ints))
+put_before t ts (negsuc n) h = refl
+
+past : (t : Tree) (ts : List Tree) (n : ℕ) (b : Bool) → nat_lt n (length ts) ≡ b → length ts ≤ n → badarg ≡ (if b then built (tuple (listed (slice_set ts n t))) else badarg)
+past t ts n true e h = absurd (grind (arith, nat_tests))
+past t ts n false e h = refl
+
+pub put_past : (t : Tree) (ts : List Tree) (n : ℕ) → length ts ≤ n → badarg ≡ put_at (pos (suc n)) t ts
+put_past t ts n h = past t ts n (nat_lt n (length ts)) refl h
+
+there : (t : Tree) (ts : List Tree) (n : ℕ) (b : Bool) → nat_lt n (length ts) ≡ b → n < length ts → built (tuple (listed (slice_set ts n t))) ≡ (if b then built (tuple (listed (slice_set ts n t))) else badarg)
+there t ts n true e h = refl
+there t ts n false e h = absurd (grind (arith, nat_tests))
+
+pub put_there : (t : Tree) (ts : List Tree) (n : ℕ) → n < length ts → built (tuple (listed (slice_set ts n t))) ≡ put_at (pos (suc n)) t ts
+put_there t ts n h = there t ts n (nat_lt n (length ts)) refl h

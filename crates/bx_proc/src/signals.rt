@@ -1,0 +1,98 @@
+//! What signals ask of a process, and what they see of it.
+
+ghost use Rattle.std.specs.Prelude.{◌≡◌, false, Ok, OnOk, IfErr};
+ghost use Rattle.bx_terms.specs.Outcomes.{Does, Gives};
+ghost use Rattle.bx_cells.specs.Links.{IsRising, among, unlinked};
+ghost use Rattle.bx_proc.specs.Process.{can_expire};
+ghost use Rattle.bx_proc.specs.Signals.{with_message, with_link, without_link, expired};
+
+use crate::parts::Status;
+use crate::process::Proc;
+use bx_terms::{Fault, Term};
+use std::alloc::Global;
+
+impl Proc {
+    /// Whether exit signals become messages.
+    #[inline]
+    pub fn traps_exits(&self) -> bool
+        ensures { result ≡ self.now.trap_exit }
+    {
+        self.trap_exit
+    }
+
+    /// The pids of the processes that it is linked to, rising.
+    #[inline]
+    pub fn links(&self) -> &[u32]
+        ensures pids { result.now ≡ self.now.links }
+        ensures rising { IsRising self.now.links }
+    {
+        self.links.as_slice()
+    }
+
+    /// Whether it is linked to the process with that pid.
+    pub fn is_linked(&self, pid: u32) -> bool
+        ensures told { result ≡ among pid self.now.links }
+        ensures rising { IsRising self.now.links }
+    {
+        let _pids = self.links.as_slice();
+        self.links.contains(pid)
+    }
+
+    /// The pids of the processes that it is linked to, but that one.
+    ///
+    /// Memory is all that it may lack.
+    pub fn links_but(&self, alloc: Global, pid: u32) -> Result<Vec<u32>, Fault>
+        ensures { Gives (Unit {0}) (λ v. v.items) result (Ok (unlinked pid self.now.links)) }
+    {
+        Ok(self.links.but(alloc, pid)?)
+    }
+
+    /// Whether its wait may be over: it waits for a time, and has no message that it did not pass over.
+    #[inline]
+    pub fn can_expire(&self) -> bool
+        ensures { result ≡ can_expire self.now }
+    {
+        match &self.status {
+            Status::Waiting => self.expires.is_some() && !self.mailbox.current().is_some(),
+            _ => false,
+        }
+    }
+
+    /// A message arrives. It is handed back where memory ran out, and then nothing has changed.
+    pub fn add_message(&mut self, message: Term) -> Result<(), Term>
+        ensures ok { OnOk result (self.new ≡ with_message message self.old) }
+        ensures err { IfErr result (λ m. (m ≡ message) × (self.new ≡ self.old)) }
+    {
+        self.mailbox.add(message)
+    }
+
+    /// One link more. Memory is all that it may lack, and only for a link that is not there; then nothing has changed.
+    pub fn add_link(&mut self, pid: u32) -> Result<(), Fault>
+        ensures { Does (among pid self.old.links ≡ false) self.old self.new result (Ok (with_link pid self.old, tt)) }
+    {
+        self.links.insert(pid)?;
+        Ok(())
+    }
+
+    /// Takes a link away, and tells whether it was there.
+    pub fn drop_link(&mut self, pid: u32) -> bool
+        ensures told { result ≡ among pid self.old.links }
+        ensures dropped { self.new ≡ without_link pid self.old }
+    {
+        self.links.remove(pid)
+    }
+
+    /// The time of its wait is over: it goes on behind the wait, and that is told. Where no wait can be over nothing changes.
+    pub fn expire(&mut self) -> bool
+        ensures told { result ≡ can_expire self.old }
+        ensures expired { self.new ≡ expired self.old }
+    {
+        if !self.can_expire() {
+            return false;
+        }
+        self.status = Status::Ready;
+        self.place = self.expires;
+        self.expires = None;
+        true
+    }
+}
