@@ -69,12 +69,7 @@ fn tuple_to_list(alloc: Global, tuple: &Term) -> Result<Given, AllocError>
 /// `setelement`: the tuple with a term in the place of one of its elements, which are counted from 1. The fault `badarg`
 /// where the first is no integer, the second no tuple, or where there is no such element.
 #[tactic(auto, using(crate::proofs::Building::elements_listed))]
-fn set_element(
-    alloc: Global,
-    place: &Term,
-    tuple: &Term,
-    term: &Term,
-) -> Result<Given, AllocError>
+fn set_element(alloc: Global, place: &Term, tuple: &Term, term: &Term) -> Result<Given, AllocError>
     ensures { IfOk result (λ given. given ≡ with_element place.now tuple.now term.now) }
 {
     let (View::Int(place), View::Tuple(elements)) = (place.view(), tuple.view()) else {

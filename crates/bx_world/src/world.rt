@@ -123,7 +123,8 @@ impl<P: Hold<Proc>, C: Hold<Lanes>> World<P, C> {
             Effect::Ran => {}
             Effect::Ended(reason) => self.procs.end(pid, reason),
             Effect::Trap(kind) => self.trap = Some((kind, pid)),
-            Effect::Ask(_, _) | Effect::Send(_, _) => self.trap = Some((Trap::Unsupported, pid)),
+            Effect::Ask(_, _) => self.trap = Some((Trap::Unsupported, pid)),
+            Effect::Send(_, _) => self.trap = Some((Trap::Unsupported, pid)),
         }
         Ok(())
     }
