@@ -2,6 +2,7 @@
 
 ghost use Rattle.std.specs.Prelude.{◌≡◌, ◌↔◌, ◌∷◌, ◌++◌, [], OnOk, IfOk, IfErr, IsTrue};
 
+use bx_share::Same;
 use bx_world::{Choice, Outcome};
 use std::alloc::{AllocError, Global};
 use std::marker::Model;
@@ -71,7 +72,7 @@ fn same_refused(one: Option<Choice>, other: Option<Choice>) -> bool
 {
     match (one, other) {
         (None, None) => true,
-        (Some(choice), Some(other)) => choice.same(other),
+        (Some(choice), Some(other)) => choice.same(&other),
         _ => false,
     }
 }

@@ -41,13 +41,14 @@ impl<'a> Model for Session<'a> {
     ghost use Rattle.bx_load.specs.contracts.image.Image as images;
     ghost use Rattle.bx_proc.specs.contracts.process.Proc as process;
     ghost use Rattle.bx_world.specs.contracts.choices.Choice as made;
+    ghost use Rattle.bx_world.specs.contracts.lanes.Lanes as lane;
     ghost use Rattle.bx_world.specs.World.{state_code};
     ghost use Rattle.bx_debug.specs.Sessions.{History, history_code};
     ghost use Rattle.bx_debug.specs.Leading.{IsSession};
 
     ghost Value = { History };
 
-    ghost coded = { history_code images.the_row.coded (state_code process.the_row.coded tree_code traps.the_row.coded) made.the_row.coded };
+    ghost coded = { history_code images.the_row.coded (state_code process.the_row.coded tree_code lane.the_row.coded traps.the_row.coded) made.the_row.coded };
 
     ghost view = { λ s. record { image = s.image.now; start = s.start; choices = s.choices.items; at = s.at; places = s.places } };
 

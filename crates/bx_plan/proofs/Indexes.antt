@@ -3,13 +3,13 @@ use Rattle.std.proofs.Common.{◌≡◌, ◌⊎◌, inl, inr, ℕ, zero, suc, �
 use Rattle.std.specs.declared.cmp.Ordering.{Ordering}
 use Rattle.std.specs.declared.cmp.Ordering.TheVariants.{Less, Equal, Greater}
 use Rattle.std.specs.Ordering.{nat_cmp, ordering_then, is_eq}
-use Rattle.std.specs.Option.{option_cmp, MatchOption}
+use Rattle.std.specs.Option.{MatchOption}
 use Rattle.std.specs.BTreeMap.{BTreeMap, get, is_at, Updates, IsUnchanged}
 use Rattle.std.proofs.lemmas.Bool.{both_ways, false_from_ne_true, cases_Bool, cases_eq}
 use Rattle.std.proofs.lemmas.Map.Lookups.{exact_unsigned}
 use Rattle.std.specs.Map.{lookup}
 use Rattle.bx_world.specs.declared.choices.Choice.{Choice}
-use Rattle.bx_world.specs.declared.choices.Choice.TheVariants.{Run, Deliver}
+use Rattle.bx_world.specs.declared.choices.Choice.TheVariants.{Run, Deliver, Expire}
 use Rattle.std.proofs.lemmas.List.{map-append}
 use Rattle.std.proofs.lemmas.Option.{slice_get-get_or, slice_get_within, get_or_from_slice_get}
 use Rattle.std.specs.List.{slice_get}
@@ -28,12 +28,6 @@ then_both Less b h = cc
 then_both Equal b h = (refl, h)
 then_both Greater b h = cc
 
-option_same : (a b : Option ℕ) → option_cmp nat_cmp a b ≡ Equal → a ≡ b
-option_same None None h = refl
-option_same None (Some y) h = cc
-option_same (Some x) None h = cc
-option_same (Some x) (Some y) h = ap (λ n. Some n) (exact_unsigned x y h)
-
 is_equal : (o : Ordering) → is_eq o ≡ true → o ≡ Equal
 is_equal Less h = cc
 is_equal Equal h = refl
@@ -41,20 +35,24 @@ is_equal Greater h = cc
 
 edge_same : (x y : Edge) → is_at (edge_cmp x) y ≡ true → x ≡ y
 edge_same x y h =
-    let all = then_both (nat_cmp x.parent y.parent) (ordering_then (nat_cmp x.first y.first) (option_cmp nat_cmp x.second y.second)) (is_equal (edge_cmp x y) h) in
-    let pids = then_both (nat_cmp x.first y.first) (option_cmp nat_cmp x.second y.second) all.1 in
-    ap (λ p. record { parent = p; first = x.first; second = x.second }) (exact_unsigned x.parent y.parent all.0)
-    ∙ ap (λ f. record { parent = y.parent; first = f; second = x.second }) (exact_unsigned x.first y.first pids.0)
-    ∙ ap (λ s. record { parent = y.parent; first = y.first; second = s }) (option_same x.second y.second pids.1)
+    let all = then_both (nat_cmp x.parent y.parent) (ordering_then (nat_cmp x.kind y.kind) (ordering_then (nat_cmp x.first y.first) (nat_cmp x.second y.second))) (is_equal (edge_cmp x y) h) in
+    let choice = then_both (nat_cmp x.kind y.kind) (ordering_then (nat_cmp x.first y.first) (nat_cmp x.second y.second)) all.1 in
+    let pids = then_both (nat_cmp x.first y.first) (nat_cmp x.second y.second) choice.1 in
+    ap (λ p. record { parent = p; kind = x.kind; first = x.first; second = x.second }) (exact_unsigned x.parent y.parent all.0)
+    ∙ ap (λ k. record { parent = y.parent; kind = k; first = x.first; second = x.second }) (exact_unsigned x.kind y.kind choice.0)
+    ∙ ap (λ f. record { parent = y.parent; kind = y.kind; first = f; second = x.second }) (exact_unsigned x.first y.first pids.0)
+    ∙ ap (λ s. record { parent = y.parent; kind = y.kind; first = y.first; second = s }) (exact_unsigned x.second y.second pids.1)
 
 edge_parts : (p q : ℕ) (c d : Choice) → edge p c ≡ edge q d → (p ≡ q) × (c ≡ d)
 edge_parts p q (Run a) (Run b) e = (ap (λ x. x.parent) e, ap (λ x. Run x.first) e)
-edge_parts p q (Run a) (Deliver b d) e = let apart = ap (λ x. x.second) e in cc
-edge_parts p q (Deliver a c) (Run b) e = let apart = ap (λ x. x.second) e in cc
-edge_parts p q (Deliver a c) (Deliver b d) e =
-    let second = ap (λ x. x.second) e in
-    let same : c ≡ d = cc in
-    (ap (λ x. x.parent) e, ap (λ x. Deliver x.first c) e ∙ ap (λ n. Deliver b n) same)
+edge_parts p q (Expire a) (Expire b) e = (ap (λ x. x.parent) e, ap (λ x. Expire x.first) e)
+edge_parts p q (Deliver a c) (Deliver b d) e = (ap (λ x. x.parent) e, ap (λ x. Deliver x.first x.second) e)
+edge_parts p q (Run a) (Deliver b d) e = absurd (omega (arith, ap (λ x. x.kind) e))
+edge_parts p q (Run a) (Expire b) e = absurd (omega (arith, ap (λ x. x.kind) e))
+edge_parts p q (Deliver a c) (Run b) e = absurd (omega (arith, ap (λ x. x.kind) e))
+edge_parts p q (Deliver a c) (Expire b) e = absurd (omega (arith, ap (λ x. x.kind) e))
+edge_parts p q (Expire a) (Run b) e = absurd (omega (arith, ap (λ x. x.kind) e))
+edge_parts p q (Expire a) (Deliver b d) e = absurd (omega (arith, ap (λ x. x.kind) e))
 
 -- ---- what a look-up says of the nodes
 

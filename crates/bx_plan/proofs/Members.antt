@@ -5,7 +5,7 @@ use Rattle.std.specs.Cmp.Lexicographic.{pointwise}
 use Rattle.std.proofs.lemmas.Bool.{eqb-true, eq-eqb, and_parts, and_from, or_cases, or_left, or_right}
 use Rattle.std.proofs.lemmas.Slice.Eq.{slice_eq-Decides}
 use Rattle.bx_world.specs.declared.choices.Choice.{Choice}
-use Rattle.bx_world.specs.declared.choices.Choice.TheVariants.{Run, Deliver}
+use Rattle.bx_world.specs.declared.choices.Choice.TheVariants.{Run, Deliver, Expire}
 use Rattle.bx_plan.specs.Nodes.{choice_eq, has_node}
 
 pub choice_decides : (a b : Choice) → Decides (choice_eq a b) (a ≡ b)
@@ -14,8 +14,13 @@ choice_decides (Deliver p q) (Deliver r s) = (
   λ h. let parts = and_parts (nat_eq p r) (nat_eq q s) h in ap (λ n. Deliver n q) (eqb-true p r parts.0) ∙ ap (λ n. Deliver r n) (eqb-true q s parts.1),
   λ e. let first : p ≡ r = cc in let second : q ≡ s = cc in and_from (nat_eq p r) (nat_eq q s) (eq-eqb p r first) (eq-eqb q s second),
 )
+choice_decides (Expire p) (Expire q) = (λ h. ap (λ n. Expire n) (eqb-true p q h), λ e. let same : p ≡ q = cc in eq-eqb p q same)
 choice_decides (Run p) (Deliver r s) = (λ h. cc, λ e. cc)
+choice_decides (Run p) (Expire r) = (λ h. cc, λ e. cc)
 choice_decides (Deliver p q) (Run r) = (λ h. cc, λ e. cc)
+choice_decides (Deliver p q) (Expire r) = (λ h. cc, λ e. cc)
+choice_decides (Expire p) (Run r) = (λ h. cc, λ e. cc)
+choice_decides (Expire p) (Deliver r s) = (λ h. cc, λ e. cc)
 
 pub path_decides : (a b : List Choice) → Decides (pointwise choice_eq a b) (a ≡ b)
 path_decides a b = slice_eq-Decides choice_decides a b (pointwise choice_eq a b) refl

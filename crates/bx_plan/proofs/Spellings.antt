@@ -9,7 +9,7 @@ use Rattle.std.specs.Char.{is_ascii_digit}
 use Rattle.std.specs.List.{join_with_byte}
 use Rattle.std.proofs.lemmas.List.Splits.{length-slice_split, join_with_byte-slice_split}
 use Rattle.bx_world.specs.declared.choices.Choice.{Choice}
-use Rattle.bx_world.specs.declared.choices.Choice.TheVariants.{Run, Deliver}
+use Rattle.bx_world.specs.declared.choices.Choice.TheVariants.{Run, Deliver, Expire}
 use Rattle.bx_plan.specs.Entry.{Entry}
 use Rattle.bx_plan.specs.Reading.{cut, parts_of, number_of, choice_of, deliver_of, made, repeated_of, entry_of, entry_each, entries_of, tail_of}
 use Rattle.bx_plan.specs.Grammar.{spelling, HasPids, IsOnce, IsRepeated, IsEntry, AreEntries}
@@ -37,6 +37,12 @@ run_spelled pid choice h =
     let number = number_spelled 1023 read.0 pid (omega arith) read.1 in
     subst (Spells (114 ∷ pid)) (some_is (Run read.0) choice read.2) (number.0, ap (λ t. 114 ∷ t) number.1)
 
+expire_spelled : (pid : List ℕ) (choice : Choice) → option_map (λ p. Expire p) (number_of 1023 pid) ≡ Some choice → Spells (101 ∷ pid) choice
+expire_spelled pid choice h =
+    let read = mapped (λ p. Expire p) (number_of 1023 pid) choice h in
+    let number = number_spelled 1023 read.0 pid (omega arith) read.1 in
+    subst (Spells (101 ∷ pid)) (some_is (Expire read.0) choice read.2) (number.0, ap (λ t. 101 ∷ t) number.1)
+
 deliver_spelled : (pids : List ℕ) (choice : Choice) → option_and_then deliver_of (cut 62 pids) ≡ Some choice → Spells (100 ∷ pids) choice
 deliver_spelled pids choice h =
     let parts = bound deliver_of (cut 62 pids) choice h in
@@ -49,24 +55,28 @@ deliver_spelled pids choice h =
 
 pub choice_spelled : (text : List ℕ) (choice : Choice) → choice_of text ≡ Some choice → Spells text choice
 choice_spelled [] choice h = cc
-choice_spelled (b ∷ bs) choice h = one (nat_eq b 114) (nat_eq b 100) refl refl h where
-  one : (run deliver : Bool) → nat_eq b 114 ≡ run → nat_eq b 100 ≡ deliver
-      → cond run (option_map (λ p. Run p) (number_of 1023 bs)) (cond deliver (option_and_then deliver_of (cut 62 bs)) None) ≡ Some choice → Spells (b ∷ bs) choice
-  one true deliver p q r = subst (λ c. Spells (c ∷ bs) choice) (sym (eqb-true b 114 p)) (run_spelled bs choice r)
-  one false true p q r = subst (λ c. Spells (c ∷ bs) choice) (sym (eqb-true b 100 q)) (deliver_spelled bs choice r)
-  one false false p q r = cc
+choice_spelled (b ∷ bs) choice h = one (nat_eq b 114) (nat_eq b 100) (nat_eq b 101) refl refl refl h where
+  one : (run deliver expire : Bool) → nat_eq b 114 ≡ run → nat_eq b 100 ≡ deliver → nat_eq b 101 ≡ expire
+      → cond run (option_map (λ p. Run p) (number_of 1023 bs)) (cond deliver (option_and_then deliver_of (cut 62 bs)) (cond expire (option_map (λ p. Expire p) (number_of 1023 bs)) None)) ≡ Some choice
+      → Spells (b ∷ bs) choice
+  one true deliver expire p q s r = subst (λ c. Spells (c ∷ bs) choice) (sym (eqb-true b 114 p)) (run_spelled bs choice r)
+  one false true expire p q s r = subst (λ c. Spells (c ∷ bs) choice) (sym (eqb-true b 100 q)) (deliver_spelled bs choice r)
+  one false false true p q s r = subst (λ c. Spells (c ∷ bs) choice) (sym (eqb-true b 101 s)) (expire_spelled bs choice r)
+  one false false false p q s r = cc
 
 pub choice_again : (choice : Choice) → HasPids choice → choice_of (spelling choice) ≡ Some choice
 choice_again (Run p) h = ap (option_map (λ n. Run n)) (number_again 1023 p (omega arith) h)
+choice_again (Expire p) h = ap (option_map (λ n. Expire n)) (number_again 1023 p (omega arith) h)
 choice_again (Deliver p q) h =
     ap (option_and_then deliver_of) (cut_at 62 (decimal p) (decimal q) (decimal_lacks 62 p refl (omega (arith, h.0))))
     ∙ ap (option_and_then (λ n. option_map (λ m. Deliver n m) (number_of 1023 (decimal q)))) (number_again 1023 p (omega arith) h.0)
     ∙ ap (option_map (λ m. Deliver p m)) (number_again 1023 q (omega arith) h.1)
 
 -- marks that no spelling has
-spelling_lacks : (mark : ℕ) (choice : Choice) → is_ascii_digit mark ≡ false → nat_eq 114 mark ≡ false → nat_eq 100 mark ≡ false → nat_eq 62 mark ≡ false → HasPids choice → Lacks mark (spelling choice)
-spelling_lacks mark (Run p) digit r d gt h = (r, decimal_lacks mark p digit (omega arith))
-spelling_lacks mark (Deliver p q) digit r d gt h = (d, Lacks-append mark (decimal p) (62 ∷ decimal q) (decimal_lacks mark p digit (omega (arith, h.0))) (gt, decimal_lacks mark q digit (omega (arith, h.1))))
+spelling_lacks : (mark : ℕ) (choice : Choice) → is_ascii_digit mark ≡ false → nat_eq 114 mark ≡ false → nat_eq 100 mark ≡ false → nat_eq 101 mark ≡ false → nat_eq 62 mark ≡ false → HasPids choice → Lacks mark (spelling choice)
+spelling_lacks mark (Run p) digit r d e gt h = (r, decimal_lacks mark p digit (omega arith))
+spelling_lacks mark (Expire p) digit r d e gt h = (e, decimal_lacks mark p digit (omega arith))
+spelling_lacks mark (Deliver p q) digit r d e gt h = (d, Lacks-append mark (decimal p) (62 ∷ decimal q) (decimal_lacks mark p digit (omega (arith, h.0))) (gt, decimal_lacks mark q digit (omega (arith, h.1))))
 
 once_spelled : (text : List ℕ) (entry : Entry) → option_map (λ choice. (choice, 1)) (choice_of text) ≡ Some entry → IsEntry text entry
 once_spelled text entry h =
@@ -102,7 +112,7 @@ entry_again text entry h = one h.1 where
   choice = choice_again entry.0 h.0
 
   no_star : Lacks 42 (spelling entry.0)
-  no_star = spelling_lacks 42 entry.0 refl refl refl refl h.0
+  no_star = spelling_lacks 42 entry.0 refl refl refl refl refl h.0
 
   is_made : 1 ≤ entry.1 → made entry.0 entry.1 ≡ Some entry
   is_made least = ap (λ t. cond t None (Some entry)) (ne_eqb entry.1 0 (λ e. omega arith))
@@ -120,10 +130,10 @@ entry_again text entry h = one h.1 where
       ∙ ap (option_and_then (made entry.0)) (number_again 100000 entry.1 (omega arith) more.1)
       ∙ is_made more.0
 
-pub entry_lacks : (mark : ℕ) (text : List ℕ) (entry : Entry) → is_ascii_digit mark ≡ false → nat_eq 114 mark ≡ false → nat_eq 100 mark ≡ false → nat_eq 62 mark ≡ false → nat_eq 42 mark ≡ false → IsEntry text entry → Lacks mark text
-entry_lacks mark text entry digit r d gt star h = one h.1 where
+pub entry_lacks : (mark : ℕ) (text : List ℕ) (entry : Entry) → is_ascii_digit mark ≡ false → nat_eq 114 mark ≡ false → nat_eq 100 mark ≡ false → nat_eq 101 mark ≡ false → nat_eq 62 mark ≡ false → nat_eq 42 mark ≡ false → IsEntry text entry → Lacks mark text
+entry_lacks mark text entry digit r d e gt star h = one h.1 where
   choice : Lacks mark (spelling entry.0)
-  choice = spelling_lacks mark entry.0 digit r d gt h.0
+  choice = spelling_lacks mark entry.0 digit r d e gt h.0
 
   one : IsOnce text entry ⊎ IsRepeated text entry → Lacks mark text
   one (inl once) = subst (Lacks mark) (sym once.1) choice
@@ -171,12 +181,12 @@ each_more word words entry entries h k =
 tail_again : (text : List ℕ) (entries : List Entry) → AreEntries text entries → tail_of text ≡ Some entries
 tail_again text [] h = ap tail_of h
 tail_again text (entry ∷ []) (word, rest, spelled, last, whole) =
-    let one : parts_of 32 word ≡ word ∷ [] = parts_lacks 32 word (entry_lacks 32 word entry refl refl refl refl refl spelled) in
+    let one : parts_of 32 word ≡ word ∷ [] = parts_lacks 32 word (entry_lacks 32 word entry refl refl refl refl refl refl spelled) in
     ap tail_of (whole ∙ ap (λ t. 32 ∷ (word ++ t)) last ∙ ap (λ t. 32 ∷ t) (append-nil word))
     ∙ ap entry_each one
     ∙ each_more word [] entry [] (entry_again word entry spelled) refl
 tail_again text (entry ∷ next ∷ entries) (word, rest, spelled, (word', rest', spelled', more, whole'), whole) =
-    let first : parts_of 32 (word ++ 32 ∷ (word' ++ rest')) ≡ word ∷ parts_of 32 (word' ++ rest') = parts_at 32 word (word' ++ rest') (entry_lacks 32 word entry refl refl refl refl refl spelled) in
+    let first : parts_of 32 (word ++ 32 ∷ (word' ++ rest')) ≡ word ∷ parts_of 32 (word' ++ rest') = parts_at 32 word (word' ++ rest') (entry_lacks 32 word entry refl refl refl refl refl refl spelled) in
     let others : tail_of (32 ∷ (word' ++ rest')) ≡ Some (next ∷ entries) = tail_again (32 ∷ (word' ++ rest')) (next ∷ entries) (word', rest', spelled', more, refl) in
     ap tail_of (whole ∙ ap (λ t. 32 ∷ (word ++ t)) whole')
     ∙ ap entry_each first

@@ -1,21 +1,22 @@
 -- The look-up of a node's children.
-use Rattle.std.specs.Prelude.{◌≡◌, ◌≢◌, ℕ, ◌+◌, ◌<◌, List, [], ◌∷◌, ◌++◌, None, Some, length, map, slice_get}
+use Rattle.std.specs.Prelude.{◌≡◌, ◌≢◌, ℕ, ◌+◌, ◌<◌, List, [], ◌∷◌, ◌++◌, Some, length, map, slice_get}
 use Rattle.std.specs.declared.cmp.Ordering.{Ordering}
 use Rattle.std.specs.Ordering.{nat_cmp, ordering_then}
-use Rattle.std.specs.Option.{option_cmp}
 use Rattle.std.specs.BTreeMap.{BTreeMap, get, Updates, IsUnchanged}
 use Rattle.bx_world.specs.declared.choices.Choice.{Choice}
-use Rattle.bx_world.specs.declared.choices.Choice.TheVariants.{Run, Deliver}
+use Rattle.bx_world.specs.declared.choices.Choice.TheVariants.{Run, Deliver, Expire}
 use Rattle.bx_plan.specs.declared.trees.Edge.{Edge}
 use Rattle.bx_plan.specs.declared.trees.Step.{Step}
 use Rattle.bx_plan.specs.Trees.{Tree, path, parent, choice}
 
+-- runs by pid come first, then deliveries by pair, then expirations by pid
 abbrev pub edge : ℕ → Choice → Edge
-edge at (Run p) = record { parent = at; first = p; second = None }
-edge at (Deliver p q) = record { parent = at; first = p; second = Some q }
+edge at (Run p) = record { parent = at; kind = 0; first = p; second = 0 }
+edge at (Deliver p q) = record { parent = at; kind = 1; first = p; second = q }
+edge at (Expire p) = record { parent = at; kind = 2; first = p; second = 0 }
 
 abbrev pub edge_cmp : Edge → Edge → Ordering
-edge_cmp a b = ordering_then (nat_cmp a.parent b.parent) (ordering_then (nat_cmp a.first b.first) (option_cmp nat_cmp a.second b.second))
+edge_cmp a b = ordering_then (nat_cmp a.parent b.parent) (ordering_then (nat_cmp a.kind b.kind) (ordering_then (nat_cmp a.first b.first) (nat_cmp a.second b.second)))
 
 -- the node right behind this one is its child by the choice
 abbrev pub IsNext : Tree → ℕ → Choice → Type 0

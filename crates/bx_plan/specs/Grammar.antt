@@ -5,19 +5,21 @@ use Rattle.std.specs.Int.{IsInRange}
 use Rattle.std.specs.List.{AllByRecursion}
 use Rattle.std.specs.Str.{IsUtf8}
 use Rattle.bx_world.specs.declared.choices.Choice.{Choice}
-use Rattle.bx_world.specs.declared.choices.Choice.TheVariants.{Run, Deliver}
+use Rattle.bx_world.specs.declared.choices.Choice.TheVariants.{Run, Deliver, Expire}
 use Rattle.bx_plan.specs.Entry.{Entry}
 
--- `r` and the pid that runs, or `d`, the pid that sent, `>` and the pid that receives. Numbers are
--- decimal without leading zeros.
+-- `r` and the pid that runs; `d`, the pid that sent, `>` and the pid that receives; or `e` and the pid whose wait expires.
+-- Numbers are decimal without leading zeros.
 abbrev pub spelling : Choice → List ℕ
 spelling (Run p) = codes "r" ++ decimal p
 spelling (Deliver p q) = codes "d" ++ (decimal p ++ (codes ">" ++ decimal q))
+spelling (Expire p) = codes "e" ++ decimal p
 
 -- its pids are 0 to 1023
 abbrev pub HasPids : Choice → Type 0
 HasPids (Run p) = p ≤ 1023
 HasPids (Deliver p q) = (p ≤ 1023) × (q ≤ 1023)
+HasPids (Expire p) = p ≤ 1023
 
 -- an entry: a choice that is made once, or `*` and how many times, from 1 to 100,000
 abbrev pub IsOnce : List ℕ → Entry → Type 0

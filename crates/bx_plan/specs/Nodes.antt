@@ -3,13 +3,18 @@ use Rattle.std.specs.Prelude.{◌≡◌, ◌⊎◌, ◌↔◌, ◌<◌, slice_in
 use Rattle.std.specs.List.{list_any}
 use Rattle.std.specs.Cmp.Lexicographic.{pointwise}
 use Rattle.bx_world.specs.declared.choices.Choice.{Choice}
-use Rattle.bx_world.specs.declared.choices.Choice.TheVariants.{Run, Deliver}
+use Rattle.bx_world.specs.declared.choices.Choice.TheVariants.{Run, Deliver, Expire}
 
 abbrev pub choice_eq : Choice → Choice → Bool
 choice_eq (Run p) (Run q) = p == q
 choice_eq (Deliver p q) (Deliver r s) = p == r && q == s
+choice_eq (Expire p) (Expire q) = p == q
 choice_eq (Run p) (Deliver r s) = false
+choice_eq (Run p) (Expire r) = false
 choice_eq (Deliver p q) (Run r) = false
+choice_eq (Deliver p q) (Expire r) = false
+choice_eq (Expire p) (Run r) = false
+choice_eq (Expire p) (Deliver r s) = false
 
 abbrev pub has_node : List (List Choice) → List Choice → Bool
 has_node nodes path = list_any (λ node. pointwise choice_eq path node) nodes

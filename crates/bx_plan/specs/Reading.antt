@@ -6,7 +6,7 @@ use Rattle.std.specs.List.{slice_split, list_all}
 use Rattle.std.specs.Str.{is_utf8}
 use Rattle.bx_plan.specs.Entry.{Entry}
 use Rattle.bx_world.specs.declared.choices.Choice.{Choice}
-use Rattle.bx_world.specs.declared.choices.Choice.TheVariants.{Run, Deliver}
+use Rattle.bx_world.specs.declared.choices.Choice.TheVariants.{Run, Deliver, Expire}
 
 -- the number so far, followed by these digits, where none of its beginnings is over `most`
 abbrev pub digits_from : ℕ → ℕ → List ℕ → Option ℕ
@@ -28,13 +28,13 @@ cut mark (b ∷ bs) = if b == mark then Some ([], bs) else option_map (λ parts.
 abbrev pub parts_of : ℕ → List ℕ → List (List ℕ)
 parts_of mark text = slice_split (λ b. b == mark) text
 
--- a choice by its first byte: `r`, or `d` with a `>` between its pids
+-- a choice by its first byte: `r`, `d` with a `>` between its pids, or `e`
 abbrev pub deliver_of : List ℕ × List ℕ → Option Choice
 deliver_of pids = option_and_then (λ p. option_map (λ q. Deliver p q) (number_of 1023 pids.1)) (number_of 1023 pids.0)
 
 abbrev pub choice_of : List ℕ → Option Choice
 choice_of [] = None
-choice_of (b ∷ pids) = if b == 114 then option_map (λ p. Run p) (number_of 1023 pids) else if b == 100 then option_and_then deliver_of (cut 62 pids) else None
+choice_of (b ∷ pids) = if b == 114 then option_map (λ p. Run p) (number_of 1023 pids) else if b == 100 then option_and_then deliver_of (cut 62 pids) else if b == 101 then option_map (λ p. Expire p) (number_of 1023 pids) else None
 
 -- an entry: a choice that is made once, or with a `*` and how many times
 abbrev pub made : Choice → ℕ → Option Entry

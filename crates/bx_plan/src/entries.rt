@@ -16,7 +16,7 @@ pub(crate) const MOST_PID: u32 = 1023;
 /// How many times one entry may make its choice.
 pub(crate) const MOST_TIMES: u32 = 100_000;
 
-/// The choice that the text spells: `r0`, or `d0>1`, by pids from 0 to 1023.
+/// The choice that the text spells: `r0`, `d0>1` or `e0`, by pids from 0 to 1023.
 pub fn choice_of(text: &[u8]) -> Option<Choice>
     ensures { result ≡ choice_of text.now }
 {
@@ -26,6 +26,7 @@ pub fn choice_of(text: &[u8]) -> Option<Choice>
             let (from, to) = cut(pids, b'>')?;
             Some(Choice::Deliver(number_of(from, MOST_PID)?, number_of(to, MOST_PID)?))
         }
+        [b'e', pid @ ..] => Some(Choice::Expire(number_of(pid, MOST_PID)?)),
         _ => None,
     }
 }

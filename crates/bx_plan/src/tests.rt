@@ -3,7 +3,7 @@
 use crate::{Plan, read_plan};
 use bx_terms::Fault;
 use bx_world::Choice;
-use bx_world::Choice::{Deliver, Run};
+use bx_world::Choice::{Deliver, Expire, Run};
 
 /// What a plan's text is: how many schedules, or the number of the refusal and its line.
 fn outcome(rt: &HostRuntime, text: &[u8]) -> (u8, usize) {
@@ -26,14 +26,14 @@ fn makes(rt: &HostRuntime, plan: &Plan, number: usize, choices: &[Choice]) -> bo
 
 #[test]
 fn lines_in_order_with_their_choices(rt: HostRuntime) {
-    let text = "# \u{e9}\n\na: r0*2 d1>1023 r1023\n#\nb_-9Z: d0>0*1\nc:".as_bytes();
+    let text = "# \u{e9}\n\na: r0*2 d1>1023 r1023\n#\nb_-9Z: d0>0*1 e7\nc:".as_bytes();
     let Ok(plan) = read_plan(rt.alloc(), text) else {
         panic!(rt; "refused")
     };
     assert_eq!(rt; plan.len(), 3);
     let lines: [(&str, &[Choice]); 3] = [
         ("a", &[Run(0), Run(0), Deliver(1, 1023), Run(1023)]),
-        ("b_-9Z", &[Deliver(0, 0)]),
+        ("b_-9Z", &[Deliver(0, 0), Expire(7)]),
         ("c", &[]),
     ];
     for (number, (name, choices)) in lines.iter().enumerate() {
@@ -74,7 +74,9 @@ fn texts_and_their_outcomes(rt: HostRuntime) {
         (b"a: d0>1>2", (24, 1)),
         (b"a: r", (24, 1)),
         (b"a: r+1", (24, 1)),
-        (b"a: e0", (24, 1)),
+        (b"a: e1024", (24, 1)),
+        (b"a: e", (24, 1)),
+        (b"a: e0>1", (24, 1)),
         (b"a: r0*1*1", (24, 1)),
         (b"a: ", (24, 1)),
         (b"a:  r0", (24, 1)),

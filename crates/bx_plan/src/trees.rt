@@ -16,12 +16,14 @@ pub(crate) struct Step {
     pub(crate) choice: Choice,
 }
 
-/// A step as a key: a choice is its first pid and, where it is a delivery, its second.
+/// A step as a key: a choice is its kind (0 runs, 1 delivers, 2 expires), its first pid and, where it is a delivery, its second,
+/// else 0. So runs by pid come first, then deliveries by pair, then expirations by pid.
 #[derive(Clone, Copy, PartialEq, Eq, PartialOrd, Ord)]
 struct Edge {
     parent: usize,
+    kind: u8,
     first: u32,
-    second: Option<u32>,
+    second: u32,
 }
 
 /// Nodes by number, each but the root with the step that leads to it, and each step with its node.

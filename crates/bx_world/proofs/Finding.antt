@@ -1,35 +1,48 @@
--- The runs that are found from a place on.
-use Rattle.std.proofs.Common.{◌≡◌, ◌≢◌, ℕ, ◌+◌, ◌<◌, List, [], ◌∷◌, ◌++◌, true, false, length, get_or, drop, map, sym, ap, ◌∙◌, append_assoc}
+-- The choices that are found from a place on.
+use Rattle.std.proofs.Common.{◌≡◌, ◌≢◌, ℕ, ◌+◌, ◌<◌, ◌≤◌, Bool, List, [], ◌∷◌, ◌++◌, true, false, length, get_or, drop, map, refl, sym, ap, ◌∙◌, append_assoc, arith, length-append}
 use Rattle.std.specs.Prelude.{if◌then◌else◌}
 use Rattle.bx_world.specs.declared.choices.Choice.{Choice}
-use Rattle.bx_world.specs.declared.choices.Choice.TheVariants.{Run}
 use Rattle.bx_world.specs.World.{Life}
-use Rattle.bx_world.specs.Enabled.{may_run, runs_from}
-use Rattle.bx_world.proofs.Viewed.{rest_seen, goes_on}
+use Rattle.bx_world.specs.Enabled.{choices_from}
+use Rattle.bx_world.proofs.Viewed.{rest_seen}
 
-found : (p : ℕ) (one : Life) (more : List Life) → may_run one ≡ true → runs_from p (one ∷ more) ≡ Run p ∷ runs_from (p + 1) more
-found p one more can = ap (λ b. if b then Run p ∷ runs_from (p + 1) more else runs_from (p + 1) more) can
+-- a row that goes on behind all that was there before adds something
+pub goes_on_behind : {A : Type 0} (old xs : List A) (y : A) (ys zs : List A) → length old ≤ length xs → xs ++ y ∷ ys ≡ old ++ zs → zs ≢ []
+goes_on_behind old xs y ys zs long e nothing = absurd (omega (arith, length-append xs (y ∷ ys), length-append old zs, ap length e, ap length nothing))
 
-passed : (p : ℕ) (one : Life) (more : List Life) → may_run one ≡ false → runs_from p (one ∷ more) ≡ runs_from (p + 1) more
-passed p one more can = ap (λ b. if b then Run p ∷ runs_from (p + 1) more else runs_from (p + 1) more) can
+-- what is before a choice that is not nothing is not nothing
+pub some_first : {A : Type 0} (xs ys : List A) → xs ≢ [] → xs ++ ys ≢ []
+some_first [] ys some e = absurd (some refl)
+some_first (x ∷ xs) ys some e = cc
 
--- a process that can run adds its run
-pub run_found : {S : Type 0} (f : S → Life) (xs : List S) (i : ℕ) (x : S) (before all : List Choice) → i < length xs → x ≡ get_or xs i x → may_run (f x) ≡ true
-    → before ++ runs_from i (drop i (map f xs)) ≡ all → (before ++ Run i ∷ []) ++ runs_from (i + 1) (drop (i + 1) (map f xs)) ≡ all
-run_found f xs i x before all here is can whole =
-    append_assoc before (Run i ∷ []) (runs_from (i + 1) (drop (i + 1) (map f xs)))
-    ∙ ap (λ found. before ++ found) (sym (ap (runs_from i) (rest_seen f xs i x here is) ∙ found i (f x) (drop (i + 1) (map f xs)) can))
-    ∙ whole
+pub some_last : {A : Type 0} (xs ys : List A) → ys ≢ [] → xs ++ ys ≢ []
+some_last [] ys some e = some e
+some_last (x ∷ xs) ys some e = cc
 
--- another adds nothing
-pub run_passed : {S : Type 0} (f : S → Life) (xs : List S) (i : ℕ) (x : S) (before all : List Choice) → i < length xs → x ≡ get_or xs i x → may_run (f x) ≡ false
-    → before ++ runs_from i (drop i (map f xs)) ≡ all → before ++ runs_from (i + 1) (drop (i + 1) (map f xs)) ≡ all
-run_passed f xs i x before all here is can whole =
-    ap (λ found. before ++ found) (sym (ap (runs_from i) (rest_seen f xs i x here is) ∙ passed i (f x) (drop (i + 1) (map f xs)) can)) ∙ whole
+module _ (may : Life → Bool) (choice : ℕ → Choice) where
+  found : (p : ℕ) (one : Life) (more : List Life) → may one ≡ true → choices_from may choice p (one ∷ more) ≡ choice p ∷ choices_from may choice (p + 1) more
+  found p one more can = ap (λ b. if b then choice p ∷ choices_from may choice (p + 1) more else choices_from may choice (p + 1) more) can
 
--- where one can run, there is a run
-pub run_there : {S : Type 0} (f : S → Life) (xs : List S) (i : ℕ) (x : S) (before all : List Choice) → i < length xs → x ≡ get_or xs i x → may_run (f x) ≡ true
-    → before ++ runs_from i (drop i (map f xs)) ≡ all → all ≢ []
-run_there f xs i x before all here is can whole =
-    goes_on before (Run i) (runs_from (i + 1) (drop (i + 1) (map f xs))) all
-    (ap (λ found. before ++ found) (sym (ap (runs_from i) (rest_seen f xs i x here is) ∙ found i (f x) (drop (i + 1) (map f xs)) can)) ∙ whole)
+  passed : (p : ℕ) (one : Life) (more : List Life) → may one ≡ false → choices_from may choice p (one ∷ more) ≡ choices_from may choice (p + 1) more
+  passed p one more can = ap (λ b. if b then choice p ∷ choices_from may choice (p + 1) more else choices_from may choice (p + 1) more) can
+
+  -- a process that passes the test adds its choice
+  pub one_found : {S : Type 0} (f : S → Life) (xs : List S) (i : ℕ) (x : S) (before all : List Choice) → i < length xs → x ≡ get_or xs i x → may (f x) ≡ true
+      → before ++ choices_from may choice i (drop i (map f xs)) ≡ all → (before ++ choice i ∷ []) ++ choices_from may choice (i + 1) (drop (i + 1) (map f xs)) ≡ all
+  one_found f xs i x before all here is can whole =
+      append_assoc before (choice i ∷ []) (choices_from may choice (i + 1) (drop (i + 1) (map f xs)))
+      ∙ ap (λ found. before ++ found) (sym (ap (choices_from may choice i) (rest_seen f xs i x here is) ∙ found i (f x) (drop (i + 1) (map f xs)) can))
+      ∙ whole
+
+  -- another adds nothing
+  pub one_passed : {S : Type 0} (f : S → Life) (xs : List S) (i : ℕ) (x : S) (before all : List Choice) → i < length xs → x ≡ get_or xs i x → may (f x) ≡ false
+      → before ++ choices_from may choice i (drop i (map f xs)) ≡ all → before ++ choices_from may choice (i + 1) (drop (i + 1) (map f xs)) ≡ all
+  one_passed f xs i x before all here is can whole =
+      ap (λ found. before ++ found) (sym (ap (choices_from may choice i) (rest_seen f xs i x here is) ∙ passed i (f x) (drop (i + 1) (map f xs)) can)) ∙ whole
+
+  -- where one passes, there is a choice
+  pub one_there : {S : Type 0} (f : S → Life) (xs : List S) (i : ℕ) (x : S) (old before all : List Choice) → i < length xs → x ≡ get_or xs i x → may (f x) ≡ true
+      → length old ≤ length before → before ++ choices_from may choice i (drop i (map f xs)) ≡ old ++ all → all ≢ []
+  one_there f xs i x old before all here is can long whole =
+      goes_on_behind old before (choice i) (choices_from may choice (i + 1) (drop (i + 1) (map f xs))) all long
+      (ap (λ found. before ++ found) (sym (ap (choices_from may choice i) (rest_seen f xs i x here is) ∙ found i (f x) (drop (i + 1) (map f xs)) can)) ∙ whole)

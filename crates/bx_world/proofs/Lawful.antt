@@ -1,42 +1,88 @@
 -- What is true of every world and every run.
-use Rattle.std.proofs.Common.{◌≡◌, ℕ, ◌+◌, ◌≤◌, List, [], ◌∷◌, ◌++◌, Option, Some, None, Bool, true, false, length, refl, sym, ap, ◌∙◌, arith}
-use Rattle.std.specs.Prelude.{IsSome, ◌||◌, if◌then◌else◌, is_some, slice_get}
+use Rattle.std.proofs.Common.{◌≡◌, ℕ, ◌+◌, ◌≤◌, List, [], ◌∷◌, ◌++◌, Option, Some, None, Result, Ok, Err, Bool, true, false, length, refl, sym, ap, subst, ◌∙◌, arith}
+use Rattle.std.specs.Prelude.{IsSome, ◌||◌, if◌then◌else◌, is_some}
+use Rattle.bx_terms.specs.Tree.{pid}
+use Rattle.bx_terms.specs.declared.faults.Fault.{Fault}
 use Rattle.bx_terms.specs.declared.kinds.Trap.{Trap}
 use Rattle.bx_load.specs.Image.{Loaded}
-use Rattle.bx_proc.specs.declared.parts.Effect.{Effect}
-use Rattle.bx_proc.specs.declared.parts.Effect.TheVariants as effects
-use Rattle.bx_proc.specs.Process.{Process}
-use Rattle.bx_proc.specs.Stepping.{attempted}
 use Rattle.bx_world.specs.declared.choices.Choice.{Choice}
-use Rattle.bx_world.specs.declared.choices.Choice.TheVariants.{Run, Deliver}
-use Rattle.bx_world.specs.World.{Life, Live, Gone, State}
-use Rattle.bx_world.specs.Enabled.{runs_from, unless_trapped, enabled, can}
-use Rattle.bx_world.specs.Choosing.{turned, run_of, chosen}
+use Rattle.bx_world.specs.declared.choices.Choice.TheVariants.{Run, Deliver, Expire}
+use Rattle.bx_world.specs.declared.lanes.Lanes.{Lanes}
+use Rattle.bx_world.specs.declared.turns.Turn.TheVariants as turns
+use Rattle.bx_proc.specs.declared.parts.Answer.TheVariants.{Value}
+use Rattle.bx_world.specs.declared.requests.Birth.{Birth}
+use Rattle.bx_world.specs.World.{Life, Live, State}
+use Rattle.bx_world.specs.Enabled.{open_choices, unless_trapped, enabled, can, actor}
+use Rattle.bx_world.specs.Lifetimes.{Among, beside, lives_run, lives_told, lives_expired}
+use Rattle.bx_world.specs.Births.{past_limits, system_limit, other_if, newborn, lives_answered, unborn_at_trap, lives_grown, lives_born}
+use Rattle.bx_world.specs.Choosing.{born_too, made, made_or, chosen}
 use Rattle.bx_world.specs.Running.{Ended, tried, advanced, ran}
+use Rattle.bx_world.proofs.Keeping.{AmongKept, lives_run_kept, lives_told_kept, lives_answered_kept}
 
 none_enabled : (t : Option (Trap × ℕ)) (choices : List Choice) → IsSome t → unless_trapped t choices ≡ []
 none_enabled None choices h = cc
 none_enabled (Some t) choices h = refl
 
 pub nothing_enabled : (w : State) → IsSome w.trap → enabled w ≡ []
-nothing_enabled w trapped = none_enabled w.trap (runs_from 0 w.processes) trapped
+nothing_enabled w trapped = none_enabled w.trap (open_choices w.processes w.lanes) trapped
 
--- a run that traps
-trap_turned : (p : ℕ) (w : State) (process : Process) (effect : Effect) (trap : Trap × ℕ) → w.trap ≡ None → (turned p w (process, effect)).trap ≡ Some trap → turned p w (process, effect) ≡ record w { trap = Some trap }
-trap_turned p w process effects.Ran trap free is = let no : None ≡ Some trap = sym free ∙ is in cc
-trap_turned p w process (effects.Ended reason) trap free is = let no : None ≡ Some trap = sym free ∙ is in cc
-trap_turned p w process (effects.Trap kind) trap free is = ap (λ t. record w { trap = t }) is
-trap_turned p w process (effects.Ask native ts) trap free is = ap (λ t. record w { trap = t }) is
-trap_turned p w process (effects.Send to t) trap free is = ap (λ t. record w { trap = t }) is
+-- a choice that traps
+abbrev TrapKept : List Life × Lanes → Result Among Fault → Type 0
+TrapKept before (Ok (after, turns.Ran)) = Unit {0}
+TrapKept before (Ok (after, turns.Ended reason)) = Unit {0}
+TrapKept before (Ok (after, turns.Trapped kind)) = after ≡ before
+TrapKept before (Ok (after, turns.Bears birth)) = Unit {0}
+TrapKept before (Err fault) = Unit {0}
 
-trap_run : (image : Loaded) (p : ℕ) (w : State) (o : Option Life) (trap : Trap × ℕ) → w.trap ≡ None → (run_of image p w o).trap ≡ Some trap → run_of image p w o ≡ record w { trap = Some trap }
-trap_run image p w None trap free is = let no : None ≡ Some trap = sym free ∙ is in cc
-trap_run image p w (Some (Gone reason)) trap free is = let no : None ≡ Some trap = sym free ∙ is in cc
-trap_run image p w (Some (Live q)) trap free is = trap_turned p w (attempted image p q).0 (attempted image p q).1 trap free is
+at_trap : (before : List Life × Lanes) (r : Result Among Fault) → AmongKept before r → TrapKept before r
+at_trap before (Ok (after, turns.Ran)) h = tt
+at_trap before (Ok (after, turns.Ended reason)) h = tt
+at_trap before (Ok (after, turns.Trapped kind)) h = h
+at_trap before (Ok (after, turns.Bears birth)) h = tt
+at_trap before (Err fault) h = tt
+
+unborn_kept : (lives : List Life) (l : Lanes) (r : Result Among Fault) → TrapKept (lives, l) (unborn_at_trap lives l r)
+unborn_kept lives l (Ok (after, turns.Ran)) = tt
+unborn_kept lives l (Ok (after, turns.Ended reason)) = tt
+unborn_kept lives l (Ok (after, turns.Trapped kind)) = refl
+unborn_kept lives l (Ok (after, turns.Bears birth)) = tt
+unborn_kept lives l (Err fault) = tt
+
+either_kept : (before : List Life × Lanes) (b : Bool) (r s : Result Among Fault) → TrapKept before r → TrapKept before s → TrapKept before (if b then r else s)
+either_kept before true r s h k = h
+either_kept before false r s h k = k
+
+born_kept : (image : Loaded) (p : ℕ) (birth : Birth) (l : Lanes) (lives : List Life) → TrapKept (lives, l) (lives_born image p birth l lives)
+born_kept image p birth l lives =
+    either_kept (lives, l) (past_limits birth lives) (lives_answered image p None system_limit l lives) (lives_grown image p birth l lives)
+    (at_trap (lives, l) (lives_answered image p None system_limit l lives) (lives_answered_kept image p None system_limit l lives))
+    (unborn_kept lives l (lives_answered image p (other_if birth.linked (length lives)) (Value (pid (length lives))) l (lives ++ Live (newborn image p birth) ∷ [])))
+
+too_kept : (image : Loaded) (p : ℕ) (l : Lanes) (lives : List Life) (r : Result Among Fault) → AmongKept (lives, l) r → TrapKept (lives, l) (born_too image p r)
+too_kept image p l lives (Ok (after, turns.Ran)) h = tt
+too_kept image p l lives (Ok (after, turns.Ended reason)) h = tt
+too_kept image p l lives (Ok (after, turns.Trapped kind)) h = h
+too_kept image p l lives (Ok (after, turns.Bears birth)) h = subst (λ (v : List Life × Lanes). TrapKept (lives, l) (lives_born image p birth v.1 v.0)) (sym h) (born_kept image p birth l lives)
+too_kept image p l lives (Err fault) h = tt
+
+beside_kept : (before : List Life × Lanes) (l : Lanes) (r : Result (List Life × Unit {0}) Fault) → TrapKept before (beside l r)
+beside_kept before l (Ok done) = tt
+beside_kept before l (Err fault) = tt
+
+made_kept : (image : Loaded) (choice : Choice) (lives : List Life) (l : Lanes) → TrapKept (lives, l) (made image choice lives l)
+made_kept image (Run p) lives l = too_kept image p l lives (lives_run image p l lives) (lives_run_kept image p l lives)
+made_kept image (Deliver p q) lives l = at_trap (lives, l) (lives_told p q l lives) (lives_told_kept p q l lives)
+made_kept image (Expire p) lives l = beside_kept (lives, l) l (lives_expired p lives)
+
+trapped_alone : (p : ℕ) (w : State) (r : Result Among Fault) (trap : Trap × ℕ) → w.trap ≡ None → TrapKept (w.processes, w.lanes) r → (made_or p w r).trap ≡ Some trap → made_or p w r ≡ record w { trap = Some trap }
+trapped_alone p w (Ok (v, turns.Ran)) trap free h is = cc
+trapped_alone p w (Ok (v, turns.Ended reason)) trap free h is = cc
+trapped_alone p w (Ok (v, turns.Trapped kind)) trap free h is = ap (λ (u : List Life × Lanes). record { processes = u.0; lanes = u.1; trap = Some (kind, p) }) h ∙ ap (λ t. record w { trap = t }) is
+trapped_alone p w (Ok (v, turns.Bears birth)) trap free h is = cc
+trapped_alone p w (Err fault) trap free h is = let no : None ≡ Some trap = sym free ∙ is in cc
 
 pub trap_alone : (image : Loaded) (choice : Choice) (w : State) (trap : Trap × ℕ) → w.trap ≡ None → (chosen image choice w).trap ≡ Some trap → chosen image choice w ≡ record w { trap = Some trap }
-trap_alone image (Run p) w trap free is = trap_run image p w (slice_get w.processes p) trap free is
-trap_alone image (Deliver p q) w trap free is = let no : None ≡ Some trap = sym free ∙ is in cc
+trap_alone image choice w trap free is = trapped_alone (actor choice) w (made image choice w.processes w.lanes) trap free (made_kept image choice w.processes w.lanes) is
 
 -- a choice that is refused
 world_kept : (image : Loaded) (choice : Choice) (end : Ended) (ended able : Bool) → able ≡ false

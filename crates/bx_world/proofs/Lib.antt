@@ -1,8 +1,13 @@
-pub mod Compared
 pub mod Viewed
-pub mod Finding
 pub mod Changing
+pub mod Compared
+pub mod Finding
 pub mod Lifelines
+pub mod Undoing
+pub mod Elements
+pub mod Keeping
 pub mod Applying
-pub mod Lawful
+pub mod Growing
 pub mod Members
+pub mod Lawful
+pub mod Arriving

@@ -1,40 +1,44 @@
 -- What a choice makes of a world.
-use Rattle.std.specs.Prelude.{ℕ, Option, Some, None, Result, Ok, Err, is_some, if◌then◌else◌, slice_get, slice_set}
+use Rattle.std.specs.Prelude.{ℕ, List, Option, Some, None, Result, Ok, Err, is_some, if◌then◌else◌}
 use Rattle.bx_terms.specs.declared.faults.Fault.{Fault}
 use Rattle.bx_terms.specs.declared.faults.Fault.TheVariants.{NotEnabled, Halted}
-use Rattle.bx_terms.specs.declared.kinds.Trap.TheVariants.{Unsupported}
+use Rattle.bx_terms.specs.declared.kinds.Trap.{Trap}
 use Rattle.bx_load.specs.Image.{Loaded}
-use Rattle.bx_proc.specs.declared.parts.Effect.{Effect}
-use Rattle.bx_proc.specs.declared.parts.Effect.TheVariants as effects
-use Rattle.bx_proc.specs.Process.{Process}
-use Rattle.bx_proc.specs.Stepping.{attempted}
 use Rattle.bx_world.specs.declared.choices.Choice.{Choice}
-use Rattle.bx_world.specs.declared.choices.Choice.TheVariants.{Run, Deliver}
-use Rattle.bx_world.specs.World.{Life, Live, Gone, State}
-use Rattle.bx_world.specs.Enabled.{can}
+use Rattle.bx_world.specs.declared.choices.Choice.TheVariants.{Run, Deliver, Expire}
+use Rattle.bx_world.specs.declared.lanes.Lanes.{Lanes}
+use Rattle.bx_world.specs.declared.turns.Turn.{Turn}
+use Rattle.bx_world.specs.declared.turns.Turn.TheVariants as turns
+use Rattle.bx_world.specs.World.{Life, State}
+use Rattle.bx_world.specs.Enabled.{can, actor}
+use Rattle.bx_world.specs.Lifetimes.{Among, lives_run, lives_told, lives_expired, beside}
+use Rattle.bx_world.specs.Births.{lives_born}
 
--- the world in which that pid's life is this one
-abbrev pub with_life : ℕ → Life → State → State
-with_life p one w = record w { processes = slice_set w.processes p one }
+-- a run may ask for a birth
+abbrev pub born_too : Loaded → ℕ → Result Among Fault → Result Among Fault
+born_too image p (Ok (w, turns.Bears birth)) = lives_born image p birth w.1 w.0
+born_too image p answer = answer
 
--- what a run of process p was, and what it made of the process: of one that ended the reason alone stays, and a trap halts the world
--- and leaves all else as it was. Signals are not sent yet, and nothing else is asked of others
-abbrev pub turned : ℕ → State → Process × Effect → State
-turned p w (process, effects.Ran) = with_life p (Live process) w
-turned p w (process, effects.Ended reason) = with_life p (Gone reason) w
-turned p w (process, effects.Trap kind) = record w { trap = Some (kind, p) }
-turned p w (process, effects.Ask native ts) = record w { trap = Some (Unsupported, p) }
-turned p w (process, effects.Send to t) = record w { trap = Some (Unsupported, p) }
+-- a choice among the processes, beside the lanes
+abbrev pub made : Loaded → Choice → List Life → Lanes → Result Among Fault
+made image (Run p) lives lanes = born_too image p (lives_run image p lanes lives)
+made image (Deliver p q) lives lanes = lives_told p q lanes lives
+made image (Expire p) lives lanes = beside lanes (lives_expired p lives)
 
-abbrev pub run_of : Loaded → ℕ → State → Option Life → State
-run_of image p w (Some (Live process)) = turned p w (attempted image p process)
-run_of image p w (Some (Gone reason)) = w
-run_of image p w None = w
+abbrev pub trap_of : ℕ → Turn → Option (Trap × ℕ)
+trap_of p (turns.Trapped kind) = Some (kind, p)
+trap_of p turn = None
 
--- an enabled choice: one instruction of a process is run. No signal is sent yet
+abbrev pub world_of : ℕ → Among → State
+world_of p (w, turn) = record { processes = w.0; lanes = w.1; trap = trap_of p turn }
+
+-- an enabled choice; any other changes nothing
+abbrev pub made_or : ℕ → State → Result Among Fault → State
+made_or p w (Ok among) = world_of p among
+made_or p w (Err fault) = w
+
 abbrev pub chosen : Loaded → Choice → State → State
-chosen image (Run p) w = run_of image p w (slice_get w.processes p)
-chosen image (Deliver p q) w = w
+chosen image choice w = made_or (actor choice) w (made image choice w.processes w.lanes)
 
 -- why a choice is refused: the world has trapped, else the choice is not enabled
 abbrev pub refusal : State → Choice → Option Fault

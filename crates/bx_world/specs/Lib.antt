@@ -1,8 +1,15 @@
 pub mod World
+pub mod Sharing
+pub mod Requests
+pub mod Asking
+pub mod Turning
+pub mod Delivering
 pub mod Lives
 pub mod Enabled
 pub mod Lifetimes
+pub mod Births
 pub mod Choosing
 pub mod Running
 pub mod Seen
 pub mod Texts
+pub mod Posting

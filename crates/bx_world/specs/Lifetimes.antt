@@ -1,25 +1,97 @@
--- What a run makes of one life among others.
-use Rattle.std.specs.Prelude.{ℕ, List, Option, Some, None, Result, Ok, Err, if◌then◌else◌, slice_get, slice_set}
-use Rattle.bx_terms.specs.Outcomes.{◌>>=◌}
+-- What a choice makes of one life among others, and of the lanes.
+use Rattle.std.specs.Prelude.{ℕ, List, Option, Some, None, Result, Ok, Err, if◌then◌else◌, is_some, IsTrue, slice_get, slice_set}
+use Rattle.bx_terms.specs.Tree.{Tree}
 use Rattle.bx_terms.specs.declared.faults.Fault.{Fault}
 use Rattle.bx_terms.specs.declared.faults.Fault.TheVariants.{NotEnabled}
 use Rattle.bx_load.specs.Image.{Loaded}
-use Rattle.bx_proc.specs.declared.parts.Effect.{Effect}
-use Rattle.bx_proc.specs.Process.{Process, can_run}
-use Rattle.bx_proc.specs.Stepping.{attempted}
+use Rattle.bx_signals.specs.Waiting.{first}
+use Rattle.bx_signals.specs.Channels.{waiting}
+use Rattle.bx_proc.specs.Process.{can_run, can_expire}
+use Rattle.bx_proc.specs.Signals.{expired}
+use Rattle.bx_world.specs.declared.lanes.Lanes.{Lanes}
+use Rattle.bx_world.specs.declared.turns.Turn.{Turn}
+use Rattle.bx_world.specs.declared.turns.Turn.TheVariants.{Ran, Ended, Trapped, Bears}
 use Rattle.bx_world.specs.World.{Life, Live, Gone}
+use Rattle.bx_world.specs.Asking.{Done}
+use Rattle.bx_world.specs.Turning.{runs}
+use Rattle.bx_world.specs.Delivering.{received, gone_received, lost}
 
-abbrev pub alive : Process × Effect → Life × Effect
-alive done = (Live done.0, done.1)
+-- a life and the lanes, and what was done; of a process that ended the reason alone stays
+abbrev pub Lived : Type 0
+Lived = (Life × Lanes) × Turn
 
--- a run of a process that can run, whatever it was
-abbrev pub life_run : Loaded → ℕ → Life → Result (Life × Effect) Fault
-life_run image p (Live process) = if can_run process then Ok (alive (attempted image p process)) else Err NotEnabled
-life_run image p (Gone reason) = Err NotEnabled
+abbrev pub lived : Done → Lived
+lived (w, Ran) = ((Live w.0, w.1), Ran)
+lived (w, Ended reason) = ((Gone reason, w.1), Ran)
+lived (w, Trapped kind) = ((Live w.0, w.1), Trapped kind)
+lived (w, Bears birth) = ((Live w.0, w.1), Bears birth)
 
-abbrev pub found_run : Loaded → ℕ → Option Life → Result (Life × Effect) Fault
-found_run image p (Some one) = life_run image p one
-found_run image p None = Err NotEnabled
+abbrev pub lived_if : Result Done Fault → Result Lived Fault
+lived_if (Ok done) = Ok (lived done)
+lived_if (Err fault) = Err fault
 
-abbrev pub lives_run : Loaded → ℕ → List Life → Result (List Life × Effect) Fault
-lives_run image p lives = found_run image p (slice_get lives p) >>= λ done. Ok (slice_set lives p done.0, done.1)
+abbrev pub gone_if : Tree → Result (Lanes × Unit {0}) Fault → Result Lived Fault
+gone_if reason (Ok done) = Ok ((Gone reason, done.0), Ran)
+gone_if reason (Err fault) = Err fault
+
+-- one instruction of a process that can run
+abbrev pub life_run : Loaded → ℕ → Lanes → Life → Result Lived Fault
+life_run image p lanes (Live x) = if can_run x then Ok (lived (runs image p lanes x)) else Err NotEnabled
+life_run image p lanes (Gone reason) = Err NotEnabled
+
+-- the first signal from p takes effect at q
+abbrev pub life_told : ℕ → ℕ → Lanes → Life → Result Lived Fault
+life_told p q lanes (Live x) = lived_if (received p q x lanes)
+life_told p q lanes (Gone reason) = gone_if reason (gone_received p q lanes)
+
+-- a wait that can expire is over
+abbrev pub life_expired : Life → Result (Life × Unit {0}) Fault
+life_expired (Live x) = if can_expire x then Ok (Live (expired x), tt) else Err NotEnabled
+life_expired (Gone reason) = Err NotEnabled
+
+-- the same among the others
+abbrev pub Among : Type 0
+Among = (List Life × Lanes) × Turn
+
+abbrev pub put_back : ℕ → List Life → Result Lived Fault → Result Among Fault
+put_back p lives (Ok done) = Ok ((slice_set lives p done.0.0, done.0.1), done.1)
+put_back p lives (Err fault) = Err fault
+
+abbrev pub at_life : (Life → Result Lived Fault) → ℕ → List Life → Option Life → Result Among Fault
+at_life does p lives (Some one) = put_back p lives (does one)
+at_life does p lives None = Err NotEnabled
+
+abbrev pub lives_run : Loaded → ℕ → Lanes → List Life → Result Among Fault
+lives_run image p lanes lives = at_life (life_run image p lanes) p lives (slice_get lives p)
+
+abbrev pub set_back : ℕ → List Life → Result (Life × Unit {0}) Fault → Result (List Life × Unit {0}) Fault
+set_back p lives (Ok done) = Ok (slice_set lives p done.0, tt)
+set_back p lives (Err fault) = Err fault
+
+abbrev pub expired_at : ℕ → List Life → Option Life → Result (List Life × Unit {0}) Fault
+expired_at p lives (Some one) = set_back p lives (life_expired one)
+expired_at p lives None = Err NotEnabled
+
+abbrev pub lives_expired : ℕ → List Life → Result (List Life × Unit {0}) Fault
+lives_expired p lives = expired_at p lives (slice_get lives p)
+
+-- the lanes have no part in it
+abbrev pub beside : Lanes → Result (List Life × Unit {0}) Fault → Result Among Fault
+beside lanes (Ok done) = Ok ((done.0, lanes), Ran)
+beside lanes (Err fault) = Err fault
+
+-- to a pid that no process has a signal is lost
+abbrev pub lost_if : List Life → Result (Lanes × Unit {0}) Fault → Result Among Fault
+lost_if lives (Ok done) = Ok ((lives, done.0), Ran)
+lost_if lives (Err fault) = Err fault
+
+abbrev pub told_at : ℕ → ℕ → Lanes → List Life → Option Life → Result Among Fault
+told_at p q lanes lives (Some one) = put_back q lives (life_told p q lanes one)
+told_at p q lanes lives None = lost_if lives (lost p q lanes (first (waiting lanes.channels (p, q))))
+
+abbrev pub lives_told : ℕ → ℕ → Lanes → List Life → Result Among Fault
+lives_told p q lanes lives = told_at p q lanes lives (slice_get lives q)
+
+-- a signal waits there
+abbrev pub Waits : ℕ → ℕ → Lanes → Type 0
+Waits p q lanes = IsTrue (is_some (first (waiting lanes.channels (p, q))))

@@ -22,7 +22,7 @@ standing_of None [] = Quiet
 standing_of None (choice ∷ more) = Open (choice ∷ more)
 
 abbrev pub seen : State → Outcome
-seen w = record { state = standing_of w.trap (enabled w); statuses = map status_of w.processes; output = w.output }
+seen w = record { state = standing_of w.trap (enabled w); statuses = map status_of w.processes; output = w.lanes.output }
 
 -- where a process stands; one that has ended, and one whose function was not there, stands nowhere
 abbrev pub place_of : Life → Option Place

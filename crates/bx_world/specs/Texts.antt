@@ -4,17 +4,18 @@ use Rattle.bx_terms.specs.Tree.{Tree}
 use Rattle.bx_terms.specs.Kinds.{trap_name}
 use Rattle.bx_terms.specs.Printed.{printed, printed_pid}
 use Rattle.bx_world.specs.declared.choices.Choice.{Choice}
-use Rattle.bx_world.specs.declared.choices.Choice.TheVariants.{Run, Deliver}
+use Rattle.bx_world.specs.declared.choices.Choice.TheVariants.{Run, Deliver, Expire}
 use Rattle.bx_world.specs.declared.outcomes.Outcome.{Outcome}
 use Rattle.bx_world.specs.declared.outcomes.Standing.{Standing}
 use Rattle.bx_world.specs.declared.outcomes.Standing.TheVariants.{Trapped, Quiet, Open}
 use Rattle.bx_proc.specs.declared.parts.Status.{Status}
 use Rattle.bx_proc.specs.declared.parts.Status.TheVariants.{Ready, Waiting, Ended}
 
--- `r` and the pid that runs, or `d`, the pid that sent, `>` and the pid that receives
+-- `r` and the pid that runs; `d`, the pid that sent, `>` and the pid that receives; or `e` and the pid whose wait expires
 abbrev pub spelling : Choice → List ℕ
 spelling (Run p) = codes "r" ++ decimal p
 spelling (Deliver p q) = codes "d" ++ decimal p ++ codes ">" ++ decimal q
+spelling (Expire p) = codes "e" ++ decimal p
 
 -- choices, each behind a space
 abbrev pub spellings : List Choice → List ℕ

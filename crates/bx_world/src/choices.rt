@@ -1,7 +1,9 @@
 //! One choice of the tester's, and rows of them.
 
-ghost use Rattle.std.specs.Prelude.{◌≡◌, ◌↔◌, ◌∷◌, ◌++◌, [], OnOk, OnErr, IsTrue};
+ghost use Rattle.std.specs.Prelude.{◌≡◌, ◌∷◌, ◌++◌, [], OnOk, OnErr};
+ghost use Rattle.bx_world.specs.Enabled.{actor};
 
+use bx_share::{Same, same_rows};
 use std::alloc::{AllocError, Global};
 use std::marker::Model;
 
@@ -10,18 +12,32 @@ use std::marker::Model;
 pub enum Choice {
     /// One instruction of this process is run.
     Run(u32),
-    /// The first signal from the first process to the second takes effect.
+    /// The first signal from the first process to the second takes effect at the second.
     Deliver(u32, u32),
+    /// The time is up for which this process waits.
+    Expire(u32),
 }
 
 impl Choice {
-    /// Whether both are the same choice.
-    pub fn same(self, other: Choice) -> bool
-        ensures { IsTrue result ↔ (self ≡ other) }
+    /// The pid of the process that the choice concerns: the one that runs, receives or waits.
+    #[inline(always)]
+    pub fn actor(self) -> u32
+        ensures { result ≡ actor self }
     {
+        match self {
+            Choice::Run(pid) => pid,
+            Choice::Deliver(_, pid) => pid,
+            Choice::Expire(pid) => pid,
+        }
+    }
+}
+
+impl Same for Choice {
+    fn same(&self, other: &Choice) -> bool {
         match (self, other) {
-            (Choice::Run(p), Choice::Run(q)) => p == q,
-            (Choice::Deliver(p, q), Choice::Deliver(r, s)) => p == r && q == s,
+            (Choice::Run(p), Choice::Run(q)) => *p == *q,
+            (Choice::Deliver(p, q), Choice::Deliver(r, s)) => *p == *r && *q == *s,
+            (Choice::Expire(p), Choice::Expire(q)) => *p == *q,
             _ => false,
         }
     }
@@ -74,26 +90,10 @@ impl Choices {
     {
         self.items.as_slice()
     }
-
-    /// Whether both hold the same choices in the same order.
-    pub fn same(&self, other: &Choices) -> bool
-        ensures { IsTrue result ↔ (self.now ≡ other.now) }
-    {
-        same_choices(&self.items, &other.items)
-    }
 }
 
-#[tactic(auto, using(crate::proofs::Compared::same_so_far, crate::proofs::Compared::same_whole))]
-fn same_choices(xs: &[Choice], ys: &[Choice]) -> bool
-    ensures { IsTrue result ↔ (xs.now ≡ ys.now) }
-{
-    if xs.len() != ys.len() {
-        return false;
+impl Same for Choices {
+    fn same(&self, other: &Choices) -> bool {
+        same_rows(&self.items, &other.items)
     }
-    for at in 0..xs.len() {
-        if !xs[at].same(ys[at]) {
-            return false;
-        }
-    }
-    true
 }

@@ -1,23 +1,29 @@
 //! What the processes of a world share.
 
-ghost use Rattle.std.specs.Prelude.{◌≡◌, ◌↔◌, [], IsTrue};
+ghost use Rattle.std.specs.Prelude.{◌≡◌, []};
+ghost use Rattle.std.specs.FinMap as map;
+ghost use Rattle.bx_world.specs.Sharing.{hearing};
 
-use crate::rows::Output;
-use bx_share::Copied;
+use crate::output::Output;
+use bx_share::{Copied, Same};
+use bx_signals::Channels;
 use std::alloc::{AllocError, Global};
 
-/// The terms that were displayed.
+/// The signals that wait, and the terms that were displayed.
 #[derive(Debug, Drop)]
 pub struct Lanes {
-    output: Output,
+    pub(crate) channels: Channels,
+    pub(crate) output: Output,
 }
 
 impl Lanes {
-    /// Nothing was displayed.
+    /// No signal waits, and nothing was displayed.
     pub(crate) fn new(alloc: Global) -> Lanes
-        ensures { result.output ≡ [] }
+        ensures channels { result.channels ≡ map.empty }
+        ensures output { result.output ≡ [] }
     {
         Lanes {
+            channels: Channels::new(alloc),
             output: Output::new(alloc),
         }
     }
@@ -29,18 +35,26 @@ impl Lanes {
         &self.output
     }
 
-    /// Whether both hold the same.
-    pub fn same(&self, other: &Lanes) -> bool
-        ensures { IsTrue result ↔ (self.now ≡ other.now) }
+    /// Takes the signal that waits first.
+    #[inline(always)]
+    pub(crate) fn drop_first(&mut self, from: u32, to: u32)
+        ensures { self.new ≡ hearing (from, to) self.old }
     {
-        self.output.same(&other.output)
+        let _ = self.channels.take(from, to);
+    }
+}
+
+impl Same for Lanes {
+    fn same(&self, other: &Lanes) -> bool {
+        self.channels.same(&other.channels) && self.output.same(&other.output)
     }
 }
 
 impl Copied for Lanes {
     /// The same. Terms are shared.
     fn copy(&self, alloc: Global) -> Result<Lanes, AllocError> {
+        let channels = self.channels.copy(alloc)?;
         let output = self.output.copy(alloc)?;
-        Ok(Lanes { output })
+        Ok(Lanes { channels, output })
     }
 }

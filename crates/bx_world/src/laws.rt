@@ -8,6 +8,10 @@ ghost use Rattle.bx_world.specs.World.{State};
 ghost use Rattle.bx_world.specs.Enabled.{enabled, can};
 ghost use Rattle.bx_world.specs.Choosing.{chosen};
 ghost use Rattle.bx_world.specs.Running.{Ended, advanced, ran};
+ghost use Rattle.bx_signals.specs.Channels.{waiting};
+ghost use Rattle.bx_terms.specs.declared.places.Place.{Place};
+ghost use Rattle.bx_world.specs.World.{begun};
+ghost use Rattle.bx_world.specs.Posting.{all_put, all_taken, all_behind};
 
 /// What is looked up of a choice is whether it is among those that are enabled.
 pub fn a_choice_can_be_made_where_it_is_enabled()
@@ -43,4 +47,11 @@ pub fn runs_go_on_where_they_stopped()
 /// No more choices are applied than there are.
 pub fn each_choice_is_applied_once_at_most()
     ensures { (image : Loaded) (choices : List Choice) (end : Ended) → (ran image choices end).applied ≤ end.applied + length choices }
+{}
+
+/// Over every list of choices, what waited in a channel and was put into it is what was taken out of it, followed by what still
+/// waits. So from the start on, what was delivered from one process to another is the beginning of what was sent, in that order.
+pub fn signals_arrive_in_the_order_in_which_they_were_sent()
+    ensures from_anywhere { (image : Loaded) (choices : List Choice) (w : State) (pair : ℕ × ℕ) → waiting w.lanes.channels pair ++ all_put image choices w pair ≡ all_taken image choices w pair ++ waiting (all_behind image choices w).lanes.channels pair }
+    ensures from_the_start { (image : Loaded) (choices : List Choice) (place : Place) (pair : ℕ × ℕ) → all_put image choices (begun place) pair ≡ all_taken image choices (begun place) pair ++ waiting (all_behind image choices (begun place)).lanes.channels pair }
 {}

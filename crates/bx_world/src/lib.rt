@@ -1,22 +1,30 @@
 //! Worlds of processes and channels, stepped by one choice at a time.
 #![tactic(auto)]
 
+mod asking;
 mod choices;
+mod choosing;
+mod delivering;
 mod lanes;
 pub mod laws;
+mod lives;
 mod outcomes;
+mod output;
 mod procs;
-mod rows;
+mod requests;
 mod runs;
 mod slots;
+mod statuses;
 mod texts;
+mod turns;
 mod world;
 
 pub use bx_proc::Status;
 pub use choices::{Choice, Choices};
 pub use lanes::Lanes;
 pub use outcomes::{Outcome, Standing};
-pub use rows::{Output, Statuses};
+pub use output::Output;
 pub use runs::{RunEnd, advance};
+pub use statuses::Statuses;
 pub use texts::{choice_text, outcome_text};
 pub use world::{ArcWorld, RcWorld, World};

@@ -3,13 +3,15 @@
 ghost use Rattle.std.specs.Prelude.{◌≡◌, ◌↔◌, IsTrue};
 
 use crate::choices::Choices;
-use crate::rows::{Output, Statuses};
+use crate::output::Output;
+use crate::statuses::Statuses;
+use bx_share::Same;
 use bx_terms::Trap;
 
 /// How a world stands.
 #[derive(Debug, Drop)]
 pub enum Standing {
-    /// A run of this process had no meaning: nothing happens any more.
+    /// A choice of this process had no meaning: nothing happens any more.
     Trapped(Trap, u32),
     /// No choice is enabled.
     Quiet,

@@ -27,12 +27,13 @@ impl<P: Hold<Proc>, C: Hold<Lanes>> Model for RunEnd<P, C> {
     ghost use Rattle.bx_terms.specs.contracts.kinds.Trap as traps;
     ghost use Rattle.bx_proc.specs.contracts.process.Proc as process;
     ghost use Rattle.bx_world.specs.contracts.choices.Choice as choices;
+    ghost use Rattle.bx_world.specs.contracts.lanes.Lanes as lane;
     ghost use Rattle.bx_world.specs.World.{state_code};
     ghost use Rattle.bx_world.specs.Running.{Ended, ended_code};
 
     ghost Value = { Ended };
 
-    ghost coded = { ended_code (state_code process.the_row.coded tree_code traps.the_row.coded) choices.the_row.coded };
+    ghost coded = { ended_code (state_code process.the_row.coded tree_code lane.the_row.coded traps.the_row.coded) choices.the_row.coded };
 
     ghost view = { λ a. record { world = a.world; applied = a.applied; refused = a.refused } };
 }

@@ -11,7 +11,7 @@ use bx_proc::Status;
 use bx_terms::{Atoms, Fault, Term, print, push_pid};
 use std::alloc::{AllocError, Global};
 
-/// The text of a choice: `r0` runs process 0, `d0>1` delivers from 0 to 1.
+/// The text of a choice: `r0` runs process 0, `d0>1` delivers from 0 to 1, `e0` lets the wait of process 0 expire.
 ///
 /// Memory is all that it may lack.
 pub fn choice_text(alloc: Global, choice: Choice) -> Result<String, Fault>
@@ -66,6 +66,7 @@ fn push_choice(out: &mut String, choice: Choice) -> Result<(), AllocError>
     match choice {
         Choice::Run(pid) => write!(out, "r{pid}"),
         Choice::Deliver(from, to) => write!(out, "d{from}>{to}"),
+        Choice::Expire(pid) => write!(out, "e{pid}"),
     }
 }
 

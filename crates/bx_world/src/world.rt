@@ -1,22 +1,24 @@
 //! Worlds, stepped by one choice at a time.
 
-ghost use Rattle.std.specs.Prelude.{◌≡◌, ◌≢◌, ◌↔◌, [], IsTrue, IsSome, Ok};
+ghost use Rattle.std.specs.Prelude.{◌≡◌, ◌≢◌, ◌↔◌, [], IsTrue, IsSome, IfOk, OnErr, Ok};
 ghost use Rattle.bx_terms.specs.Outcomes.{Does, Gives};
 ghost use Rattle.bx_load.specs.Image.{export};
 ghost use Rattle.bx_world.specs.World.{started};
-ghost use Rattle.bx_world.specs.Enabled.{enabled, can};
+ghost use Rattle.bx_world.specs.Enabled.{enabled, open_choices, can};
 ghost use Rattle.bx_world.specs.Choosing.{applied};
 ghost use Rattle.bx_world.specs.Seen.{seen, standing_of, place_in};
 
 use crate::choices::{Choice, Choices};
+use crate::choosing::{make, push_deliveries};
 use crate::lanes::Lanes;
 use crate::outcomes::{Outcome, Standing};
 use crate::procs::Procs;
+use crate::turns::Turn;
 use bx_load::Image;
-use bx_proc::{Effect, Proc};
-use bx_share::{ArcHold, Hold, RcHold};
+use bx_proc::Proc;
+use bx_share::{ArcHold, Hold, RcHold, Same};
 use bx_terms::{AtomId, Fault, Place, Trap};
-use std::alloc::Global;
+use std::alloc::{AllocError, Global};
 use std::marker::Model;
 
 /// Processes and what they share, by a holder for each. A snapshot shares all of it, and a choice copies what it changes
@@ -38,13 +40,14 @@ impl<P: Hold<Proc>, C: Hold<Lanes>> Model for World<P, C> {
     ghost use Rattle.bx_terms.specs.TreeCode.{tree_code};
     ghost use Rattle.bx_terms.specs.contracts.kinds.Trap as traps;
     ghost use Rattle.bx_proc.specs.contracts.process.Proc as process;
+    ghost use Rattle.bx_world.specs.contracts.lanes.Lanes as lane;
     ghost use Rattle.bx_world.specs.World.{State, state_code};
 
     ghost Value = { State };
 
-    ghost coded = { state_code process.the_row.coded tree_code traps.the_row.coded };
+    ghost coded = { state_code process.the_row.coded tree_code lane.the_row.coded traps.the_row.coded };
 
-    ghost view = { λ w. record { processes = w.procs; output = (C.shown w.lanes).output; trap = w.trap } };
+    ghost view = { λ w. record { processes = w.procs; lanes = C.shown w.lanes; trap = w.trap } };
 }
 
 impl<P: Hold<Proc>, C: Hold<Lanes>> World<P, C> {
@@ -72,7 +75,9 @@ impl<P: Hold<Proc>, C: Hold<Lanes>> World<P, C> {
         })
     }
 
-    /// The choices that are enabled: a run of each process that can run, by rising pid; none once the world has trapped.
+    /// The choices that are enabled: a run of each process that can run, by rising pid; then a delivery from each channel in
+    /// which something waits, by rising pair; then an expiration of each wait that can expire, by rising pid. None once the
+    /// world has trapped.
     ///
     /// Memory is all that it may lack, and none is taken where no choice is enabled.
     pub fn enabled(&self, alloc: Global) -> Result<Vec<Choice>, Fault>
@@ -81,7 +86,19 @@ impl<P: Hold<Proc>, C: Hold<Lanes>> World<P, C> {
         if self.trap.is_some() {
             return Ok(Vec::new(alloc));
         }
-        let choices = self.procs.runs(alloc)?;
+        let choices = self.open(alloc)?;
+        Ok(choices)
+    }
+
+    /// The choices that are enabled in a world that has not trapped.
+    fn open(&self, alloc: Global) -> Result<Vec<Choice>, AllocError>
+        ensures ok { IfOk result (λ choices. choices.items ≡ open_choices self.now.processes self.now.lanes) }
+        ensures err { OnErr result (open_choices self.now.processes self.now.lanes ≢ []) }
+    {
+        let mut choices = Vec::new(alloc);
+        self.procs.push_runs(&mut choices)?;
+        push_deliveries(alloc, &self.lanes.see().channels, &mut choices)?;
+        self.procs.push_expirations(&mut choices)?;
         Ok(choices)
     }
 
@@ -90,16 +107,20 @@ impl<P: Hold<Proc>, C: Hold<Lanes>> World<P, C> {
     pub fn can(&self, choice: Choice) -> bool
         ensures { result ≡ can self.now choice }
     {
+        if self.trap.is_some() {
+            return false;
+        }
         match choice {
-            Choice::Run(pid) => self.trap.is_none() && self.procs.may_run(pid),
-            Choice::Deliver(_, _) => false,
+            Choice::Run(pid) => self.procs.may_run(pid),
+            Choice::Deliver(from, to) => self.lanes.see().channels.first(from, to).is_some(),
+            Choice::Expire(pid) => self.procs.may_expire(pid),
         }
     }
 
     /// Applies a choice.
     ///
     /// `Halted` exactly where the world has trapped, else `NotEnabled` exactly where the choice is not enabled. After any
-    /// refusal nothing has changed.
+    /// refusal, want of memory among them, nothing has changed.
     #[inline(always)]
     pub fn apply(&mut self, alloc: Global, image: &Image, choice: Choice) -> Result<(), Fault>
         ensures { Does (IsTrue (can self.old choice)) self.old self.new result (applied image.now choice self.old) }
@@ -107,24 +128,13 @@ impl<P: Hold<Proc>, C: Hold<Lanes>> World<P, C> {
         if self.trap.is_some() {
             return Err(Fault::Halted);
         }
-        match choice {
-            Choice::Run(pid) => self.run(alloc, image, pid),
-            Choice::Deliver(_, _) => Err(Fault::NotEnabled),
-        }
-    }
-
-    /// Runs one instruction of that process, in a world that has not trapped.
-    #[inline(always)]
-    fn run(&mut self, alloc: Global, image: &Image, pid: u32) -> Result<(), Fault>
-        requires { self.old.trap ≡ None }
-        ensures { Does (IsTrue (can self.old (Choice.Run pid))) self.old self.new result (applied image.now (Choice.Run pid) self.old) }
-    {
-        match self.procs.step(alloc, image, pid)? {
-            Effect::Ran => {}
-            Effect::Ended(reason) => self.procs.end(pid, reason),
-            Effect::Trap(kind) => self.trap = Some((kind, pid)),
-            Effect::Ask(_, _) => self.trap = Some((Trap::Unsupported, pid)),
-            Effect::Send(_, _) => self.trap = Some((Trap::Unsupported, pid)),
+        let pid = choice.actor();
+        let turn = match make(alloc, image, &mut self.procs, &mut self.lanes, choice) {
+            Ok(turn) => turn,
+            Err(refused) => return Err(refused),
+        };
+        if let Turn::Trapped(kind) = turn {
+            self.trap = Some((kind, pid));
         }
         Ok(())
     }
@@ -166,14 +176,14 @@ impl<P: Hold<Proc>, C: Hold<Lanes>> World<P, C> {
         if let Some((kind, pid)) = self.trap {
             return Ok(Standing::Trapped(kind, pid));
         }
-        let choices = self.procs.runs(alloc)?;
+        let choices = self.open(alloc)?;
         if choices.is_empty() {
             return Ok(Standing::Quiet);
         }
         Ok(Standing::Open(Choices::of(choices)))
     }
 
-    /// Why nothing happens any more, and whose run it was; `None` where the world has not trapped.
+    /// Why nothing happens any more, and which process's choice it was; `None` where the world has not trapped.
     #[inline(always)]
     pub fn trap(&self) -> Option<(Trap, u32)>
         ensures { result ≡ self.now.trap }
@@ -195,6 +205,6 @@ impl<P: Hold<Proc>, C: Hold<Lanes>> World<P, C> {
     {
         self.trap == other.trap
             && self.procs.same(&other.procs)
-            && self.lanes.see().output().same(other.lanes.see().output())
+            && self.lanes.see().same(other.lanes.see())
     }
 }

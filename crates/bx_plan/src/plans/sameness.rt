@@ -18,7 +18,7 @@ impl Plan {
 
 impl Same for Step {
     fn same(&self, other: &Step) -> bool {
-        self.parent == other.parent && self.choice.same(other.choice)
+        self.parent == other.parent && self.choice.same(&other.choice)
     }
 }
 

@@ -19,13 +19,21 @@ fn edge(parent: usize, choice: Choice) -> Edge
     match choice {
         Choice::Run(first) => Edge {
             parent,
+            kind: 0,
             first,
-            second: None,
+            second: 0,
         },
         Choice::Deliver(first, second) => Edge {
             parent,
+            kind: 1,
             first,
-            second: Some(second),
+            second,
+        },
+        Choice::Expire(first) => Edge {
+            parent,
+            kind: 2,
+            first,
+            second: 0,
         },
     }
 }

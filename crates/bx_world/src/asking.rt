@@ -1,0 +1,411 @@
+//! An instruction that has a part in others, beside the lanes: all of it or nothing.
+//!
+//! What is put into the lanes is put before the process goes on, since it can be taken back without memory.
+
+ghost use Rattle.std.specs.Prelude.{◌≡◌, Ok, IfOk, IfErr, OnErr};
+ghost use Rattle.bx_terms.specs.Outcomes.{Does};
+ghost use Rattle.bx_terms.specs.declared.faults.Fault.TheVariants.{Memory};
+ghost use Rattle.bx_proc.specs.Signals.{with_link};
+ghost use Rattle.bx_proc.specs.Stepping.{settled, settled_with};
+ghost use Rattle.bx_world.specs.declared.requests.Request.TheVariants as requests;
+ghost use Rattle.bx_world.specs.declared.turns.Turn.TheVariants as turns;
+ghost use Rattle.bx_world.specs.Sharing.{parting};
+ghost use Rattle.bx_world.specs.Asking.{whole, closing, sending, exiting_oneself, linking, unlinking, done_by, unlinked_done, exit_message, low_enough, is_the_atom, yes, IsEnded};
+
+use crate::lanes::Lanes;
+use crate::requests::Request;
+use crate::turns::Turn;
+use bx_load::Image;
+use bx_proc::{Answer, Effect, Proc};
+use bx_signals::Signal;
+use bx_terms::{AtomId, Class, Fault, Term, TermRefusal, Trap, View, fixed};
+use std::alloc::{AllocError, Global};
+
+/// What a native that asked answers, where it has nothing else to say.
+pub(crate) fn yes() -> Answer
+    ensures { result ≡ yes }
+{
+    Answer::Value(Term::atom(fixed::TRUE))
+}
+
+/// Does what a process asks of the world, but for a birth, which is handed on.
+pub(crate) fn perform(
+    alloc: Global,
+    image: &Image,
+    process: &mut Proc,
+    lanes: &mut Lanes,
+    pid: u32,
+    request: Request,
+) -> Result<Turn, Fault>
+    ensures { Does (Unit {0}) (process.old, lanes.old) (process.new, lanes.new) result (Ok (done_by image.now pid request process.old lanes.old)) }
+{
+    match request {
+        Request::Refused => {
+            let answer = Answer::Fault(Class::Error, Term::atom(fixed::BADARG));
+            close_whole(alloc, image, process, lanes, pid, &answer)
+        }
+        Request::Send(to, message) => send(alloc, image, process, lanes, pid, to, message),
+        Request::Exit(to, reason) => exit(alloc, image, process, lanes, pid, to, reason),
+        Request::Link(to) => link(alloc, image, process, lanes, pid, to),
+        Request::Unlink(to) => unlink(alloc, image, process, lanes, pid, to),
+        Request::Display(term) => display(alloc, image, process, lanes, pid, term),
+        Request::Spawn(birth) => Ok(Turn::Bears(birth)),
+    }
+}
+
+/// Whether a term is that atom.
+pub(crate) fn is_atom(term: &Term, atom: AtomId) -> bool
+    ensures { result ≡ is_the_atom atom term.now }
+{
+    match term.view() {
+        View::Atom(id) => id == atom,
+        _ => false,
+    }
+}
+
+/// Tells the links of a process that it has ended.
+pub(crate) fn leave(
+    alloc: Global,
+    process: &Proc,
+    lanes: &mut Lanes,
+    pid: u32,
+    reason: Term,
+) -> Result<Turn, Fault>
+    ensures { Does (Unit {0}) lanes.old lanes.new result (Ok (parting pid process.now.links reason lanes.old, turns.Ended reason)) }
+{
+    lanes
+        .channels
+        .put_exits(alloc, pid, process.links(), &reason)?;
+    Ok(Turn::Ended(reason))
+}
+
+/// What an instruction that asked was, once its process has its answer.
+fn finish(
+    alloc: Global,
+    process: &Proc,
+    lanes: &mut Lanes,
+    pid: u32,
+    effect: Effect,
+) -> Result<Turn, Fault>
+    ensures ok { IfOk result (λ turn. closing pid lanes.old (process.now, effect) ≡ ((process.now, lanes.new), turn)) }
+    ensures err { OnErr result (IsEnded effect × (lanes.new ≡ lanes.old)) }
+    ensures memory { IfErr result (λ fault. fault ≡ Memory) }
+{
+    match effect {
+        Effect::Ran => Ok(Turn::Ran),
+        Effect::Ended(reason) => leave(alloc, process, lanes, pid, reason),
+        Effect::Trap(kind) => Ok(Turn::Trapped(kind)),
+        Effect::Send(_, _) => Ok(Turn::Trapped(Trap::BadPlace)),
+        Effect::Ask(_, _) => Ok(Turn::Trapped(Trap::BadPlace)),
+    }
+}
+
+/// Gives a process its answer: it goes on, or it ends and tells its links.
+#[tactic(auto, using(crate::proofs::Undoing::end_kept))]
+pub(crate) fn close(
+    alloc: Global,
+    image: &Image,
+    process: &mut Proc,
+    lanes: &mut Lanes,
+    pid: u32,
+    answer: &Answer,
+) -> Result<Turn, Fault>
+    ensures { Does (Unit {0}) (process.old, lanes.old) (process.new, lanes.new) result (Ok (closing pid lanes.old (settled image.now answer.now process.old))) }
+{
+    let effect = process.settle(alloc, image, answer)?;
+    finish(alloc, process, lanes, pid, effect)
+}
+
+/// The same with a message to itself.
+#[tactic(auto, using(crate::proofs::Undoing::end_kept_with, crate::proofs::Undoing::whole_alone_with))]
+fn note(
+    alloc: Global,
+    image: &Image,
+    process: &mut Proc,
+    lanes: &mut Lanes,
+    pid: u32,
+    answer: &Answer,
+    message: Term,
+) -> Result<Turn, Fault>
+    ensures { Does (Unit {0}) (process.old, lanes.old) (process.new, lanes.new) result (Ok (whole (process.old, lanes.old) (closing pid lanes.old (settled_with image.now answer.now message process.old)))) }
+{
+    let effect = process.settle_with(alloc, image, answer, message)?;
+    finish(alloc, process, lanes, pid, effect)
+}
+
+/// Gives a process its answer, where nothing else was done.
+#[tactic(auto, using(crate::proofs::Undoing::whole_alone))]
+pub(crate) fn close_whole(
+    alloc: Global,
+    image: &Image,
+    process: &mut Proc,
+    lanes: &mut Lanes,
+    pid: u32,
+    answer: &Answer,
+) -> Result<Turn, Fault>
+    ensures { Does (Unit {0}) (process.old, lanes.old) (process.new, lanes.new) result (Ok (whole (process.old, lanes.old) (closing pid lanes.old (settled image.now answer.now process.old)))) }
+{
+    close(alloc, image, process, lanes, pid, answer)
+}
+
+/// Puts a signal to another process, and gives the sender its answer.
+#[tactic(auto, using(crate::proofs::Undoing::told_trapped, crate::proofs::Undoing::stood, crate::proofs::Undoing::untold))]
+fn tell(
+    alloc: Global,
+    image: &Image,
+    process: &mut Proc,
+    lanes: &mut Lanes,
+    pid: u32,
+    to: u32,
+    signal: Signal,
+    answer: &Answer,
+) -> Result<Turn, Fault>
+    ensures { Does (Unit {0}) (process.old, lanes.old) (process.new, lanes.new) result (Ok (whole (process.old, lanes.old) (sending image.now pid to signal answer.now process.old lanes.old))) }
+{
+    if let Err(_signal) = lanes.channels.put(alloc, pid, to, signal) {
+        return Err(Fault::Memory);
+    }
+    let turn = match close(alloc, image, process, lanes, pid, answer) {
+        Ok(turn) => turn,
+        Err(refused) => {
+            lanes.channels.take_back(pid, to);
+            return Err(refused);
+        }
+    };
+    if let Turn::Trapped(_) = &turn {
+        lanes.channels.take_back(pid, to);
+    }
+    Ok(turn)
+}
+
+fn send(
+    alloc: Global,
+    image: &Image,
+    process: &mut Proc,
+    lanes: &mut Lanes,
+    pid: u32,
+    to: u32,
+    message: Term,
+) -> Result<Turn, Fault>
+    ensures { Does (Unit {0}) (process.old, lanes.old) (process.new, lanes.new) result (Ok (done_by image.now pid (requests.Send to message) process.old lanes.old)) }
+{
+    let answer = Answer::Value(message.copy(alloc)?);
+    if to == pid {
+        return note(alloc, image, process, lanes, pid, &answer, message);
+    }
+    let signal = Signal::Message(message);
+    tell(alloc, image, process, lanes, pid, to, signal, &answer)
+}
+
+fn exit(
+    alloc: Global,
+    image: &Image,
+    process: &mut Proc,
+    lanes: &mut Lanes,
+    pid: u32,
+    to: u32,
+    reason: Term,
+) -> Result<Turn, Fault>
+    ensures { Does (Unit {0}) (process.old, lanes.old) (process.new, lanes.new) result (Ok (done_by image.now pid (requests.Exit to reason) process.old lanes.old)) }
+{
+    if to == pid {
+        return exit_itself(alloc, image, process, lanes, pid, reason);
+    }
+    tell(
+        alloc,
+        image,
+        process,
+        lanes,
+        pid,
+        to,
+        Signal::Exit(reason),
+        &yes(),
+    )
+}
+
+/// A process asks itself to end.
+fn exit_itself(
+    alloc: Global,
+    image: &Image,
+    process: &mut Proc,
+    lanes: &mut Lanes,
+    pid: u32,
+    reason: Term,
+) -> Result<Turn, Fault>
+    ensures { Does (Unit {0}) (process.old, lanes.old) (process.new, lanes.new) result (Ok (whole (process.old, lanes.old) (exiting_oneself image.now pid reason process.old lanes.old))) }
+{
+    if is_atom(&reason, fixed::KILL) {
+        return leave(alloc, process, lanes, pid, Term::atom(fixed::KILLED));
+    }
+    if !process.traps_exits() {
+        return leave(alloc, process, lanes, pid, reason);
+    }
+    let Some(message) = exit_message(alloc, pid, reason)? else {
+        return Ok(Turn::Trapped(Trap::TermHeight));
+    };
+    note(alloc, image, process, lanes, pid, &yes(), message)
+}
+
+/// The message that an exit signal becomes; `None` where it would be too high.
+pub(crate) fn exit_message(
+    alloc: Global,
+    from: u32,
+    reason: Term,
+) -> Result<Option<Term>, AllocError>
+    ensures { IfOk result (λ message. message ≡ low_enough (exit_message from reason)) }
+{
+    let mut elements = Vec::with_capacity(alloc, 3)?;
+    elements.push(Term::atom(fixed::EXIT_TAG))?;
+    elements.push(Term::pid(from))?;
+    elements.push(reason)?;
+    match Term::tuple(alloc, elements) {
+        Ok(message) => Ok(Some(message)),
+        Err((TermRefusal::TooHigh, _)) => Ok(None),
+        Err((TermRefusal::Memory, _)) => Err(AllocError),
+    }
+}
+
+#[tactic(auto, using(crate::proofs::Undoing::link_trapped, crate::proofs::Undoing::rewhole, crate::proofs::Undoing::unlinked_back))]
+fn link(
+    alloc: Global,
+    image: &Image,
+    process: &mut Proc,
+    lanes: &mut Lanes,
+    pid: u32,
+    to: u32,
+) -> Result<Turn, Fault>
+    ensures { Does (Unit {0}) (process.old, lanes.old) (process.new, lanes.new) result (Ok (whole (process.old, lanes.old) (linking image.now pid to process.old lanes.old))) }
+{
+    if to == pid || process.is_linked(to) {
+        return close_whole(alloc, image, process, lanes, pid, &yes());
+    }
+    process.add_link(to)?;
+    let signal = Signal::Link;
+    let turn = match tell(alloc, image, process, lanes, pid, to, signal, &yes()) {
+        Ok(turn) => turn,
+        Err(refused) => {
+            process.drop_link(to);
+            return Err(refused);
+        }
+    };
+    if let Turn::Trapped(_) = &turn {
+        process.drop_link(to);
+    }
+    Ok(turn)
+}
+
+#[tactic(auto, using(crate::proofs::Undoing::back_trapped, crate::proofs::Undoing::rewhole, crate::proofs::Undoing::untold))]
+fn unlink(
+    alloc: Global,
+    image: &Image,
+    process: &mut Proc,
+    lanes: &mut Lanes,
+    pid: u32,
+    to: u32,
+) -> Result<Turn, Fault>
+    ensures { Does (Unit {0}) (process.old, lanes.old) (process.new, lanes.new) result (Ok (whole (process.old, lanes.old) (unlinking image.now pid to process.old lanes.old))) }
+{
+    if to == pid || !process.is_linked(to) {
+        return close_whole(alloc, image, process, lanes, pid, &yes());
+    }
+    if let Err(_signal) = lanes.channels.put(alloc, pid, to, Signal::Unlink) {
+        return Err(Fault::Memory);
+    }
+    let turn = match close_without(alloc, image, process, lanes, pid, to) {
+        Ok(turn) => turn,
+        Err(refused) => {
+            lanes.channels.take_back(pid, to);
+            return Err(refused);
+        }
+    };
+    if let Turn::Trapped(_) = &turn {
+        lanes.channels.take_back(pid, to);
+    }
+    Ok(turn)
+}
+
+/// Gives a process its answer, and takes a link of it away: where it ends, that one does not hear of it.
+#[tactic(auto, using(crate::proofs::Undoing::ended_kept, crate::proofs::Undoing::unlinked_trapped, crate::proofs::Undoing::unlinked_sent, crate::proofs::Undoing::unlinked_asked))]
+fn close_without(
+    alloc: Global,
+    image: &Image,
+    process: &mut Proc,
+    lanes: &mut Lanes,
+    pid: u32,
+    to: u32,
+) -> Result<Turn, Fault>
+    ensures { Does (Unit {0}) (process.old, lanes.old) (process.new, lanes.new) result (Ok (whole (process.old, lanes.old) (closing pid lanes.old (unlinked_done to (settled image.now yes process.old))))) }
+{
+    match process.settle(alloc, image, &yes())? {
+        Effect::Ran => {
+            process.drop_link(to);
+            Ok(Turn::Ran)
+        }
+        Effect::Ended(reason) => {
+            let others = process.links_but(alloc, to)?;
+            lanes.channels.put_exits(alloc, pid, &others, &reason)?;
+            process.drop_link(to);
+            Ok(Turn::Ended(reason))
+        }
+        Effect::Trap(kind) => Ok(Turn::Trapped(kind)),
+        Effect::Send(_, _) => Ok(Turn::Trapped(Trap::BadPlace)),
+        Effect::Ask(_, _) => Ok(Turn::Trapped(Trap::BadPlace)),
+    }
+}
+
+#[tactic(auto, using(crate::proofs::Undoing::shown_trapped, crate::proofs::Undoing::stood, crate::proofs::Undoing::unshown))]
+fn display(
+    alloc: Global,
+    image: &Image,
+    process: &mut Proc,
+    lanes: &mut Lanes,
+    pid: u32,
+    term: Term,
+) -> Result<Turn, Fault>
+    ensures { Does (Unit {0}) (process.old, lanes.old) (process.new, lanes.new) result (Ok (done_by image.now pid (requests.Display term) process.old lanes.old)) }
+{
+    if let Err(_term) = lanes.output.push(pid, term) {
+        return Err(Fault::Memory);
+    }
+    let turn = match close(alloc, image, process, lanes, pid, &yes()) {
+        Ok(turn) => turn,
+        Err(refused) => {
+            lanes.output.take_back();
+            return Err(refused);
+        }
+    };
+    if let Turn::Trapped(_) = &turn {
+        lanes.output.take_back();
+    }
+    Ok(turn)
+}
+
+/// A process enters another into its set, and gets its answer.
+#[tactic(auto, using(crate::proofs::Undoing::link_trapped, crate::proofs::Undoing::rewhole, crate::proofs::Undoing::unlinked_back, crate::proofs::Undoing::linked_already))]
+pub(crate) fn close_linked(
+    alloc: Global,
+    image: &Image,
+    process: &mut Proc,
+    lanes: &mut Lanes,
+    pid: u32,
+    child: u32,
+    answer: &Answer,
+) -> Result<Turn, Fault>
+    ensures { Does (Unit {0}) (process.old, lanes.old) (process.new, lanes.new) result (Ok (whole (process.old, lanes.old) (closing pid lanes.old (settled image.now answer.now (with_link child process.old))))) }
+{
+    if process.is_linked(child) {
+        return close_whole(alloc, image, process, lanes, pid, answer);
+    }
+    process.add_link(child)?;
+    let turn = match close_whole(alloc, image, process, lanes, pid, answer) {
+        Ok(turn) => turn,
+        Err(refused) => {
+            process.drop_link(child);
+            return Err(refused);
+        }
+    };
+    if let Turn::Trapped(_) = &turn {
+        process.drop_link(child);
+    }
+    Ok(turn)
+}
