@@ -30,7 +30,8 @@ fn spelled(alloc: Global, atoms: &Atoms, unit: &Unit) -> Result<String, Fault>
 
 /// The code form of the listing that a reader has, or its first fault.
 fn text_of<R: Read>(alloc: Global, listing: &mut R) -> Result<String, Failure>
-    ensures { (given : List ℕ) → R.remaining listing.old ≡ Some given → FileGives (λ text. string_bytes text) 0 result (dis_of given) }
+    ensures { (given : List ℕ) → R.remaining listing.old ≡ Some given
+        → FileGives (λ text. string_bytes text) 0 result (dis_of given) }
 {
     let mut atoms = match Atoms::new(alloc) {
         Ok(atoms) => atoms,
@@ -57,7 +58,8 @@ pub fn dis_text<R: Read, W: Write>(
 ) -> Result<(), Failure>
     ensures written { (given : List ℕ) → R.remaining listing.old ≡ Some given
         → Writes ⊤ (W.contents writer.old) (W.contents writer.new) result (λ file. file ≡ 0) (dis_of given) }
-    ensures unwritten { IfErr result (λ failure. (failure ≡ Failure.Write) ⊎ Keeps (W.contents writer.old) (W.contents writer.new)) }
+    ensures unwritten { IfErr result (λ failure. (failure ≡ Failure.Write)
+        ⊎ Keeps (W.contents writer.old) (W.contents writer.new)) }
 {
     let text = match text_of(alloc, listing) {
         Ok(text) => text,

@@ -22,7 +22,9 @@ fn push_members(
     count: usize,
     members: &[Operand],
 ) -> Result<(), AllocError>
-    ensures { OnOk result (string_bytes out.new ≡ string_bytes out.old ++ (opening.now ++ list_text atoms.now (take count members.now) ++ codes "}")) }
+    ensures { OnOk result (string_bytes out.new
+        ≡ string_bytes out.old ++ (opening.now ++ list_text atoms.now (take count members.now)
+        ++ codes "}")) }
 {
     out.push_str(opening)?;
     push_list(alloc, out, atoms, before(members, count))?;
@@ -35,7 +37,8 @@ fn push_next(
     atoms: &Atoms,
     operand: &Operand,
 ) -> Result<(), AllocError>
-    ensures { OnOk result (string_bytes out.new ≡ string_bytes out.old ++ (codes "," ++ operand_text atoms.now operand.now)) }
+    ensures { OnOk result (string_bytes out.new
+        ≡ string_bytes out.old ++ (codes "," ++ operand_text atoms.now operand.now)) }
 {
     out.push_str(",")?;
     push_operand(alloc, out, atoms, operand)
@@ -49,7 +52,8 @@ fn push_slot(
     slot: Slot,
     operands: &[Operand],
 ) -> Result<(), AllocError>
-    ensures { OnOk result (string_bytes out.new ≡ string_bytes out.old ++ slot_text atoms.now slot operands.now) }
+    ensures { OnOk result (string_bytes out.new
+        ≡ string_bytes out.old ++ slot_text atoms.now slot operands.now) }
 {
     match (slot, operands) {
         (Slot::One(Sort::Mark), _) => out.push_str(",[]"),
@@ -97,7 +101,8 @@ fn push_slots(
     slots: &[Slot],
     operands: &[Operand],
 ) -> Result<(), AllocError>
-    ensures { OnOk result (string_bytes out.new ≡ string_bytes out.old ++ slots_text atoms.now slots.now operands.now) }
+    ensures { OnOk result (string_bytes out.new
+        ≡ string_bytes out.old ++ slots_text atoms.now slots.now operands.now) }
 {
     let mut left = operands;
     for slot in slots {
@@ -116,7 +121,8 @@ fn push_grouped(
     to: usize,
     operands: &[Operand],
 ) -> Result<(), AllocError>
-    ensures { OnOk result (string_bytes out.new ≡ string_bytes out.old ++ grouped_text atoms.now from to operands.now) }
+    ensures { OnOk result (string_bytes out.new
+        ≡ string_bytes out.old ++ grouped_text atoms.now from to operands.now) }
 {
     push_added(alloc, out, atoms, before(operands, from))?;
     out.push_str(",")?;
@@ -132,7 +138,9 @@ fn push_plain(
     op: Op,
     operands: &[Operand],
 ) -> Result<(), AllocError>
-    ensures { OnOk result (string_bytes out.new ≡ string_bytes out.old ++ (codes "{" ++ printed_atom (opcode op).name ++ slots_text atoms.now (table_slots op) operands.now ++ codes "}")) }
+    ensures { OnOk result (string_bytes out.new
+        ≡ string_bytes out.old ++ (codes "{" ++ printed_atom (opcode op).name
+        ++ slots_text atoms.now (table_slots op) operands.now ++ codes "}")) }
 {
     out.push_str("{")?;
     push_atom(alloc, out, name(op))?;
@@ -148,7 +156,9 @@ fn push_test(
     op: Op,
     operands: &[Operand],
 ) -> Result<(), AllocError>
-    ensures { OnOk result (string_bytes out.new ≡ string_bytes out.old ++ (codes "{test," ++ printed_atom (opcode op).name ++ grouped_text atoms.now 1 (length operands.now) operands.now ++ codes "}")) }
+    ensures { OnOk result (string_bytes out.new
+        ≡ string_bytes out.old ++ (codes "{test," ++ printed_atom (opcode op).name
+        ++ grouped_text atoms.now 1 (length operands.now) operands.now ++ codes "}")) }
 {
     out.push_str("{test,")?;
     push_atom(alloc, out, name(op))?;
@@ -167,7 +177,9 @@ fn push_between(
     operands: &[Operand],
     closing: &str,
 ) -> Result<(), AllocError>
-    ensures { OnOk result (string_bytes out.new ≡ string_bytes out.old ++ (opening.now ++ grouped_text atoms.now from to operands.now ++ closing.now)) }
+    ensures { OnOk result (string_bytes out.new
+        ≡ string_bytes out.old ++ (opening.now ++ grouped_text atoms.now from to operands.now
+        ++ closing.now)) }
 {
     out.push_str(opening)?;
     push_grouped(alloc, out, atoms, from, to, operands)?;
@@ -182,7 +194,9 @@ fn push_way(
     op: Op,
     operands: &[Operand],
 ) -> Result<(), AllocError>
-    ensures { OnOk result (string_bytes out.new ≡ string_bytes out.old ++ way_text atoms.now (table_way op) (printed_atom (opcode op).name) (table_slots op) operands.now) }
+    ensures { OnOk result (string_bytes out.new
+        ≡ string_bytes out.old
+        ++ way_text atoms.now (table_way op) (printed_atom (opcode op).name) (table_slots op) operands.now) }
 {
     let count = operands.len();
     let last = count.saturating_sub(1);
@@ -212,7 +226,8 @@ pub(crate) fn push_item(
     atoms: &Atoms,
     item: Item<'_>,
 ) -> Result<(), AllocError>
-    ensures { OnOk result (string_bytes out.new ≡ string_bytes out.old ++ item_text atoms.now (seen_item item.entry)) }
+    ensures { OnOk result (string_bytes out.new
+        ≡ string_bytes out.old ++ item_text atoms.now (seen_item item.entry)) }
 {
     push_way(alloc, out, atoms, item.op, item.operands)?;
     out.push_str(".\n")

@@ -33,7 +33,8 @@ pub(crate) fn push_number(out: &mut String, number: u32) -> Result<(), AllocErro
 
 /// Adds a tuple of a word, which `opening` begins, and a number.
 fn push_numbered(out: &mut String, opening: &str, number: u32) -> Result<(), AllocError>
-    ensures { OnOk result (string_bytes out.new ≡ string_bytes out.old ++ (opening.now ++ decimal number ++ codes "}")) }
+    ensures { OnOk result (string_bytes out.new
+        ≡ string_bytes out.old ++ (opening.now ++ decimal number ++ codes "}")) }
 {
     out.push_str(opening)?;
     push_number(out, number)?;
@@ -41,7 +42,8 @@ fn push_numbered(out: &mut String, opening: &str, number: u32) -> Result<(), All
 }
 
 fn push_integer(out: &mut String, value: i64) -> Result<(), AllocError>
-    ensures { OnOk result (string_bytes out.new ≡ string_bytes out.old ++ (codes "{integer," ++ signed_decimal value ++ codes "}")) }
+    ensures { OnOk result (string_bytes out.new
+        ≡ string_bytes out.old ++ (codes "{integer," ++ signed_decimal value ++ codes "}")) }
 {
     out.push_str("{integer,")?;
     out.push_str(Buffer::new().format(value))?;
@@ -54,7 +56,8 @@ fn push_atom_operand(
     atoms: &Atoms,
     id: AtomId,
 ) -> Result<(), AllocError>
-    ensures { OnOk result (string_bytes out.new ≡ string_bytes out.old ++ operand_text atoms.now (Operand.Atom id)) }
+    ensures { OnOk result (string_bytes out.new
+        ≡ string_bytes out.old ++ operand_text atoms.now (Operand.Atom id)) }
 {
     out.push_str("{atom,")?;
     push_name(alloc, out, atoms, id)?;
@@ -67,7 +70,8 @@ fn push_literal(
     atoms: &Atoms,
     term: &Term,
 ) -> Result<(), AllocError>
-    ensures { OnOk result (string_bytes out.new ≡ string_bytes out.old ++ operand_text atoms.now (Operand.Literal term.now)) }
+    ensures { OnOk result (string_bytes out.new
+        ≡ string_bytes out.old ++ operand_text atoms.now (Operand.Literal term.now)) }
 {
     let text = print(alloc, atoms, term)?;
     out.push_str("{literal,")?;
@@ -81,7 +85,8 @@ fn push_import(
     atoms: &Atoms,
     import: Import,
 ) -> Result<(), AllocError>
-    ensures { OnOk result (string_bytes out.new ≡ string_bytes out.old ++ operand_text atoms.now (Operand.Import import)) }
+    ensures { OnOk result (string_bytes out.new
+        ≡ string_bytes out.old ++ operand_text atoms.now (Operand.Import import)) }
 {
     out.push_str("{extfunc,")?;
     push_name(alloc, out, atoms, import.module)?;
@@ -98,7 +103,8 @@ fn push_amount(
     atoms: &Atoms,
     amount: Amount,
 ) -> Result<(), AllocError>
-    ensures { OnOk result (string_bytes out.new ≡ string_bytes out.old ++ operand_text atoms.now (Operand.Amount amount)) }
+    ensures { OnOk result (string_bytes out.new
+        ≡ string_bytes out.old ++ operand_text atoms.now (Operand.Amount amount)) }
 {
     out.push_str("{")?;
     push_name(alloc, out, atoms, amount.kind)?;
@@ -114,7 +120,8 @@ pub(crate) fn push_operand(
     atoms: &Atoms,
     operand: &Operand,
 ) -> Result<(), AllocError>
-    ensures { OnOk result (string_bytes out.new ≡ string_bytes out.old ++ operand_text atoms.now operand.now) }
+    ensures { OnOk result (string_bytes out.new
+        ≡ string_bytes out.old ++ operand_text atoms.now operand.now) }
 {
     match operand {
         Operand::X(number) => push_numbered(out, "{x,", *number),
@@ -159,7 +166,8 @@ fn push_joined(
     atoms: &Atoms,
     operands: &[Operand],
 ) -> Result<(), AllocError>
-    ensures { OnOk result (string_bytes out.new ≡ string_bytes out.old ++ joined_text atoms.now operands.now) }
+    ensures { OnOk result (string_bytes out.new
+        ≡ string_bytes out.old ++ joined_text atoms.now operands.now) }
 {
     match operands {
         [] => Ok(()),

@@ -64,7 +64,8 @@ fn label_above(number: u32, operands: &[Operand]) -> u32
 
 /// The greater of a number and the label that the function's item of that place sets, if it sets one.
 fn label_above_at(number: u32, function: &CodeFunction, place: usize) -> u32
-    ensures { labels_above result (drop (place + 1) function.now.items) ≡ labels_above number (drop place function.now.items) }
+    ensures { labels_above result (drop (place + 1) function.now.items)
+        ≡ labels_above number (drop place function.now.items) }
 {
     match function.item(place) {
         Some(item) => label_above(number, item.operands),
@@ -128,7 +129,8 @@ fn push_exports(
     atoms: &Atoms,
     exports: &[Export],
 ) -> Result<(), AllocError>
-    ensures { OnOk result (string_bytes out.new ≡ string_bytes out.old ++ exports_text atoms.now exports.now) }
+    ensures { OnOk result (string_bytes out.new
+        ≡ string_bytes out.old ++ exports_text atoms.now exports.now) }
 {
     out.push_str("{exports,[")?;
     push_offers(alloc, out, atoms, exports)?;
@@ -145,12 +147,7 @@ fn push_labels(out: &mut String, count: u32) -> Result<(), AllocError>
 }
 
 /// Adds the forms that stand before the functions.
-fn push_head(
-    alloc: Global,
-    out: &mut String,
-    atoms: &Atoms,
-    code: &Code,
-) -> Result<(), AllocError>
+fn push_head(alloc: Global, out: &mut String, atoms: &Atoms, code: &Code) -> Result<(), AllocError>
     ensures { OnOk result (string_bytes out.new ≡ string_bytes out.old ++ head_text atoms.now code.now) }
 {
     push_module(alloc, out, atoms, code.name())?;
@@ -166,7 +163,8 @@ fn push_function_head(
     atoms: &Atoms,
     function: &CodeFunction,
 ) -> Result<(), AllocError>
-    ensures { OnOk result (string_bytes out.new ≡ string_bytes out.old ++ function_head_text atoms.now function.now) }
+    ensures { OnOk result (string_bytes out.new
+        ≡ string_bytes out.old ++ function_head_text atoms.now function.now) }
 {
     out.push_str("{function,")?;
     push_name(alloc, out, atoms, function.name())?;
@@ -185,7 +183,8 @@ fn push_item_at(
     function: &CodeFunction,
     place: usize,
 ) -> Result<(), AllocError>
-    ensures { OnOk result (string_bytes out.new ++ flat_map (item_text atoms.now) (drop (place + 1) function.now.items) ≡ string_bytes out.old ++ flat_map (item_text atoms.now) (drop place function.now.items)) }
+    ensures { OnOk result (string_bytes out.new ++ flat_map (item_text atoms.now) (drop (place + 1) function.now.items)
+        ≡ string_bytes out.old ++ flat_map (item_text atoms.now) (drop place function.now.items)) }
 {
     match function.item(place) {
         Some(item) => push_item(alloc, out, atoms, item),
@@ -201,7 +200,8 @@ fn push_items(
     atoms: &Atoms,
     function: &CodeFunction,
 ) -> Result<(), AllocError>
-    ensures { OnOk result (string_bytes out.new ≡ string_bytes out.old ++ flat_map (item_text atoms.now) function.now.items) }
+    ensures { OnOk result (string_bytes out.new
+        ≡ string_bytes out.old ++ flat_map (item_text atoms.now) function.now.items) }
 {
     for place in 0..function.item_count() {
         push_item_at(alloc, out, atoms, function, place)?;
@@ -215,7 +215,8 @@ fn push_function(
     atoms: &Atoms,
     function: &CodeFunction,
 ) -> Result<(), AllocError>
-    ensures { OnOk result (string_bytes out.new ≡ string_bytes out.old ++ function_text atoms.now function.now) }
+    ensures { OnOk result (string_bytes out.new
+        ≡ string_bytes out.old ++ function_text atoms.now function.now) }
 {
     push_function_head(alloc, out, atoms, function)?;
     push_items(alloc, out, atoms, function)
@@ -229,7 +230,8 @@ fn push_functions(
     atoms: &Atoms,
     functions: &[CodeFunction],
 ) -> Result<(), AllocError>
-    ensures { OnOk result (string_bytes out.new ≡ string_bytes out.old ++ flat_map (function_text atoms.now) functions.now) }
+    ensures { OnOk result (string_bytes out.new
+        ≡ string_bytes out.old ++ flat_map (function_text atoms.now) functions.now) }
 {
     for function in functions {
         push_function(alloc, out, atoms, function)?;
