@@ -1,17 +1,23 @@
 //! Each form of an item, and how it is written back. What a form is written as was worked out by hand.
 
 use crate::samples::{module, read};
-use bx_listing::{code_of, write_listing};
+use bx_listing::{code_of, read_listing, write_listing};
+use bx_share::Same;
 use bx_terms::Fault;
 use std::alloc::Global;
 use std::test::Fail;
 
-/// Whether a function with these items, behind those that it begins with, is written back with those.
+/// Whether a function with these items, behind those that it begins with, is written back with those, and what is written
+/// is read as the same code.
 fn are_written(alloc: Global, items: &str, wanted: &str) -> Result<bool, Fault> {
     let text = module(alloc, items)?;
-    let (atoms, listing) = read(alloc, text.as_str())?;
+    let (mut atoms, listing) = read(alloc, text.as_str())?;
     let code = code_of(alloc, &listing)?;
     let written = write_listing(alloc, &atoms, &code)?;
+    let again = read_listing(alloc, &mut atoms, written.as_bytes())?;
+    if !code_of(alloc, &again)?.same(&code) {
+        return Ok(false);
+    }
     match written.as_str().split_once("{label,2}.\n") {
         Some((_, behind)) => Ok(behind.strip_suffix("\n") == Some(wanted)),
         None => Ok(false),
