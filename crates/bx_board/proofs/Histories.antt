@@ -65,7 +65,7 @@ submitted-push : (es : List Event) (e : Event) → submitted (es ++ e ∷ []) �
 submitted-push [] e = omega arith
 submitted-push (f ∷ es) e = omega (arith, submitted-push es e)
 
-none_finished : (job : Job) (n : ℕ) → how_many (is_finished (initial job)) (suc n) ≡ 1
+pub none_finished : (job : Job) (n : ℕ) → how_many (is_finished (initial job)) (suc n) ≡ 1
 none_finished job zero = refl
 none_finished job (suc n) = omega (arith, none_finished job n, ap (λ x. one_if (is_done x)) (initial_waits job (suc n) (omega arith)))
 

@@ -1,7 +1,12 @@
 pub mod Compared
 pub mod Steps
 pub mod Numbers
-pub mod Counts
+pub mod RowLengths
 pub mod Histories
 pub mod Running
 pub mod Tending
+pub mod Places
+pub mod Keeping
+pub mod Beginning
+pub mod Idle
+pub mod Found

@@ -61,7 +61,7 @@ is_free_from job s n within waiting born =
     and_from (nat_lt n (length s.slots) && is_waiting (standing s n)) (is_done (standing s (above job.chains n)))
     (and_from (nat_lt n (length s.slots)) (is_waiting (standing s n)) (lt-ltb n (length s.slots) within) waiting) born
 
-waiting_not_done : (x : Slot) → is_waiting x ≡ true → is_done x ≡ false
+pub waiting_not_done : (x : Slot) → is_waiting x ≡ true → is_done x ≡ false
 waiting_not_done Waiting h = refl
 waiting_not_done (Leased k) h = refl
 waiting_not_done (Done e) h = cc
@@ -71,7 +71,7 @@ waiting_is Waiting h = refl
 waiting_is (Leased k) h = cc
 waiting_is (Done e) h = cc
 
-done_not_waiting : (x : Slot) → is_done x ≡ true → is_waiting x ≡ false
+pub done_not_waiting : (x : Slot) → is_done x ≡ true → is_waiting x ≡ false
 done_not_waiting Waiting h = cc
 done_not_waiting (Leased k) h = refl
 done_not_waiting (Done e) h = refl

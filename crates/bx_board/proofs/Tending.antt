@@ -54,12 +54,12 @@ module _ (job : Job) (s : Frontier) (n : ℕ) (x : Slot) where
   pub free_same : n < length s.slots → is_done x ≡ is_done (standing s n) → (m : ℕ) → m ≢ n → is_free job (with_slot s n x) m ≡ is_free job s m
   free_same within same m f = free_kept m f (done_kept within same (above job.chains m))
 
-done_waits : (x : Slot) → is_done x ≡ true → is_waiting x ≡ false
+pub done_waits : (x : Slot) → is_done x ≡ true → is_waiting x ≡ false
 done_waits Waiting h = cc
 done_waits (Leased k) h = refl
 done_waits (Done e) h = refl
 
-free_waits : (job : Job) (s : Frontier) (n : ℕ) → is_waiting (standing s n) ≡ false → is_free job s n ≡ false
+pub free_waits : (job : Job) (s : Frontier) (n : ℕ) → is_waiting (standing s n) ≡ false → is_free job s n ≡ false
 free_waits job s n h = mid_false (nat_lt n (length s.slots)) (is_waiting (standing s n)) (is_done (standing s (above job.chains n))) h
 
 -- ---- a lease: the last of the free chains is taken

@@ -1,13 +1,15 @@
 -- What a board keeps, and what each call of it is.
-use Rattle.std.specs.Prelude.{◌≡◌, ◌≢◌, ◌⊎◌, ◌↔◌, ℕ, ◌+◌, ◌<◌, true, false, IsTrue, List, [], ◌∷◌, ◌++◌, length, Option, None, Some, Result, Ok, Err, IsSome}
+use Rattle.std.specs.Prelude.{◌≡◌, ◌≢◌, ◌⊎◌, ◌↔◌, ℕ, ◌+◌, ◌<◌, true, false, IsTrue, List, [], ◌∷◌, ◌++◌, length, Option, None, Some, Result, Ok, Err, IsOk, IsSome, refl, Bool}
+use Rattle.std.specs.Coded.{Coded, code_by, coded×, coded_bool, coded_list}
+use Rattle.bx_terms.specs.declared.atom_table.AtomId.{AtomId}
 use Rattle.bx_terms.specs.declared.faults.Fault.{Fault}
-use Rattle.bx_terms.specs.declared.faults.Fault.TheVariants.{Memory, NoEntry, NotLeased, Foreign, Twice, Unfinished}
+use Rattle.bx_terms.specs.declared.faults.Fault.TheVariants.{Memory, NotLeased, Foreign, Twice}
 use Rattle.bx_load.specs.Image.{Loaded, export}
 use Rattle.bx_world.specs.World.{started}
 use Rattle.bx_world.specs.Running.{Ended}
 use Rattle.bx_plan.specs.Planned.{Planned}
 use Rattle.bx_plan.specs.Trees.{IsTree}
-use Rattle.bx_chains.specs.Chains.{AreChains, above, chain_count}
+use Rattle.bx_chains.specs.Chains.{AreChains, Chained, above, chain_count}
 use Rattle.bx_board.specs.declared.slots.Slot.{Slot}
 use Rattle.bx_board.specs.declared.slots.Slot.TheVariants.{Waiting, Leased, Done}
 use Rattle.bx_board.specs.declared.slots.Event.{Event}
@@ -43,7 +45,32 @@ pub record IsKept (b : Kept) : Type 0 where
   -- no worker holds two
   pub one : (k m n : ℕ) → standing b.state m ≡ Leased k → standing b.state n ≡ Leased k → m ≡ n
 
+-- what a proof tells two of them apart by
+abbrev pub kept_code : Coded Loaded → Coded AtomId → Coded Planned → Coded Chained → Coded Slot → Coded Event → Coded Kept
+kept_code image atom plan chains slot event =
+    code_by ((Loaded × (Entry × (Planned × Chained))) × ((List Slot × Bool) × List Event))
+    (coded× (coded× image (coded× (coded× atom atom) (coded× plan chains))) (coded× (coded× (coded_list slot) coded_bool) (coded_list event)))
+    (λ b. ((b.job.image, (b.job.start, (b.job.plan, b.job.chains))), ((b.state.slots, b.state.stopped), b.events)))
+    (λ t. record {
+      job = record { image = t.0.0; start = t.0.1.0; plan = t.0.1.1.0; chains = t.0.1.1.1 };
+      state = record { slots = t.1.0.0; stopped = t.1.0.1 };
+      events = t.1.1;
+    })
+    (λ _. refl)
+
 -- ---- what the calls are
+
+-- the campaign of a plan over loaded code from a start: nothing has happened
+pub record IsOpening (image : Loaded) (start : Entry) (plan : Planned) (b : Kept) : Type 0 where
+  pub exported : IsOk (started image start.0 start.1)
+  pub chains : AreChains plan b.job.chains
+  pub begun : b ≡ begun_with (record { image = image; start = start; plan = plan; chains = b.job.chains })
+
+-- it is opened, or refused exactly where the start isn't exported; memory is taken only where it is
+abbrev pub Opens : Loaded → Entry → Planned → Result Kept Fault → Type 0
+Opens image start plan (Ok b) = IsOpening image start plan b
+Opens image start plan (Err Memory) = IsSome (export image start.0 start.1 0)
+Opens image start plan (Err fault) = started image start.0 start.1 ≡ Err fault
 
 abbrev pub Happens : Kept → Event → Kept → Type 0
 Happens old e new = May old.job old.state e × (new ≡ then old e)

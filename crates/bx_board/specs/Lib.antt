@@ -5,3 +5,6 @@ pub mod Kept
 pub mod Tended
 pub mod Histories
 pub mod Texts
+pub mod Counted
+pub mod Reported
+pub mod Alone

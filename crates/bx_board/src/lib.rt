@@ -1,13 +1,19 @@
 //! What comes of a plan's schedules: chains leased to workers, and the report.
 #![tactic(auto)]
 
+mod boards;
+mod books;
+mod campaigns;
 pub mod laws;
 mod reports;
 mod slots;
 mod texts;
 mod working;
 
+pub use boards::{Board, FreeGate, Gate};
+pub use books::{Book, report_alone};
+pub use campaigns::campaign;
 pub use reports::{Report, ScheduleName, Scheduled};
-pub use slots::{ArcEnd, Event, Slot};
+pub use slots::{ArcEnd, Counts, Event, Slot};
 pub use texts::report_text;
 pub use working::{Lease, Piece, work};

@@ -30,3 +30,16 @@ pub enum Event {
     /// No chain is leased from then on.
     Stop,
 }
+
+/// How many chains stand how.
+#[derive(Clone, Copy, Debug, PartialEq, Eq)]
+pub struct Counts {
+    /// Those that stand on one that is not done.
+    pub unborn: usize,
+    /// Those that may be leased.
+    pub free: usize,
+    /// Those that a worker holds.
+    pub leased: usize,
+    /// Those that were run, the root among them.
+    pub done: usize,
+}

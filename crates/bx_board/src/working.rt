@@ -133,6 +133,20 @@ impl<'a> Piece<'a> {
     {
         self.end.see()
     }
+
+    /// Where those choices lead, to be kept.
+    pub(crate) fn into_end(self) -> ArcHold<ArcEnd>
+        ensures { result ≡ end_of self.entry }
+    {
+        let Piece {
+            image: _,
+            start: _,
+            plan: _,
+            span: _,
+            end,
+        } = self;
+        end
+    }
 }
 
 /// An end that goes on apart from that one.

@@ -2,6 +2,5 @@ pub mod LineLemmas
 pub mod StartLemmas
 pub mod TextLemmas
 pub mod FileRows
-pub mod RunRows
 pub mod Failing
 pub mod OneFile

@@ -6,3 +6,4 @@ pub mod Units
 pub mod Loads
 pub mod Runs
 pub mod Listings
+pub mod Campaigns

@@ -1,15 +1,13 @@
 -- What `run` writes: the report of the plan's schedules, each run alone from the start; or the first fault.
-use Rattle.std.specs.Prelude.{◌≡◌, ℕ, List, map, Option, Some, None, Result, Ok, Err, IsOk, IsSome, length}
+use Rattle.std.specs.Prelude.{◌≡◌, ℕ, List, Option, Some, None, Result, Ok, Err, IsOk, IsSome, length}
 use Rattle.std.specs.Io.KnownBytes.{Appends, Keeps}
 use Rattle.bx_terms.specs.AtomTable.{number_of}
-use Rattle.bx_terms.specs.declared.atom_table.AtomId.{AtomId}
 use Rattle.bx_terms.specs.declared.faults.Fault.{Fault}
 use Rattle.bx_terms.specs.declared.faults.Fault.TheVariants.{NoEntry, Memory}
 use Rattle.bx_load.specs.Image.{Loaded}
 use Rattle.bx_plan.specs.Plans.{Named}
-use Rattle.bx_world.specs.World.{State, started}
-use Rattle.bx_world.specs.Running.{Ended, ran, unchosen}
-use Rattle.bx_world.specs.Seen.{seen}
+use Rattle.bx_board.specs.Jobs.{Entry}
+use Rattle.bx_board.specs.Reported.{report_from}
 use Rattle.bx_board.specs.Texts.{report_lines}
 use Rattle.bx_board.specs.declared.reports.Scheduled.{Scheduled}
 use Rattle.bx_engine.specs.Starts.{start_in, token_in}
@@ -22,28 +20,22 @@ use Rattle.bx_engine.specs.declared.failures.Failure.TheVariants as failures
 abbrev pub Names : Type 0
 Names = List ℕ × List ℕ
 
+-- where a process begins, by the numbers of two names; none where the loaded code does not hold them
+abbrev pub both : Option ℕ → Option ℕ → Option Entry
+both (Some m) (Some f) = Some (record { 0 = m }, record { 0 = f })
+both m f = None
+
+abbrev pub entry_in : Loaded → Names → Option Entry
+entry_in image names = both (number_of image.atoms names.0) (number_of image.atoms names.1)
+
 -- names that the loaded code does not hold name no export
-abbrev pub started_by : Loaded → Option ℕ → Option ℕ → Result State Fault
-started_by image (Some m) (Some f) = started image (record { 0 = m }) (record { 0 = f })
-started_by image m f = Err NoEntry
-
-abbrev pub world_at : Loaded → Names → Result State Fault
-world_at image names = started_by image (number_of image.atoms names.0) (number_of image.atoms names.1)
-
--- what a run's end shows under a schedule's name
-abbrev pub told : List ℕ → Ended → Scheduled
-told name end = record { name = name; applied = end.applied; refused = end.refused; outcome = seen end.world }
-
--- a schedule alone, from the start
-abbrev pub scheduled : Loaded → State → Named → Scheduled
-scheduled image start schedule = told schedule.0 (ran image schedule.1 (unchosen start))
-
-abbrev pub reported : Loaded → State → List Named → List Scheduled
-reported image start plan = map (scheduled image start) plan
+abbrev pub reported : Loaded → Option Entry → List Named → Result (List Scheduled) Fault
+reported image None plan = Err NoEntry
+reported image (Some start) plan = report_from image start plan
 
 -- the text of the report
 abbrev pub report_in : Loaded → Names → List Named → Result (List ℕ) Fault
-report_in image names plan = world_at image names >>= λ start. Ok (report_lines image.atoms (reported image start plan))
+report_in image names plan = reported image (entry_in image names) plan >>= λ rows. Ok (report_lines image.atoms rows)
 
 abbrev pub report_of : Loaded → Names → List Named → Result (List ℕ) Failure
 report_of image names plan = of_no_file (report_in image names plan)

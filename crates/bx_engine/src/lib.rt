@@ -2,6 +2,7 @@
 #![tactic(auto)]
 
 mod dis;
+mod campaigns;
 mod failures;
 mod inputs;
 pub mod laws;
@@ -11,6 +12,7 @@ mod starts;
 mod units;
 
 pub use dis::dis_text;
+pub use campaigns::campaign_text;
 pub use failures::{Failure, fault_line};
 pub use runs::run_text;
 pub use starts::{Start, start_of};

@@ -1,0 +1,98 @@
+//! The book of a campaign: which chains are free, who holds which, and what came of each.
+
+ghost use Rattle.std.specs.Prelude.{◌≡◌};
+ghost use Rattle.bx_board.specs.Counted.{counts_of};
+ghost use Rattle.bx_board.specs.Kept.{IsKept};
+
+mod alone;
+mod comparing;
+mod ending;
+mod leasing;
+mod opening;
+mod reporting;
+
+pub use alone::report_alone;
+
+use crate::slots::{Counts, Event, Slot};
+use bx_chains::Chains;
+use bx_load::Image;
+use bx_plan::Plan;
+use bx_terms::AtomId;
+use std::collections::BTreeMap;
+use std::marker::Model;
+
+/// A campaign as its workers share it: loaded code, a start, the chains of a plan's tree, and how each stands.
+///
+/// A clause sees the campaign, how its chains stand, and the events that led there. Workers go by any numbers.
+#[derive(Drop)]
+pub struct Book<'a> {
+    image: &'a Image,
+    start: (AtomId, AtomId),
+    plan: &'a Plan,
+    chains: Chains,
+    slots: Vec<Slot>,
+    stopped: bool,
+    events: Vec<Event>,
+    ready: Vec<usize>,
+    holders: BTreeMap<usize, usize>,
+    leased: usize,
+    done: usize,
+}
+
+impl<'a> Model for Book<'a> {
+    ghost use Rattle.std.specs.Prelude.{◌≤◌, ◌+◌, length, vec_len, vec_capacity};
+    ghost use Rattle.bx_terms.specs.contracts.atom_table.AtomId as ids;
+    ghost use Rattle.bx_asm.specs.contracts.unit.Unit as unit;
+    ghost use Rattle.bx_load.specs.Image.{loaded_code};
+    ghost use Rattle.bx_plan.specs.contracts.plans.Plan as plans;
+    ghost use Rattle.bx_chains.specs.contracts.chains.Chains as chained;
+    ghost use Rattle.bx_board.specs.contracts.slots.Slot as slot;
+    ghost use Rattle.bx_board.specs.contracts.slots.Event as event;
+    ghost use Rattle.bx_board.specs.Kept.{Kept, kept_code};
+
+    ghost Value = { Kept };
+
+    ghost coded = { kept_code (loaded_code unit.the_row.coded) ids.the_row.coded plans.the_row.coded chained.the_row.coded slot.the_row.coded event.the_row.coded };
+
+    ghost use Rattle.bx_board.specs.Tended.{kept_view, IsTended, events_to_come};
+
+    ghost view = { λ b. kept_view b.image.now b.start b.plan.now b.chains b.slots.items b.stopped b.events.items };
+
+    ghost invariant = { λ b.
+        IsTended (kept_view b.image.now b.start b.plan.now b.chains b.slots.items b.stopped b.events.items)
+            b.ready.items b.holders b.leased b.done
+        × (length b.slots.items ≤ vec_capacity b.ready)
+        × (vec_len b.events + events_to_come b.stopped b.leased ≤ vec_capacity b.events) };
+}
+
+impl<'a> Book<'a> {
+    /// What is known of every book.
+    pub fn known(&self)
+        ensures { IsKept self.now }
+    {
+        let _plan = &self.plan;
+    }
+
+    /// Whether leasing was stopped.
+    pub(crate) fn is_stopped(&self) -> bool
+        ensures { result ≡ self.now.state.stopped }
+    {
+        self.stopped
+    }
+
+    /// How many chains stand how, in a time that doesn't depend on how many there are.
+    pub fn counts(&self) -> Counts
+        ensures { result ≡ counts_of self.now }
+    {
+        let free = self.ready.len();
+        let leased = self.leased;
+        let done = self.done;
+        let unborn = self.slots.len() - free - leased - done;
+        Counts {
+            unborn,
+            free,
+            leased,
+            done,
+        }
+    }
+}

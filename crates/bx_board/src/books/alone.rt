@@ -1,0 +1,90 @@
+//! A campaign that one worker goes on with alone, in a plain loop.
+
+ghost use Rattle.std.specs.Prelude.{◌≡◌, IfErr, IfOk, IsSome, MatchBool};
+ghost use Rattle.bx_terms.specs.Outcomes.{Gives};
+ghost use Rattle.bx_load.specs.Image.{export};
+ghost use Rattle.bx_board.specs.Alone.{GoesOn, IsIdle, IsUnheld, TakesBack};
+ghost use Rattle.bx_board.specs.Kept.{IsAllDone};
+ghost use Rattle.bx_plan.specs.Planned.{schedules};
+ghost use Rattle.bx_board.specs.Reported.{report_from, report_of};
+
+use crate::books::Book;
+use crate::reports::Report;
+use crate::working::work;
+use bx_load::Image;
+use bx_plan::Plan;
+use bx_terms::{AtomId, Fault};
+use std::alloc::Global;
+
+impl<'a> Book<'a> {
+    /// Runs one chain more, where one is left.
+    fn go_on(&mut self, alloc: Global) -> Result<bool, Fault>
+        requires { IsIdle self.old }
+        ensures ok { IfOk result (λ more. MatchBool more (GoesOn self.old self.new) ((self.new ≡ self.old) × IsAllDone self.old)) }
+        ensures err { IfErr result (λ fault. fault ≡ Fault.Memory) }
+    {
+        self.known();
+        let Some(lease) = self.lease(alloc, 0)? else {
+            return Ok(false);
+        };
+        let piece = match work(alloc, lease) {
+            Ok(piece) => piece,
+            Err((fault, _lease)) => return Err(fault),
+        };
+        let Some(chain) = self.held_by(0) else {
+            unreachable!()
+        };
+        self.hand_in(0, chain, piece.into_end());
+        Ok(true)
+    }
+
+    /// Runs all chains that are left, where nobody holds one, and gives the report.
+    pub(crate) fn finish_alone(mut self, alloc: Global) -> Result<Report, Fault>
+        requires { IsIdle self }
+        ensures ok { IfOk result (λ report. report ≡ report_of self.entry.job) }
+        ensures err { IfErr result (λ fault. fault ≡ Fault.Memory) }
+    {
+        while self.go_on(alloc)? {}
+        match self.finish(alloc) {
+            Ok(report) => Ok(report),
+            Err((fault, _book)) => Err(fault),
+        }
+    }
+
+    /// Takes back the lease of some worker, where one is held.
+    fn take_back(&mut self) -> bool
+        ensures { MatchBool result (TakesBack self.old self.new) ((self.new ≡ self.old) × IsUnheld self.old) }
+    {
+        let Some((worker, _)) = self.holders.first_key_value() else {
+            return false;
+        };
+        let worker = *worker;
+        self.give_back(worker)
+    }
+
+    /// Takes back all leases.
+    pub(crate) fn take_back_all(&mut self)
+        ensures unheld { IsUnheld self.new }
+        ensures job { self.new.job ≡ self.old.job }
+        ensures stopped { self.new.state.stopped ≡ self.old.state.stopped }
+    {
+        while self.take_back() {}
+    }
+}
+
+/// The report of the plan's schedules, each as if it were run alone from the start; what schedules begin with in common is
+/// run once.
+///
+/// `NoEntry` exactly where the module does not export that function of no arguments; memory is taken only where it does.
+pub fn report_alone(
+    alloc: Global,
+    image: &Image,
+    module: AtomId,
+    function: AtomId,
+    plan: &Plan,
+) -> Result<Report, Fault>
+    ensures { Gives (IsSome (export image.now «module» function 0)) (λ report. report) result (report_from image.now («module», function) (schedules plan.now)) }
+{
+    let book = Book::new(alloc, image, module, function, plan)?;
+    book.finish_alone(alloc)
+}

@@ -1,0 +1,93 @@
+//! Which chain of a campaign a piece is of.
+
+ghost use Rattle.std.specs.Prelude.{◌≡◌, ◌↔◌, ◌<◌, ℕ, length, IsTrue, MatchOption};
+ghost use Rattle.bx_chains.specs.Chains.{chain_count, chain_path};
+ghost use Rattle.bx_plan.specs.Trees.{path};
+ghost use Rattle.bx_board.specs.Kept.{IsOf};
+
+use crate::books::Book;
+use crate::working::Piece;
+use bx_load::Image;
+use bx_plan::Plan;
+use bx_share::Same;
+use bx_terms::AtomId;
+
+/// Whether the same choices lead to both nodes. It takes time in proportion to how many they are.
+fn same_path(plan: &Plan, node: usize, other: &Plan, at: usize) -> bool
+    requires node { node < length plan.now.tree.paths }
+    requires at { at < length other.now.tree.paths }
+    ensures { IsTrue result ↔ (path plan.now.tree node ≡ path other.now.tree at) }
+{
+    let _plan = plan.nodes();
+    let _other = other.nodes();
+    let mut here = node;
+    let mut there = at;
+    while here > 0 && there > 0 {
+        if !plan.choice(here).same(other.choice(there)) {
+            return false;
+        }
+        here = plan.parent(here);
+        there = other.parent(there);
+    }
+    here == 0 && there == 0
+}
+
+impl<'a> Book<'a> {
+    /// Whether a chain's path is that of a piece.
+    fn is_at(&self, piece: &Piece<'a>, chain: usize) -> bool
+        requires { chain < chain_count self.now.job.chains }
+        ensures { IsTrue result ↔ (chain_path self.now.job.plan self.now.job.chains chain ≡ piece.now.path) }
+    {
+        let node = self.chains.last(chain);
+        same_path(self.plan, node, piece.plan, piece.span.last)
+    }
+
+    /// Whether a piece is of this campaign's code and start.
+    fn is_own(&self, piece: &Piece<'a>) -> bool
+        ensures { IsTrue result ↔ ((self.now.job.image ≡ piece.now.image) × (self.now.job.start ≡ piece.now.start)) }
+    {
+        self.start == piece.start && self.image.same(piece.image)
+    }
+
+    /// Whether this is the campaign of that plan over that code, from that start.
+    pub(crate) fn is_of(
+        &self,
+        image: &Image,
+        start: (AtomId, AtomId),
+        plan: &Plan,
+    ) -> bool
+        ensures { IsTrue result ↔ ((self.now.job.start ≡ start) × (self.now.job.image ≡ image.now) × (self.now.job.plan ≡ plan.now)) }
+    {
+        self.start == start && self.image.same(image) && self.plan.same(plan)
+    }
+
+    /// The chain of that path: first the one of the piece's own number is looked at, so that the others are only for a
+    /// piece of another plan.
+    fn chain_at(&self, piece: &Piece<'a>) -> Option<usize>
+        ensures { MatchOption result ((n : ℕ) → n < chain_count self.now.job.chains → piece.now.path ≡ chain_path self.now.job.plan self.now.job.chains n → ⊥)
+            (λ n. (n < chain_count self.now.job.chains) × (piece.now.path ≡ chain_path self.now.job.plan self.now.job.chains n)) }
+    {
+        let count = self.chains.len();
+        let own = piece.span.chain;
+        if own < count && self.is_at(piece, own) {
+            return Some(own);
+        }
+        for chain in 0..count {
+            if self.is_at(piece, chain) {
+                return Some(chain);
+            }
+        }
+        None
+    }
+
+    /// The chain that a piece is of; none where it is of another campaign's code or start, or its path is no chain's.
+    pub(super) fn chain_of(&self, piece: &Piece<'a>) -> Option<usize>
+        ensures { MatchOption result ((n : ℕ) → IsOf self.now.job piece.now n → ⊥) (IsOf self.now.job piece.now) }
+    {
+        if self.is_own(piece) {
+            self.chain_at(piece)
+        } else {
+            None
+        }
+    }
+}

@@ -1,0 +1,121 @@
+//! How a lease ends: its piece is handed in, or it is given back; and the end of all leasing.
+
+ghost use Rattle.std.specs.Prelude.{◌≡◌, ◌≢◌, ◌⊎◌, ◌+◌, ◌++◌, ◌≤◌, ◌<◌, false, length, vec_len, vec_capacity, IfErr, OnOk, MatchBool, MatchOption, IsTrue};
+ghost use Rattle.bx_chains.specs.Chains.{chain_count};
+ghost use Rattle.bx_board.specs.Jobs.{end_of, work_of};
+ghost use Rattle.bx_board.specs.Kept.{GivesBack, Happens, IsOf, RefusesPiece, Submits};
+ghost use Rattle.bx_board.specs.Machine.{standing, is_done, Holds};
+
+use crate::books::Book;
+use crate::slots::{ArcEnd, Event, Slot};
+use crate::working::Piece;
+use bx_share::ArcHold;
+use bx_terms::Fault;
+
+/// Puts all chains of a row last, for which there is room.
+pub(super) fn push_all(ready: &mut Vec<usize>, chains: &[usize])
+    requires { vec_len ready.old + length chains.now ≤ vec_capacity ready.old }
+    ensures items { ready.new.items ≡ ready.old.items ++ chains.now }
+    ensures len { vec_len ready.new ≡ vec_len ready.old + length chains.now }
+    ensures capacity { vec_capacity ready.new ≡ vec_capacity ready.old }
+{
+    for chain in chains {
+        ready.push_reserved(*chain);
+    }
+}
+
+impl<'a> Book<'a> {
+    /// The chain that a worker holds.
+    pub(super) fn held_by(&self, worker: usize) -> Option<usize>
+        ensures { MatchOption result (Holds self.now.state worker → ⊥) (λ n. standing self.now.state n ≡ Slot.Leased worker) }
+    {
+        self.holders.get(&worker).copied()
+    }
+
+    /// Why a worker may not hand in a chain's end.
+    fn refusal(&self, worker: usize, chain: usize) -> Option<Fault>
+        requires { chain < chain_count self.now.job.chains }
+        ensures { MatchOption result (standing self.now.state chain ≡ Slot.Leased worker)
+            (λ fault. ((fault ≡ Fault.Twice) × IsTrue (is_done (standing self.now.state chain)))
+                ⊎ ((fault ≡ Fault.NotLeased) × (is_done (standing self.now.state chain) ≡ false) × (standing self.now.state chain ≢ Slot.Leased worker))) }
+    {
+        match &self.slots[chain] {
+            Slot::Done(_) => Some(Fault::Twice),
+            Slot::Leased(holder) if *holder == worker => None,
+            _ => Some(Fault::NotLeased),
+        }
+    }
+
+    /// The end of a chain that the worker holds.
+    pub(super) fn hand_in(&mut self, worker: usize, chain: usize, end: ArcHold<ArcEnd>)
+        requires held { standing self.old.state chain ≡ Slot.Leased worker }
+        requires end { end ≡ end_of (work_of self.old.job chain) }
+        ensures { Happens self.old (Event.Submit worker chain) self.new }
+    {
+        let _held = self.holders.remove(&worker);
+        self.slots[chain] = Slot::Done(end);
+        self.leased -= 1;
+        self.done += 1;
+        push_all(&mut self.ready, self.chains.kids(chain));
+        self.events.push_reserved(Event::Submit(worker, chain));
+    }
+
+    /// Hands in what came of a chain.
+    ///
+    /// `Foreign` exactly where the piece is no chain's of this campaign, else `Twice` exactly where that chain is done,
+    /// else `NotLeased` exactly where the worker doesn't hold it; the piece comes back then, and nothing has changed.
+    /// It takes no memory.
+    pub fn submit(&mut self, worker: usize, piece: Piece<'a>) -> Result<(), (Fault, Piece<'a>)>
+        ensures ok { OnOk result (Submits self.old worker piece.entry self.new) }
+        ensures err { IfErr result (λ refused. RefusesPiece refused.0 self.old worker piece.entry
+            × (refused.1 ≡ piece.entry) × (self.new ≡ self.old)) }
+    {
+        let Some(chain) = self.chain_of(&piece) else {
+            return Err((Fault::Foreign, piece));
+        };
+        if let Some(fault) = self.refusal(worker, chain) {
+            return Err((fault, piece));
+        }
+        self.hand_in(worker, chain, piece.into_end());
+        Ok(())
+    }
+
+    /// The chain that the worker holds is free again.
+    fn put_back(&mut self, worker: usize, chain: usize)
+        requires { standing self.old.state chain ≡ Slot.Leased worker }
+        ensures { Happens self.old (Event.GiveBack worker chain) self.new }
+    {
+        let _held = self.holders.remove(&worker);
+        self.slots[chain] = Slot::Waiting;
+        self.leased -= 1;
+        self.ready.push_reserved(chain);
+        self.events.push_reserved(Event::GiveBack(worker, chain));
+    }
+
+    /// Gives back the chain that the worker holds: true. Where it holds none: false, and nothing has changed.
+    /// It takes no memory.
+    pub fn give_back(&mut self, worker: usize) -> bool
+        ensures { MatchBool result
+            (GivesBack self.old worker self.new)
+            ((self.new ≡ self.old) × (Holds self.old.state worker → ⊥)) }
+    {
+        match self.held_by(worker) {
+            Some(chain) => {
+                self.put_back(worker, chain);
+                true
+            }
+            None => false,
+        }
+    }
+
+    /// Leases no chain from now on. Where that was so, nothing has changed. It takes no memory.
+    pub fn stop(&mut self)
+        ensures { MatchBool self.old.state.stopped (self.new ≡ self.old) (Happens self.old Event.Stop self.new) }
+    {
+        if self.stopped {
+            return;
+        }
+        self.stopped = true;
+        self.events.push_reserved(Event::Stop);
+    }
+}

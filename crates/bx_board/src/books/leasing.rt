@@ -1,0 +1,72 @@
+//! Leases.
+
+ghost use Rattle.std.specs.Prelude.{◌≡◌, IfErr, IfOk, IsTrue};
+ghost use Rattle.bx_board.specs.Jobs.{work_of};
+ghost use Rattle.bx_board.specs.Kept.{Leases};
+ghost use Rattle.bx_board.specs.Machine.{is_free};
+
+use crate::books::Book;
+use crate::slots::{Event, Slot};
+use crate::working::{Lease, Span};
+use bx_share::Hold;
+use bx_terms::Fault;
+use std::alloc::{AllocError, Global};
+
+impl<'a> Book<'a> {
+    /// The lease of a chain that is free.
+    fn lease_of(&self, alloc: Global, chain: usize) -> Result<Lease<'a>, AllocError>
+        requires { IsTrue (is_free self.now.job self.now.state chain) }
+        ensures { IfOk result (λ lease. lease ≡ work_of self.now.job chain) }
+    {
+        let _nodes = self.plan.nodes();
+        let above = self.chains.above(chain);
+        let Slot::Done(end) = &self.slots[above] else {
+            unreachable!()
+        };
+        let from = end.share(alloc)?;
+        let span = Span {
+            chain,
+            first: self.chains.first(chain),
+            last: self.chains.last(chain),
+        };
+        Ok(Lease {
+            image: self.image,
+            start: self.start,
+            plan: self.plan,
+            span,
+            from,
+        })
+    }
+
+    /// Leases a free chain to the worker; none exactly where no chain is free, the campaign was stopped, or the worker
+    /// holds one, and then nothing has changed.
+    ///
+    /// Memory is all that it may lack, and then nothing has changed. Room is taken for the lease's end too.
+    pub fn lease(&mut self, alloc: Global, worker: usize) -> Result<Option<Lease<'a>>, Fault>
+        ensures ok { IfOk result (λ lease. Leases self.old worker lease self.new) }
+        ensures err { IfErr result (λ fault. (fault ≡ Fault.Memory) × (self.new ≡ self.old)) }
+    {
+        if self.stopped {
+            return Ok(None);
+        }
+        if self.holders.contains_key(&worker) {
+            return Ok(None);
+        }
+        let Some(chain) = self.ready.last().copied() else {
+            return Ok(None);
+        };
+        let lease = self.lease_of(alloc, chain)?;
+        let Some(room) = self.leased.checked_add(3) else {
+            return Err(Fault::Memory);
+        };
+        self.events.reserve(room)?;
+        let Ok(_) = self.holders.insert(worker, chain) else {
+            return Err(Fault::Memory);
+        };
+        let _taken = self.ready.pop();
+        self.slots[chain] = Slot::Leased(worker);
+        self.leased += 1;
+        self.events.push_reserved(Event::Lease(worker, chain));
+        Ok(Some(lease))
+    }
+}

@@ -1,0 +1,96 @@
+//! Campaigns: a book served by threads.
+
+ghost use Rattle.std.specs.Prelude.{⊤, ◌<◌, IsOk, IsSome};
+ghost use Rattle.bx_terms.specs.Outcomes.{Gives};
+ghost use Rattle.bx_load.specs.Image.{export};
+ghost use Rattle.bx_world.specs.World.{started};
+ghost use Rattle.bx_plan.specs.Planned.{schedules};
+ghost use Rattle.bx_board.specs.Reported.{report_by, report_from};
+
+use crate::boards::{Board, Gate};
+use crate::books::{Book, report_alone};
+use crate::reports::Report;
+use bx_load::Image;
+use bx_plan::Plan;
+use bx_terms::{AtomId, Fault};
+use std::alloc::Global;
+use std::sync::Wait;
+use std::thread;
+use std::thread::Threads;
+
+/// How many workers a campaign may have at most.
+const MOST_WORKERS: u32 = 64;
+
+/// Serves a board by so many workers, each in a thread where one can be made; worker 0 in the caller's. False where
+/// one of them met want of memory.
+fn serve_all<R: Threads + Wait + Sync, G: Gate + Sync>(
+    rt: &R,
+    alloc: Global,
+    board: &Board<'_>,
+    workers: usize,
+    gate: &G,
+) -> bool
+    requires { 0 < workers }
+{
+    let last = workers - 1;
+    let ended = thread::map_indices(
+        rt,
+        alloc,
+        workers,
+        &|number| board.serve(rt, alloc, last.saturating_sub(number), gate).is_ok(),
+    );
+    match ended {
+        Ok(ended) => ended.iter().all(|well| *well),
+        Err(_) => false,
+    }
+}
+
+/// The report of a campaign whose threads have ended: the chains that are left are run on the book, where it is still this
+/// campaign's, and otherwise all of them on a new one.
+fn settle(
+    alloc: Global,
+    mut book: Book<'_>,
+    image: &Image,
+    start: (AtomId, AtomId),
+    plan: &Plan,
+) -> Result<Report, Fault>
+    requires { IsOk (started image.now start.0 start.1) }
+    ensures { Gives ⊤ (λ report. report) result (report_from image.now start (schedules plan.now)) }
+{
+    if book.is_stopped() || !book.is_of(image, start, plan) {
+        return report_alone(alloc, image, start.0, start.1, plan);
+    }
+    book.take_back_all();
+    book.finish_alone(alloc)
+}
+
+/// The report of the plan's schedules, each as if it were run alone from the start, by 1 to 64 workers that share the chains
+/// of the plan's tree.
+///
+/// `Workers` exactly where they are not 1 to 64; else `NoEntry` exactly where the module does not export that function of no
+/// arguments. `Memory` where a worker lacked it and chains are left, or the report lacks it. The promise holds if the call
+/// returns, as it waits for its threads.
+pub fn campaign<R: Threads + Wait + Sync, G: Gate + Sync>(
+    rt: &R,
+    alloc: Global,
+    image: &Image,
+    module: AtomId,
+    function: AtomId,
+    plan: &Plan,
+    workers: u32,
+    gate: &G,
+) -> Result<Report, Fault>
+    ensures { Gives (IsSome (export image.now «module» function 0)) (λ report. report) result (report_by workers image.now («module», function) (schedules plan.now)) }
+{
+    if workers == 0 || workers > MOST_WORKERS {
+        return Err(Fault::Workers);
+    }
+    let book = Book::new(alloc, image, module, function, plan)?;
+    let board = Board::new(book);
+    let well = serve_all(rt, alloc, &board, workers as usize, gate);
+    let book = board.close();
+    if !well && !book.is_done() {
+        return Err(Fault::Memory);
+    }
+    settle(alloc, book, image, (module, function), plan)
+}
