@@ -12,7 +12,7 @@ use std::io::{ErrorKind, Read};
 pub const INPUT_LIMIT: usize = 16_777_216;
 
 /// The most times that a reader is asked for more.
-const MOST_ASKS: u32 = 33_554_434;
+pub const MOST_ASKS: u32 = 33_554_434;
 
 const _: () = prove!(MOST_ASKS == 33_554_434);
 

@@ -72,7 +72,11 @@ pub fn start_of(alloc: Global, text: &str) -> Result<Start, Failure>
 
 /// The atom whose token begins at a place of a text, and the place behind it; `None` where no good
 /// token of an atom does.
-fn token_at(alloc: Global, text: &[u8], at: usize) -> Result<Option<(String, usize)>, AllocError>
+pub fn token_at(
+    alloc: Global,
+    text: &[u8],
+    at: usize,
+) -> Result<Option<(String, usize)>, AllocError>
     requires { at ≤ length text.now }
     ensures ok { IfOk result (λ token.
         option_map (λ t. (string_bytes t.0, t.1)) token ≡ token_in text.now at) }

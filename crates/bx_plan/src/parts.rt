@@ -14,7 +14,7 @@ fn place_of(text: &[u8], mark: u8) -> Option<usize>
 
 /// The text before the first `mark`, and the text behind it.
 #[tactic(auto, using(crate::proofs::Cuts::cut_none, crate::proofs::Cuts::cut_some))]
-pub(crate) fn cut(text: &[u8], mark: u8) -> Option<(&[u8], &[u8])>
+pub fn cut(text: &[u8], mark: u8) -> Option<(&[u8], &[u8])>
     ensures { option_map (λ p. (p.0.now, p.1.now)) result ≡ cut mark text.now }
 {
     let at = place_of(text, mark)?;

@@ -1,0 +1,64 @@
+-- How a session is opened, or why it is not.
+use Rattle.std.proofs.Common.{◌≡◌, ◌∙◌, inl, inr, ℕ, List, length, map, Option, Some, None, Result, Ok, Err, refl, sym, ap, subst}
+use Rattle.std.specs.Prelude.{IsSome}
+use Rattle.std.proofs.KnownBytes.{Keeps-refl}
+use Rattle.std.proofs.lemmas.List.{length-map}
+use Rattle.bx_terms.specs.FixedAtoms.{fixed_atoms}
+use Rattle.bx_terms.specs.Outcomes.{Gives}
+use Rattle.bx_terms.specs.declared.faults.Fault.{Fault}
+use Rattle.bx_terms.specs.declared.faults.Fault.TheVariants.{Memory}
+use Rattle.bx_load.specs.Image.{Loaded}
+use Rattle.bx_debug.specs.Sessions.{History}
+use Rattle.bx_engine.specs.Loads.{image_of, of_no_file}
+use Rattle.bx_engine.specs.Runs.{Names, or_start}
+use Rattle.bx_engine.specs.Starts.{begun_by, start_in, token_in}
+use Rattle.bx_engine.specs.Units.{◌>>=◌, ClearBefore, FilesGive}
+use Rattle.bx_engine.specs.declared.failures.Failure.{Failure}
+use Rattle.bx_engine.specs.declared.failures.Failure.TheVariants.{Refused, Read, Write, Start}
+use Rattle.bx_debugger.specs.Opening.{session_at, session_behind, session_of}
+use Rattle.bx_debugger.specs.Talks.{Debugs, IsBefore, Talks, begins}
+
+-- a start begins with an atom
+begun : (token : Option (List ℕ × ℕ)) (start : List ℕ) (names : Names) → token_in start 0 ≡ token → start_in start ≡ Some names → IsSome token
+begun None start names t e = absurd (let none : begun_by start None ≡ Some names = ap (begun_by start) (sym t) ∙ e in cc)
+begun (Some token) start names t e = refl
+
+pub takes_start : (start : List ℕ) (names : Names) → start_in start ≡ Some names → IsSome (token_in start 0)
+takes_start start names e = begun (token_in start 0) start names refl e
+
+named : (start : List ℕ) (given : List (List ℕ)) (names : Names) → start_in start ≡ Some names → session_of start given ≡ session_behind names given
+named start given names e = ap (λ (o : Option Names). or_start o >>= λ n. session_behind n given) e
+
+loaded : (given : List (List ℕ)) (names : Names) (said : Result Loaded Failure) → image_of given ≡ said → session_behind names given ≡ said >>= λ image. of_no_file (session_at image names)
+loaded given names said e = ap (λ (r : Result Loaded Failure). r >>= λ image. of_no_file (session_at image names)) e
+
+-- the listings have a fault, or can't be read
+pub before_image : (start : List ℕ) (given : List (List ℕ)) (names : Names) (w r : Option (List ℕ)) (failure : Failure) → start_in start ≡ Some names
+    → FilesGive {X = Loaded} (λ image. image) (Err failure) (ClearBefore fixed_atoms given) (image_of given) → Debugs start given (session_of start given) w w r r (Err failure)
+before_image start given names w r failure e h = inl (go failure h, Keeps-refl w, Keeps-refl r)
+  where
+    go : (f : Failure) → FilesGive {X = Loaded} (λ image. image) (Err f) (ClearBefore fixed_atoms given) (image_of given) → IsBefore start given (session_of start given) (Err f)
+    go (Refused Memory file) g = (takes_start start names e, g)
+    go (Refused fault file) g = named start given names e ∙ loaded given names (Err (Refused fault file)) g
+    go (Read n) g = (subst IsSome (sym e) refl, g)
+    go Write g = absurd g
+    go Start g = absurd g
+
+-- what the start names is not exported
+pub before_session : (start : List ℕ) (given : List (List ℕ)) (names : Names) (w r : Option (List ℕ)) (image : Loaded) (fault : Fault) (takes : Type 0) → start_in start ≡ Some names
+    → image_of given ≡ Ok image → Gives {X = History} takes (λ s. s) (Err fault) (session_at image names) → Debugs start given (session_of start given) w w r r (Err (Refused fault None))
+before_session start given names w r image fault takes e i h = inl (go fault h, Keeps-refl w, Keeps-refl r)
+  where
+    go : (f : Fault) → Gives {X = History} takes (λ s. s) (Err f) (session_at image names) → IsBefore start given (session_of start given) (Err (Refused f None))
+    go Memory g = (takes_start start names e, refl)
+    go f g = named start given names e ∙ loaded given names (Ok image) i ∙ ap of_no_file g
+
+-- lines are read
+pub debugs_so : (start : List ℕ) (given : List (List ℕ)) (names : Names) (old new had rest : Option (List ℕ)) (image : Loaded) (s : History) (file : ℕ) (answer : Result (Unit {0}) Failure)
+    → start_in start ≡ Some names → image_of given ≡ Ok image → session_at image names ≡ Ok s → file ≡ length given → Talks file (begins s) old new had rest answer
+    → Debugs start given (session_of start given) old new had rest answer
+debugs_so start given names old new had rest image s file answer e i h n talks =
+    inr (s, named start given names e ∙ loaded given names (Ok image) i ∙ ap of_no_file h, subst (λ k. Talks k (begins s) old new had rest answer) n talks)
+
+pub same_length : {A : Type 0} (rem : A → Option (List ℕ)) (old : List A) (given : List (List ℕ)) → map rem old ≡ map (λ text. Some text) given → length old ≡ length given
+same_length rem old given known = sym (length-map old rem) ∙ ap length known ∙ length-map given (λ text. Some text)

@@ -1,0 +1,90 @@
+-- What each line of a debugger is answered, and what it makes of the session.
+use Rattle.std.specs.Prelude.{◌≡◌, ℕ, ◌+◌, Bool, false, ◌||◌, if◌then◌else◌, List, [], ◌∷◌, ◌++◌, Option, Some, None, Result, Ok, Err, length, codes, decimal}
+use Rattle.std.specs.Str.{bytes_eq}
+use Rattle.bx_terms.specs.Kinds.{trap_name}
+use Rattle.bx_terms.specs.Printed.{printed_pid}
+use Rattle.bx_terms.specs.Refusals.{refusal}
+use Rattle.bx_terms.specs.declared.faults.Fault.{Fault}
+use Rattle.bx_terms.specs.declared.faults.Fault.TheVariants.{BadCommand, Memory}
+use Rattle.bx_load.specs.Image.{Loaded}
+use Rattle.bx_load.specs.Names.{place_text}
+use Rattle.bx_world.specs.Texts.{outcome_lines, spelling}
+use Rattle.bx_world.specs.Seen.{seen}
+use Rattle.bx_debug.specs.Sessions.{History, world_of, stepped, back, forward, gone, with_break, without_break}
+use Rattle.bx_debug.specs.declared.stops.Stop.{Stop}
+use Rattle.bx_debug.specs.declared.stops.Stop.TheVariants as stops
+use Rattle.bx_debugger.specs.Commands.{Ordered, Step, Back, Forward, Go, Break, Clear, Show, ordered_by}
+
+-- a call that moves the session and its definition; where memory runs out, nothing is said
+abbrev pub Moves : History → History → Result (Unit {0}) Fault → Result (History × Unit {0}) Fault → Type 0
+Moves old new (Ok done) said = said ≡ Ok (new, done)
+Moves old new (Err Memory) said = Unit {0}
+Moves old new (Err fault) said = (said ≡ Err fault) × (new ≡ old)
+
+-- where the session stands: how many choices lead there, of how many
+abbrev pub standing : History → List ℕ
+standing s = codes "at " ++ decimal s.at ++ codes " of " ++ decimal (length s.choices)
+
+-- a refusal by number and name, and the line that was refused: `refused R22 BeforeStart line 5`
+abbrev pub refused_text : ℕ → Option (ℕ × List ℕ) → List ℕ
+refused_text n None = []
+refused_text n (Some title) = codes "refused R" ++ decimal title.0 ++ codes " " ++ title.1 ++ codes " line " ++ decimal n ++ codes "\n"
+
+abbrev pub refused_line : ℕ → Fault → List ℕ
+refused_line n fault = refused_text n (refusal fault)
+
+-- why `go` stopped
+abbrev pub stop_words : Loaded → Stop → List ℕ
+stop_words image stops.Done = codes "done"
+stop_words image (stops.Break p place) = codes "break " ++ printed_pid p ++ codes " " ++ place_text image place
+stop_words image (stops.NotEnabled choice) = codes "stopped " ++ spelling choice
+stop_words image (stops.Trapped kind p) = codes "trapped " ++ trap_name kind ++ codes " " ++ printed_pid p
+
+-- a move of the session: where it stands then, or why it is refused
+abbrev pub moved : ℕ → History → Result (History × Unit {0}) Fault → List ℕ × History
+moved n s (Ok after) = (standing after.0 ++ codes "\n", after.0)
+moved n s (Err fault) = (refused_line n fault, s)
+
+abbrev pub went_line : History × Stop → List ℕ
+went_line went = standing went.0 ++ codes ": " ++ stop_words went.0.image went.1 ++ codes "\n"
+
+-- the outcome of the choices before the position
+abbrev pub shown_lines : History → List ℕ
+shown_lines s = outcome_lines s.image.atoms s.at None (seen (world_of s))
+
+-- the answer to a command on line n, and the session behind it
+abbrev pub replied : ℕ → Ordered → History → List ℕ × History
+replied n (Step choice) s = moved n s (stepped choice s)
+replied n (Back count) s = moved n s (back count s)
+replied n (Forward count) s = moved n s (forward count s)
+replied n (Go choices) s = (went_line (gone choices s), (gone choices s).0)
+replied n (Break place) s = (codes "ok\n", with_break place s)
+replied n (Clear place) s = (codes "ok\n", without_break place s)
+replied n Show s = (shown_lines s, s)
+
+-- a line that spells no command is refused
+abbrev pub ordered_so : ℕ → Option Ordered → History → List ℕ × History
+ordered_so n None s = (refused_line n (BadCommand n), s)
+ordered_so n (Some order) s = replied n order s
+
+abbrev pub answered : ℕ → List ℕ → History → List ℕ × History
+answered n line s = ordered_so n (ordered_by s.image line) s
+
+-- the line that ends a session; it is answered nothing, and nothing behind it counts
+abbrev pub is_quit : List ℕ → Bool
+is_quit line = bytes_eq line (codes "quit")
+
+abbrev pub has_quit : List (List ℕ) → Bool
+has_quit [] = false
+has_quit (line ∷ more) = is_quit line || has_quit more
+
+-- the answers to the lines from line n on
+abbrev pub answers : ℕ → List (List ℕ) → History → List ℕ
+answers n [] s = []
+answers n (line ∷ more) s =
+    if is_quit line then [] else (answered n line s).0 ++ answers (n + 1) more (answered n line s).1
+
+-- what lines from line n on, none of which quits, make of the session
+abbrev pub after_lines : ℕ → List (List ℕ) → History → History
+after_lines n [] s = s
+after_lines n (line ∷ more) s = after_lines (n + 1) more (answered n line s).1

@@ -1,0 +1,165 @@
+//! What a session answers to a line.
+
+ghost use Rattle.std.specs.Prelude.{◌≡◌, ◌++◌, IfOk, IsSome, Result, Some, codes, string_bytes};
+ghost use Rattle.bx_terms.specs.Refusals.{refusal};
+ghost use Rattle.bx_terms.specs.declared.faults.Fault.{Fault};
+ghost use Rattle.bx_debug.specs.Sessions.{History};
+ghost use Rattle.bx_debugger.specs.Answers.{Moves, answered, moved, refused_line, refused_text, replied, standing, stop_words, went_line, shown_lines};
+ghost use Rattle.bx_debugger.specs.CommandView.{ordered};
+
+use crate::commands::{Command, command_of};
+use bx_debug::{Session, Stop};
+use bx_load::Image;
+use bx_terms::Fault;
+use bx_world::{choice_text, outcome_text};
+use std::alloc::{AllocError, Global};
+
+/// Does what a line orders, and gives the text of the answer; `number` is the line's, from 1.
+///
+/// Memory is all that it may lack.
+pub(crate) fn answer_line(
+    alloc: Global,
+    session: &mut Session<'_>,
+    number: usize,
+    line: &[u8],
+) -> Result<String, Fault>
+    ensures { IfOk result (λ text. (string_bytes text, session.new) ≡ answered number line.now session.old) }
+{
+    match command_of(alloc, session.image(), line)? {
+        Some(command) => reply(alloc, session, number, &command),
+        None => refusal_line(alloc, number, &Fault::BadCommand { line: number }),
+    }
+}
+
+/// Does what a command says, and gives the text of the answer.
+fn reply(
+    alloc: Global,
+    session: &mut Session<'_>,
+    number: usize,
+    command: &Command,
+) -> Result<String, Fault>
+    ensures { IfOk result (λ text. (string_bytes text, session.new) ≡ replied number (ordered command.now) session.old) }
+{
+    match command {
+        Command::Step(choice) => {
+            let done = session.step(alloc, *choice);
+            moved_line(alloc, session, number, done)
+        }
+        Command::Back(count) => {
+            let done = session.back(alloc, *count as usize);
+            moved_line(alloc, session, number, done)
+        }
+        Command::Forward(count) => {
+            let done = session.forward(alloc, *count as usize);
+            moved_line(alloc, session, number, done)
+        }
+        Command::Go(choices) => {
+            let stop = session.go(alloc, choices)?;
+            went_line(alloc, session, &stop)
+        }
+        Command::Break(place) => {
+            session.set_break(alloc, *place)?;
+            Ok(String::from_str(alloc, "ok\n")?)
+        }
+        Command::Clear(place) => {
+            session.clear_break(*place);
+            Ok(String::from_str(alloc, "ok\n")?)
+        }
+        Command::Show => shown_lines(alloc, session),
+    }
+}
+
+/// The answer to a move: where the session stands, or why it was refused.
+fn moved_line(
+    alloc: Global,
+    session: &Session<'_>,
+    number: usize,
+    done: Result<(), Fault>,
+) -> Result<String, Fault>
+    ensures { IfOk result (λ text. (before : History) → (said : Result (History × Unit {0}) Fault) → Moves before session.now done said
+        → (string_bytes text, session.now) ≡ moved number before said) }
+{
+    match done {
+        Ok(()) => Ok(standing_line(alloc, session)?),
+        Err(fault) => refusal_line(alloc, number, &fault),
+    }
+}
+
+/// Where the session stands: `at K of N`.
+fn standing_line(alloc: Global, session: &Session<'_>) -> Result<String, AllocError>
+    ensures { IfOk result (λ text. string_bytes text ≡ standing session.now ++ codes "\n") }
+{
+    let at = session.at();
+    let len = session.len();
+    let text = format!(in alloc; "at {at} of {len}\n")?;
+    Ok(text)
+}
+
+/// A refusal by number and name, and the line that was refused. Want of memory is none, and is handed on.
+fn refusal_line(alloc: Global, number: usize, fault: &Fault) -> Result<String, Fault>
+    ensures text { IfOk result (λ text. string_bytes text ≡ refused_line number fault.now) }
+    ensures refusal { IfOk result (λ _. IsSome (refusal fault.now)) }
+{
+    let Some(refusal) = fault.number() else {
+        return Err(Fault::Memory);
+    };
+    let text = titled_line(alloc, number, refusal, fault.name())?;
+    Ok(text)
+}
+
+/// `refused R22 BeforeStart line 5`.
+fn titled_line(alloc: Global, number: usize, refusal: u8, name: &str) -> Result<String, AllocError>
+    ensures { IfOk result (λ text. string_bytes text ≡ refused_text number (Some (refusal, name.now))) }
+{
+    let text = format!(in alloc; "refused R{refusal} {name} line {number}\n")?;
+    Ok(text)
+}
+
+/// The answer to `go`: where the session stands, and why it stopped there.
+fn went_line(alloc: Global, session: &Session<'_>, stop: &Stop) -> Result<String, Fault>
+    ensures { IfOk result (λ text. string_bytes text ≡ went_line (session.now, stop.now)) }
+{
+    let at = session.at();
+    let len = session.len();
+    let words = stop_words(alloc, session.image(), stop)?;
+    let why = words.as_str();
+    let text = format!(in alloc; "at {at} of {len}: {why}\n")?;
+    Ok(text)
+}
+
+/// Why `go` stopped.
+fn stop_words(alloc: Global, image: &Image, stop: &Stop) -> Result<String, Fault>
+    ensures { IfOk result (λ text. string_bytes text ≡ stop_words image.now stop.now) }
+{
+    match stop {
+        Stop::Done => Ok(String::from_str(alloc, "done")?),
+        Stop::Break(pid, place) => {
+            let place = image.place_name(alloc, *place)?;
+            let name = place.as_str();
+            Ok(format!(in alloc; "break <0.{pid}.0> {name}")?)
+        }
+        Stop::NotEnabled(choice) => {
+            let choice = choice_text(alloc, *choice)?;
+            let name = choice.as_str();
+            Ok(format!(in alloc; "stopped {name}")?)
+        }
+        Stop::Trapped(kind, pid) => {
+            let name = kind.name();
+            Ok(format!(in alloc; "trapped {name} <0.{pid}.0>")?)
+        }
+    }
+}
+
+/// The outcome of the choices before the position.
+fn shown_lines(alloc: Global, session: &Session<'_>) -> Result<String, Fault>
+    ensures { IfOk result (λ text. string_bytes text ≡ shown_lines session.now) }
+{
+    let outcome = session.world().outcome(alloc)?;
+    outcome_text(
+        alloc,
+        session.image().atoms(),
+        session.at() as u64,
+        None,
+        &outcome,
+    )
+}
