@@ -41,13 +41,14 @@ impl<'a> Model for Talk<'a> {
     ghost use Rattle.bx_load.specs.contracts.image.Image as images;
     ghost use Rattle.bx_proc.specs.contracts.process.Proc as process;
     ghost use Rattle.bx_world.specs.contracts.choices.Choice as made;
+    ghost use Rattle.bx_world.specs.contracts.lanes.Lanes as lane;
     ghost use Rattle.bx_world.specs.World.{state_code};
     ghost use Rattle.bx_debug.specs.Sessions.{history_code};
     ghost use Rattle.bx_debugger.specs.Talks.{Hearing, hearing_code};
 
     ghost Value = { Hearing };
 
-    ghost coded = { hearing_code (history_code images.the_row.coded (state_code process.the_row.coded tree_code traps.the_row.coded) made.the_row.coded) };
+    ghost coded = { hearing_code (history_code images.the_row.coded (state_code process.the_row.coded tree_code lane.the_row.coded traps.the_row.coded) made.the_row.coded) };
 
     ghost view = { λ t. record { session = t.session; number = t.number; line = t.line.items; left = t.left } };
 
