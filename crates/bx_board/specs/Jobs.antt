@@ -1,5 +1,6 @@
 -- What a campaign runs: loaded code from its start, along the chains of a plan's tree.
 use Rattle.std.specs.Prelude.{ℕ, List, [], None, Result, Ok, Err, refl}
+use Rattle.std.specs.FinMap as map
 use Rattle.std.specs.Coded.{Coded, code_by, coded×, coded_list}
 use Rattle.bx_terms.specs.declared.atom_table.AtomId.{AtomId}
 use Rattle.bx_terms.specs.declared.faults.Fault.{Fault}
@@ -23,7 +24,7 @@ pub record Job : Type 0 where
 -- the world at the start; none of a start that is not exported
 abbrev pub world_or_none : Result State Fault → State
 world_or_none (Ok w) = w
-world_or_none (Err fault) = record { processes = []; output = []; trap = None }
+world_or_none (Err fault) = record { processes = []; lanes = record { channels = map.empty; output = [] }; trap = None }
 
 abbrev pub origin : Loaded → Entry → Ended
 origin image start = unchosen (world_or_none (started image start.0 start.1))
