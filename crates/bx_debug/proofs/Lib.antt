@@ -3,6 +3,7 @@ pub mod Keeping
 pub mod Applies
 pub mod Sets
 pub mod Walking
+pub mod Replaying
 pub mod Moving
 pub mod Lawful
 pub mod Stopped
