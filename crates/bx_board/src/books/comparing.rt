@@ -23,7 +23,7 @@ fn same_path(plan: &Plan, node: usize, other: &Plan, at: usize) -> bool
     let mut here = node;
     let mut there = at;
     while here > 0 && there > 0 {
-        if !plan.choice(here).same(other.choice(there)) {
+        if !plan.choice(here).same(&other.choice(there)) {
             return false;
         }
         here = plan.parent(here);
