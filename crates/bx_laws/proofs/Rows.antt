@@ -1,5 +1,6 @@
 -- Items whose operands fit are instructions, opcode by opcode.
-use Rattle.std.proofs.Common.{◌≡◌, true, List, refl, not, Bool, false}
+use Rattle.std.proofs.Common.{◌≡◌, true, List, [], ◌∷◌, refl}
+use Rattle.std.specs.Prelude.{not}
 use Rattle.std.specs.Prelude.{is_some}
 use Rattle.bx_text.specs.Tree.{Tree}
 use Rattle.bx_ops.specs.declared.opcode.Op.{Op}
@@ -37,10 +38,10 @@ row_is ops.CallExtLast os e = call_ext_last_is os e
 row_is ops.Bif0 os e = without_argument os e
 row_is ops.Bif1 os e = with_one_argument os e
 row_is ops.Bif2 os e = with_two_arguments os e
-row_is ops.Allocate os e = number_first instr.allocate _ os e
-row_is ops.AllocateHeap os e = number_first instr.allocate _ os e
+row_is ops.Allocate os e = number_first instr.allocate (One sorts.Number ∷ []) os e
+row_is ops.AllocateHeap os e = number_first instr.allocate (Heap ∷ One sorts.Number ∷ []) os e
 row_is ops.TestHeap os e = refl
-row_is ops.Deallocate os e = number_first instr.deallocate _ os e
+row_is ops.Deallocate os e = number_first instr.deallocate [] os e
 row_is ops.Return os e = refl
 row_is ops.Send os e = refl
 row_is ops.RemoveMessage os e = refl
