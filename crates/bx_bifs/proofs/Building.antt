@@ -1,11 +1,10 @@
 -- Lists and tuples that natives build.
-use Rattle.std.proofs.Common.{◌≡◌, ℕ, zero, suc, ◌+◌, ◌<◌, ◌≤◌, max, ℤ, pos, negsuc, ◌<ℤ◌, List, [], ◌∷◌, ◌++◌, length, Option, Some, None, true, false, refl, sym, ap, ◌∙◌, append_assoc, append-nil, arith}
+use Rattle.std.proofs.Common.{◌≡◌, ℕ, zero, suc, ◌<◌, ◌≤◌, ℤ, pos, negsuc, ◌<ℤ◌, List, [], ◌∷◌, ◌++◌, length, Option, Some, None, true, false, refl, sym, ap, ◌∙◌, append_assoc, append-nil, arith}
 use Rattle.std.specs.Prelude.{Bool, option_map, nat_le, nat_lt, if◌then◌else◌, slice_set}
 use Rattle.std.proofs.lemmas.Int.{ints}
 use Rattle.std.proofs.lemmas.Bool.Decides.{nat_tests}
 use Rattle.bx_terms.specs.declared.kinds.Trap.TheVariants.{TermHeight}
 use Rattle.bx_terms.specs.Tree.{Tree, nil, cons, tuple, listed, height}
-use Rattle.bx_bifs.specs.declared.given.Given.{Given}
 use Rattle.bx_bifs.specs.declared.given.Given.TheVariants.{Value, Trap}
 use Rattle.bx_bifs.specs.Given.{badarg}
 use Rattle.bx_bifs.specs.Values.{elements, built, ahead, put_at}

@@ -1,7 +1,7 @@
 -- What the natives give that concern their caller alone. No term is higher than 10,000.
 -- Source: module `erlang` of the ERTS Reference Manual: `list_to_tuple/1`, `setelement/3`, `tuple_to_list/1`; Erlang Reference
 -- Manual, "Expressions", for `++`.
-use Rattle.std.specs.Prelude.{ℕ, suc, ℤ, pos, List, [], ◌∷◌, length, Option, Some, None, nat_le, nat_lt, if◌then◌else◌, option_map, slice_set}
+use Rattle.std.specs.Prelude.{suc, ℤ, pos, List, [], ◌∷◌, length, Option, Some, None, nat_le, nat_lt, if◌then◌else◌, option_map, slice_set}
 use Rattle.bx_terms.specs.declared.kinds.Trap.TheVariants.{TermHeight}
 use Rattle.bx_terms.specs.Tree.{Tree, int, atom, pid, tuple, nil, cons, listed, height}
 use Rattle.bx_bifs.specs.declared.given.Given.{Given}

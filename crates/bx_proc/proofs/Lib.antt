@@ -1,7 +1,11 @@
 pub mod Attempts
 pub mod Elements
 pub mod Linking
+pub mod Living
 pub mod Noting
+pub mod Refusing
 pub mod Registers
 pub mod Tabling
 pub mod Writing
+pub mod Keeping
+pub mod KeptRows

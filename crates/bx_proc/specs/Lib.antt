@@ -14,3 +14,4 @@ pub mod Stacking
 pub mod Stepping
 pub mod Stops
 pub mod Table
+pub mod Families

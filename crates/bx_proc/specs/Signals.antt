@@ -1,8 +1,7 @@
 -- What signals ask of a process.
 -- Source: Erlang Reference Manual, "Signals" and "Links".
-use Rattle.std.specs.Prelude.{ℕ, Bool, true, false, Option, Some, None}
+use Rattle.std.specs.Prelude.{ℕ, Bool, true, false, None}
 use Rattle.bx_terms.specs.Tree.{Tree}
-use Rattle.bx_terms.specs.declared.places.Place.{Place}
 use Rattle.bx_mail.specs.Mail.{added}
 use Rattle.bx_cells.specs.Links.{linked, unlinked}
 use Rattle.bx_proc.specs.declared.parts.Status.TheVariants.{Ready}

@@ -7,6 +7,7 @@ mod calls;
 mod catching;
 mod choosing;
 mod faults;
+pub mod laws;
 mod moving;
 mod parts;
 mod process;

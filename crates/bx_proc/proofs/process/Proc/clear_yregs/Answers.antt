@@ -1,4 +1,4 @@
-use Rattle.std.proofs.Common.{◌≡◌, ◌+◌, drop, sym, ap, ◌∙◌}
+use Rattle.std.proofs.Common.{◌+◌, drop, sym, ap, ◌∙◌}
 use Rattle.bx_asm.specs.Instructed.{registers_of}
 use Rattle.bx_proc.specs.Stacking.{all_cleared}
 use Rattle.bx_proc.proofs.Registers.{cleared_next}

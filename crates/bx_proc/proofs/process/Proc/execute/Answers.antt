@@ -1,6 +1,5 @@
-use Rattle.std.proofs.Common.{◌≡◌, ℕ, List, Result, Ok, Err, refl, sym, ap, subst, ◌∙◌}
+use Rattle.std.proofs.Common.{Err, sym, ap, subst, ◌∙◌}
 use Rattle.std.proofs.lemmas.Result.{err_from_is_err_and}
-use Rattle.bx_terms.specs.declared.places.Place.{Place}
 use Rattle.bx_asm.specs.Instr as instr
 use Rattle.bx_asm.specs.Instructed.{instr_of, sources_of}
 use Rattle.bx_load.specs.Image.{after}

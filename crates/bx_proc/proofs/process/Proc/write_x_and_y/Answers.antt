@@ -1,4 +1,4 @@
-use Rattle.std.proofs.Common.{◌≡◌, refl, sym, ap, ◌∙◌}
+use Rattle.std.proofs.Common.{refl, sym}
 use Rattle.std.proofs.lemmas.Result.{err_from_is_err_and}
 use Rattle.bx_proc.proofs.Writing.{x_and_y_refused, x_and_y_done, ok_same}
 use Rattle.bx_proc.proofs.process.Proc.write_x_and_y.Goals as goal

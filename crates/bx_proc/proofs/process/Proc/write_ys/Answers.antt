@@ -1,6 +1,6 @@
-use Rattle.std.proofs.Common.{◌≡◌, refl, sym, ap, ◌∙◌}
+use Rattle.std.proofs.Common.{refl}
 use Rattle.std.proofs.lemmas.Result.{err_from_is_err_and}
-use Rattle.bx_proc.proofs.Writing.{ys_refused_first, ys_refused_second, ys_done}
+use Rattle.bx_proc.proofs.Writing.{ys_refused_first, ys_done}
 use Rattle.bx_proc.proofs.process.Proc.write_ys.Goals as goal
 
 pub returns-in_err-y_cell : goal.returns-in_err-y_cell
