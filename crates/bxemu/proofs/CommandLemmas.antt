@@ -1,5 +1,5 @@
 -- Orders, by the values that a parse gave.
-use Rattle.std.proofs.Common.{◌≡◌, List, [], Some, None, Result, Ok, Err, IfOk, codes, refl, subst, true}
+use Rattle.std.proofs.Common.{◌≡◌, ℕ, ap, arith, get_or, sym, List, [], Some, None, Result, Ok, Err, IfOk, codes, refl, subst, true}
 use Rattle.clap.proofs.OnLiterals.{clap_on_literals}
 use Rattle.clap.specs.Faults.{fault_of, is_simple_and_free}
 use Rattle.clap.specs.Simple.{HasMatchesOf, app_of, is_simple, subcommand_of, subcommand_rows_of}
@@ -10,13 +10,10 @@ use Rattle.bxemu.specs.CommandLines.{Orders, program}
 use Rattle.bxemu.specs.declared.commands.Order.{Order}
 use Rattle.bxemu.specs.declared.commands.Order.TheVariants.{Run, Dis}
 
+run_is_not_dis : codes "run" ≡ codes "dis" → ⊥
+run_is_not_dis e = let first : ◌≡◌ {A = ℕ} 114 100 = ap (λ (text : List ℕ). get_or text 0 0) e in omega (arith, first)
+
 module _ (rows : List Row) where
-  run_is_not_dis : {A : Type 0} → codes "run" ≡ codes "dis" → A
-  run_is_not_dis e = absurd (cc)
-
-  dis_is_not_run : {A : Type 0} → codes "dis" ≡ codes "run" → A
-  dis_is_not_run e = absurd (cc)
-
   pub lacks_start : first_of (codes "start") rows ≡ None → (order : Order) → Orders (Some (codes "run", rows)) order → ⊥
   lacks_start none (Run start plan files) h = let there = h.1 in cc
   lacks_start none (Dis file) h = run_is_not_dis h.0
@@ -30,7 +27,7 @@ module _ (rows : List Row) where
   lacks_files none (Dis file) h = run_is_not_dis h.0
 
   pub lacks_file : first_of (codes "FILE") rows ≡ None → (order : Order) → Orders (Some (codes "dis", rows)) order → ⊥
-  lacks_file none (Run start plan files) h = dis_is_not_run h.0
+  lacks_file none (Run start plan files) h = run_is_not_dis (sym h.0)
   lacks_file none (Dis file) h = let there = h.1 in cc
 
 -- what holds in any case holds of each value
