@@ -11,3 +11,4 @@ pub mod Growing
 pub mod Members
 pub mod Lawful
 pub mod Arriving
+pub mod Confined

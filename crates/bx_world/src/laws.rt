@@ -1,16 +1,17 @@
 //! Laws of the definitions: the functions do nothing, and their clauses are the laws.
 
-ghost use Rattle.std.specs.Prelude.{◌≡◌, ◌↔◌, ◌+◌, ◌≤◌, ◌++◌, ℕ, List, [], length, false, None, Some, IsTrue, IsSome, Contains};
+ghost use Rattle.std.specs.Prelude.{◌≡◌, ◌≢◌, ◌↔◌, ◌+◌, ◌<◌, ◌≤◌, ◌++◌, ℕ, List, [], length, slice_get, false, None, Some, IsTrue, IsSome, Contains};
 ghost use Rattle.bx_load.specs.Image.{Loaded};
 ghost use Rattle.bx_terms.specs.declared.kinds.Trap.{Trap};
 ghost use Rattle.bx_world.specs.declared.choices.Choice.{Choice};
-ghost use Rattle.bx_world.specs.World.{State};
-ghost use Rattle.bx_world.specs.Enabled.{enabled, can};
+ghost use Rattle.bx_world.specs.World.{State, Gone, begun};
+ghost use Rattle.bx_terms.specs.Tree.{Tree};
+ghost use Rattle.bx_world.specs.declared.choices.Choice.TheVariants.{Run, Expire};
+ghost use Rattle.bx_world.specs.Enabled.{enabled, can, actor};
 ghost use Rattle.bx_world.specs.Choosing.{chosen};
 ghost use Rattle.bx_world.specs.Running.{Ended, advanced, ran};
 ghost use Rattle.bx_signals.specs.Channels.{waiting};
 ghost use Rattle.bx_terms.specs.declared.places.Place.{Place};
-ghost use Rattle.bx_world.specs.World.{begun};
 ghost use Rattle.bx_world.specs.Posting.{all_put, all_taken, all_behind};
 
 /// What is looked up of a choice is whether it is among those that are enabled.
@@ -54,4 +55,17 @@ pub fn each_choice_is_applied_once_at_most()
 pub fn signals_arrive_in_the_order_in_which_they_were_sent()
     ensures from_anywhere { (image : Loaded) (choices : List Choice) (w : State) (pair : ℕ × ℕ) → waiting w.lanes.channels pair ++ all_put image choices w pair ≡ all_taken image choices w pair ++ waiting (all_behind image choices w).lanes.channels pair }
     ensures from_the_start { (image : Loaded) (choices : List Choice) (place : Place) (pair : ℕ × ℕ) → all_put image choices (begun place) pair ≡ all_taken image choices (begun place) pair ++ waiting (all_behind image choices (begun place)).lanes.channels pair }
+{}
+
+/// A choice leaves each process but the one that it concerns as it was, and adds one process at most, behind the others.
+pub fn a_choice_changes_its_own_process_alone()
+    ensures others { (image : Loaded) (choice : Choice) (w : State) (p : ℕ) → p ≢ actor choice → p < length w.processes → slice_get (chosen image choice w).processes p ≡ slice_get w.processes p }
+    ensures none_less { (image : Loaded) (choice : Choice) (w : State) → length w.processes ≤ length (chosen image choice w).processes }
+    ensures one_more { (image : Loaded) (choice : Choice) (w : State) → length (chosen image choice w).processes ≤ length w.processes + 1 }
+{}
+
+/// A process that has ended keeps its reason whatever is chosen from then on, so its pid is not used again; and it does not run.
+pub fn an_ended_process_keeps_its_reason()
+    ensures kept { (image : Loaded) (choices : List Choice) (w : State) (p : ℕ) (reason : Tree) → slice_get w.processes p ≡ Some (Gone reason) → slice_get (all_behind image choices w).processes p ≡ Some (Gone reason) }
+    ensures idle { (w : State) (p : ℕ) (reason : Tree) → slice_get w.processes p ≡ Some (Gone reason) → (can w (Run p) ≡ false) × (can w (Expire p) ≡ false) }
 {}
