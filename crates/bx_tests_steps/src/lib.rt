@@ -1,0 +1,17 @@
+//! Tests of one process: a listing's items, so many runs, and what the report then says.
+#![tactic(auto)]
+
+#[cfg(test)]
+mod catching;
+#[cfg(test)]
+mod faults;
+#[cfg(test)]
+mod frames;
+#[cfg(test)]
+mod reading;
+#[cfg(test)]
+mod reports;
+#[cfg(test)]
+mod traps;
+#[cfg(test)]
+mod values;

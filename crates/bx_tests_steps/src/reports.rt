@@ -1,0 +1,36 @@
+//! What the report says of a process that runs these items.
+
+use bx_engine::run_text;
+use std::alloc::{AllocError, Global};
+use std::test::Fail;
+
+/// The items of a function without arguments follow, from label 2 on.
+const HEAD: &str =
+    "{module,m}. {exports,[{f,0}]}. {labels,9}. {function,f,0,2}. {label,1}. {func_info,{atom,m},{atom,f},0}. {label,2}. ";
+
+/// The report of so many runs of the process that begins at these items.
+pub fn report_of(alloc: Global, items: &str, runs: u32) -> Result<String, Fail> {
+    let listing = format!(in alloc; "{HEAD}{items}")?;
+    let plan = format!(in alloc; "a: r0*{runs}")?;
+    let mut readers = [listing.as_bytes()];
+    let mut plan = plan.as_bytes();
+    let mut written = Vec::new(alloc);
+    match run_text(alloc, &mut readers, "m:f", &mut plan, &mut written) {
+        Ok(()) => Ok(String::from_utf8(written).ok().ok_or("text")?),
+        Err(_) => Ok(String::from_str(alloc, "refused")?),
+    }
+}
+
+/// The report of a process that ended with this reason, after so many runs.
+pub fn ended(alloc: Global, runs: u32, reason: &str) -> Result<String, AllocError> {
+    format!(in alloc;
+        "schedule a\napplied {runs}\nstate quiet\nprocess <0.0.0> ended {reason}\nend\n"
+    )
+}
+
+/// The report of a process whose last run was this trap.
+pub fn trapped(alloc: Global, runs: u32, trap: &str) -> Result<String, AllocError> {
+    format!(in alloc;
+        "schedule a\napplied {runs}\nstate trapped {trap} <0.0.0>\nprocess <0.0.0> ready\nend\n"
+    )
+}

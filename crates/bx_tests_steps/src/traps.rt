@@ -1,0 +1,153 @@
+//! Runs that have no meaning.
+
+use crate::reports::{report_of, trapped};
+use std::test::Fail;
+
+#[test]
+fn a_run_without_a_meaning_is_a_trap(rt: HostRuntime) -> Result<(), Fail> {
+    let alloc = rt.alloc();
+    let rows = [
+        ("", 1, "BadPlace"),
+        ("int_code_end.", 1, "BadPlace"),
+        ("{jump,{f,3}}. {label,3}.", 2, "BadPlace"),
+        ("{deallocate,0}.", 1, "NoFrame"),
+        ("{trim,0,0}.", 1, "NoFrame"),
+        ("{call_last,0,{f,2},0}.", 1, "NoFrame"),
+        ("{call_ext_last,0,{extfunc,m,f,0},0}.", 1, "NoFrame"),
+        ("{allocate,1,0}. {deallocate,2}.", 2, "FrameSize"),
+        ("{allocate,1,0}. {trim,1,1}.", 2, "FrameSize"),
+        ("{allocate,3,0}. {trim,1,1}.", 2, "FrameSize"),
+        ("{allocate,1,0}. {call_last,0,{f,2},0}.", 2, "FrameSize"),
+        (
+            "{allocate,2,0}. {call_ext_last,0,{extfunc,m,f,0},1}.",
+            2,
+            "FrameSize",
+        ),
+        (
+            "{move,nil,{x,0}}. {call_ext_last,1,{extfunc,erlang,exit,1},0}.",
+            2,
+            "NoFrame",
+        ),
+        ("{call_ext_last,1,{extfunc,erlang,exit,1},0}.", 1, "Unset"),
+        ("remove_message.", 1, "NoMessage"),
+        ("{label,3}. {loop_rec_end,{f,3}}.", 1, "NoMessage"),
+        ("{allocate,1,0}. {catch_end,{y,0}}.", 2, "NoTag"),
+        (
+            "{allocate,1,0}. {move,nil,{y,0}}. {catch_end,{y,0}}.",
+            3,
+            "NoTag",
+        ),
+        (
+            "{allocate,1,0}. {move,nil,{y,0}}. {try_end,{y,0}}.",
+            3,
+            "NoTag",
+        ),
+        ("{allocate,1,0}. {try_case,{y,0}}.", 2, "NoPending"),
+        (
+            "{allocate,1,0}. {'try',{y,0},{f,3}}. if_end. {label,3}. {move,nil,{x,0}}.",
+            4,
+            "NoTag",
+        ),
+        (
+            "{allocate,1,0}. {'try',{y,0},{f,3}}. if_end. {label,3}. {try_end,{y,0}}.",
+            4,
+            "NoTag",
+        ),
+        (
+            "{allocate,1,0}. {'try',{y,0},{f,3}}. if_end. {label,3}.",
+            4,
+            "BadPlace",
+        ),
+        ("{move,nil,{x,0}}. {get_hd,{x,0},{x,0}}.", 2, "WrongShape"),
+        ("{move,nil,{x,0}}. {get_tl,{x,0},{x,0}}.", 2, "WrongShape"),
+        (
+            "{move,nil,{x,0}}. {get_list,{x,0},{x,0},{x,1}}.",
+            2,
+            "WrongShape",
+        ),
+        (
+            "{move,{literal,{a}},{x,0}}. {get_tuple_element,{x,0},1,{x,0}}.",
+            2,
+            "WrongShape",
+        ),
+        (
+            "{move,nil,{x,0}}. {test,test_arity,{f,2},[{x,0},1]}.",
+            2,
+            "WrongShape",
+        ),
+        ("{move,nil,{x,0}}. build_stacktrace.", 2, "WrongShape"),
+        ("{raise,{f,0},[nil,{x,0}],{x,0}}.", 1, "WrongShape"),
+        ("build_stacktrace.", 1, "Unset"),
+        (
+            "{gc_bif,'+',{f,2},0,[{integer,9223372036854775807},{integer,1}],{x,0}}.",
+            1,
+            "IntegerRange",
+        ),
+        (
+            "{gc_bif,'-',{f,0},0,[{integer,-9223372036854775808}],{x,0}}.",
+            1,
+            "IntegerRange",
+        ),
+        (
+            "{gc_bif,'div',{f,0},0,[{integer,-9223372036854775808},{integer,-1}],{x,0}}.",
+            1,
+            "IntegerRange",
+        ),
+        (
+            "{gc_bif,'bsl',{f,0},0,[{integer,1},{integer,64}],{x,0}}.",
+            1,
+            "IntegerRange",
+        ),
+    ];
+    for (items, runs, trap) in rows {
+        let report = report_of(alloc, items, runs)?;
+        let want = trapped(alloc, runs, trap)?;
+        assert!(rt; report.as_str() == want.as_str(), "{items} {report}");
+    }
+    Ok(())
+}
+
+/// Instructions that write a register, whose text is left out between the two.
+const WRITERS: [(&str, &str); 15] = [
+    ("{move,nil,", "}."),
+    ("{bif,self,{f,0},[],", "}."),
+    ("{gc_bif,'-',{f,0},0,[{integer,1}],", "}."),
+    ("{gc_bif,'+',{f,0},0,[{integer,1},{integer,1}],", "}."),
+    ("{put_list,nil,nil,", "}."),
+    ("{put_tuple2,", ",{list,[]}}."),
+    ("{get_list,{x,0},", ",{x,1}}."),
+    ("{get_list,{x,0},{x,1},", "}."),
+    ("{get_hd,{x,0},", "}."),
+    ("{get_tl,{x,0},", "}."),
+    ("{'catch',", ",{f,2}}."),
+    ("{'try',", ",{f,2}}."),
+    ("{init_yregs,{list,[", "]}}."),
+    ("{catch_end,", "}."),
+    ("{try_end,", "}."),
+];
+
+#[test]
+fn a_y_register_without_a_frame_is_not_written(rt: HostRuntime) -> Result<(), Fail> {
+    let alloc = rt.alloc();
+    let want = trapped(alloc, 2, "NoFrame")?;
+    for (before, behind) in WRITERS {
+        let items = format!(in alloc; "{{move,{{literal,[a]}},{{x,0}}}}. {before}{{y,0}}{behind}")?;
+        let report = report_of(alloc, items.as_str(), 2)?;
+        assert!(rt; report.as_str() == want.as_str(), "{items} {report}");
+    }
+    Ok(())
+}
+
+#[test]
+fn a_y_register_past_the_size_is_not_written(rt: HostRuntime) -> Result<(), Fail> {
+    let alloc = rt.alloc();
+    let want = trapped(alloc, 3, "FrameSize")?;
+    for (before, behind) in WRITERS {
+        let items = format!(in alloc;
+            "{{move,{{literal,[a]}},{{x,0}}}}. {{allocate,1,0}}. {before}{{y,1}}{behind}"
+        )?;
+        let report = report_of(alloc, items.as_str(), 3)?;
+        assert!(rt; report.as_str() == want.as_str(), "{items} {report}");
+    }
+    Ok(())
+}
