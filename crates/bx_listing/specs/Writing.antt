@@ -90,13 +90,18 @@ slots_text names (s ∷ ss) os = slot_text names s os ++ slots_text names ss (dr
 abbrev pub grouped_text : Table → ℕ → ℕ → List Operand → List ℕ
 grouped_text names from to os = added_text names (take from os) ++ codes "," ++ list_text names (drop from (take to os)) ++ added_text names (drop to os)
 
+-- A BIF: its name, where it goes on a fault, its arguments in a list, and its register. One without arguments cannot fault.
+abbrev pub bif_text : Table → List Operand → List ℕ
+bif_text names (b ∷ d ∷ []) = codes "{bif," ++ operand_text names b ++ codes ",{f,0},[]," ++ operand_text names d ++ codes "}"
+bif_text names os = codes "{bif" ++ grouped_text names 2 (length os - 1) os ++ codes "}"
+
 -- An instruction in the way in which its opcode is written. The operands of a test stand in a list behind its label, and the
 -- arguments of a BIF in one before its register.
 abbrev pub way_text : Table → Way → List ℕ → List Slot → List Operand → List ℕ
 way_text names ways.Bare name ss os = name
 way_text names ways.Plain name ss os = codes "{" ++ name ++ slots_text names ss os ++ codes "}"
 way_text names ways.Test name ss os = codes "{test," ++ name ++ grouped_text names 1 (length os) os ++ codes "}"
-way_text names ways.Bif name ss os = codes "{bif" ++ grouped_text names 2 (length os - 1) os ++ codes "}"
+way_text names ways.Bif name ss os = bif_text names os
 way_text names ways.GcBif name ss os = codes "{gc_bif" ++ grouped_text names 3 (length os - 1) os ++ codes "}"
 way_text names ways.Raise name ss os = codes "{raise,{f,0}" ++ grouped_text names 0 (length os) os ++ codes ",{x,0}}"
 

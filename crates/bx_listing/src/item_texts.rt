@@ -5,7 +5,7 @@ ghost use Rattle.bx_ops.specs.Opcodes.{opcode};
 ghost use Rattle.bx_ops.specs.Table.{slots as table_slots, way as table_way};
 ghost use Rattle.bx_terms.specs.AtomText.{printed_atom};
 ghost use Rattle.bx_listing.specs.Items.{seen_item};
-ghost use Rattle.bx_listing.specs.Writing.{operand_text, list_text, slot_text, operand_span, slot_span, slots_text, grouped_text, way_text, item_text};
+ghost use Rattle.bx_listing.specs.Writing.{operand_text, list_text, slot_text, operand_span, slot_span, slots_text, grouped_text, bif_text, way_text, item_text};
 
 use crate::items::{Item, Operand};
 use crate::operand_texts::{before, behind, push_added, push_list, push_operand};
@@ -186,6 +186,44 @@ fn push_between(
     out.push_str(closing)
 }
 
+/// Adds a BIF without arguments, which has no label.
+fn push_plain_bif(
+    alloc: Global,
+    out: &mut String,
+    atoms: &Atoms,
+    bif: &Operand,
+    to: &Operand,
+) -> Result<(), AllocError>
+    ensures { OnOk result (string_bytes out.new
+        ≡ string_bytes out.old ++ (codes "{bif," ++ operand_text atoms.now bif.now ++ codes ",{f,0},[],"
+        ++ operand_text atoms.now to.now ++ codes "}")) }
+{
+    out.push_str("{bif,")?;
+    push_operand(alloc, out, atoms, bif)?;
+    out.push_str(",{f,0},[],")?;
+    push_operand(alloc, out, atoms, to)?;
+    out.push_str("}")
+}
+
+/// Adds a BIF: its name, where it goes on a fault, a list of its arguments, and its register.
+fn push_bif(
+    alloc: Global,
+    out: &mut String,
+    atoms: &Atoms,
+    operands: &[Operand],
+) -> Result<(), AllocError>
+    ensures { OnOk result (string_bytes out.new
+        ≡ string_bytes out.old ++ bif_text atoms.now operands.now) }
+{
+    match operands {
+        [bif, to] => push_plain_bif(alloc, out, atoms, bif, to),
+        _ => {
+            let last = operands.len().saturating_sub(1);
+            push_between(alloc, out, atoms, "{bif", 2, last, operands, "}")
+        }
+    }
+}
+
 /// Adds an instruction in the way in which its opcode is written.
 fn push_way(
     alloc: Global,
@@ -204,7 +242,7 @@ fn push_way(
         Way::Bare => push_atom(alloc, out, name(op)),
         Way::Plain => push_plain(alloc, out, atoms, op, operands),
         Way::Test => push_test(alloc, out, atoms, op, operands),
-        Way::Bif => push_between(alloc, out, atoms, "{bif", 2, last, operands, "}"),
+        Way::Bif => push_bif(alloc, out, atoms, operands),
         Way::GcBif => push_between(alloc, out, atoms, "{gc_bif", 3, last, operands, "}"),
         Way::Raise => push_between(
             alloc,
