@@ -48,7 +48,7 @@ fn lines_in_order_with_their_choices(rt: HostRuntime) {
 fn texts_and_their_outcomes(rt: HostRuntime) {
     let name64 = b"aaaaaaaaaaaaaaaaaaaaaaaaaaaaaaaaaaaaaaaaaaaaaaaaaaaaaaaaaaaaaaaa:";
     let name65 = b"aaaaaaaaaaaaaaaaaaaaaaaaaaaaaaaaaaaaaaaaaaaaaaaaaaaaaaaaaaaaaaaaa:";
-    let cases: [(&[u8], (u8, usize)); 34] = [
+    let cases: [(&[u8], (u8, usize)); 36] = [
         (b"", (0, 0)),
         (b"\n\n", (0, 0)),
         (b"#a b:c", (0, 0)),
