@@ -8,27 +8,47 @@ use Rattle.clap.specs.declared.builder.command.Command.{Command}
 use Rattle.clap.specs.declared.parser.matches.ArgMatches.{ArgMatches}
 use Rattle.bxemu.specs.CommandLines.{Orders, program}
 use Rattle.bxemu.specs.declared.commands.Order.{Order}
-use Rattle.bxemu.specs.declared.commands.Order.TheVariants.{Run, Dis}
+use Rattle.bxemu.specs.declared.commands.Order.TheVariants.{Debug, Dis, Run}
 
 run_is_not_dis : codes "run" ≡ codes "dis" → ⊥
 run_is_not_dis e = let first : ◌≡◌ {A = ℕ} 114 100 = ap (λ (text : List ℕ). get_or text 0 0) e in omega (arith, first)
+
+run_is_not_debug : codes "run" ≡ codes "debug" → ⊥
+run_is_not_debug e = let first : ◌≡◌ {A = ℕ} 114 100 = ap (λ (text : List ℕ). get_or text 0 0) e in omega (arith, first)
+
+dis_is_not_debug : codes "dis" ≡ codes "debug" → ⊥
+dis_is_not_debug e = let second : ◌≡◌ {A = ℕ} 105 101 = ap (λ (text : List ℕ). get_or text 1 0) e in omega (arith, second)
 
 module _ (rows : List Row) where
   pub lacks_start : first_of (codes "start") rows ≡ None → (order : Order) → Orders (Some (codes "run", rows)) order → ⊥
   lacks_start none (Run start plan files) h = let there = h.1 in cc
   lacks_start none (Dis file) h = run_is_not_dis h.0
+  lacks_start none (Debug start files) h = run_is_not_debug h.0
 
   pub lacks_plan : first_of (codes "plan") rows ≡ None → (order : Order) → Orders (Some (codes "run", rows)) order → ⊥
   lacks_plan none (Run start plan files) h = let there = h.2 in cc
   lacks_plan none (Dis file) h = run_is_not_dis h.0
+  lacks_plan none (Debug start files) h = run_is_not_debug h.0
 
   pub lacks_files : all_of (codes "FILES") rows ≡ None → (order : Order) → Orders (Some (codes "run", rows)) order → ⊥
   lacks_files none (Run start plan files) h = let there = h.3 in cc
   lacks_files none (Dis file) h = run_is_not_dis h.0
+  lacks_files none (Debug start files) h = run_is_not_debug h.0
 
   pub lacks_file : first_of (codes "FILE") rows ≡ None → (order : Order) → Orders (Some (codes "dis", rows)) order → ⊥
   lacks_file none (Run start plan files) h = run_is_not_dis (sym h.0)
   lacks_file none (Dis file) h = let there = h.1 in cc
+  lacks_file none (Debug start files) h = dis_is_not_debug h.0
+
+  pub session_lacks_start : first_of (codes "start") rows ≡ None → (order : Order) → Orders (Some (codes "debug", rows)) order → ⊥
+  session_lacks_start none (Run start plan files) h = run_is_not_debug (sym h.0)
+  session_lacks_start none (Dis file) h = dis_is_not_debug (sym h.0)
+  session_lacks_start none (Debug start files) h = let there = h.1 in cc
+
+  pub session_lacks_files : all_of (codes "FILES") rows ≡ None → (order : Order) → Orders (Some (codes "debug", rows)) order → ⊥
+  session_lacks_files none (Run start plan files) h = run_is_not_debug (sym h.0)
+  session_lacks_files none (Dis file) h = dis_is_not_debug (sym h.0)
+  session_lacks_files none (Debug start files) h = let there = h.2 in cc
 
 -- what holds in any case holds of each value
 pub if_ok_always : {T E P : Type 0} (r : Result T E) → P → IfOk r (λ _. P)

@@ -10,7 +10,7 @@ use Rattle.clap.specs.declared.builder.action.ArgAction.TheVariants.{Set, Append
 use Rattle.clap.specs.declared.error.Error.{Error}
 use Rattle.clap.specs.declared.error.kind.ErrorKind.TheVariants.{OutOfMemory}
 use Rattle.bxemu.specs.declared.commands.Order.{Order}
-use Rattle.bxemu.specs.declared.commands.Order.TheVariants.{Run, Dis}
+use Rattle.bxemu.specs.declared.commands.Order.TheVariants.{Run, Dis, Debug}
 
 -- `--NAME VALUE`, which stands once
 abbrev pub option_rule : Text → Rule
@@ -38,10 +38,18 @@ file_rule = record (new_rule (codes "FILE")) { action = Some Set; required = tru
 abbrev pub dis_command : App
 dis_command = with_rule (new_app (codes "dis")) file_rule
 
--- the program, of which a subcommand is wanted
-abbrev pub program : App
-program = with_subcommand (with_subcommand (on_top (λ top. record top { subcommand_required = true })
+-- `debug --start M:F FILES..`
+abbrev pub debug_command : App
+debug_command = with_rule (with_rule (new_app (codes "debug")) (option_rule (codes "start"))) files_rule
+
+-- the program, of which a subcommand is wanted, with those that write one text
+abbrev pub writing_program : App
+writing_program = with_subcommand (with_subcommand (on_top (λ top. record top { subcommand_required = true })
     (new_app (codes "bxemu"))) run_command.top) dis_command.top
+
+-- the program with all its subcommands
+abbrev pub program : App
+program = with_subcommand writing_program debug_command.top
 
 -- a run with these parts is what the subcommand's values say
 abbrev pub IsRun : Option (Text × List Row) → Text → Text → List Text → Type 0
@@ -56,11 +64,25 @@ abbrev pub IsDis : Option (Text × List Row) → Text → Type 0
 IsDis None file = ⊥
 IsDis (Some p) file = (p.0 ≡ codes "dis") × (first_of (codes "FILE") p.1 ≡ Some file)
 
+-- a session with these parts is what the subcommand's values say
+abbrev pub IsDebug : Option (Text × List Row) → Text → List Text → Type 0
+IsDebug None start files = ⊥
+IsDebug (Some p) start files = (p.0 ≡ codes "debug")
+    × (first_of (codes "start") p.1 ≡ Some start)
+    × (all_of (codes "FILES") p.1 ≡ Some files)
+
 -- the order is the one that the subcommand's values say
 abbrev pub Orders : Option (Text × List Row) → Order → Type 0
 Orders named (Run start plan files) =
     IsRun named start.now plan.now (map (λ file. file.now) files.items)
 Orders named (Dis file) = IsDis named file.now
+Orders named (Debug start files) = IsDebug named start.now (map (λ file. file.now) files.items)
+
+-- an order whose text goes out line by line, so that some may be out where it fails
+abbrev pub TellsByLine : Order → Type 0
+TellsByLine (Run start plan files) = ⊥
+TellsByLine (Dis file) = ⊥
+TellsByLine (Debug start files) = Unit {0}
 
 -- there is no order with these values, or memory ran out
 abbrev pub Lacks : Option (Text × List Row) → Error → Type 0
@@ -79,3 +101,7 @@ OrdersRun words start plan files =
 -- the words order the code form of this file, and have no fault
 abbrev pub OrdersDis : List Text → Text → Type 0
 OrdersDis words file = (fault_of program words ≡ []) × IsDis (subcommand_of program words) file
+
+-- the words order a session with these parts, and have no fault
+abbrev pub OrdersDebug : List Text → Text → List Text → Type 0
+OrdersDebug words start files = (fault_of program words ≡ []) × IsDebug (subcommand_of program words) start files

@@ -3,7 +3,7 @@ ghost use Rattle.std.specs.Prelude.{◌≡◌, ◌⊎◌, [], IfErr, IfOk, codes
 ghost use Rattle.clap.specs.Words.{app_of, found_of, kind_of, rows_of, rule_of, subcommand_of, subcommand_rows_of};
 ghost use Rattle.clap.specs.Faults.{fault_of};
 ghost use Rattle.clap.specs.declared.builder.command.Command.TheViews.{out-Command as fields_of};
-ghost use Rattle.bxemu.specs.CommandLines.{Lacks, Orders, OrdersNothing, dis_command, file_rule, files_rule, option_rule, program, run_command};
+ghost use Rattle.bxemu.specs.CommandLines.{Lacks, Orders, OrdersNothing, debug_command, dis_command, file_rule, files_rule, option_rule, program, run_command, writing_program};
 
 use clap::error::ErrorKind;
 use clap::{Arg, ArgAction, ArgMatches, Command, Error};
@@ -25,6 +25,13 @@ pub enum Order<'a> {
     Dis {
         /// The file of the listing.
         file: &'a str,
+    },
+    /// Opens a session, and does what lines of standard input say.
+    Debug {
+        /// The function to start with, as `M:F`.
+        start: &'a str,
+        /// The files of the listings, in order.
+        files: Vec<&'a str>,
     },
 }
 
@@ -52,6 +59,7 @@ fn order_of<'a>(alloc: Global, matches: &ArgMatches<'a>) -> Result<Order<'a>, Er
     match name {
         "run" => run_order(alloc, values),
         "dis" => dis_order(alloc, values),
+        "debug" => debug_order(alloc, values),
         _ => Err(incomplete(alloc)),
     }
 }
@@ -85,6 +93,21 @@ fn dis_order<'a>(alloc: Global, values: &ArgMatches<'a>) -> Result<Order<'a>, Er
     }
 }
 
+/// The order to open a session, by the values of `debug`.
+fn debug_order<'a>(alloc: Global, values: &ArgMatches<'a>) -> Result<Order<'a>, Error>
+    ensures ok { IfOk result (Orders (Some (codes "debug", rows_of (found_of values.now)))) }
+    ensures err { IfErr result (Lacks (Some (codes "debug", rows_of (found_of values.now)))) }
+{
+    let Some(start) = values.get_str("start") else {
+        return Err(incomplete(alloc));
+    };
+    let Some(files) = values.get_raw("FILES") else {
+        return Err(incomplete(alloc));
+    };
+    let files = Vec::from_slice(alloc, files)?;
+    Ok(Order::Debug { start, files })
+}
+
 /// The fault of a command line that lacks a part.
 fn incomplete(alloc: Global) -> Error
     ensures { (kind_of result ≡ ErrorKind.MissingSubcommand) ⊎ (kind_of result ≡ ErrorKind.OutOfMemory) }
@@ -108,6 +131,13 @@ fn incomplete_error(alloc: Global) -> Result<Error, AllocError>
 /// The program with its subcommands.
 fn program_command<'a>(alloc: Global) -> Result<Command<'a>, AllocError>
     ensures app { IfOk result (λ c. app_of c ≡ program) }
+{
+    writing_command(alloc)?.subcommand(debug_subcommand(alloc)?)
+}
+
+/// The program with the subcommands that write one text.
+fn writing_command<'a>(alloc: Global) -> Result<Command<'a>, AllocError>
+    ensures app { IfOk result (λ c. app_of c ≡ writing_program) }
 {
     Command::new(alloc, "bxemu")
         .about("Runs Erlang assembly listings under given schedules")
@@ -136,6 +166,29 @@ fn dis_subcommand<'a>(alloc: Global) -> Result<Command<'a>, AllocError>
     Command::new(alloc, "dis")
         .about("Reads a listing, numbers its code and prints what the numbers spell")
         .arg(file_argument(alloc))
+}
+
+/// What the help of `debug` says of the lines of standard input.
+const SESSION_HELP: &str = "Commands, each a line of standard input:
+  step C       Makes a choice: r0 runs process 0, d0>1 delivers the first signal from 0 to 1
+  back N       Goes back over N choices
+  forward N    Goes forward over N choices
+  go C C ..    Makes choices in order up to the first that stops it; C*N makes C N times
+  break M:I    Lets go stop behind a run that leaves its process at item I of module M
+  clear M:I    Takes such a place back
+  show         Shows the outcome of the choices so far
+  quit         Ends the session";
+
+/// `debug`, with its option and files.
+fn debug_subcommand<'a>(alloc: Global) -> Result<Command<'a>, AllocError>
+    ensures app { IfOk result (λ c. app_of c ≡ debug_command) }
+    ensures local { IfOk result (λ c. (fields_of c).has_globals ≡ false) }
+{
+    Command::new(alloc, "debug")
+        .about("Opens a session, which lines of standard input step, move and show")
+        .after_help(SESSION_HELP)
+        .arg(start_option(alloc))?
+        .arg(files_argument(alloc))
 }
 
 /// `--start M:F`.

@@ -1,6 +1,6 @@
 //! What the program's command lines come to. Each function has an empty body; its clause is the law.
 ghost use Rattle.std.specs.Prelude.{◌∷◌, [], codes};
-ghost use Rattle.bxemu.specs.CommandLines.{OrdersDis, OrdersRun};
+ghost use Rattle.bxemu.specs.CommandLines.{OrdersDebug, OrdersDis, OrdersRun};
 
 /// `run` names the start, the plan and each file, in this order or with the options last; what
 /// stands behind `--` is a file, and so is `-`.
@@ -18,4 +18,13 @@ pub fn a_dis_names_its_file()
     ensures named { OrdersDis (codes "bxemu" ∷ codes "dis" ∷ codes "a.S" ∷ []) (codes "a.S") }
     ensures dash { OrdersDis (codes "bxemu" ∷ codes "dis" ∷ codes "-" ∷ []) (codes "-") }
     ensures escaped { OrdersDis (codes "bxemu" ∷ codes "dis" ∷ codes "--" ∷ codes "--start" ∷ []) (codes "--start") }
+{}
+
+/// `debug` names its start and each file, in this order or with the option last; what stands behind `--` is a file.
+pub fn a_session_names_its_parts()
+    ensures in_order { OrdersDebug (codes "bxemu" ∷ codes "debug" ∷ codes "--start" ∷ codes "m:f" ∷ codes "a.S" ∷ codes "b.S" ∷ [])
+        (codes "m:f") (codes "a.S" ∷ codes "b.S" ∷ []) }
+    ensures option_last { OrdersDebug (codes "bxemu" ∷ codes "debug" ∷ codes "a.S" ∷ codes "--start=m:f" ∷ []) (codes "m:f") (codes "a.S" ∷ []) }
+    ensures files_only { OrdersDebug (codes "bxemu" ∷ codes "debug" ∷ codes "--start" ∷ codes "m:f" ∷ codes "--" ∷ codes "--plan" ∷ [])
+        (codes "m:f") (codes "--plan" ∷ []) }
 {}

@@ -5,39 +5,90 @@ ghost use Rattle.std.specs.IoError.{error_kind};
 ghost use Rattle.std.specs.declared.io.ErrorKind.TheVariants.{OutOfMemory};
 ghost use Rattle.clap.specs.Words.{kind_of};
 ghost use Rattle.bx_terms.specs.declared.faults.Fault.TheVariants.{Memory};
+ghost use Rattle.bxemu.specs.CommandLines.{TellsByLine};
 ghost use Rattle.bxemu.specs.Statuses.{status_after};
 
 use crate::commands::{Order, command_of};
+use bx_debugger::debug_text;
 use bx_engine::{Failure, dis_text, fault_line, run_text, start_of};
 use bx_terms::Fault;
 use clap::Error;
 use clap::error::ErrorKind;
 use std::alloc::{AllocError, Global};
-use std::io::Write;
+use std::io::{Read, Write};
 use std::rt::{Env, Files};
 use std::{env, fs, io};
 
 /// Does what the command line orders, with its text on `output` and lines on `errors`, and gives the status to end with,
-/// 0 to 4. Where it is none of 0 and 4, nothing was written to `output`.
-pub fn status_of_run<R, O, W>(rt: &R, output: &mut O, errors: &mut W) -> u8
+/// 0 to 4. `input` is read for a session alone.
+pub fn status_of_run<R, I, O, W>(rt: &R, input: &mut I, output: &mut O, errors: &mut W) -> u8
 where
     R: Files + Env + Print + Eprint + AllocGlobal,
+    I: Read,
     O: Write,
     W: Write,
-    ensures few { result ≤ 4 }
-    ensures unwritten { (result ≡ 0) ⊎ (result ≡ 4) ⊎ Keeps (O.contents output.old) (O.contents output.new) }
+    ensures { result ≤ 4 }
 {
     let words = match words_of(rt) {
         Ok(words) => words,
         Err(error) => return refuse_words(&error, errors),
     };
     match command_of(rt.alloc(), words.as_slice()) {
-        Ok(Order::Run { start, plan, files }) => {
-            status_of_report(rt, start, files.as_slice(), plan, output, errors)
-        }
-        Ok(Order::Dis { file }) => status_of_dis(rt, file, output, errors),
+        Ok(order) => status_of_order(rt, &order, input, output, errors),
         Err(error) => explain(rt, &error, errors),
     }
+}
+
+/// Does what an order says, and gives the status to end with. Where it is none of 0 and 4, nothing was written to `output`, but for
+/// a session, whose answers go out line by line.
+fn status_of_order<R, I, O, W>(
+    rt: &R,
+    order: &Order<'_>,
+    input: &mut I,
+    output: &mut O,
+    errors: &mut W,
+) -> u8
+where
+    R: Files + AllocGlobal,
+    I: Read,
+    O: Write,
+    W: Write,
+    ensures few { result ≤ 4 }
+    ensures unwritten { (result ≡ 0) ⊎ (result ≡ 4) ⊎ TellsByLine order.now ⊎ Keeps (O.contents output.old) (O.contents output.new) }
+{
+    match order {
+        Order::Run { start, plan, files } => {
+            status_of_report(rt, start, files.as_slice(), plan, output, errors)
+        }
+        Order::Dis { file } => status_of_dis(rt, file, output, errors),
+        Order::Debug { start, files } => {
+            status_of_session(rt, start, files.as_slice(), input, output, errors)
+        }
+    }
+}
+
+/// Does what `debug` orders, and gives the status to end with.
+fn status_of_session<R, I, O, W>(
+    rt: &R,
+    start: &str,
+    files: &[&str],
+    input: &mut I,
+    output: &mut O,
+    errors: &mut W,
+) -> u8
+where
+    R: Files + AllocGlobal,
+    I: Read,
+    O: Write,
+    W: Write,
+    ensures { result ≤ 4 }
+{
+    let names = match names_of(rt.alloc(), files, "-") {
+        Ok(names) => names,
+        Err(_) => return fault_line(&memory(), &[], errors),
+    };
+    let ended = debug(rt, start, names.as_slice(), input, output);
+    told(&ended, names.as_slice(), errors)
 }
 
 /// Does what `run` orders, and gives the status to end with.
@@ -181,6 +232,27 @@ where
         Some((listing, _)) => dis_text(rt.alloc(), listing, writer),
         None => Ok(()),
     }
+}
+
+/// Looks at the start, opens the listings, which are all the files but the last, and then answers the lines of commands.
+fn debug<R, I, W>(
+    rt: &R,
+    start: &str,
+    names: &[String],
+    commands: &mut I,
+    writer: &mut W,
+) -> Result<(), Failure>
+where
+    R: Files + AllocGlobal,
+    I: Read,
+    W: Write,
+{
+    let _start = start_of(rt.alloc(), start)?;
+    let Some((_, listings)) = names.split_last() else {
+        return Ok(());
+    };
+    let mut inputs = open_all(rt, listings)?;
+    debug_text(rt.alloc(), inputs.as_mut_slice(), start, commands, writer)
 }
 
 /// Opens each file, the first that can't be opened being the failure.

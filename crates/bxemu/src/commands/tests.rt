@@ -74,7 +74,16 @@ fn refuses_other_words(rt: HostRuntime) -> Result<(), Fail> {
         ("bxemu dis", ErrorKind::MissingRequiredArgument),
         ("bxemu dis a.S b.S", ErrorKind::UnknownArgument),
         ("bxemu dis --plan p a.S", ErrorKind::UnknownArgument),
-        ("bxemu debug --start m:f a.S", ErrorKind::InvalidSubcommand),
+        ("bxemu debug a.S", ErrorKind::MissingRequiredArgument),
+        (
+            "bxemu debug --start m:f",
+            ErrorKind::MissingRequiredArgument,
+        ),
+        (
+            "bxemu debug --start m:f --plan p a.S",
+            ErrorKind::UnknownArgument,
+        ),
+        ("bxemu debug --help", ErrorKind::DisplayHelp),
         (
             "bxemu campaign --start m:f --plan p a.S",
             ErrorKind::InvalidSubcommand,
