@@ -80,8 +80,7 @@ pub leased_from : (b : Kept) → IsKept b → (n : ℕ) → is_free b.job b.stat
 leased_from b is n free end stands =
     let was = free_is b.job b.state n free in
     let positive : 0 < n = not_root b is n Waiting was.within (waiting_not_done _ was.waiting) in
-    let within : n < length b.job.chains.heads = omega (arith, was.within, is.count) in
-    (
+    let within : n < length b.job.chains.heads = omega (arith, was.within, is.count) in (
       span_of b.job.plan b.job.chains is.chains n positive within,
       is.sound (above b.job.chains n) end stands ∙ ap (run_up_to b.job.image b.job.start b.job.plan.tree) (is.chains.chains.begins n positive within).stands,
     )

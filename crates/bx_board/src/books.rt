@@ -11,9 +11,8 @@ mod leasing;
 mod opening;
 mod reporting;
 
-pub use alone::report_alone;
-
 use crate::slots::{Counts, Event, Slot};
+pub use alone::report_alone;
 use bx_chains::Chains;
 use bx_load::Image;
 use bx_plan::Plan;
@@ -60,7 +59,7 @@ impl<'a> Model for Book<'a> {
 
     ghost invariant = { λ b.
         IsTended (kept_view b.image.now b.start b.plan.now b.chains b.slots.items b.stopped b.events.items)
-            b.ready.items b.holders b.leased b.done
+        b.ready.items b.holders b.leased b.done
         × (length b.slots.items ≤ vec_capacity b.ready)
         × (vec_len b.events + events_to_come b.stopped b.leased ≤ vec_capacity b.events) };
 }

@@ -37,7 +37,9 @@ fn serve_all<R: Threads + Wait + Sync, G: Gate + Sync>(
         rt,
         alloc,
         workers,
-        &|number| board.serve(rt, alloc, last.saturating_sub(number), gate).is_ok(),
+        &|number| board
+            .serve(rt, alloc, last.saturating_sub(number), gate)
+            .is_ok(),
     );
     match ended {
         Ok(ended) => ended.iter().all(|well| *well),

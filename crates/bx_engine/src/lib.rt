@@ -1,8 +1,8 @@
 //! The engines of `bxemu`: what the program's commands do, over readers and a writer.
 #![tactic(auto)]
 
-mod dis;
 mod campaigns;
+mod dis;
 mod failures;
 mod inputs;
 pub mod laws;
@@ -11,8 +11,8 @@ mod runs;
 mod starts;
 mod units;
 
-pub use dis::dis_text;
 pub use campaigns::campaign_text;
+pub use dis::dis_text;
 pub use failures::{Failure, fault_line};
 pub use inputs::{INPUT_LIMIT, MOST_ASKS};
 pub use loads::image_of;

@@ -12,6 +12,7 @@ use std::time::{Clock, Duration};
 
 /// What the paths of the two units weigh.
 const FIRST: u64 = 1;
+
 const SECOND: u64 = 1000;
 
 /// A gate that holds the first lease until a second has come, and the first piece until one of another path has; each for
@@ -87,7 +88,16 @@ fn two_workers_of_a_campaign_meet(rt: HostRuntime) -> Result<(), Fail> {
     let image = image(alloc)?;
     let plan = plan(alloc, APART)?;
     let gate = Meeting::new(&rt, alloc);
-    let report = campaign(&rt, alloc, &image, atom(&image, "m"), atom(&image, "f"), &plan, 2, &gate);
+    let report = campaign(
+        &rt,
+        alloc,
+        &image,
+        atom(&image, "m"),
+        atom(&image, "f"),
+        &plan,
+        2,
+        &gate,
+    );
     let text = text_of(alloc, &image, report)?;
     assert_eq!(&rt; gate.counts(), (2, FIRST + SECOND, 0));
     assert_eq!(&rt; text.as_str(), APART_TEXT);
@@ -108,7 +118,10 @@ fn two_threads_on_a_board_meet(rt: HostRuntime) -> Result<(), Fail> {
     );
     let finished = board.close().finish(alloc).map_err(|refused| refused.0);
     let text = text_of(alloc, &image, finished)?;
-    assert_eq!(&rt; (one, other, gate.counts()), (true, true, (2, FIRST + SECOND, 0)));
+    assert_eq!(&rt;
+        (one, other, gate.counts()),
+        (true, true, (2, FIRST + SECOND, 0))
+    );
     assert_eq!(&rt; text.as_str(), APART_TEXT);
     Ok(())
 }

@@ -92,7 +92,10 @@ fn answer<'a>(
     match call {
         Call::Counts => {
             let counts = book.counts();
-            Ok(format!(in alloc; "{} {} {} {}", counts.unborn, counts.free, counts.leased, counts.done)?)
+            Ok(format!(in alloc;
+                "{} {} {} {}",
+                counts.unborn, counts.free, counts.leased, counts.done
+            )?)
         }
         Call::Lease(worker) => lease(alloc, book, worker, pieces),
         Call::Submit(worker, number) => submit(alloc, book, worker, pieces.get_mut(number)),

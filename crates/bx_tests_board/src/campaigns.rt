@@ -38,7 +38,9 @@ fn campaigns_report_each_schedule(rt: HostRuntime) -> Result<(), Fail> {
     for (text, workers, function, expected) in CAMPAIGNS.iter() {
         let plan = plan(alloc, text)?;
         let (module, function) = (atom(&image, "m"), atom(&image, function));
-        let report = campaign(&rt, alloc, &image, module, function, &plan, *workers, &FreeGate);
+        let report = campaign(
+            &rt, alloc, &image, module, function, &plan, *workers, &FreeGate,
+        );
         let got = text_of(alloc, &image, report)?;
         assert_eq!(&rt; got.as_str(), *expected);
     }

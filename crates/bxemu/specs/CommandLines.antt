@@ -1,6 +1,8 @@
 -- The command lines of the program, and what each orders, by the meaning that `clap` gives to the
 -- words of simple commands.
-use Rattle.std.specs.Prelude.{◌≡◌, ◌⊎◌, true, List, [], Option, Some, None, codes, map}
+use Rattle.std.specs.Prelude.{◌≡◌, ◌⊎◌, ◌<◌, ◌^◌, ℕ, pos, true, false, List, [], ◌∷◌, Option, Some, None, codes, map}
+use Rattle.std.specs.Str.Parse.{IsNumeral, signed_digits_value, without_leading_sign}
+use Rattle.clap.specs.declared.builder.value_parser.ValueParser.TheVariants.{Signed}
 use Rattle.clap.specs.Kinds.{HasKind}
 use Rattle.clap.specs.Faults.{fault_of}
 use Rattle.clap.specs.Values.{kind_of}
@@ -10,7 +12,7 @@ use Rattle.clap.specs.declared.builder.action.ArgAction.TheVariants.{Set, Append
 use Rattle.clap.specs.declared.error.Error.{Error}
 use Rattle.clap.specs.declared.error.kind.ErrorKind.TheVariants.{OutOfMemory}
 use Rattle.bxemu.specs.declared.commands.Order.{Order}
-use Rattle.bxemu.specs.declared.commands.Order.TheVariants.{Run, Dis}
+use Rattle.bxemu.specs.declared.commands.Order.TheVariants.{Campaign, Dis, Run}
 
 -- `--NAME VALUE`, which stands once
 abbrev pub option_rule : Text → Rule
@@ -38,10 +40,23 @@ file_rule = record (new_rule (codes "FILE")) { action = Some Set; required = tru
 abbrev pub dis_command : App
 dis_command = with_rule (new_app (codes "dis")) file_rule
 
+-- how many workers there are: a decimal number of 32 bits, 4 where it is left out
+abbrev pub workers_rule : Rule
+workers_rule = record (option_rule (codes "workers")) {
+  required = false;
+  defaults = codes "4" ∷ [];
+  parser = Some (Signed (pos 0) (pos 4294967295));
+}
+
+-- `campaign --start M:F --plan FILE --workers N FILES..`
+abbrev pub campaign_command : App
+campaign_command = with_rule (with_rule (with_rule (with_rule (new_app (codes "campaign")) (option_rule (codes "start")))
+    (option_rule (codes "plan"))) workers_rule) files_rule
+
 -- the program, of which a subcommand is wanted
 abbrev pub program : App
-program = with_subcommand (with_subcommand (on_top (λ top. record top { subcommand_required = true })
-    (new_app (codes "bxemu"))) run_command.top) dis_command.top
+program = with_subcommand (with_subcommand (with_subcommand (on_top (λ top. record top { subcommand_required = true })
+    (new_app (codes "bxemu"))) run_command.top) dis_command.top) campaign_command.top
 
 -- a run with these parts is what the subcommand's values say
 abbrev pub IsRun : Option (Text × List Row) → Text → Text → List Text → Type 0
@@ -56,11 +71,26 @@ abbrev pub IsDis : Option (Text × List Row) → Text → Type 0
 IsDis None file = ⊥
 IsDis (Some p) file = (p.0 ≡ codes "dis") × (first_of (codes "FILE") p.1 ≡ Some file)
 
+-- a text spells a number of 32 bits, behind a sign or none
+abbrev pub Spells : Text → ℕ → Type 0
+Spells text n = IsNumeral 10 (without_leading_sign text) × (signed_digits_value 10 text ≡ pos n) × (n < 2 ^ 32)
+
+-- a campaign with these parts is what the subcommand's values say
+abbrev pub IsCampaign : Option (Text × List Row) → Text → Text → ℕ → List Text → Type 0
+IsCampaign None start plan workers files = ⊥
+IsCampaign (Some p) start plan workers files = (p.0 ≡ codes "campaign")
+    × (first_of (codes "start") p.1 ≡ Some start)
+    × (first_of (codes "plan") p.1 ≡ Some plan)
+    × ((text : Text) × (first_of (codes "workers") p.1 ≡ Some text) × Spells text workers)
+    × (all_of (codes "FILES") p.1 ≡ Some files)
+
 -- the order is the one that the subcommand's values say
 abbrev pub Orders : Option (Text × List Row) → Order → Type 0
 Orders named (Run start plan files) =
     IsRun named start.now plan.now (map (λ file. file.now) files.items)
 Orders named (Dis file) = IsDis named file.now
+Orders named (Campaign start plan workers files) =
+    IsCampaign named start.now plan.now workers (map (λ file. file.now) files.items)
 
 -- there is no order with these values, or memory ran out
 abbrev pub Lacks : Option (Text × List Row) → Error → Type 0
@@ -79,3 +109,8 @@ OrdersRun words start plan files =
 -- the words order the code form of this file, and have no fault
 abbrev pub OrdersDis : List Text → Text → Type 0
 OrdersDis words file = (fault_of program words ≡ []) × IsDis (subcommand_of program words) file
+
+-- the words order a campaign with these parts, and have no fault
+abbrev pub OrdersCampaign : List Text → Text → Text → ℕ → List Text → Type 0
+OrdersCampaign words start plan workers files =
+    (fault_of program words ≡ []) × IsCampaign (subcommand_of program words) start plan workers files

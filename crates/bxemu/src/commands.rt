@@ -1,9 +1,9 @@
 //! What the words of a command line order.
-ghost use Rattle.std.specs.Prelude.{◌≡◌, ◌⊎◌, [], IfErr, IfOk, codes, false, map, string_bytes};
+ghost use Rattle.std.specs.Prelude.{◌≡◌, ◌⊎◌, ℕ, [], IfErr, IfNone, IfOk, IfSome, codes, false, map, string_bytes};
 ghost use Rattle.clap.specs.Words.{app_of, found_of, kind_of, rows_of, rule_of, subcommand_of, subcommand_rows_of};
 ghost use Rattle.clap.specs.Faults.{fault_of};
 ghost use Rattle.clap.specs.declared.builder.command.Command.TheViews.{out-Command as fields_of};
-ghost use Rattle.bxemu.specs.CommandLines.{Lacks, Orders, OrdersNothing, dis_command, file_rule, files_rule, option_rule, program, run_command};
+ghost use Rattle.bxemu.specs.CommandLines.{Lacks, Orders, OrdersNothing, Spells, campaign_command, dis_command, file_rule, files_rule, option_rule, program, run_command, workers_rule};
 
 use clap::error::ErrorKind;
 use clap::{Arg, ArgAction, ArgMatches, Command, Error};
@@ -25,6 +25,17 @@ pub enum Order<'a> {
     Dis {
         /// The file of the listing.
         file: &'a str,
+    },
+    /// What a run does, by several workers.
+    Campaign {
+        /// The function to start with, as `M:F`.
+        start: &'a str,
+        /// The file of the plan.
+        plan: &'a str,
+        /// How many workers there are.
+        workers: u32,
+        /// The files of the listings, in order.
+        files: Vec<&'a str>,
     },
 }
 
@@ -52,6 +63,7 @@ fn order_of<'a>(alloc: Global, matches: &ArgMatches<'a>) -> Result<Order<'a>, Er
     match name {
         "run" => run_order(alloc, values),
         "dis" => dis_order(alloc, values),
+        "campaign" => campaign_order(alloc, values),
         _ => Err(incomplete(alloc)),
     }
 }
@@ -85,6 +97,49 @@ fn dis_order<'a>(alloc: Global, values: &ArgMatches<'a>) -> Result<Order<'a>, Er
     }
 }
 
+/// The number that a text spells.
+fn workers_of(text: &str) -> Option<u32>
+    ensures some { IfSome result (Spells text.now) }
+    ensures none { IfNone result ((n : ℕ) → Spells text.now n → ⊥) }
+{
+    let Ok(number) = text.parse::<i64>() else {
+        return None;
+    };
+    match u32::try_from(number) {
+        Ok(workers) => Some(workers),
+        Err(_) => None,
+    }
+}
+
+/// The order of a campaign, by the values of `campaign`.
+fn campaign_order<'a>(alloc: Global, values: &ArgMatches<'a>) -> Result<Order<'a>, Error>
+    ensures ok { IfOk result (Orders (Some (codes "campaign", rows_of (found_of values.now)))) }
+    ensures err { IfErr result (Lacks (Some (codes "campaign", rows_of (found_of values.now)))) }
+{
+    let Some(start) = values.get_str("start") else {
+        return Err(incomplete(alloc));
+    };
+    let Some(plan) = values.get_str("plan") else {
+        return Err(incomplete(alloc));
+    };
+    let Some(text) = values.get_str("workers") else {
+        return Err(incomplete(alloc));
+    };
+    let Some(workers) = workers_of(text) else {
+        return Err(incomplete(alloc));
+    };
+    let Some(files) = values.get_raw("FILES") else {
+        return Err(incomplete(alloc));
+    };
+    let files = Vec::from_slice(alloc, files)?;
+    Ok(Order::Campaign {
+        start,
+        plan,
+        workers,
+        files,
+    })
+}
+
 /// The fault of a command line that lacks a part.
 fn incomplete(alloc: Global) -> Error
     ensures { (kind_of result ≡ ErrorKind.MissingSubcommand) ⊎ (kind_of result ≡ ErrorKind.OutOfMemory) }
@@ -113,7 +168,8 @@ fn program_command<'a>(alloc: Global) -> Result<Command<'a>, AllocError>
         .about("Runs Erlang assembly listings under given schedules")
         .subcommand_required(true)
         .subcommand(run_subcommand(alloc)?)?
-        .subcommand(dis_subcommand(alloc)?)
+        .subcommand(dis_subcommand(alloc)?)?
+        .subcommand(campaign_subcommand(alloc)?)
 }
 
 /// `run`, with its options and files.
@@ -136,6 +192,33 @@ fn dis_subcommand<'a>(alloc: Global) -> Result<Command<'a>, AllocError>
     Command::new(alloc, "dis")
         .about("Reads a listing, numbers its code and prints what the numbers spell")
         .arg(file_argument(alloc))
+}
+
+/// `campaign`, with its options and files.
+fn campaign_subcommand<'a>(alloc: Global) -> Result<Command<'a>, AllocError>
+    ensures app { IfOk result (λ c. app_of c ≡ campaign_command) }
+    ensures local { IfOk result (λ c. (fields_of c).has_globals ≡ false) }
+{
+    Command::new(alloc, "campaign")
+        .about("Runs each schedule of a plan by several workers and prints the report")
+        .arg(start_option(alloc))?
+        .arg(plan_option(alloc))?
+        .arg(workers_option(alloc))?
+        .arg(files_argument(alloc))
+}
+
+/// `--workers N`.
+fn workers_option<'a>(alloc: Global) -> Arg<'a>
+    ensures rule { rule_of result ≡ workers_rule }
+    ensures local { result.global ≡ false }
+{
+    Arg::new(alloc, "workers")
+        .long("workers")
+        .value_name("N")
+        .help("How many workers share the schedules, from 1 to 64")
+        .action(ArgAction::Set)
+        .value_parser(clap::value_parser!(u32))
+        .default_value("4")
 }
 
 /// `--start M:F`.

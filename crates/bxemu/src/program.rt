@@ -8,20 +8,22 @@ ghost use Rattle.bx_terms.specs.declared.faults.Fault.TheVariants.{Memory};
 ghost use Rattle.bxemu.specs.Statuses.{status_after};
 
 use crate::commands::{Order, command_of};
-use bx_engine::{Failure, dis_text, fault_line, run_text, start_of};
+use bx_engine::{Failure, campaign_text, dis_text, fault_line, run_text, start_of};
 use bx_terms::Fault;
 use clap::Error;
 use clap::error::ErrorKind;
 use std::alloc::{AllocError, Global};
 use std::io::Write;
 use std::rt::{Env, Files};
+use std::sync::Wait;
+use std::thread::Threads;
 use std::{env, fs, io};
 
 /// Does what the command line orders, with its text on `output` and lines on `errors`, and gives the status to end with,
 /// 0 to 4. Where it is none of 0 and 4, nothing was written to `output`.
 pub fn status_of_run<R, O, W>(rt: &R, output: &mut O, errors: &mut W) -> u8
 where
-    R: Files + Env + Print + Eprint + AllocGlobal,
+    R: Files + Env + Print + Eprint + AllocGlobal + Threads + Wait + Sync,
     O: Write,
     W: Write,
     ensures few { result ≤ 4 }
@@ -36,6 +38,14 @@ where
             status_of_report(rt, start, files.as_slice(), plan, output, errors)
         }
         Ok(Order::Dis { file }) => status_of_dis(rt, file, output, errors),
+        Ok(
+            Order::Campaign {
+                start,
+                plan,
+                workers,
+                files,
+            },
+        ) => status_of_campaign(rt, start, files.as_slice(), plan, workers, output, errors),
         Err(error) => explain(rt, &error, errors),
     }
 }
@@ -61,6 +71,31 @@ where
         Err(_) => return fault_line(&memory(), &[], errors),
     };
     let ended = run(rt, start, names.as_slice(), output);
+    told(&ended, names.as_slice(), errors)
+}
+
+/// Does what `campaign` orders, and gives the status to end with.
+fn status_of_campaign<R, O, W>(
+    rt: &R,
+    start: &str,
+    files: &[&str],
+    plan: &str,
+    workers: u32,
+    output: &mut O,
+    errors: &mut W,
+) -> u8
+where
+    R: Files + AllocGlobal + Threads + Wait + Sync,
+    O: Write,
+    W: Write,
+    ensures few { result ≤ 4 }
+    ensures unwritten { (result ≡ 0) ⊎ (result ≡ 4) ⊎ Keeps (O.contents output.old) (O.contents output.new) }
+{
+    let names = match names_of(rt.alloc(), files, plan) {
+        Ok(names) => names,
+        Err(_) => return fault_line(&memory(), &[], errors),
+    };
+    let ended = campaign(rt, start, names.as_slice(), workers, output);
     told(&ended, names.as_slice(), errors)
 }
 
@@ -179,6 +214,29 @@ where
     let mut inputs = open_all(rt, names)?;
     match inputs.split_last_mut() {
         Some((listing, _)) => dis_text(rt.alloc(), listing, writer),
+        None => Ok(()),
+    }
+}
+
+/// Looks at the start, opens all the files, the plan last, and then writes the report of the campaign.
+fn campaign<R, W>(
+    rt: &R,
+    start: &str,
+    names: &[String],
+    workers: u32,
+    writer: &mut W,
+) -> Result<(), Failure>
+where
+    R: Files + AllocGlobal + Threads + Wait + Sync,
+    W: Write,
+    ensures { IfErr result (λ failure. (failure ≡ Failure.Write) ⊎ Keeps (W.contents writer.old) (W.contents writer.new)) }
+{
+    let _start = start_of(rt.alloc(), start)?;
+    let mut inputs = open_all(rt, names)?;
+    match inputs.split_last_mut() {
+        Some((plan, listings)) => {
+            campaign_text(rt, rt.alloc(), listings, start, plan, workers, writer)
+        }
         None => Ok(()),
     }
 }

@@ -50,12 +50,7 @@ impl<'a> Book<'a> {
     }
 
     /// Whether this is the campaign of that plan over that code, from that start.
-    pub(crate) fn is_of(
-        &self,
-        image: &Image,
-        start: (AtomId, AtomId),
-        plan: &Plan,
-    ) -> bool
+    pub(crate) fn is_of(&self, image: &Image, start: (AtomId, AtomId), plan: &Plan) -> bool
         ensures { IsTrue result ↔ ((self.now.job.start ≡ start) × (self.now.job.image ≡ image.now) × (self.now.job.plan ≡ plan.now)) }
     {
         self.start == start && self.image.same(image) && self.plan.same(plan)

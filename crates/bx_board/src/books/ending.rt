@@ -37,7 +37,7 @@ impl<'a> Book<'a> {
         requires { chain < chain_count self.now.job.chains }
         ensures { MatchOption result (standing self.now.state chain ≡ Slot.Leased worker)
             (λ fault. ((fault ≡ Fault.Twice) × IsTrue (is_done (standing self.now.state chain)))
-                ⊎ ((fault ≡ Fault.NotLeased) × (is_done (standing self.now.state chain) ≡ false) × (standing self.now.state chain ≢ Slot.Leased worker))) }
+            ⊎ ((fault ≡ Fault.NotLeased) × (is_done (standing self.now.state chain) ≡ false) × (standing self.now.state chain ≢ Slot.Leased worker))) }
     {
         match &self.slots[chain] {
             Slot::Done(_) => Some(Fault::Twice),

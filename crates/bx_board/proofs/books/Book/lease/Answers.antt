@@ -86,8 +86,10 @@ returns-clause-ok c =
     let of : c.in_ok-lease.lease ≡ work_of b.job c.in-Some.chain = subst (λ (k : Kept). c.in_ok-lease.lease ≡ work_of k.job c.in-Some.chain) (sym c.self.view_is) c.in_ok-lease.ensures in
     rw (← c.self.view_is) (
       c.in-Some.chain,
-      ((true_is _ free, c.if-self.false, holds_none b i.ready.items i.holders i.leased i.done c.self.invariant.0 c.args.worker none),
-          ap (kept_view i.image.now i.start i.plan.now i.chains (set i.slots.items c.in-Some.chain (Leased c.args.worker)) i.stopped)
-          (c.push_reserved.ensures.items ∙ ap (λ es. es ++ Lease c.args.worker c.in-Some.chain ∷ []) c.reserve.ensures.items)),
+      (
+        (true_is _ free, c.if-self.false, holds_none b i.ready.items i.holders i.leased i.done c.self.invariant.0 c.args.worker none),
+        ap (kept_view i.image.now i.start i.plan.now i.chains (set i.slots.items c.in-Some.chain (Leased c.args.worker)) i.stopped)
+            (c.push_reserved.ensures.items ∙ ap (λ es. es ++ Lease c.args.worker c.in-Some.chain ∷ []) c.reserve.ensures.items),
+      ),
       of,
     )
