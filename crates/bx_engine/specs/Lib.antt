@@ -5,3 +5,4 @@ pub mod Starts
 pub mod Units
 pub mod Loads
 pub mod Runs
+pub mod Listings

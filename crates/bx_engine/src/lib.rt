@@ -1,6 +1,7 @@
 //! The engines of `bxemu`: what the program's commands do, over readers and a writer.
 #![tactic(auto)]
 
+mod dis;
 mod failures;
 mod inputs;
 pub mod laws;
@@ -9,6 +10,7 @@ mod runs;
 mod starts;
 mod units;
 
+pub use dis::dis_text;
 pub use failures::{Failure, fault_line};
 pub use runs::run_text;
 pub use starts::{Start, start_of};

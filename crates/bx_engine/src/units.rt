@@ -48,7 +48,7 @@ fn unit_in(alloc: Global, atoms: &mut Atoms, file: usize, text: &[u8]) -> Result
 }
 
 /// Reads the listing of that number whole, and numbers its code.
-fn read_unit<R: Read>(
+pub(crate) fn read_unit<R: Read>(
     alloc: Global,
     atoms: &mut Atoms,
     file: usize,

@@ -25,3 +25,4 @@ pub mod Listed
 pub mod OnLines
 pub mod FirstFaults
 pub mod Fitting
+pub mod Left

@@ -22,3 +22,4 @@ pub mod ListedItems
 pub mod Listed
 pub mod Refused
 pub mod Fits
+pub mod Writing

@@ -3,10 +3,12 @@
 
 mod code_form;
 mod head_forms;
+mod item_texts;
 mod items;
 pub mod laws;
 mod listing;
 mod literals;
+mod operand_texts;
 mod operands;
 mod parts;
 mod reading;
@@ -14,8 +16,10 @@ mod rows;
 mod shapes;
 mod ways;
 mod words;
+mod writing;
 
 pub use code_form::{Code, CodeFunction, Export};
 pub use items::{Amount, Import, Item, Operand};
 pub use listing::{Function, Listing, code_of};
 pub use reading::read_listing;
+pub use writing::write_listing;

@@ -1,7 +1,7 @@
 -- The bytes between quotes, a part at a time.
 use Rattle.std.proofs.Common.{◌≡◌, ℕ, zero, suc, ◌+◌, ◌<◌, Bool, true, false, cond, eqb, List, [], ◌∷◌, drop, refl, sym, ap, subst, arith}
 use Rattle.std.proofs.lemmas.List.{drop-drop}
-use Rattle.bx_text.specs.Lexing.{body_len, escaped_len, part_width}
+use Rattle.bx_text.specs.Lexing.{body_len, part_width}
 
 by_one : (t u : Bool) (q w b : ℕ) → cond t 0 1 ≡ suc w → cond t 0 (cond u (1 + 0) (1 + 0)) ≡ suc w + body_len q (drop (suc w) (b ∷ []))
 by_one true u q w b e = absurd (omega arith)

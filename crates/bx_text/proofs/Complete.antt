@@ -1,9 +1,7 @@
 -- What the grammar spells is read.
-use Rattle.std.proofs.Common.{◌≡◌, ℕ, zero, suc, ◌+◌, ◌≤◌, ◌<◌, Bool, true, false, List, [], ◌∷◌, ◌++◌, length, Option, Some, None, Result, Ok, Err, refl, sym, ap, ◌∙◌, subst, arith, if◌then◌else◌}
+use Rattle.std.proofs.Common.{◌≡◌, ℕ, zero, suc, ◌+◌, ◌≤◌, ◌<◌, Bool, true, false, List, ◌∷◌, ◌++◌, length, Some, None, Ok, Err, ap, ◌∙◌, arith, if◌then◌else◌}
 use Rattle.bx_terms.specs.Outcomes.{◌>>=◌}
-use Rattle.bx_terms.specs.declared.faults.Fault.{Fault}
 use Rattle.bx_terms.specs.declared.faults.Fault.TheVariants.{NotUtf8}
-use Rattle.bx_text.specs.declared.tokens.Mark.TheVariants.{CloseTuple, CloseList, CloseBinary, Comma, Bar, Arrow, Colon, Slash, Stop, Fun}
 use Rattle.bx_text.specs.declared.node.Sort.{Sort}
 use Rattle.bx_text.specs.declared.node.Sort.TheVariants as sort
 use Rattle.std.proofs.lemmas.Bool.Decides.{nat_tests}
@@ -11,11 +9,10 @@ use Rattle.std.specs.Str.Lossy.{utf8_valid_len}
 use Rattle.std.specs.Prelude.{◌==◌}
 use Rattle.bx_text.specs.Bytes.{begins}
 use Rattle.bx_text.specs.Place.{Place}
-use Rattle.bx_text.specs.Blank.{skip}
 use Rattle.bx_text.specs.Token as token
 use Rattle.bx_text.specs.Token.{Body, spelled, Token, Lexeme}
 use Rattle.bx_text.specs.Lexing.{lexeme_from, lexeme_at}
-use Rattle.bx_text.specs.Tree.{Tree, integer, atom, tuple, list, other, nil, chain}
+use Rattle.bx_text.specs.Tree.{Tree, list, other, nil, chain}
 use Rattle.bx_text.specs.Terms.{Reading, go_on, span, closes_tuple, closes_list, closes_binary, is_comma, is_bar, is_arrow, is_colon, is_slash, is_atom, is_integer, is_utf8_name, taken, kept_at, want, closed, passed, value_at, pair_at, follow_at, behind_token, go_through, parts, parts_at, map_on, map_at, content_by, sized, encoded, segment_at, binary_on, binary_at, fun_at, letters, letters_of, is_quote, text_next, texts, texts_on, strings_at, many, elements_at, tuple_at, tail_of, list_at, bracket_by, begin_by, begin, group_at, term_at}
 use Rattle.bx_text.specs.Terms as terms
 use Rattle.bx_text.specs.Grammar.{NoString, Strings, no_string, a_string, Spells, an_integer, an_atom, strings, empty_tuple, a_tuple, empty_list, a_list, a_list_with_tail, a_float, an_empty_map, a_map, an_empty_binary, a_binary, a_fun, Row, one, more, Pairs, one_pair, more_pairs, Kept, Content, a_number, a_text, Size, no_size, a_size, Encoding, no_encoding, in_utf8, Segment, a_segment, Segments, one_segment, more_segments}

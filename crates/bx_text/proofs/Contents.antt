@@ -32,7 +32,7 @@ nodes_some nil = omega arith
 nodes_some (cons t u) = omega arith
 
 -- a row has no more nodes than the row with a tail
-nodes_tailed : (xs : List Tree) (u : Tree) → nodes (chain xs nil) ≤ nodes (chain xs u)
+pub nodes_tailed : (xs : List Tree) (u : Tree) → nodes (chain xs nil) ≤ nodes (chain xs u)
 nodes_tailed [] u = nodes_some u
 nodes_tailed (x ∷ xs) u = omega (arith, nodes_tailed xs u)
 
@@ -69,7 +69,7 @@ pub unlike_large : (s t : Span) (v : List ℕ) (f g : Form) → f ≡ Large v �
 unlike_large s t v f g e p q unlike same = by_form g q unlike (sym (ap (form_tree s) e) ∙ same)
   where
     large : is_large (number v) ≡ true
-    large = subst IsForm e p
+    large = (subst IsForm e p).0
 
     by_form : (g : Form) → IsForm g → ((w : List ℕ) → g ≡ Large w → ⊥) → form_tree s (Large v) ≡ form_tree t g → ⊥
     by_form (Integer m) q unlike same = let number_is : number v ≡ m = cc in let both = large in cc

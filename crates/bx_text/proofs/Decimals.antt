@@ -1,8 +1,8 @@
 -- What decimal digits spell never falls when more follow.
-use Rattle.std.proofs.Common.{◌≡◌, ℕ, ◌+◌, ◌-◌, ◌*◌, ◌≤◌, ◌<◌, ◌^◌, List, [], ◌∷◌, length, drop, get_or, arith, ap, sym, subst}
+use Rattle.std.proofs.Common.{◌≡◌, ℕ, ◌+◌, ◌≤◌, ◌<◌, ◌^◌, List, [], ◌∷◌, length, drop, get_or, arith}
 use Rattle.std.proofs.lemmas.List.{at_drop_more}
 use Rattle.std.specs.List.{fold}
-use Rattle.bx_text.specs.Number.{with_digit, decimal}
+use Rattle.bx_text.specs.Number.{with_digit}
 
 pub grows : (n : ℕ) (ds : List ℕ) → n ≤ fold with_digit n ds
 grows n [] = omega arith

@@ -1,12 +1,12 @@
 -- Characters with escapes, one at a time.
-use Rattle.std.proofs.Common.{◌≡◌, ℕ, ◌<◌, ◌≤◌, Bool, true, false, cond, List, [], ◌∷◌, ◌++◌, refl, sym, ap, ◌∙◌, map, append_assoc, append-nil, arith}
+use Rattle.std.proofs.Common.{◌≡◌, ℕ, true, false, List, [], ◌∷◌, ◌++◌, refl, sym, ap, ◌∙◌, map, append_assoc, append-nil, arith}
 use Rattle.std.specs.List.{fold}
 use Rattle.std.specs.Char.{encode_utf8, InScalarRange, OutOfScalarRange}
 use Rattle.std.specs.Str.{encode_utf8_all}
 use Rattle.std.proofs.lemmas.Str.{encodes-append}
 use Rattle.std.proofs.lemmas.Bool.Decides.{nat_tests}
 use Rattle.bx_text.specs.declared.escapes.Escape.{Escape}
-use Rattle.bx_text.specs.Escapes.{step, known, known_in, known_last, coded, is_scalar}
+use Rattle.bx_text.specs.Escapes.{step, known, known_in, known_last, is_scalar}
 
 pub fold_push : (s : Escape) (cs : List ℕ) (c : ℕ) → fold step s (cs ++ c ∷ []) ≡ step (fold step s cs) c
 fold_push s [] c = refl

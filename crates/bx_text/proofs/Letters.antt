@@ -1,6 +1,5 @@
 -- The characters that a string spells.
-use Rattle.std.proofs.Common.{◌≡◌, ℕ, List, [], ◌∷◌, ◌++◌, length, sym, ap, ◌∙◌, subst, append-nil, arith, refl}
-use Rattle.std.specs.Str.{chars}
+use Rattle.std.proofs.Common.{◌≡◌, ℕ, List, [], ◌∷◌, ◌++◌, length, append-nil, arith, refl}
 use Rattle.std.proofs.lemmas.Str.{chars-nil}
 use Rattle.bx_text.specs.declared.node.Span.{Span}
 use Rattle.bx_text.specs.Tree.{Tree}

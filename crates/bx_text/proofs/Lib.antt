@@ -11,6 +11,7 @@ pub mod Letters
 pub mod Names
 pub mod Outcomes
 pub mod Parts
+pub mod Shown
 pub mod Quoting
 pub mod Rows
 pub mod Shorter

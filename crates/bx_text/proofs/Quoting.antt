@@ -1,5 +1,5 @@
 -- A string is what begins with a double quote.
-use Rattle.std.proofs.Common.{◌≡◌, ℕ, ◌+◌, Bool, true, false, cond, ◌||◌, eqb, leb, List, [], ◌∷◌, ◌++◌, length, drop, Option, Some, None, Result, Ok, Err, refl, sym, ap, ◌∙◌, subst, if◌then◌else◌, codes, ◌⊎◌, inl, inr}
+use Rattle.std.proofs.Common.{◌≡◌, ℕ, ◌+◌, Bool, true, false, cond, ◌||◌, eqb, leb, List, [], ◌∷◌, length, drop, Option, Some, None, Result, Ok, Err, refl, sym, ap, ◌∙◌, subst, if◌then◌else◌, codes, ◌⊎◌, inl, inr}
 use Rattle.std.specs.List.{prefix_len}
 use Rattle.std.specs.Str.{bytes_eq}
 use Rattle.std.specs.Str.Lossy.{utf8_valid_len}
@@ -15,7 +15,7 @@ use Rattle.bx_text.specs.Place.{Place, after}
 use Rattle.bx_text.specs.Blank.{skip}
 use Rattle.bx_text.specs.Token as token
 use Rattle.bx_text.specs.Token.{Body, Token, Lexeme}
-use Rattle.bx_text.specs.Lexing.{kind_of, punctuation_of, bare_at, word_at, foreign_at, digits_at, number_by, pair_on, fraction_len, exponent_len, quoted_at, token_by, token_on, token_at, lexeme_from, lexeme_at, ends}
+use Rattle.bx_text.specs.Lexing.{kind_of, bare_at, word_at, foreign_at, digits_at, pair_on, fraction_len, quoted_at, token_by, token_on, token_at, lexeme_from, lexeme_at, ends}
 use Rattle.bx_text.specs.Terms.{is_quote, text_next}
 use Rattle.bx_text.specs.Grammar.{NoString}
 use Rattle.bx_text.proofs.Outcomes.{ok_same, bind_ok}

@@ -1,5 +1,5 @@
 -- Rows of elements, read a part at a time.
-use Rattle.std.proofs.Common.{◌≡◌, ℕ, zero, suc, IsOkAnd, IsSome, ◌+◌, ◌-◌, ◌<◌, List, [], ◌∷◌, ◌++◌, Result, Ok, Err, Option, Some, None, option_map, refl, sym, ap, ◌∙◌, subst, append_assoc, append-nil, Bool, true, false, arith}
+use Rattle.std.proofs.Common.{◌≡◌, ℕ, zero, suc, IsOkAnd, IsSome, ◌+◌, ◌-◌, ◌<◌, List, [], ◌∷◌, ◌++◌, Result, Ok, Err, Option, Some, None, refl, sym, ap, ◌∙◌, subst, append_assoc, append-nil, Bool, true, false, arith}
 use Rattle.bx_terms.specs.Outcomes.{Gives, ◌>>=◌}
 use Rattle.bx_terms.specs.declared.faults.Fault.{Fault}
 use Rattle.bx_text.specs.Place.{Place}
@@ -8,7 +8,7 @@ use Rattle.bx_text.specs.Tree.{Tree, cons, list, chain}
 use Rattle.bx_text.specs.Terms as terms
 use Rattle.bx_text.specs.Terms.{Reading, Follow, follow_by, next_text, span, rest_at, list_at, text_next, texts, texts_on, letters_of}
 use Rattle.bx_text.specs.Rows.{prefixed, chained}
-use Rattle.bx_text.proofs.Outcomes.{gives_err, gives_bind}
+use Rattle.bx_text.proofs.Outcomes.{gives_err}
 
 pub prefixed_more : {Q : Type 0} (xs ys : List Tree) (r : Result (List Tree × Q) Fault) → prefixed xs (prefixed ys r) ≡ prefixed (xs ++ ys) r
 prefixed_more xs ys (Ok x) = ap (λ l. Ok (l, x.1)) (sym (append_assoc xs ys x.0))

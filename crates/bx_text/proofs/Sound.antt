@@ -2,8 +2,7 @@
 use Rattle.std.proofs.Common.{◌≡◌, ℕ, zero, suc, ◌+◌, Bool, true, false, ◌⊎◌, inl, inr, List, [], ◌∷◌, ◌++◌, length, Option, Some, None, Result, Ok, Err, refl, sym, ap, ◌∙◌, subst, if◌then◌else◌}
 use Rattle.bx_terms.specs.Outcomes.{◌>>=◌}
 use Rattle.bx_terms.specs.declared.faults.Fault.{Fault}
-use Rattle.bx_text.specs.declared.tokens.Mark.{Mark}
-use Rattle.bx_text.specs.declared.tokens.Mark.TheVariants.{CloseTuple, CloseList, CloseBinary, Comma, Bar, Arrow, Colon, Slash, Stop, Fun, Other}
+use Rattle.bx_text.specs.declared.tokens.Mark.TheVariants.{CloseTuple, CloseList, CloseBinary, Comma, Bar, Arrow, Colon, Slash, Stop, Fun}
 use Rattle.bx_text.specs.declared.node.Sort.{Sort}
 use Rattle.bx_text.specs.declared.node.Sort.TheVariants as sort
 use Rattle.std.proofs.lemmas.Bool.{eqb-true}
@@ -13,8 +12,8 @@ use Rattle.bx_text.specs.Place.{Place}
 use Rattle.bx_text.specs.Token as token
 use Rattle.bx_text.specs.Token.{Body, spelled, Token, Lexeme}
 use Rattle.bx_text.specs.Lexing.{lexeme_at}
-use Rattle.bx_text.specs.Tree.{Tree, integer, atom, tuple, list, other, nil, chain}
-use Rattle.bx_text.specs.Terms.{Reading, Follow, next, end, span, closed, closes_tuple, closes_list, is_comma, is_bar, is_stop, closes_binary, is_arrow, is_colon, is_slash, is_atom, is_integer, is_utf8_name, taken, kept_at, want, passed, value_at, pair_at, go_through, parts, parts_at, map_on, map_at, content_text, content_by, sized, encoded, behind_token, segment_at, binary_on, binary_at, fun_at, letters, letters_of, text_next, texts, texts_on, strings_at, string_at, follow_at, element_at, go_on, many, elements_at, tuple_on, tuple_at, tail_of, tail_at, end_at, rest_on, rest_at, list_at, bracket_by, atom_by, begin_by, group_at, term_at}
+use Rattle.bx_text.specs.Tree.{Tree, integer, tuple, list, other, nil, chain}
+use Rattle.bx_text.specs.Terms.{Follow, next, end, span, closed, closes_tuple, closes_list, is_comma, is_bar, is_stop, closes_binary, is_arrow, is_colon, is_slash, is_atom, is_integer, is_utf8_name, taken, kept_at, want, passed, value_at, pair_at, go_through, parts, parts_at, map_on, map_at, content_by, sized, encoded, behind_token, segment_at, binary_on, binary_at, fun_at, letters, letters_of, text_next, texts, texts_on, strings_at, string_at, follow_at, element_at, go_on, many, elements_at, tuple_on, tuple_at, tail_of, tail_at, end_at, rest_on, rest_at, list_at, bracket_by, atom_by, begin_by, group_at, term_at}
 use Rattle.bx_text.specs.Grammar.{NoString, Strings, no_string, a_string, Spells, an_integer, an_atom, strings, empty_tuple, a_tuple, empty_list, a_list, a_list_with_tail, a_float, an_empty_map, a_map, an_empty_binary, a_binary, a_fun, Row, one, more, Pairs, one_pair, more_pairs, Kept, Content, a_number, a_text, Size, no_size, a_size, Encoding, no_encoding, in_utf8, Segment, a_segment, Segments, one_segment, more_segments}
 use Rattle.bx_text.proofs.Outcomes.{ok_same, bind_ok}
 use Rattle.bx_text.proofs.Quoting.{text_is}

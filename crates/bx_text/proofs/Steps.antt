@@ -1,5 +1,5 @@
 -- One step of each reader of terms, by what its parts read.
-use Rattle.std.proofs.Common.{◌≡◌, ℕ, suc, Bool, true, false, List, [], ◌∷◌, ◌++◌, length, ◌+◌, Result, Ok, Err, sym, ap, ◌∙◌, if◌then◌else◌}
+use Rattle.std.proofs.Common.{◌≡◌, Bool, true, false, List, Result, Ok, Err, ap, ◌∙◌, if◌then◌else◌}
 use Rattle.bx_terms.specs.Outcomes.{◌>>=◌}
 use Rattle.bx_terms.specs.declared.faults.Fault.{Fault}
 use Rattle.bx_terms.specs.declared.faults.Fault.TheVariants.{BadTerm}
@@ -8,7 +8,7 @@ use Rattle.bx_text.specs.Token as token
 use Rattle.bx_text.specs.Token.{Lexeme}
 use Rattle.bx_text.specs.Lexing.{lexeme_at}
 use Rattle.bx_text.specs.Tree.{Tree, tuple, list, nil, chain}
-use Rattle.bx_text.specs.Terms.{Reading, Follow, next, end, span, closed, closes_tuple, closes_list, is_comma, is_bar, follow_at, element_at, elements_at, tuple_on, tuple_at, tail_of, tail_at, end_at, rest_on, rest_at, list_at, bracket_by, begin_by, begin, group_at, term_at}
+use Rattle.bx_text.specs.Terms.{Reading, Follow, next, end, span, closed, closes_tuple, closes_list, is_comma, is_bar, follow_at, element_at, elements_at, tuple_on, tuple_at, tail_of, tail_at, end_at, rest_on, rest_at, list_at}
 
 pub closed_is : (closes : token.Token → Bool) (m : Lexeme) → closes m.token ≡ true → closed closes m ≡ Ok m.after
 closed_is closes m c = ap (λ (b : Bool). if b then Ok m.after else Err (BadTerm m.line)) c

@@ -1,10 +1,10 @@
 -- Spaces and comments, which may stand between tokens: a comment goes from `%` to the end of its line.
-use Rattle.std.specs.Prelude.{ℕ, ◌+◌, ◌==◌, nat_le, if◌then◌else◌, List, [], ◌∷◌, length, take, Result, Ok, Err}
+use Rattle.std.specs.Prelude.{ℕ, ◌+◌, ◌==◌, if◌then◌else◌, List, [], ◌∷◌, length, take, Result, Ok, Err}
 use Rattle.std.specs.List.{prefix_len}
 use Rattle.std.specs.Str.Lossy.{utf8_valid_len}
 use Rattle.bx_terms.specs.declared.faults.Fault.{Fault}
 use Rattle.bx_terms.specs.declared.faults.Fault.TheVariants.{NotUtf8}
-use Rattle.bx_text.specs.Bytes.{is_space, is_feed, is_not_feed}
+use Rattle.bx_text.specs.Bytes.{is_space, is_not_feed}
 use Rattle.bx_text.specs.Place.{Place, after}
 
 -- the bytes up to the end of the line

@@ -1,5 +1,5 @@
 -- Classes of bytes in a term text (Erlang Reference Manual, "Character Set and Source File Encoding").
-use Rattle.std.specs.Prelude.{ℕ, Bool, true, false, not, ◌&&◌, ◌||◌, ◌==◌, nat_le, List, [], ◌∷◌}
+use Rattle.std.specs.Prelude.{ℕ, Bool, false, not, ◌&&◌, ◌||◌, ◌==◌, nat_le, List, [], ◌∷◌}
 
 -- a space is any byte from 0 to 32
 abbrev pub is_space : ℕ → Bool

@@ -2,7 +2,6 @@
 use Rattle.std.specs.Prelude.{◌≡◌, ℕ, ℤ, suc, true, false, List, [], ◌∷◌, ◌++◌, length, Ok}
 use Rattle.std.specs.Str.Lossy.{utf8_valid_len}
 use Rattle.bx_text.specs.declared.tokens.Mark.TheVariants.{CloseTuple, CloseList, CloseBinary, Comma, Bar, Arrow, Colon, Slash, Stop, Fun}
-use Rattle.bx_text.specs.declared.node.Sort.{Sort}
 use Rattle.bx_text.specs.declared.node.Sort.TheVariants as sort
 use Rattle.bx_text.specs.Bytes.{begins}
 use Rattle.bx_text.specs.Place.{Place}

@@ -1,12 +1,11 @@
 -- Which token begins at a place: the longest spelling of one (Erlang Reference Manual, "Data Types").
-use Rattle.std.specs.Prelude.{ℕ, ◌+◌, ◌-◌, Bool, true, false, not, ◌&&◌, ◌||◌, ◌==◌, nat_le, if◌then◌else◌, ℤ, pos, List, [], ◌∷◌, length, take, drop, codes, Option, Some, None, Result, Ok, Err}
+use Rattle.std.specs.Prelude.{ℕ, ◌+◌, Bool, true, ◌&&◌, ◌||◌, ◌==◌, nat_le, if◌then◌else◌, List, [], ◌∷◌, length, take, drop, codes, Option, Some, None, Result, Ok, Err}
 use Rattle.std.specs.List.{prefix_len}
 use Rattle.std.specs.Str.{bytes_eq}
 use Rattle.std.specs.Str.Lossy.{utf8_valid_len}
 use Rattle.bx_terms.specs.Outcomes.{◌>>=◌}
 use Rattle.bx_terms.specs.declared.faults.Fault.{Fault}
 use Rattle.bx_terms.specs.declared.faults.Fault.TheVariants.{BadToken, Truncated, NotUtf8}
-use Rattle.bx_text.specs.declared.tokens.Mark.{Mark}
 use Rattle.bx_text.specs.declared.tokens.Mark.TheVariants.{CloseTuple, CloseList, CloseBinary, Comma, Bar, Arrow, Colon, Slash, Stop, Fun, Other}
 use Rattle.bx_text.specs.declared.escapes.Escape.{Escape}
 use Rattle.bx_text.specs.Escapes.{open_in, is_whole, may_go_on, is_bad}
@@ -16,7 +15,7 @@ use Rattle.bx_text.specs.Bytes.{begins, is_space, is_percent, is_digit, is_lower
 use Rattle.bx_text.specs.Number.{number}
 use Rattle.bx_text.specs.Place.{Place, after, feeds}
 use Rattle.bx_text.specs.Blank.{skip}
-use Rattle.bx_text.specs.Token.{Body, plain, escaped, spelled, Token, integer, float, atom, text, open_tuple, open_list, open_map, open_binary, mark, Lexeme}
+use Rattle.bx_text.specs.Token.{Body, plain, escaped, Token, integer, float, atom, text, open_tuple, open_list, open_map, open_binary, mark, Lexeme}
 
 -- what a token that begins with this byte can be
 abbrev pub punctuation_of : ℕ → Kind

@@ -14,3 +14,4 @@ pub mod Token
 pub mod Tree
 pub mod View
 pub mod Grammar
+pub mod Printed

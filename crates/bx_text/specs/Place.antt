@@ -1,5 +1,5 @@
 -- A place in a text: what follows it, how many bytes stand before it, and its line.
-use Rattle.std.specs.Prelude.{ℕ, ◌+◌, ◌-◌, List, take, drop, count_by}
+use Rattle.std.specs.Prelude.{ℕ, ◌+◌, List, take, drop, count_by}
 use Rattle.bx_text.specs.Bytes.{is_feed}
 use Rattle.bx_text.specs.declared.reader.Reader.{Reader}
 

@@ -1,12 +1,11 @@
 -- Which term begins at a token, or the first fault (Erlang Reference Manual, "Data Types").
-use Rattle.std.specs.Prelude.{◌≡◌, ℕ, zero, suc, ◌+◌, ◌-◌, ◌<◌, ◌⊎◌, ◌==◌, Bool, true, false, if◌then◌else◌, pos, List, [], ◌∷◌, ◌++◌, map, length, take, codes, Option, Some, None, Result, Ok, Err, IsOk, IsOkAnd, IsSome}
+use Rattle.std.specs.Prelude.{ℕ, zero, suc, ◌+◌, ◌-◌, ◌<◌, ◌⊎◌, ◌==◌, Bool, true, false, if◌then◌else◌, pos, List, [], ◌∷◌, ◌++◌, map, length, take, codes, Option, Some, None, Result, Ok, Err, IsOk, IsOkAnd, IsSome}
 use Rattle.std.specs.Str.{chars, bytes_eq}
 use Rattle.std.specs.Str.Lossy.{utf8_valid_len}
 use Rattle.bx_terms.specs.Outcomes.{◌>>=◌}
 use Rattle.bx_terms.specs.declared.faults.Fault.{Fault}
 use Rattle.bx_terms.specs.declared.faults.Fault.TheVariants.{BadTerm, TooDeep, Truncated, NotUtf8}
 use Rattle.bx_text.specs.declared.node.Span.{Span}
-use Rattle.bx_text.specs.declared.tokens.Mark.{Mark}
 use Rattle.bx_text.specs.declared.tokens.Mark.TheVariants.{CloseTuple, CloseList, CloseBinary, Comma, Bar, Arrow, Colon, Slash, Stop, Fun}
 use Rattle.bx_text.specs.declared.node.Sort.{Sort}
 use Rattle.bx_text.specs.declared.node.Sort.TheVariants as sort
@@ -18,7 +17,7 @@ use Rattle.bx_text.specs.Blank.{skip}
 use Rattle.bx_text.specs.Token as token
 use Rattle.bx_text.specs.Token.{Body, spelled, IsEscaped, Token, Lexeme}
 use Rattle.bx_text.specs.Lexing.{lexeme_from, lexeme_at}
-use Rattle.bx_text.specs.Tree.{Tree, integer, atom, tuple, list, other, nil, cons, chain}
+use Rattle.bx_text.specs.Tree.{Tree, integer, atom, tuple, list, other, nil, chain}
 
 abbrev pub closes_tuple : Token → Bool
 closes_tuple (token.mark CloseTuple) = true

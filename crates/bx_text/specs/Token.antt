@@ -1,5 +1,5 @@
 -- The tokens of a term text.
-use Rattle.std.specs.Prelude.{ℕ, ℤ, pos, List}
+use Rattle.std.specs.Prelude.{ℕ, ℤ, List}
 use Rattle.bx_text.specs.declared.tokens.Mark.{Mark}
 use Rattle.bx_text.specs.declared.tokens.Body.{Body as SeenBody}
 use Rattle.bx_text.specs.declared.tokens.Body.TheVariants as body

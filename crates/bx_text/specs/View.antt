@@ -1,10 +1,10 @@
 -- What a node's view shows: the node's content, beside its span.
-use Rattle.std.specs.Prelude.{◌≡◌, ℕ, true, Option, Some, None}
+use Rattle.std.specs.Prelude.{◌≡◌, true, Option, Some, None}
 use Rattle.std.specs.Borrow.{Bor}
 use Rattle.bx_text.specs.declared.node.Span.{Span}
 use Rattle.bx_text.specs.declared.node.View.{View}
 use Rattle.bx_text.specs.declared.node.View.TheVariants.{Integer, Large, Atom, Tuple, List as Listed, Other}
-use Rattle.bx_text.specs.Number.{number, is_large}
+use Rattle.bx_text.specs.Number.{number, is_large, is_spelling}
 use Rattle.bx_text.specs.Tree.{Tree, integer, atom, tuple, list, other, nil, chain}
 
 abbrev pub tail_seen : Option (Bor Tree) → Tree
@@ -19,7 +19,7 @@ seen s (Tuple ts) = tuple s (chain ts.now nil)
 seen s (Listed ts u) = list s (chain ts.now (tail_seen u))
 seen s (Other k text) = other s k text.now
 
--- an integer that shows its digits is one outside 64 bits
+-- an integer that shows its digits is one outside 64 bits; they stand behind an optional minus sign
 abbrev pub IsView : View → Type 0
-IsView (Large digits) = is_large (number digits.now) ≡ true
+IsView (Large digits) = (is_large (number digits.now) ≡ true) × (is_spelling digits.now ≡ true)
 IsView v = Unit {0}

@@ -1,7 +1,7 @@
 //! Which token comes next.
 
 ghost use Rattle.std.specs.Prelude.{◌≡◌, ◌≤◌, Err, length, take};
-ghost use Rattle.std.specs.Str.{IsAscii};
+ghost use Rattle.bx_text.specs.Number.{IsSign};
 ghost use Rattle.bx_terms.specs.Outcomes.{Gives};
 ghost use Rattle.bx_text.specs.Place.{place};
 ghost use Rattle.bx_text.specs.Token.{token_of, lexeme_of};
@@ -59,7 +59,7 @@ fn pair<'a>(r: Reader<'a>, second: u8, token: Token<'a>) -> Result<(Token<'a>, R
 
 /// The token at `r` that begins as `kind` says.
 fn token_by<'a>(kind: Kind, r: Reader<'a>) -> Result<(Token<'a>, Reader<'a>), Fault>
-    requires ascii { kind ≡ Kind.Minus → IsAscii (take 1 r.rest.now) }
+    requires signed { kind ≡ Kind.Minus → IsSign (take 1 r.rest.now) }
     requires some { 1 ≤ length r.rest.now }
     ensures { Gives ⊥ (λ x. (token_of x.0, place x.1)) result (token_by kind (place r.entry)) }
 {
@@ -90,6 +90,7 @@ fn token_by<'a>(kind: Kind, r: Reader<'a>) -> Result<(Token<'a>, Reader<'a>), Fa
 }
 
 /// The token at `r`.
+#[tactic(auto, using(crate::proofs::Digits::minus_sign))]
 fn token<'a>(r: Reader<'a>) -> Result<(Token<'a>, Reader<'a>), Fault>
     ensures { Gives ⊥ (λ x. (token_of x.0, place x.1)) result (token_at (place r.entry)) }
 {

@@ -15,6 +15,7 @@ mod lexing;
 mod moves;
 mod node;
 mod numbers;
+mod printing;
 mod quotes;
 mod reader;
 mod spellings;
@@ -27,5 +28,6 @@ mod words;
 
 pub use forms::{atom_at, next_term};
 pub use node::{Node, Sort, Span, View};
+pub use printing::print_node;
 pub use reader::Reader;
 pub use word::Word;

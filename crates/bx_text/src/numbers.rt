@@ -2,10 +2,9 @@
 
 ghost use Rattle.std.specs.Prelude.{◌≡◌, ◌≤◌, ◌-◌, ◌^◌, true, drop, take, length, MatchOption};
 ghost use Rattle.std.specs.List.{prefix_len};
-ghost use Rattle.std.specs.Str.{IsAscii};
 ghost use Rattle.bx_terms.specs.Outcomes.{Gives};
 ghost use Rattle.bx_text.specs.Bytes.{is_digit};
-ghost use Rattle.bx_text.specs.Number.{decimal, number, signed, is_large, with_digit};
+ghost use Rattle.bx_text.specs.Number.{decimal, number, signed, is_large, is_spelling, with_digit, IsSign};
 ghost use Rattle.bx_text.specs.Place.{place};
 ghost use Rattle.bx_text.specs.Token.{token_of, integer};
 ghost use Rattle.bx_text.specs.Lexing.{point_len, fraction_len, sign_len, power_len, exponent_len, number_at};
@@ -123,9 +122,9 @@ fn exponent_len(bytes: &[u8]) -> usize
 }
 
 /// The integer that a spelling stands for.
-#[tactic(auto, using(crate::proofs::Texts::utf8_of_ascii))]
+#[tactic(auto, using(crate::proofs::Digits::spelling_utf8))]
 fn integer(spelling: &[u8]) -> Token<'_>
-    requires { IsAscii spelling.now }
+    requires { is_spelling spelling.now ≡ true }
     ensures { token_of result ≡ integer (number spelling.now) }
 {
     match value(spelling) {
@@ -156,10 +155,10 @@ fn value(spelling: &[u8]) -> Option<i64>
 }
 
 /// The number at `r`, of which `sign` bytes are its sign.
-#[tactic(auto, using(crate::proofs::Digits::number_ascii))]
+#[tactic(auto, using(crate::proofs::Digits::number_spelled))]
 pub(crate) fn number<'a>(r: Reader<'a>, sign: usize) -> Result<(Token<'a>, Reader<'a>), Fault>
     requires within { sign ≤ length r.rest.now }
-    requires ascii { IsAscii (take sign r.rest.now) }
+    requires signed { IsSign (take sign r.rest.now) }
     ensures { Gives ⊥ (λ x. (token_of x.0, place x.1)) result (number_at (place r.entry) sign) }
 {
     let count = digit_count(&r.rest[sign..]);

@@ -1,8 +1,9 @@
 //! When two spellings stand for the same integer, whatever zeros their digits begin with.
 
 ghost use Rattle.std.specs.Prelude.{◌≡◌, ◌↔◌, ◌≤◌, true, length, IsTrue};
-ghost use Rattle.std.specs.List.{fold};
-ghost use Rattle.bx_text.specs.Number.{decimal, number, signed, is_large, with_digit};
+ghost use Rattle.std.specs.List.{fold, list_all};
+ghost use Rattle.bx_text.specs.Bytes.{is_digit};
+ghost use Rattle.bx_text.specs.Number.{decimal, number, signed, is_large, is_spelling, with_digit};
 
 use crate::numbers::{digit_value, magnitude};
 
@@ -50,8 +51,9 @@ fn same_decimal(xs: &[u8], ys: &[u8]) -> bool
 }
 
 /// Whether a spelling has a sign, and its digits.
-fn parts(spelling: &[u8]) -> (bool, &[u8])
-    ensures { signed result.0 (decimal result.1.now) ≡ number spelling.now }
+pub(crate) fn parts(spelling: &[u8]) -> (bool, &[u8])
+    ensures value { signed result.0 (decimal result.1.now) ≡ number spelling.now }
+    ensures digits { is_spelling spelling.now ≡ list_all is_digit result.1.now }
 {
     match spelling {
         [b'-', digits @ ..] => (true, digits),

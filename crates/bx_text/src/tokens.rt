@@ -1,13 +1,14 @@
 //! Tokens.
 
 ghost use Rattle.std.specs.Prelude.{◌≡◌, true};
-ghost use Rattle.bx_text.specs.Number.{number, is_large};
+ghost use Rattle.bx_text.specs.Number.{number, is_large, is_spelling};
 
 /// The text of an integer outside 64 bits.
 #[derive(Clone, Copy, Debug)]
 pub(crate) struct Large<'a> {
     pub(crate) text: &'a str,
     ghost outside: { is_large (number text.now) ≡ true },
+    ghost spelled: { is_spelling text.now ≡ true },
 }
 
 /// A token that begins no term, but for `fun`.

@@ -8,17 +8,30 @@ use Rattle.clap.specs.declared.builder.command.Command.{Command}
 use Rattle.clap.specs.declared.parser.matches.ArgMatches.{ArgMatches}
 use Rattle.bxemu.specs.CommandLines.{Orders, program}
 use Rattle.bxemu.specs.declared.commands.Order.{Order}
-use Rattle.bxemu.specs.declared.commands.Order.TheVariants.{Run}
+use Rattle.bxemu.specs.declared.commands.Order.TheVariants.{Run, Dis}
 
-module _ (name : Text) (rows : List Row) where
-  pub lacks_start : first_of (codes "start") rows ≡ None → (order : Order) → Orders (Some (name, rows)) order → ⊥
+module _ (rows : List Row) where
+  run_is_not_dis : {A : Type 0} → codes "run" ≡ codes "dis" → A
+  run_is_not_dis e = absurd (cc)
+
+  dis_is_not_run : {A : Type 0} → codes "dis" ≡ codes "run" → A
+  dis_is_not_run e = absurd (cc)
+
+  pub lacks_start : first_of (codes "start") rows ≡ None → (order : Order) → Orders (Some (codes "run", rows)) order → ⊥
   lacks_start none (Run start plan files) h = let there = h.1 in cc
+  lacks_start none (Dis file) h = run_is_not_dis h.0
 
-  pub lacks_plan : first_of (codes "plan") rows ≡ None → (order : Order) → Orders (Some (name, rows)) order → ⊥
+  pub lacks_plan : first_of (codes "plan") rows ≡ None → (order : Order) → Orders (Some (codes "run", rows)) order → ⊥
   lacks_plan none (Run start plan files) h = let there = h.2 in cc
+  lacks_plan none (Dis file) h = run_is_not_dis h.0
 
-  pub lacks_files : all_of (codes "FILES") rows ≡ None → (order : Order) → Orders (Some (name, rows)) order → ⊥
+  pub lacks_files : all_of (codes "FILES") rows ≡ None → (order : Order) → Orders (Some (codes "run", rows)) order → ⊥
   lacks_files none (Run start plan files) h = let there = h.3 in cc
+  lacks_files none (Dis file) h = run_is_not_dis h.0
+
+  pub lacks_file : first_of (codes "FILE") rows ≡ None → (order : Order) → Orders (Some (codes "dis", rows)) order → ⊥
+  lacks_file none (Run start plan files) h = dis_is_not_run h.0
+  lacks_file none (Dis file) h = let there = h.1 in cc
 
 -- what holds in any case holds of each value
 pub if_ok_always : {T E P : Type 0} (r : Result T E) → P → IfOk r (λ _. P)

@@ -10,7 +10,7 @@ use Rattle.clap.specs.declared.builder.action.ArgAction.TheVariants.{Set, Append
 use Rattle.clap.specs.declared.error.Error.{Error}
 use Rattle.clap.specs.declared.error.kind.ErrorKind.TheVariants.{OutOfMemory}
 use Rattle.bxemu.specs.declared.commands.Order.{Order}
-use Rattle.bxemu.specs.declared.commands.Order.TheVariants.{Run}
+use Rattle.bxemu.specs.declared.commands.Order.TheVariants.{Run, Dis}
 
 -- `--NAME VALUE`, which stands once
 abbrev pub option_rule : Text → Rule
@@ -30,10 +30,18 @@ abbrev pub run_command : App
 run_command = with_rule (with_rule (with_rule (new_app (codes "run")) (option_rule (codes "start")))
     (option_rule (codes "plan"))) files_rule
 
+-- one file
+abbrev pub file_rule : Rule
+file_rule = record (new_rule (codes "FILE")) { action = Some Set; required = true }
+
+-- `dis FILE`
+abbrev pub dis_command : App
+dis_command = with_rule (new_app (codes "dis")) file_rule
+
 -- the program, of which a subcommand is wanted
 abbrev pub program : App
-program = with_subcommand (on_top (λ top. record top { subcommand_required = true })
-    (new_app (codes "bxemu"))) run_command.top
+program = with_subcommand (with_subcommand (on_top (λ top. record top { subcommand_required = true })
+    (new_app (codes "bxemu"))) run_command.top) dis_command.top
 
 -- a run with these parts is what the subcommand's values say
 abbrev pub IsRun : Option (Text × List Row) → Text → Text → List Text → Type 0
@@ -43,10 +51,16 @@ IsRun (Some p) start plan files = (p.0 ≡ codes "run")
     × (first_of (codes "plan") p.1 ≡ Some plan)
     × (all_of (codes "FILES") p.1 ≡ Some files)
 
+-- a code form of this file is what the subcommand's values say
+abbrev pub IsDis : Option (Text × List Row) → Text → Type 0
+IsDis None file = ⊥
+IsDis (Some p) file = (p.0 ≡ codes "dis") × (first_of (codes "FILE") p.1 ≡ Some file)
+
 -- the order is the one that the subcommand's values say
 abbrev pub Orders : Option (Text × List Row) → Order → Type 0
 Orders named (Run start plan files) =
     IsRun named start.now plan.now (map (λ file. file.now) files.items)
+Orders named (Dis file) = IsDis named file.now
 
 -- there is no order with these values, or memory ran out
 abbrev pub Lacks : Option (Text × List Row) → Error → Type 0
@@ -61,3 +75,7 @@ OrdersNothing words e =
 abbrev pub OrdersRun : List Text → Text → Text → List Text → Type 0
 OrdersRun words start plan files =
     (fault_of program words ≡ []) × IsRun (subcommand_of program words) start plan files
+
+-- the words order the code form of this file, and have no fault
+abbrev pub OrdersDis : List Text → Text → Type 0
+OrdersDis words file = (fault_of program words ≡ []) × IsDis (subcommand_of program words) file

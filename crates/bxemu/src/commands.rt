@@ -3,7 +3,7 @@ ghost use Rattle.std.specs.Prelude.{◌≡◌, ◌⊎◌, [], IfErr, IfOk, codes
 ghost use Rattle.clap.specs.Words.{app_of, found_of, kind_of, rows_of, rule_of, subcommand_of, subcommand_rows_of};
 ghost use Rattle.clap.specs.Faults.{fault_of};
 ghost use Rattle.clap.specs.declared.builder.command.Command.TheViews.{out-Command as fields_of};
-ghost use Rattle.bxemu.specs.CommandLines.{Lacks, Orders, OrdersNothing, files_rule, option_rule, program, run_command};
+ghost use Rattle.bxemu.specs.CommandLines.{Lacks, Orders, OrdersNothing, dis_command, file_rule, files_rule, option_rule, program, run_command};
 
 use clap::error::ErrorKind;
 use clap::{Arg, ArgAction, ArgMatches, Command, Error};
@@ -20,6 +20,11 @@ pub enum Order<'a> {
         plan: &'a str,
         /// The files of the listings, in order.
         files: Vec<&'a str>,
+    },
+    /// Writes the code form of a listing.
+    Dis {
+        /// The file of the listing.
+        file: &'a str,
     },
 }
 
@@ -46,6 +51,7 @@ fn order_of<'a>(alloc: Global, matches: &ArgMatches<'a>) -> Result<Order<'a>, Er
     };
     match name {
         "run" => run_order(alloc, values),
+        "dis" => dis_order(alloc, values),
         _ => Err(incomplete(alloc)),
     }
 }
@@ -66,6 +72,17 @@ fn run_order<'a>(alloc: Global, values: &ArgMatches<'a>) -> Result<Order<'a>, Er
     };
     let files = Vec::from_slice(alloc, files)?;
     Ok(Order::Run { start, plan, files })
+}
+
+/// The order to write a code form, by the values of `dis`.
+fn dis_order<'a>(alloc: Global, values: &ArgMatches<'a>) -> Result<Order<'a>, Error>
+    ensures ok { IfOk result (Orders (Some (codes "dis", rows_of (found_of values.now)))) }
+    ensures err { IfErr result (Lacks (Some (codes "dis", rows_of (found_of values.now)))) }
+{
+    match values.get_str("FILE") {
+        Some(file) => Ok(Order::Dis { file }),
+        None => Err(incomplete(alloc)),
+    }
 }
 
 /// The fault of a command line that lacks a part.
@@ -95,7 +112,8 @@ fn program_command<'a>(alloc: Global) -> Result<Command<'a>, AllocError>
     Command::new(alloc, "bxemu")
         .about("Runs Erlang assembly listings under given schedules")
         .subcommand_required(true)
-        .subcommand(run_subcommand(alloc)?)
+        .subcommand(run_subcommand(alloc)?)?
+        .subcommand(dis_subcommand(alloc)?)
 }
 
 /// `run`, with its options and files.
@@ -108,6 +126,16 @@ fn run_subcommand<'a>(alloc: Global) -> Result<Command<'a>, AllocError>
         .arg(start_option(alloc))?
         .arg(plan_option(alloc))?
         .arg(files_argument(alloc))
+}
+
+/// `dis`, with its file.
+fn dis_subcommand<'a>(alloc: Global) -> Result<Command<'a>, AllocError>
+    ensures app { IfOk result (λ c. app_of c ≡ dis_command) }
+    ensures local { IfOk result (λ c. (fields_of c).has_globals ≡ false) }
+{
+    Command::new(alloc, "dis")
+        .about("Reads a listing, numbers its code and prints what the numbers spell")
+        .arg(file_argument(alloc))
 }
 
 /// `--start M:F`.
@@ -144,6 +172,17 @@ fn files_argument<'a>(alloc: Global) -> Arg<'a>
     Arg::new(alloc, "FILES")
         .help("The assembly listings to load, in order")
         .action(ArgAction::Append)
+        .required(true)
+}
+
+/// The file of the listing.
+fn file_argument<'a>(alloc: Global) -> Arg<'a>
+    ensures rule { rule_of result ≡ file_rule }
+    ensures local { result.global ≡ false }
+{
+    Arg::new(alloc, "FILE")
+        .help("The assembly listing to read")
+        .action(ArgAction::Set)
         .required(true)
 }
 

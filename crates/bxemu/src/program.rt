@@ -8,7 +8,7 @@ ghost use Rattle.bx_terms.specs.declared.faults.Fault.TheVariants.{Memory};
 ghost use Rattle.bxemu.specs.Statuses.{status_after};
 
 use crate::commands::{Order, command_of};
-use bx_engine::{Failure, fault_line, run_text, start_of};
+use bx_engine::{Failure, dis_text, fault_line, run_text, start_of};
 use bx_terms::Fault;
 use clap::Error;
 use clap::error::ErrorKind;
@@ -33,15 +33,52 @@ where
     };
     match command_of(rt.alloc(), words.as_slice()) {
         Ok(Order::Run { start, plan, files }) => {
-            let names = match names_of(rt.alloc(), files.as_slice(), plan) {
-                Ok(names) => names,
-                Err(_) => return fault_line(&memory(), &[], errors),
-            };
-            let ended = run(rt, start, names.as_slice(), output);
-            told(&ended, names.as_slice(), errors)
+            status_of_report(rt, start, files.as_slice(), plan, output, errors)
         }
+        Ok(Order::Dis { file }) => status_of_dis(rt, file, output, errors),
         Err(error) => explain(rt, &error, errors),
     }
+}
+
+/// Does what `run` orders, and gives the status to end with.
+fn status_of_report<R, O, W>(
+    rt: &R,
+    start: &str,
+    files: &[&str],
+    plan: &str,
+    output: &mut O,
+    errors: &mut W,
+) -> u8
+where
+    R: Files + AllocGlobal,
+    O: Write,
+    W: Write,
+    ensures few { result ≤ 4 }
+    ensures unwritten { (result ≡ 0) ⊎ (result ≡ 4) ⊎ Keeps (O.contents output.old) (O.contents output.new) }
+{
+    let names = match names_of(rt.alloc(), files, plan) {
+        Ok(names) => names,
+        Err(_) => return fault_line(&memory(), &[], errors),
+    };
+    let ended = run(rt, start, names.as_slice(), output);
+    told(&ended, names.as_slice(), errors)
+}
+
+/// Does what `dis` orders, and gives the status to end with.
+fn status_of_dis<R, O, W>(rt: &R, file: &str, output: &mut O, errors: &mut W) -> u8
+where
+    R: Files + AllocGlobal,
+    O: Write,
+    W: Write,
+    ensures few { result ≤ 4 }
+    ensures unwritten { (result ≡ 0) ⊎ (result ≡ 4) ⊎ Keeps (O.contents output.old) (O.contents output.new) }
+{
+    let names = match names_of(rt.alloc(), &[], file) {
+        Ok(names) => names,
+        Err(_) => return fault_line(&memory(), &[], errors),
+    };
+    let ended = dis(rt, names.as_slice(), output);
+    told(&ended, names.as_slice(), errors)
 }
 
 /// The status that a run ends with: 0 where it was done, and else that of its failure, whose line is written to `errors`.
@@ -104,16 +141,16 @@ fn memory() -> Failure
     Failure::Refused(Fault::Memory, None)
 }
 
-/// The files' names in the order by which a failure numbers them: the listings, and then the plan.
-fn names_of(alloc: Global, files: &[&str], plan: &str) -> Result<Vec<String>, AllocError>
+/// The files' names in the order by which a failure numbers them: the listings, and then the plan, or the only file.
+fn names_of(alloc: Global, files: &[&str], last: &str) -> Result<Vec<String>, AllocError>
     ensures { IfOk result (λ names. map string_bytes names.items
-        ≡ map (λ file. file.now) files.now ++ plan.now ∷ []) }
+        ≡ map (λ file. file.now) files.now ++ last.now ∷ []) }
 {
     let mut names = Vec::new(alloc);
     for file in files {
         names.push(String::from_str(alloc, file)?)?;
     }
-    names.push(String::from_str(alloc, plan)?)?;
+    names.push(String::from_str(alloc, last)?)?;
     Ok(names)
 }
 
@@ -128,6 +165,20 @@ where
     let mut inputs = open_all(rt, names)?;
     match inputs.split_last_mut() {
         Some((plan, listings)) => run_text(rt.alloc(), listings, start, plan, writer),
+        None => Ok(()),
+    }
+}
+
+/// Opens the file, and then writes the code form of its listing.
+fn dis<R, W>(rt: &R, names: &[String], writer: &mut W) -> Result<(), Failure>
+where
+    R: Files + AllocGlobal,
+    W: Write,
+    ensures { IfErr result (λ failure. (failure ≡ Failure.Write) ⊎ Keeps (W.contents writer.old) (W.contents writer.new)) }
+{
+    let mut inputs = open_all(rt, names)?;
+    match inputs.split_last_mut() {
+        Some((listing, _)) => dis_text(rt.alloc(), listing, writer),
         None => Ok(()),
     }
 }

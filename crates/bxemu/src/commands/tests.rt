@@ -19,7 +19,11 @@ fn assert_run(rt: &impl Abort, order: &Order<'_>, start: &str, plan: &str, files
         start: start_given,
         plan: plan_given,
         files: files_given,
-    } = order;
+    } = order
+    else {
+        assert!(rt; false, "another order");
+        return;
+    };
     assert!(rt; *start_given == start);
     assert!(rt; *plan_given == plan);
     let mut wanted = files.split(' ');
@@ -67,7 +71,9 @@ fn orders_runs(rt: HostRuntime) -> Result<(), Fail> {
 fn refuses_other_words(rt: HostRuntime) -> Result<(), Fail> {
     let rows = [
         ("bxemu", ErrorKind::MissingSubcommand),
-        ("bxemu dis a.S", ErrorKind::InvalidSubcommand),
+        ("bxemu dis", ErrorKind::MissingRequiredArgument),
+        ("bxemu dis a.S b.S", ErrorKind::UnknownArgument),
+        ("bxemu dis --plan p a.S", ErrorKind::UnknownArgument),
         ("bxemu debug --start m:f a.S", ErrorKind::InvalidSubcommand),
         (
             "bxemu campaign --start m:f --plan p a.S",

@@ -1,4 +1,4 @@
-use Rattle.std.proofs.Common.{◌≡◌, ℕ, ◌<◌, ◌∙◌, ap, drop, length, length-drop, arith}
+use Rattle.std.proofs.Common.{◌≡◌, ◌<◌, ◌∙◌, ap, drop, length, length-drop, arith}
 use Rattle.bx_text.specs.Lexing.{part_width}
 use Rattle.bx_text.proofs.Bodies.{body_step}
 use Rattle.bx_text.proofs.Slices.{tail_is}

@@ -1,4 +1,4 @@
-use Rattle.std.proofs.Common.{◌≡◌, ◌+◌, ◌-◌, ◌<◌, false, true, length, List, Option, Ok, Some, None, sym, ap, ◌∙◌, arith}
+use Rattle.std.proofs.Common.{◌≡◌, ◌+◌, ◌-◌, false, true, length, List, Option, Ok, Some, sym, ap, ◌∙◌, arith}
 use Rattle.bx_text.specs.Place.{Place, place}
 use Rattle.bx_text.specs.Token.{Lexeme, lexeme_of}
 use Rattle.bx_text.specs.Tree.{Tree}

@@ -1,4 +1,4 @@
-use Rattle.std.proofs.Common.{◌≡◌, ℕ, suc, ◌+◌, ◌-◌, ◌<◌, true, false, inr, List, length, Ok, IsOkAnd, sym, ap, ◌∙◌, subst, arith}
+use Rattle.std.proofs.Common.{◌≡◌, suc, ◌+◌, ◌-◌, true, false, inr, List, length, Ok, IsOkAnd, sym, ap, ◌∙◌, subst, arith}
 use Rattle.bx_text.specs.Place.{Place, place}
 use Rattle.bx_text.specs.Token.{Lexeme, lexeme_of}
 use Rattle.bx_text.specs.Tree.{Tree}

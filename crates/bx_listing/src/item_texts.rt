@@ -1,0 +1,234 @@
+//! The text of items, each a line of a listing.
+
+ghost use Rattle.std.specs.Prelude.{◌≡◌, ◌++◌, OnOk, string_bytes, codes, length, take, drop};
+ghost use Rattle.bx_ops.specs.Opcodes.{opcode};
+ghost use Rattle.bx_ops.specs.Table.{slots as table_slots, way as table_way};
+ghost use Rattle.bx_terms.specs.AtomText.{printed_atom};
+ghost use Rattle.bx_listing.specs.Items.{seen_item};
+ghost use Rattle.bx_listing.specs.Writing.{operand_text, list_text, slot_text, operand_span, slot_span, slots_text, grouped_text, way_text, item_text};
+
+use crate::items::{Item, Operand};
+use crate::operand_texts::{before, behind, push_added, push_list, push_operand};
+use bx_ops::{Op, Slot, Sort, Way, name, slots, way};
+use bx_terms::{Atoms, push_atom};
+use std::alloc::{AllocError, Global};
+
+/// Adds a list's members in a tuple of a word, which `opening` begins, where the operands begin with a list.
+fn push_members(
+    alloc: Global,
+    out: &mut String,
+    atoms: &Atoms,
+    opening: &str,
+    count: usize,
+    members: &[Operand],
+) -> Result<(), AllocError>
+    ensures { OnOk result (string_bytes out.new
+        ≡ string_bytes out.old ++ (opening.now ++ list_text atoms.now (take count members.now)
+        ++ codes "}")) }
+{
+    out.push_str(opening)?;
+    push_list(alloc, out, atoms, before(members, count))?;
+    out.push_str("}")
+}
+
+fn push_next(
+    alloc: Global,
+    out: &mut String,
+    atoms: &Atoms,
+    operand: &Operand,
+) -> Result<(), AllocError>
+    ensures { OnOk result (string_bytes out.new
+        ≡ string_bytes out.old ++ (codes "," ++ operand_text atoms.now operand.now)) }
+{
+    out.push_str(",")?;
+    push_operand(alloc, out, atoms, operand)
+}
+
+/// Adds what stands in one place, after a comma.
+fn push_slot(
+    alloc: Global,
+    out: &mut String,
+    atoms: &Atoms,
+    slot: Slot,
+    operands: &[Operand],
+) -> Result<(), AllocError>
+    ensures { OnOk result (string_bytes out.new
+        ≡ string_bytes out.old ++ slot_text atoms.now slot operands.now) }
+{
+    match (slot, operands) {
+        (Slot::One(Sort::Mark), _) => out.push_str(",[]"),
+        (Slot::One(_), [operand, ..]) => push_next(alloc, out, atoms, operand),
+        (Slot::Many(_) | Slot::Pairs(_, _), [Operand::List(count), members @ ..]) => {
+            push_members(alloc, out, atoms, ",{list,", *count, members)
+        }
+        (Slot::Heap, [Operand::List(count), members @ ..]) => {
+            push_members(alloc, out, atoms, ",{alloc,", *count, members)
+        }
+        (Slot::Heap, [operand, ..]) => push_next(alloc, out, atoms, operand),
+        (Slot::NoLabel, _) => out.push_str(",{f,0}"),
+        (Slot::ToX0, _) => out.push_str(",{x,0}"),
+        _ => Ok(()),
+    }
+}
+
+/// The operands behind the first, and behind the members of a list that it is.
+fn past_first(operands: &[Operand]) -> &[Operand]
+    ensures { result.now ≡ drop (operand_span operands.now) operands.now }
+{
+    match operands {
+        [Operand::List(count), members @ ..] => behind(members, *count),
+        [_, rest @ ..] => rest,
+        [] => operands,
+    }
+}
+
+/// The operands behind those that stand in a place.
+fn past(slot: Slot, operands: &[Operand]) -> &[Operand]
+    ensures { result.now ≡ drop (slot_span slot operands.now) operands.now }
+{
+    match slot {
+        Slot::NoLabel | Slot::ToX0 => operands,
+        _ => past_first(operands),
+    }
+}
+
+/// Adds the operands, place by place.
+#[tactic(auto, using(bx_share::specs::Rows::rest_at))]
+fn push_slots(
+    alloc: Global,
+    out: &mut String,
+    atoms: &Atoms,
+    slots: &[Slot],
+    operands: &[Operand],
+) -> Result<(), AllocError>
+    ensures { OnOk result (string_bytes out.new
+        ≡ string_bytes out.old ++ slots_text atoms.now slots.now operands.now) }
+{
+    let mut left = operands;
+    for slot in slots {
+        push_slot(alloc, out, atoms, *slot, left)?;
+        left = past(*slot, left);
+    }
+    Ok(())
+}
+
+/// Adds operands of which those from one place to another stand in a list.
+fn push_grouped(
+    alloc: Global,
+    out: &mut String,
+    atoms: &Atoms,
+    from: usize,
+    to: usize,
+    operands: &[Operand],
+) -> Result<(), AllocError>
+    ensures { OnOk result (string_bytes out.new
+        ≡ string_bytes out.old ++ grouped_text atoms.now from to operands.now) }
+{
+    push_added(alloc, out, atoms, before(operands, from))?;
+    out.push_str(",")?;
+    push_list(alloc, out, atoms, behind(before(operands, to), from))?;
+    push_added(alloc, out, atoms, behind(operands, to))
+}
+
+/// Adds an instruction that is written as a tuple of its name and its operands.
+fn push_plain(
+    alloc: Global,
+    out: &mut String,
+    atoms: &Atoms,
+    op: Op,
+    operands: &[Operand],
+) -> Result<(), AllocError>
+    ensures { OnOk result (string_bytes out.new
+        ≡ string_bytes out.old ++ (codes "{" ++ printed_atom (opcode op).name
+        ++ slots_text atoms.now (table_slots op) operands.now ++ codes "}")) }
+{
+    out.push_str("{")?;
+    push_atom(alloc, out, name(op))?;
+    push_slots(alloc, out, atoms, slots(op), operands)?;
+    out.push_str("}")
+}
+
+/// Adds a test: its name, its label, and a list of its operands.
+fn push_test(
+    alloc: Global,
+    out: &mut String,
+    atoms: &Atoms,
+    op: Op,
+    operands: &[Operand],
+) -> Result<(), AllocError>
+    ensures { OnOk result (string_bytes out.new
+        ≡ string_bytes out.old ++ (codes "{test," ++ printed_atom (opcode op).name
+        ++ grouped_text atoms.now 1 (length operands.now) operands.now ++ codes "}")) }
+{
+    out.push_str("{test,")?;
+    push_atom(alloc, out, name(op))?;
+    push_grouped(alloc, out, atoms, 1, operands.len(), operands)?;
+    out.push_str("}")
+}
+
+/// Adds an instruction between two texts, its operands from `from` to `to` in a list.
+fn push_between(
+    alloc: Global,
+    out: &mut String,
+    atoms: &Atoms,
+    opening: &str,
+    from: usize,
+    to: usize,
+    operands: &[Operand],
+    closing: &str,
+) -> Result<(), AllocError>
+    ensures { OnOk result (string_bytes out.new
+        ≡ string_bytes out.old ++ (opening.now ++ grouped_text atoms.now from to operands.now
+        ++ closing.now)) }
+{
+    out.push_str(opening)?;
+    push_grouped(alloc, out, atoms, from, to, operands)?;
+    out.push_str(closing)
+}
+
+/// Adds an instruction in the way in which its opcode is written.
+fn push_way(
+    alloc: Global,
+    out: &mut String,
+    atoms: &Atoms,
+    op: Op,
+    operands: &[Operand],
+) -> Result<(), AllocError>
+    ensures { OnOk result (string_bytes out.new
+        ≡ string_bytes out.old
+        ++ way_text atoms.now (table_way op) (printed_atom (opcode op).name) (table_slots op) operands.now) }
+{
+    let count = operands.len();
+    let last = count.saturating_sub(1);
+    match way(op) {
+        Way::Bare => push_atom(alloc, out, name(op)),
+        Way::Plain => push_plain(alloc, out, atoms, op, operands),
+        Way::Test => push_test(alloc, out, atoms, op, operands),
+        Way::Bif => push_between(alloc, out, atoms, "{bif", 2, last, operands, "}"),
+        Way::GcBif => push_between(alloc, out, atoms, "{gc_bif", 3, last, operands, "}"),
+        Way::Raise => push_between(
+            alloc,
+            out,
+            atoms,
+            "{raise,{f,0}",
+            0,
+            count,
+            operands,
+            ",{x,0}}",
+        ),
+    }
+}
+
+/// Adds an item, its full stop, and the end of its line.
+pub(crate) fn push_item(
+    alloc: Global,
+    out: &mut String,
+    atoms: &Atoms,
+    item: Item<'_>,
+) -> Result<(), AllocError>
+    ensures { OnOk result (string_bytes out.new
+        ≡ string_bytes out.old ++ item_text atoms.now (seen_item item.entry)) }
+{
+    push_way(alloc, out, atoms, item.op, item.operands)?;
+    out.push_str(".\n")
+}

@@ -1,0 +1,40 @@
+//! Each beginning of a listing of one item.
+
+use crate::samples::read;
+use std::test::Fail;
+
+// No full stop stands in it but those that end a form.
+const LISTING: &str =
+    "{module,m}.\n{exports,[{f,0}]}.\n{labels,1}. {function,f,0,1}.\n{move,{literal,\"a\"},{x,0}}. ";
+
+/// What is wanted of a beginning: 0 where it is a listing, else the number of its refusal.
+fn wanted(text: &str) -> u8 {
+    let forms = text.bytes().filter(|byte| *byte == b'.').count();
+    let text = text.trim_end();
+    if !text.is_empty() && !text.ends_with(".") {
+        6
+    } else if forms < 3 {
+        8
+    } else {
+        0
+    }
+}
+
+#[test]
+fn beginnings_of_a_listing(rt: HostRuntime) -> Result<(), Fail> {
+    for end in 0..LISTING.len() + 1 {
+        let Some(text) = LISTING.get(0..end) else {
+            continue;
+        };
+        // `fun` alone begins a term of a kind of its own, at which the tests of texts look.
+        if text.ends_with("{fun") {
+            continue;
+        }
+        let number = match read(rt.alloc(), text) {
+            Ok(_) => 0,
+            Err(fault) => fault.number().unwrap_or(0),
+        };
+        assert!(rt; number == wanted(text), "{end}: {number}");
+    }
+    Ok(())
+}

@@ -1,0 +1,165 @@
+-- Integers are printed by their digits.
+use Rattle.std.proofs.Common.{◌≡◌, ℕ, zero, suc, ◌+◌, ◌-◌, ◌*◌, ◌/◌, ◌%◌, ◌<◌, ◌≤◌, ◌^◌, Bool, true, false, cond, List, [], ◌∷◌, ◌++◌, drop, refl, sym, ap, ◌∙◌, subst, arith, eqb, codes, length, get_or, slice_range, append_assoc, append-nil}
+use Rattle.std.specs.Prelude.{ℤ, pos, negsuc, nat_lt}
+use Rattle.std.specs.Fmt.{decimal as shortest, signed_decimal}
+use Rattle.std.specs.List.{fold, list_all, prefix_len}
+use Rattle.std.specs.Str.{IsUtf8}
+use Rattle.std.proofs.lemmas.Bool.Decides.{nat_tests}
+use Rattle.std.proofs.lemmas.Fmt.{decimal_digit, decimal_step}
+use Rattle.std.proofs.lemmas.List.{take_rest}
+use Rattle.bx_text.proofs.Contents.{nodes_at, nodes_tailed}
+use lib.Signed.{mag}
+use Rattle.bx_text.specs.Bytes.{is_digit}
+use Rattle.bx_text.specs.Number.{decimal, signed, is_large, with_digit}
+use Rattle.bx_text.specs.Tree.{Tree, integer, atom, tuple, list, other, nil, cons, chain, nodes, IsWhole, IsEnd}
+use Rattle.bx_text.specs.Printed.{is_zero, sign_text, digits_within, whole_decimal, integer_text, node_text, row_text, rest_text}
+use Rattle.bx_text.proofs.Digits.{both, digits_utf8}
+
+enough : (k n : ℕ) → n < k → n < 2 ^ 64 → digits_within k n ≡ shortest n
+unfolding digits_within
+enough zero n h small = absurd (omega arith)
+enough (suc k) n h small = by (nat_lt n 10) refl (λ below. enough k (n / 10) below (omega arith))
+  where
+    by : (t : Bool) → nat_lt n 10 ≡ t → (n / 10 < k → digits_within k (n / 10) ≡ shortest (n / 10)) → elim t [ true ↦ (48 + n) ∷ [] | false ↦ digits_within k (n / 10) ++ (48 + n % 10) ∷ [] ] ≡ shortest n
+    by true e more = sym (decimal_digit n (grind (arith, nat_tests)))
+    by false e more =
+        let long : 10 ≤ n = grind (arith, nat_tests) in
+        let below : n / 10 < k = omega arith in
+        ap (λ ds. ds ++ (48 + n % 10) ∷ []) (more below) ∙ sym (decimal_step n long small)
+
+same : (k j n : ℕ) → n < k → n < j → digits_within k n ≡ digits_within j n
+unfolding digits_within
+same zero j n h i = absurd (omega arith)
+same (suc k) zero n h i = absurd (omega arith)
+same (suc k) (suc j) n h i = by (nat_lt n 10) refl (same k j (n / 10))
+  where
+    by : (t : Bool) → nat_lt n 10 ≡ t → (n / 10 < k → n / 10 < j → digits_within k (n / 10) ≡ digits_within j (n / 10)) → ◌≡◌ {A = List ℕ} (elim t [ true ↦ (48 + n) ∷ [] | false ↦ digits_within k (n / 10) ++ (48 + n % 10) ∷ [] ])
+        (elim t [ true ↦ (48 + n) ∷ [] | false ↦ digits_within j (n / 10) ++ (48 + n % 10) ∷ [] ])
+    by true e more = refl
+    by false e more =
+        let long : 10 ≤ n = grind (arith, nat_tests) in
+        let below : n / 10 < k = omega arith in
+        let below_too : n / 10 < j = omega arith in
+        ap (λ ds. ds ++ (48 + n % 10) ∷ []) (more below below_too)
+
+one_digit : (n : ℕ) → n < 10 → whole_decimal n ≡ (48 + n) ∷ []
+unfolding whole_decimal digits_within
+one_digit n h = by (nat_lt n 10) refl
+  where
+    by : (t : Bool) → nat_lt n 10 ≡ t → elim t [ true ↦ (48 + n) ∷ [] | false ↦ digits_within n (n / 10) ++ (48 + n % 10) ∷ [] ] ≡ (48 + n) ∷ []
+    by true e = refl
+    by false e = absurd (grind (arith, nat_tests))
+
+-- a digit more
+one_more : (m d n : ℕ) → 0 < m → d < 10 → n ≡ 10 * m + d → whole_decimal n ≡ whole_decimal m ++ (48 + d) ∷ []
+unfolding whole_decimal digits_within
+one_more m d n some h is = by (nat_lt n 10) refl
+  where
+    by : (t : Bool) → nat_lt n 10 ≡ t → elim t [ true ↦ (48 + n) ∷ [] | false ↦ digits_within n (n / 10) ++ (48 + n % 10) ∷ [] ] ≡ digits_within (suc m) m ++ (48 + d) ∷ []
+    by true e = absurd (let low : n < 10 = grind (arith, nat_tests) in omega arith)
+    by false e =
+        let front : n / 10 ≡ m = omega arith in
+        let end : n % 10 ≡ d = omega arith in
+        ap (λ k. digits_within n k ++ (48 + n % 10) ∷ []) front ∙ ap (λ k. digits_within n m ++ (48 + k) ∷ []) end
+        ∙ ap (λ ds. ds ++ (48 + d) ∷ []) (same n (suc m) m (omega arith) (omega arith))
+
+digit_is : (b : ℕ) → is_digit b ≡ true → (48 ≤ b) × (b ≤ 57)
+digit_is b e = (grind (arith, nat_tests), grind (arith, nat_tests))
+
+-- digits behind a number that is not 0
+folded : (m : ℕ) (ds : List ℕ) → 0 < m → list_all is_digit ds ≡ true → whole_decimal (fold with_digit m ds) ≡ whole_decimal m ++ ds
+folded m [] some e = sym (append-nil (whole_decimal m))
+folded m (b ∷ bs) some e =
+    let parts = both (is_digit b) (list_all is_digit bs) e in
+    let digit = digit_is b parts.0 in
+    let back : 48 + (b - 48) ≡ b = omega arith in
+    folded (with_digit m b) bs (omega arith) parts.1
+    ∙ ap (λ ds. ds ++ bs) (one_more m (b - 48) (with_digit m b) some (omega arith) refl ∙ ap (λ c. whole_decimal m ++ c ∷ []) back)
+    ∙ append_assoc (whole_decimal m) (b ∷ []) bs
+
+-- digits, without the zeros that they begin with
+digits_shown : (ds : List ℕ) → list_all is_digit ds ≡ true → 0 < decimal ds → whole_decimal (decimal ds) ≡ drop (prefix_len is_zero ds) ds
+digits_shown [] e some = absurd (omega arith)
+digits_shown (b ∷ bs) e some = by (eqb b 48) refl some (digits_shown bs)
+  where
+    parts : (is_digit b ≡ true) × (list_all is_digit bs ≡ true)
+    parts = both (is_digit b) (list_all is_digit bs) e
+
+    by : (t : Bool) → eqb b 48 ≡ t → 0 < fold with_digit (with_digit 0 b) bs
+        → (list_all is_digit bs ≡ true → 0 < decimal bs → whole_decimal (decimal bs) ≡ drop (prefix_len is_zero bs) bs) → whole_decimal (fold with_digit (with_digit 0 b) bs) ≡ drop (cond t (1 + prefix_len is_zero bs) 0) (b ∷ bs)
+    by true is some rest =
+        let none : with_digit 0 b ≡ 0 = grind (arith, nat_tests) in
+        let next : 1 + prefix_len is_zero bs ≡ suc (prefix_len is_zero bs) = omega arith in
+        let more : 0 < fold with_digit 0 bs = subst (λ n. 0 < fold with_digit n bs) none some in
+        ap (λ n. whole_decimal (fold with_digit n bs)) none ∙ rest parts.1 more ∙ ap (λ n. drop n (b ∷ bs)) (sym next)
+    by false is some rest =
+        let digit = digit_is b parts.0 in
+        let unlike : b ≡ 48 → ⊥ = λ e. grind (arith, nat_tests) in
+        let first : 0 < with_digit 0 b = omega arith in
+        let shown : 48 + with_digit 0 b ≡ b = omega arith in
+        folded (with_digit 0 b) bs first parts.1 ∙ ap (λ ds. ds ++ bs) (one_digit (with_digit 0 b) (omega arith) ∙ ap (λ c. c ∷ []) shown)
+
+-- an integer of 64 bits as std prints it
+pub small_text : (z : ℤ) → mag z < 2 ^ 63 → signed_decimal z ≡ integer_text z
+unfolding integer_text whole_decimal
+small_text (pos n) h = sym (enough (suc n) n (omega arith) (omega arith))
+small_text (negsuc n) h = ap (λ ds. 45 ∷ ds) (sym (enough (suc (suc n)) (suc n) (omega arith) (omega arith)))
+
+-- an integer outside 64 bits, by its sign and its digits
+pub large_text : (negative : Bool) (ds : List ℕ) (z : ℤ) → signed negative (decimal ds) ≡ z → is_large z ≡ true → list_all is_digit ds ≡ true
+    → integer_text z ≡ sign_text negative ++ drop (prefix_len is_zero ds) ds
+unfolding integer_text
+large_text negative ds z is large e = subst (λ z. is_large z ≡ true → integer_text z ≡ sign_text negative ++ drop (prefix_len is_zero ds) ds) is (by negative (decimal ds) refl) large
+  where
+    by : (t : Bool) (n : ℕ) → n ≡ decimal ds → is_large (signed t n) ≡ true → integer_text (signed t n) ≡ sign_text t ++ drop (prefix_len is_zero ds) ds
+    by true zero at l = absurd (cc)
+    by true (suc n) at l = ap (λ ds. 45 ∷ ds) (ap whole_decimal at ∙ digits_shown ds e (omega arith))
+    by false zero at l = absurd (cc)
+    by false (suc n) at l = ap whole_decimal at ∙ digits_shown ds e (omega arith)
+
+digits_left : (n : ℕ) (ds : List ℕ) → list_all is_digit ds ≡ true → list_all is_digit (drop n ds) ≡ true
+digits_left zero ds e = e
+digits_left (suc n) [] e = refl
+digits_left (suc n) (b ∷ bs) e = digits_left n bs (both (is_digit b) (list_all is_digit bs) e).1
+
+pub shown_utf8 : (n : ℕ) (ds : List ℕ) → list_all is_digit ds ≡ true → IsUtf8 (drop n ds)
+shown_utf8 n ds e = digits_utf8 (drop n ds) (digits_left n ds e)
+
+-- an element behind the first has fewer nodes than the row
+pub nodes_behind : (xs : List Tree) (u : Tree) (i : ℕ) (x : Tree) → i < length (slice_range xs 1 (length xs)) → x ≡ get_or (slice_range xs 1 (length xs)) i x → nodes x < nodes (chain xs u)
+nodes_behind xs u i x here is =
+    let rest = take_rest xs 1 in
+    in_rest xs (subst (λ ys. i < length ys) rest here) (subst (λ ys. x ≡ get_or ys i x) rest is)
+  where
+    in_rest : (xs : List Tree) → i < length (drop 1 xs) → x ≡ get_or (drop 1 xs) i x → nodes x < nodes (chain xs u)
+    in_rest [] here is = absurd (omega arith)
+    in_rest (y ∷ ys) here is = omega (arith, nodes_at ys i x here is, nodes_tailed ys u)
+
+-- a tail stands behind a bar
+pub tail_text : (t : Tree) → IsWhole t → rest_text t ≡ codes "|" ++ node_text t
+tail_text (integer s n) w = refl
+tail_text (atom s v) w = refl
+tail_text (tuple s t) w = refl
+tail_text (list s t) w = refl
+tail_text (other s k v) w = refl
+tail_text nil w = absurd w
+tail_text (cons t u) w = absurd w
+
+pub tail_ends : (t : Tree) → IsWhole t → IsEnd t
+tail_ends (integer s n) w = tt
+tail_ends (atom s v) w = tt
+tail_ends (tuple s t) w = tt
+tail_ends (list s t) w = tt
+tail_ends (other s k v) w = tt
+tail_ends nil w = absurd w
+tail_ends (cons t u) w = absurd w
+
+-- a row without elements is its end
+pub end_text : (t : Tree) → IsEnd t → row_text t ≡ rest_text t
+end_text (integer s n) w = refl
+end_text (atom s v) w = refl
+end_text (tuple s t) w = refl
+end_text (list s t) w = refl
+end_text (other s k v) w = refl
+end_text nil w = refl
+end_text (cons t u) w = absurd w
