@@ -25,7 +25,7 @@ pub fn measure(rt: &HostRuntime, rounds: u32) -> Result<(), Trouble> {
 }
 
 /// The text with one to four of its bytes written over, taken out or doubled, as the seed says.
-fn change(alloc: Global, text: &[u8], seed: u64) -> Result<Vec<u8>, Trouble> {
+pub fn change(alloc: Global, text: &[u8], seed: u64) -> Result<Vec<u8>, Trouble> {
     let mut rng = Pcg32::new(seed, 54);
     let mut bytes = Vec::from_slice(alloc, text)?;
     let changes = 1 + rng.next_u32() % 4;

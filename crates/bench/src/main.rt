@@ -1,28 +1,22 @@
 //! Measures of `bxemu`, on standard error. Without arguments it does nothing.
 //!
-//! `bench listing ITEMS`, `bench choices ROUNDS`, `bench mailbox ROUNDS`, `bench fuzz ROUNDS`.
+//! `bench listing ITEMS`, `bench choices ROUNDS`, `bench mailbox ROUNDS`, `bench fuzz ROUNDS`,
+//! `bench walk CHOICES`, `bench program CHOICES LISTING`, `bench forms ROUNDS LISTING`, `bench texts ROUNDS LISTING`.
 #![tactic(auto)]
 
 mod choices;
 mod fuzz;
+mod generated;
 mod listings;
 mod mailboxes;
+mod programs;
+mod texts;
 mod trouble;
+mod walks;
 
 use crate::trouble::Trouble;
-use std::alloc::Global;
 use std::env;
 use std::process::ExitCode;
-use std::rt::Env;
-
-/// What is measured, and how often.
-enum Measure {
-    Nothing,
-    Listing(u32),
-    Choices(u32),
-    Mailbox(u32),
-    Fuzz(u32),
-}
 
 fn main(rt: HostRuntime) -> ExitCode {
     match take(&rt) {
@@ -34,34 +28,47 @@ fn main(rt: HostRuntime) -> ExitCode {
     }
 }
 
+/// Takes the measure that the arguments ask for: a word, a number and, for some, a file.
 fn take(rt: &HostRuntime) -> Result<(), Trouble> {
-    match asked(rt)? {
-        Measure::Nothing => Ok(()),
-        Measure::Listing(items) => listings::measure(rt, items),
-        Measure::Choices(rounds) => choices::measure(rt, rounds),
-        Measure::Mailbox(rounds) => mailboxes::measure(rt, rounds),
-        Measure::Fuzz(rounds) => fuzz::measure(rt, rounds),
+    let words: Vec<String> = env::args(rt)?.collect(rt.alloc())?;
+    match words.as_slice() {
+        [] | [_] => Ok(()),
+        [_, word, number] => by_number(rt, word.as_str(), parsed(number.as_str())?),
+        [_, word, number, file] => by_file(
+            rt,
+            word.as_str(),
+            parsed(number.as_str())?,
+            file.as_str(),
+        ),
+        _ => Err(Trouble::Usage),
     }
 }
 
-/// What the arguments ask for: a word, and a number.
-fn asked<R: Env + AllocGlobal>(rt: &R) -> Result<Measure, Trouble> {
-    let words: Vec<String> = env::args(rt)?.collect(rt.alloc())?;
-    let [_, word, number] = words.as_slice() else {
-        return if words.len() <= 1 {
-            Ok(Measure::Nothing)
-        } else {
-            Err(Trouble::Usage)
-        };
-    };
-    let Ok(number) = number.parse::<u32>() else {
-        return Err(Trouble::Usage);
-    };
-    match word.as_str() {
-        "listing" => Ok(Measure::Listing(number)),
-        "choices" => Ok(Measure::Choices(number)),
-        "mailbox" => Ok(Measure::Mailbox(number)),
-        "fuzz" => Ok(Measure::Fuzz(number)),
+fn parsed(text: &str) -> Result<u32, Trouble> {
+    match text.parse::<u32>() {
+        Ok(number) => Ok(number),
+        Err(_) => Err(Trouble::Usage),
+    }
+}
+
+/// Takes a measure that asks for a number alone.
+fn by_number(rt: &HostRuntime, word: &str, number: u32) -> Result<(), Trouble> {
+    match word {
+        "listing" => listings::measure(rt, number),
+        "choices" => choices::measure(rt, number),
+        "mailbox" => mailboxes::measure(rt, number),
+        "fuzz" => fuzz::measure(rt, number),
+        "walk" => walks::measure(rt, number),
+        _ => Err(Trouble::Usage),
+    }
+}
+
+/// Takes a measure that asks for a number and a file.
+fn by_file(rt: &HostRuntime, word: &str, number: u32, file: &str) -> Result<(), Trouble> {
+    match word {
+        "program" => programs::measure(rt, number, file),
+        "forms" => texts::measure(rt, number, file),
+        "texts" => texts::fuzz(rt, number, file),
         _ => Err(Trouble::Usage),
     }
 }

@@ -13,6 +13,8 @@ pub enum Trouble {
     Memory,
     /// The clock, the arguments or standard error failed.
     Machine,
+    /// A call did what it must not do.
+    Wrong,
     /// The measured call refused what it should take.
     Refused(Fault),
 }
@@ -20,9 +22,10 @@ pub enum Trouble {
 impl fmt::Display for Trouble {
     fn fmt<W: fmt::Write>(&self, f: &mut fmt::Formatter<W>) -> fmt::Result {
         match self {
-            Trouble::Usage => f.write_str("listing, choices, mailbox or fuzz, and a number"),
+            Trouble::Usage => f.write_str("a measure, a number and, for some, a file"),
             Trouble::Memory => f.write_str("memory"),
             Trouble::Machine => f.write_str("clock, arguments or standard error"),
+            Trouble::Wrong => f.write_str("a call did what it must not do"),
             Trouble::Refused(fault) => write!(f, "{fault}"),
         }
     }
