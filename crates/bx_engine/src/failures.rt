@@ -265,6 +265,3 @@ fn is_plain_code(code: u8) -> bool
 {
     code >= 32 && code != 127
 }
-
-#[cfg(test)]
-mod tests;

@@ -101,6 +101,3 @@ fn ask<R: Read>(reader: &mut R, chunk: &mut [u8], bytes: &mut Vec<u8>) -> Result
         Err(_) => Err(Unread::Memory),
     }
 }
-
-#[cfg(test)]
-mod tests;

@@ -14,7 +14,7 @@ mod units;
 pub use campaigns::campaign_text;
 pub use dis::dis_text;
 pub use failures::{Failure, fault_line};
-pub use inputs::{INPUT_LIMIT, MOST_ASKS};
+pub use inputs::{INPUT_LIMIT, MOST_ASKS, Unread, read_input};
 pub use loads::image_of;
 pub use runs::run_text;
 pub use starts::{Start, start_of, token_at};

@@ -95,6 +95,3 @@ fn code_at(text: &[u8], at: usize) -> Option<u8>
 {
     text.get(at).copied()
 }
-
-#[cfg(test)]
-mod tests;

@@ -13,6 +13,3 @@ pub use entries::{choice_of, read_choices};
 pub use numbers::number_of;
 pub use parts::cut;
 pub use plans::{Plan, Schedule, read_plan};
-
-#[cfg(test)]
-mod tests;

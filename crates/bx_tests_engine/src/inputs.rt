@@ -1,4 +1,6 @@
-use crate::inputs::{Unread, read_input};
+//! Inputs, read whole.
+
+use bx_engine::{Unread, read_input};
 use std::io;
 use std::io::{ErrorKind, Read};
 use std::test::Fail;

@@ -1,5 +1,6 @@
-use crate::failures::Failure;
-use crate::starts::start_of;
+//! What names the function to start with.
+
+use bx_engine::{Failure, start_of};
 use std::test::Fail;
 
 #[test]

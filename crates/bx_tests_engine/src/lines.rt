@@ -1,4 +1,6 @@
-use crate::failures::{Failure, fault_line};
+//! The line of a failure, and its status.
+
+use bx_engine::{Failure, fault_line};
 use bx_terms::{Fault, Name};
 use std::alloc::{AllocError, Global};
 use std::io;

@@ -1,6 +1,6 @@
 //! Plans and their readings, worked out by hand.
 
-use crate::{Plan, read_plan};
+use bx_plan::{Plan, read_plan};
 use bx_terms::Fault;
 use bx_world::Choice;
 use bx_world::Choice::{Deliver, Expire, Run};
