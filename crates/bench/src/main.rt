@@ -1,7 +1,7 @@
 //! Measures of `bxemu`, on standard error. Without arguments it does nothing.
 //!
 //! `bench listing ITEMS`, `bench choices ROUNDS`, `bench mailbox ROUNDS`, `bench fuzz ROUNDS`,
-//! `bench walk CHOICES`, `bench program CHOICES LISTING`, `bench forms ROUNDS LISTING`, `bench texts ROUNDS LISTING`.
+//! `bench walk CHOICES`, `bench worlds ROUNDS`, `bench program CHOICES LISTING`, `bench forms ROUNDS LISTING`, `bench texts ROUNDS LISTING`.
 #![tactic(auto)]
 
 mod choices;
@@ -13,6 +13,7 @@ mod programs;
 mod texts;
 mod trouble;
 mod walks;
+mod worlds;
 
 use crate::trouble::Trouble;
 use std::env;
@@ -59,6 +60,7 @@ fn by_number(rt: &HostRuntime, word: &str, number: u32) -> Result<(), Trouble> {
         "mailbox" => mailboxes::measure(rt, number),
         "fuzz" => fuzz::measure(rt, number),
         "walk" => walks::measure(rt, number),
+        "worlds" => worlds::measure(rt, number),
         _ => Err(Trouble::Usage),
     }
 }
