@@ -89,7 +89,7 @@ pub fn measure(rt: &HostRuntime, rounds: u32, file: &str) -> Result<(), Trouble>
     let text = fs::read(rt, file)?;
     let program = Program::of(rt.alloc(), &text, "main")?;
     let row = program.schedule(rt.alloc(), rounds.min(MOST))?;
-    let times = rounds.checked_div(row.len() as u32).unwrap_or(0);
+    let times = (rounds as usize).checked_div(row.len()).unwrap_or(0);
     let mut applied: u64 = 0;
     let start = Instant::now(rt)?;
     for _ in 0..times {
