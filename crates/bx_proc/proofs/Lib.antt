@@ -1,3 +1,4 @@
+pub mod AtOnce
 pub mod Attempts
 pub mod Elements
 pub mod Linking

@@ -1,4 +1,5 @@
 pub mod Asking
+pub mod AtOnce
 pub mod Building
 pub mod Calls
 pub mod Catching

@@ -28,7 +28,7 @@ impl Proc {
     }
 
     /// `call`, `call_last`, `call_only`.
-    #[inline(always)]
+    #[inline(never)]
     pub(crate) fn call(
         &mut self,
         image: &Image,
@@ -74,7 +74,7 @@ impl Proc {
     }
 
     /// `deallocate`.
-    #[inline(always)]
+    #[inline(never)]
     pub(crate) fn deallocate(&mut self, size: u32) -> Result<(), Stop>
         ensures { Turns ⊥ self.old self.new result (deallocated size self.old) }
     {
@@ -96,7 +96,7 @@ impl Proc {
     }
 
     /// `return`.
-    #[inline(always)]
+    #[inline(never)]
     pub(crate) fn go_back(&mut self) -> Result<Effect, Stop>
         ensures { Makes ⊥ self.old self.new result (return_row self.old) }
     {

@@ -13,7 +13,7 @@ use bx_terms::{Term, Trap};
 
 impl Proc {
     /// `allocate` and `allocate_heap`.
-    #[inline(always)]
+    #[inline(never)]
     pub(crate) fn allocate(&mut self, size: u32) -> Result<(), Stop>
         ensures { Turns (Unit {0}) self.old self.new result (Ok (allocate_row size self.old)) }
     {

@@ -20,7 +20,7 @@ use Rattle.bx_world.specs.declared.turns.Turn.TheVariants as turns
 use Rattle.bx_world.specs.World.{Life, Live, Gone, State}
 use Rattle.bx_world.specs.Enabled.{can, actor, may_at, may_run, may_expire}
 use Rattle.bx_world.specs.Delivering.{gone_received, lost}
-use Rattle.bx_world.specs.Lifetimes.{Lived, Among, gone_if, life_run, life_told, life_expired, put_back, at_life, lives_run, lives_told, told_at, lost_if, set_back, expired_at, lives_expired, beside}
+use Rattle.bx_world.specs.Lifetimes.{Lived, Among, gone_if, life_run, life_told, life_expired, put_back, at_life, lives_run, told_at, lost_if, set_back, expired_at, beside}
 use Rattle.bx_world.specs.Births.{past_limits, system_limit, other_if, newborn, life_answered, lives_answered, unborn_at_trap, lives_grown, lives_born}
 use Rattle.bx_world.specs.Choosing.{born_too, made, made_or, chosen}
 use Rattle.bx_world.specs.Posting.{behind, all_behind}

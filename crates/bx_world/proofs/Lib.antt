@@ -1,3 +1,4 @@
+pub mod AtOnce
 pub mod Viewed
 pub mod Changing
 pub mod Compared

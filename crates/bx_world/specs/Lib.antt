@@ -1,3 +1,4 @@
+pub mod AtOnce
 pub mod World
 pub mod Sharing
 pub mod Requests

@@ -39,7 +39,6 @@ pub(crate) fn make<P: Hold<Proc>, C: Hold<Lanes>>(
 }
 
 /// Runs one instruction of a process; where that asks for a birth, there is a child.
-#[inline(always)]
 fn run<P: Hold<Proc>, C: Hold<Lanes>>(
     alloc: Global,
     image: &Image,
@@ -56,7 +55,7 @@ fn run<P: Hold<Proc>, C: Hold<Lanes>>(
 }
 
 /// The first signal of a channel takes effect. No memory is taken where none waits.
-#[inline(always)]
+#[inline(never)]
 fn deliver<P: Hold<Proc>, C: Hold<Lanes>>(
     alloc: Global,
     procs: &mut Procs<P>,

@@ -4,6 +4,7 @@ ghost use Rattle.std.specs.Prelude.{◌≡◌, ◌≢◌, ◌↔◌, [], IsTrue,
 ghost use Rattle.bx_terms.specs.Outcomes.{Does, Gives};
 ghost use Rattle.bx_load.specs.Image.{export};
 ghost use Rattle.bx_world.specs.World.{started};
+ghost use Rattle.bx_world.specs.AtOnce.{Hurries};
 ghost use Rattle.bx_world.specs.Enabled.{enabled, open_choices, can};
 ghost use Rattle.bx_world.specs.Choosing.{applied};
 ghost use Rattle.bx_world.specs.Seen.{seen, standing_of, place_in};
@@ -122,7 +123,32 @@ impl<P: Hold<Proc>, C: Hold<Lanes>> World<P, C> {
     /// `Halted` exactly where the world has trapped, else `NotEnabled` exactly where the choice is not enabled. After any
     /// refusal, want of memory among them, nothing has changed.
     #[inline(always)]
+    #[tactic(auto, using(crate::proofs::AtOnce::applied_after))]
     pub fn apply(&mut self, alloc: Global, image: &Image, choice: Choice) -> Result<(), Fault>
+        ensures { Does (IsTrue (can self.old choice)) self.old self.new result (applied image.now choice self.old) }
+    {
+        if let Choice::Run(pid) = choice {
+            if self.hurry(alloc, image, pid)? {
+                return Ok(());
+            }
+        }
+        self.apply_whole(alloc, image, choice)
+    }
+
+    /// Makes a run of that process where it is done at once: whether it was. Where not, nothing has changed.
+    #[inline(always)]
+    fn hurry(&mut self, alloc: Global, image: &Image, pid: u32) -> Result<bool, AllocError>
+        ensures { Hurries (IsTrue (can self.old (Choice.Run pid))) self.old self.new result (applied image.now (Choice.Run pid) self.old) }
+    {
+        if self.trap.is_some() {
+            return Ok(false);
+        }
+        self.procs.hurry(alloc, image, pid)
+    }
+
+    /// Applies a choice, whatever it takes.
+    #[inline(never)]
+    fn apply_whole(&mut self, alloc: Global, image: &Image, choice: Choice) -> Result<(), Fault>
         ensures { Does (IsTrue (can self.old choice)) self.old self.new result (applied image.now choice self.old) }
     {
         if self.trap.is_some() {
