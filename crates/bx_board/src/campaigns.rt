@@ -1,4 +1,4 @@
-//! Campaigns: a book served by workers.
+//! Campaigns: a book served by threads.
 
 ghost use Rattle.std.specs.Prelude.{⊤, IsOk, IsSome};
 ghost use Rattle.bx_terms.specs.Outcomes.{Gives};
@@ -15,29 +15,37 @@ use bx_plan::Plan;
 use bx_terms::{AtomId, Fault};
 use std::alloc::Global;
 use std::sync::Wait;
+use std::thread;
 use std::thread::Threads;
 
 /// How many workers a campaign may have at most.
 const MOST_WORKERS: u32 = 64;
 
-/// Serves a board by so many workers, one after another in the caller's thread. False where one of them met want of memory.
-fn serve_all<R: Wait, G: Gate>(
+/// Serves a board by so many workers, each in a thread where one can be made; worker 0 in the caller's. False where
+/// one of them met want of memory.
+fn serve_all<R: Threads + Wait + Sync, G: Gate + Sync>(
     rt: &R,
     alloc: Global,
     board: &Board<'_>,
     workers: usize,
     gate: &G,
 ) -> bool {
-    let mut well = true;
-    for worker in 0..workers {
-        if board.serve(rt, alloc, worker, gate).is_err() {
-            well = false;
-        }
+    let last = workers.saturating_sub(1);
+    let ended = thread::map_indices(
+        rt,
+        alloc,
+        workers,
+        &|number| board
+            .serve(rt, alloc, last.saturating_sub(number), gate)
+            .is_ok(),
+    );
+    match ended {
+        Ok(ended) => ended.iter().all(|well| *well),
+        Err(_) => false,
     }
-    well
 }
 
-/// The report of a campaign whose workers have ended: the chains that are left are run on the book, where it is still this
+/// The report of a campaign whose threads have ended: the chains that are left are run on the book, where it is still this
 /// campaign's, and otherwise all of them on a new one.
 fn settle(
     alloc: Global,
@@ -57,7 +65,7 @@ fn settle(
 }
 
 /// The report of the plan's schedules, each as if it were run alone from the start, by 1 to 64 workers that share the chains
-/// of the plan's tree. The workers are served in the caller's thread, one after another: no thread is started yet.
+/// of the plan's tree.
 ///
 /// `Workers` exactly where they are not 1 to 64; else `NoEntry` exactly where the module does not export that function of no
 /// arguments. `Memory` where a worker lacked it and chains are left, or the report lacks it. The promise holds if the call
