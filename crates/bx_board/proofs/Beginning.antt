@@ -1,23 +1,23 @@
 -- A campaign to which nothing has happened.
-use Rattle.std.proofs.Common.{◌≡◌, ◌≢◌, ◌⊎◌, inl, inr, ℕ, zero, suc, ◌+◌, ◌-◌, ◌<◌, ◌≤◌, ◌==◌, ◌&&◌, nat_lt, Bool, true, false, Option, None, Some, List, [], ◌∷◌, length, replicate, refl, sym, ap, subst, ◌∙◌, arith}
-use Rattle.std.specs.Prelude.{◌↔◌, Ok}
+use Rattle.std.proofs.Common.{◌≡◌, ◌≢◌, ◌⊎◌, inl, inr, ℕ, zero, suc, ◌-◌, ◌<◌, ◌≤◌, ◌==◌, ◌&&◌, nat_lt, false, None, Some, List, [], ◌∷◌, length, replicate, refl, sym, ap, subst, ◌∙◌, arith}
+use Rattle.std.specs.Prelude.{Ok}
 use Rattle.std.specs.Ordering.{nat_cmp}
-use Rattle.std.specs.BTreeMap.{BTreeMap, get, is_at}
+use Rattle.std.specs.BTreeMap.{BTreeMap, is_at}
 use Rattle.std.specs.Map.{lookup}
 use Rattle.std.proofs.lemmas.List.{length-replicate}
-use Rattle.std.proofs.lemmas.Bool.{cases_eq, eq-eqb, lt-ltb, le-ltb}
+use Rattle.std.proofs.lemmas.Bool.{cases_eq, lt-ltb, le-ltb}
 use Rattle.bx_load.specs.Image.{Loaded}
 use Rattle.bx_world.specs.World.{State, started}
 use Rattle.bx_world.specs.Running.{Ended, ran, unchosen}
 use Rattle.bx_plan.specs.Planned.{Planned}
 use Rattle.bx_plan.specs.Trees.{IsTree, path}
-use Rattle.bx_chains.specs.Chains.{AreChains, Chained, above, chain_count, is_kid, kids, last, one_if, times}
+use Rattle.bx_chains.specs.Chains.{AreChains, Chained, above, chain_count, is_kid, kids, one_if}
 use Rattle.bx_chains.proofs.Counting.{below_or_past, both_true, mid_false, not_eq}
 use Rattle.bx_board.specs.declared.slots.Slot.{Slot}
 use Rattle.bx_board.specs.declared.slots.Slot.TheVariants.{Waiting, Leased, Done}
 use Rattle.bx_board.specs.declared.slots.Event.{Event}
 use Rattle.bx_board.specs.Jobs.{Entry, Job, end_of, origin, work_of, world_or_none}
-use Rattle.bx_board.specs.Machine.{Frontier, standing, is_waiting, is_leased, is_done, is_free, is_held, is_finished, how_many, initial}
+use Rattle.bx_board.specs.Machine.{standing, is_waiting, is_leased, is_done, is_free, is_held, how_many, initial}
 use Rattle.bx_board.specs.Alone.{IsIdle}
 use Rattle.bx_board.specs.Kept.{IsOpening, Kept, begun_with}
 use Rattle.bx_board.specs.Tended.{IsTended, kept_view}

@@ -1,22 +1,21 @@
 -- Every history of a board is sound.
 use Rattle.std.proofs.Common.{◌≡◌, ◌≢◌, ◌⊎◌, inl, inr, ℕ, zero, suc, ◌+◌, ◌-◌, ◌<◌, ◌≤◌, ◌==◌, ◌&&◌, Bool, true, false, List, [], ◌∷◌, ◌++◌, length, get_or, replicate, refl, sym, ap, subst, ◌∙◌, arith, append_assoc}
-use Rattle.std.specs.Prelude.{IsTrue}
 use Rattle.std.proofs.lemmas.List.{get_or-replicate, get_or_past, length-replicate, append-nil, length-set}
 use Rattle.std.proofs.lemmas.Bool.{cases_eq, eq-eqb}
 use Rattle.bx_world.specs.Running.{Ended}
 use Rattle.bx_plan.specs.Trees.{IsTree}
-use Rattle.bx_chains.specs.Chains.{AreChains, chain_count, above, one_if}
+use Rattle.bx_chains.specs.Chains.{AreChains, chain_count, one_if}
 use Rattle.bx_chains.proofs.Counting.{not_eq}
 use Rattle.bx_board.specs.declared.slots.Slot.{Slot}
 use Rattle.bx_board.specs.declared.slots.Slot.TheVariants.{Waiting, Leased, Done}
 use Rattle.bx_board.specs.declared.slots.Event.{Event}
 use Rattle.bx_board.specs.declared.slots.Event.TheVariants.{Lease, Submit, GiveBack, Stop}
 use Rattle.bx_board.specs.Jobs.{Job, end_of, work_of}
-use Rattle.bx_board.specs.Machine.{Frontier, standing, is_waiting, is_done, is_finished, is_free, how_many, May, with_slot, after, initial, replay, IsLegal}
+use Rattle.bx_board.specs.Machine.{standing, is_waiting, is_done, is_finished, how_many, May, with_slot, after, initial, replay, IsLegal}
 use Rattle.bx_board.specs.Kept.{Kept, then, begun_with, IsKept}
-use Rattle.bx_board.specs.Histories.{accepted_by, accepted, submitted_by, submitted, IsSound, EveryHistoryIsSound}
-use Rattle.bx_board.proofs.Numbers.{how_many_same, how_many_but}
-use Rattle.bx_board.proofs.Steps.{below_or_past, is_true, true_is, leased_within, slot_set, slot_kept, Free, free_is, waiting_is, kept_then}
+use Rattle.bx_board.specs.Histories.{accepted_by, accepted, submitted_by, submitted, EveryHistoryIsSound}
+use Rattle.bx_board.proofs.Numbers.{how_many_but}
+use Rattle.bx_board.proofs.Steps.{below_or_past, is_true, leased_within, slot_set, slot_kept, free_is, waiting_is, kept_then}
 
 -- ---- at the start
 

@@ -1,8 +1,8 @@
 -- A book that one worker goes on with alone.
-use Rattle.std.proofs.Common.{◌≡◌, ◌≢◌, ◌⊎◌, inl, inr, ℕ, zero, suc, ◌+◌, ◌-◌, ◌<◌, ◌≤◌, Bool, true, false, Option, None, Some, List, [], ◌∷◌, ◌++◌, length, refl, sym, ap, subst, ◌∙◌, arith}
-use Rattle.std.specs.Prelude.{IsTrue, IsOk, IsSome, MatchBool, Ok, Err}
+use Rattle.std.proofs.Common.{◌≡◌, ◌≢◌, ◌⊎◌, inl, inr, ℕ, zero, suc, ◌<◌, ◌≤◌, Bool, true, false, Option, None, Some, length, refl, sym, ap, subst, ◌∙◌, arith}
+use Rattle.std.specs.Prelude.{IsOk, IsSome, MatchBool}
 use Rattle.std.proofs.lemmas.List.{length-set}
-use Rattle.std.proofs.lemmas.Bool.{both_ways, cases_eq}
+use Rattle.std.proofs.lemmas.Bool.{cases_eq}
 use Rattle.bx_terms.specs.declared.atom_table.AtomId.{AtomId}
 use Rattle.bx_terms.specs.declared.places.Place.{Place}
 use Rattle.bx_load.specs.Image.{Loaded, export}
@@ -10,13 +10,13 @@ use Rattle.bx_world.specs.World.{begun_at, started}
 use Rattle.bx_chains.specs.Chains.{Begins, above, chain_count, one_if}
 use Rattle.bx_board.specs.declared.slots.Slot.{Slot}
 use Rattle.bx_board.specs.declared.slots.Slot.TheVariants.{Waiting, Leased, Done}
-use Rattle.bx_board.specs.declared.slots.Event.TheVariants.{Lease, Submit, GiveBack}
-use Rattle.bx_board.specs.Alone.{GoesOn, IsIdle, IsUnheld, TakesBack, done_in, held_in}
-use Rattle.bx_board.specs.Jobs.{Entry, Work, end_of, work_of}
-use Rattle.bx_board.specs.Kept.{GivesBack, Happens, IsAllDone, IsKept, Kept, Leases, then}
-use Rattle.bx_board.specs.Machine.{Frontier, Holds, May, how_many, is_done, is_finished, is_free, is_leased, is_waiting, standing, with_slot}
+use Rattle.bx_board.specs.declared.slots.Event.TheVariants.{Lease, Submit}
+use Rattle.bx_board.specs.Alone.{GoesOn, IsIdle, IsUnheld, TakesBack, done_in}
+use Rattle.bx_board.specs.Jobs.{end_of, work_of}
+use Rattle.bx_board.specs.Kept.{GivesBack, IsAllDone, IsKept, Kept, then}
+use Rattle.bx_board.specs.Machine.{Holds, May, is_done, is_finished, is_free, is_leased, is_waiting, standing}
 use Rattle.bx_board.proofs.RowLengths.{how_many_low}
-use Rattle.bx_board.proofs.Steps.{Free, free_is, is_free_from, is_true, leased_within, slot_kept, slot_set, true_is, waiting_is, waiting_not_done}
+use Rattle.bx_board.proofs.Steps.{Free, free_is, is_free_from, is_true, leased_within, slot_kept, slot_set, true_is, waiting_is}
 use Rattle.bx_board.proofs.Tending.{finished_but, held_but}
 
 -- where nothing may be leased to an idle worker, all is done

@@ -1,15 +1,14 @@
 -- Where the chains of a plan's tree begin and end.
-use Rattle.std.proofs.Common.{◌≡◌, ◌⊎◌, inl, inr, ℕ, zero, suc, ◌+◌, ◌-◌, ◌<◌, ◌≤◌, ◌==◌, ◌||◌, Bool, true, false, Option, Some, List, [], ◌∷◌, length, option_map, slice_get, refl, sym, ap, ◌∙◌, arith}
+use Rattle.std.proofs.Common.{◌≡◌, ◌⊎◌, inl, inr, ℕ, zero, suc, ◌+◌, ◌-◌, ◌<◌, ◌≤◌, ◌==◌, ◌||◌, Bool, true, false, Some, List, [], ◌∷◌, length, option_map, slice_get, refl, sym, ap, ◌∙◌, arith}
 use Rattle.std.specs.List.{list_any}
 use Rattle.std.proofs.lemmas.Bool.{both_ways, eq-eqb}
 use Rattle.bx_world.specs.Running.{Ended}
 use Rattle.bx_plan.specs.Planned.{Planned}
 use Rattle.bx_plan.specs.Trees.{parent}
-use Rattle.bx_chains.specs.Chains.{AreChains, Begins, Chained, Owned, above, chain_count, ends_at, first, last, owner}
+use Rattle.bx_chains.specs.Chains.{AreChains, Begins, Chained, Owned, above, ends_at, first, last, owner}
 use Rattle.bx_chains.proofs.Counting.{below_or_past}
 use Rattle.bx_chains.proofs.Growing.{goes_on_is, inner_or_final, last_final, last_inner}
 use Rattle.bx_board.specs.declared.slots.Slot.TheVariants.{Waiting, Done}
-use Rattle.bx_board.specs.Jobs.{run_alone}
 use Rattle.bx_board.specs.Kept.{Kept, IsKept}
 use Rattle.bx_board.specs.Machine.{is_free, standing}
 use Rattle.bx_board.specs.Working.{IsSpan, run_up_to}

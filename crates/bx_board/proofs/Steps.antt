@@ -1,17 +1,16 @@
 -- What a board keeps is kept by each event.
-use Rattle.std.proofs.Common.{◌≡◌, ◌≢◌, ◌⊎◌, inl, inr, ℕ, ◌+◌, ◌-◌, ◌<◌, ◌≤◌, ◌&&◌, nat_lt, Bool, true, false, List, [], ◌∷◌, ◌++◌, length, get_or, set, refl, sym, ap, subst, ◌∙◌, arith}
+use Rattle.std.proofs.Common.{◌≡◌, ◌≢◌, ◌⊎◌, inl, inr, ℕ, ◌<◌, ◌≤◌, ◌&&◌, nat_lt, Bool, true, false, List, [], ◌∷◌, ◌++◌, length, refl, sym, ap, subst, ◌∙◌, arith}
 use Rattle.std.specs.Prelude.{IsTrue}
 use Rattle.std.proofs.lemmas.List.{get_or-set_same, get_or-set_other, length-set, get_or_past}
-use Rattle.std.proofs.lemmas.Bool.{cases_eq, both_ways, and_parts, and_from, ltb-true, lt-ltb, le-ltb, ltb-false, cases_Bool}
+use Rattle.std.proofs.lemmas.Bool.{cases_eq, both_ways, and_parts, and_from, ltb-true, lt-ltb, ltb-false, cases_Bool}
 use Rattle.bx_world.specs.Running.{Ended}
-use Rattle.bx_plan.specs.Planned.{Planned}
-use Rattle.bx_chains.specs.Chains.{AreChains, AreSoFar, Chained, above, chain_count}
+use Rattle.bx_chains.specs.Chains.{above}
 use Rattle.bx_board.specs.declared.slots.Slot.{Slot}
 use Rattle.bx_board.specs.declared.slots.Slot.TheVariants.{Waiting, Leased, Done}
 use Rattle.bx_board.specs.declared.slots.Event.{Event}
 use Rattle.bx_board.specs.declared.slots.Event.TheVariants.{Lease, Submit, GiveBack, Stop}
 use Rattle.bx_board.specs.Jobs.{Job, end_of, work_of}
-use Rattle.bx_board.specs.Machine.{Frontier, standing, is_waiting, is_leased, is_done, is_free, Holds, May, with_slot, after, initial, replay, IsLegal}
+use Rattle.bx_board.specs.Machine.{Frontier, standing, is_waiting, is_done, is_free, May, with_slot, after, initial, replay, IsLegal}
 use Rattle.bx_board.specs.Kept.{Kept, then, IsKept}
 
 pub is_true : (b : Bool) → IsTrue b → b ≡ true

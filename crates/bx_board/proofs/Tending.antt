@@ -1,25 +1,24 @@
 -- What a board has at hand is kept by each event.
-use Rattle.std.proofs.Common.{◌≡◌, ◌≢◌, ◌⊎◌, inl, inr, ℕ, ◌+◌, ◌-◌, ◌<◌, ◌≤◌, ◌==◌, ◌&&◌, nat_lt, Bool, true, false, cond, Option, None, Some, List, [], ◌∷◌, ◌++◌, length, get_or, refl, sym, ap, subst, ◌∙◌, arith}
-use Rattle.std.specs.Prelude.{IsTrue, ◌↔◌}
+use Rattle.std.proofs.Common.{◌≡◌, ◌≢◌, ◌⊎◌, inl, inr, ℕ, ◌+◌, ◌<◌, ◌≤◌, ◌==◌, ◌&&◌, nat_lt, true, false, cond, Option, None, Some, List, [], ◌∷◌, ◌++◌, length, refl, sym, ap, ◌∙◌, arith}
+use Rattle.std.specs.Prelude.{◌↔◌}
 use Rattle.std.specs.Ordering.{nat_cmp, is_eq}
 use Rattle.std.specs.declared.cmp.Ordering.{Ordering}
 use Rattle.std.specs.declared.cmp.Ordering.TheVariants.{Less, Equal, Greater}
-use Rattle.std.specs.BTreeMap.{BTreeMap, get, is_at, Updates, IsUnchanged}
-use Rattle.std.specs.Map.{lookup}
+use Rattle.std.specs.BTreeMap.{BTreeMap, get, is_at, Updates}
 use Rattle.std.proofs.lemmas.Map.Lookups.{exact_unsigned}
 use Rattle.std.proofs.lemmas.List.{length-set}
-use Rattle.std.proofs.lemmas.Bool.{cases_eq, both_ways, eq-eqb, lt-ltb, le-ltb, false_from_ne_true, true_from_ne_false, cases_Bool, and_parts}
-use Rattle.bx_chains.specs.Chains.{Chained, above, kids, is_kid, one_if, times}
+use Rattle.std.proofs.lemmas.Bool.{cases_eq, both_ways, eq-eqb, lt-ltb, le-ltb, false_from_ne_true, true_from_ne_false, cases_Bool}
+use Rattle.bx_chains.specs.Chains.{above, kids, is_kid, one_if, times}
 use Rattle.bx_chains.proofs.Counting.{not_eq, times-append, mid_false, both_true, and_false}
 use Rattle.bx_board.specs.declared.slots.Slot.{Slot}
 use Rattle.bx_board.specs.declared.slots.Slot.TheVariants.{Waiting, Leased, Done}
 use Rattle.bx_board.specs.declared.slots.Event.TheVariants.{Lease, Submit, GiveBack, Stop}
 use Rattle.bx_board.specs.Jobs.{Job, end_of, work_of}
 use Rattle.bx_board.specs.Machine.{Frontier, standing, is_waiting, is_leased, is_done, is_free, is_held, is_finished, how_many, Holds, May, with_slot}
-use Rattle.bx_board.specs.Kept.{Kept, then, IsKept}
+use Rattle.bx_board.specs.Kept.{Kept, then}
 use Rattle.bx_board.specs.Tended.{IsTended}
 use Rattle.bx_board.proofs.Numbers.{how_many_but}
-use Rattle.bx_board.proofs.Steps.{below_or_past, is_true, true_is, leased_within, not_waiting_within, slot_set, slot_kept, Free, free_is, is_free_from, waiting_is, kept_then, not_root, above_other}
+use Rattle.bx_board.proofs.Steps.{below_or_past, is_true, leased_within, slot_set, slot_kept, Free, free_is, is_free_from, waiting_is, kept_then, not_root, above_other}
 
 -- ---- counts of slots of a kind
 

@@ -1,5 +1,5 @@
 -- What a board keeps, and what each call of it is.
-use Rattle.std.specs.Prelude.{◌≡◌, ◌≢◌, ◌⊎◌, ◌↔◌, ℕ, ◌+◌, ◌<◌, true, false, IsTrue, List, [], ◌∷◌, ◌++◌, length, Option, None, Some, Result, Ok, Err, IsOk, IsSome, refl, Bool}
+use Rattle.std.specs.Prelude.{◌≡◌, ◌≢◌, ℕ, ◌<◌, false, IsTrue, List, [], ◌∷◌, ◌++◌, length, Option, None, Some, Result, Ok, Err, IsOk, IsSome, refl, Bool}
 use Rattle.std.specs.Coded.{Coded, code_by, coded×, coded_bool, coded_list}
 use Rattle.bx_terms.specs.declared.atom_table.AtomId.{AtomId}
 use Rattle.bx_terms.specs.declared.faults.Fault.{Fault}
@@ -11,11 +11,11 @@ use Rattle.bx_plan.specs.Planned.{Planned}
 use Rattle.bx_plan.specs.Trees.{IsTree}
 use Rattle.bx_chains.specs.Chains.{AreChains, Chained, above, chain_count}
 use Rattle.bx_board.specs.declared.slots.Slot.{Slot}
-use Rattle.bx_board.specs.declared.slots.Slot.TheVariants.{Waiting, Leased, Done}
+use Rattle.bx_board.specs.declared.slots.Slot.TheVariants.{Leased, Done}
 use Rattle.bx_board.specs.declared.slots.Event.{Event}
-use Rattle.bx_board.specs.declared.slots.Event.TheVariants.{Lease, Submit, GiveBack, Stop}
+use Rattle.bx_board.specs.declared.slots.Event.TheVariants.{Lease, Submit, GiveBack}
 use Rattle.bx_board.specs.Jobs.{Entry, Job, Work, end_of, work_of}
-use Rattle.bx_board.specs.Machine.{Frontier, standing, is_waiting, is_done, is_free, May, after, initial, replay, IsLegal}
+use Rattle.bx_board.specs.Machine.{Frontier, standing, is_waiting, is_done, May, after, initial, replay, IsLegal}
 
 -- the campaign, how it stands, and the events that led there
 pub record Kept : Type 0 where

@@ -1,5 +1,5 @@
 -- What a board has at hand: the free chains, the holders by worker, and how many are leased and done.
-use Rattle.std.specs.Prelude.{◌≡◌, ◌↔◌, ◌+◌, ℕ, Bool, true, false, Option, Some, List, length}
+use Rattle.std.specs.Prelude.{◌≡◌, ◌↔◌, ◌+◌, ℕ, Bool, true, false, Some, List, length}
 use Rattle.std.specs.Ordering.{nat_cmp}
 use Rattle.std.specs.BTreeMap.{BTreeMap, get}
 use Rattle.bx_load.specs.Image.{Loaded}

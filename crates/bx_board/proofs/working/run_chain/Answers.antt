@@ -1,4 +1,4 @@
-use Rattle.std.proofs.Common.{◌≡◌, ◌≤◌, sym, ◌∙◌, arith}
+use Rattle.std.proofs.Common.{sym, ◌∙◌, arith}
 use Rattle.bx_terms.specs.declared.faults.Fault.{Fault}
 use Rattle.bx_world.specs.Running.{advanced}
 use Rattle.bx_board.proofs.Running.{run_begins, run_next, given_is, changed_is}

@@ -1,4 +1,4 @@
-use Rattle.std.proofs.Common.{◌≡◌, length, refl, sym, ap, subst, ◌∙◌, arith}
+use Rattle.std.proofs.Common.{length, refl, sym, ap, subst, ◌∙◌, arith}
 use Rattle.std.specs.Prelude.{IsOk}
 use Rattle.bx_board.specs.Jobs.{Job}
 use Rattle.bx_board.proofs.Beginning.{begins_so, kids_low, long, opened, root_end, slots_so}

@@ -1,12 +1,10 @@
-use Rattle.std.proofs.Common.{◌≡◌, ◌<◌, length, get_or, sym, ap, subst, ◌∙◌, arith}
-use Rattle.std.specs.Prelude.{IsTrue, Some, option_map, slice_get}
+use Rattle.std.proofs.Common.{◌<◌, length, get_or, sym, ap, subst, ◌∙◌, arith}
 use Rattle.std.proofs.lemmas.List.{get_or_read}
 use Rattle.bx_plan.specs.Trees.{path}
-use Rattle.bx_chains.specs.Chains.{last, owner}
-use Rattle.bx_board.specs.declared.slots.Slot.TheVariants.{Waiting, Done}
-use Rattle.bx_board.specs.Jobs.{end_of, run_alone, work_of}
-use Rattle.bx_board.specs.Kept.{IsAllDone, Kept}
-use Rattle.bx_board.specs.Machine.{is_done, standing}
+use Rattle.bx_chains.specs.Chains.{last}
+use Rattle.bx_board.specs.declared.slots.Slot.TheVariants.{Waiting}
+use Rattle.bx_board.specs.Jobs.{run_alone}
+use Rattle.bx_board.specs.Kept.{IsAllDone}
 use Rattle.bx_board.proofs.Found.{done_is, path_at}
 use Rattle.bx_board.proofs.Places.{end_last, ends_there}
 use Rattle.bx_board.proofs.Steps.{is_true}

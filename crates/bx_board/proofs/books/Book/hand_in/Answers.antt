@@ -1,12 +1,10 @@
-use Rattle.std.proofs.Common.{◌≡◌, ◌-◌, ◌++◌, length, sym, refl, subst, ap, ◌∙◌, arith, length-append}
+use Rattle.std.proofs.Common.{◌≡◌, ◌-◌, ◌++◌, length, sym, refl, subst, ap, ◌∙◌, arith}
 use Rattle.std.proofs.lemmas.List.{length-set}
-use Rattle.bx_chains.specs.Chains.{kids}
 use Rattle.bx_board.specs.declared.slots.Slot.TheVariants.{Leased, Done}
-use Rattle.bx_board.specs.declared.slots.Event.TheVariants.{Submit}
 use Rattle.bx_board.specs.Jobs.{end_of, work_of}
 use Rattle.bx_board.specs.Kept.{Kept}
 use Rattle.bx_board.specs.Machine.{standing}
-use Rattle.bx_board.proofs.Keeping.{done_low, kids_room, some_held, some_undone, view_submit}
+use Rattle.bx_board.proofs.Keeping.{kids_room, some_held, some_undone, view_submit}
 use Rattle.bx_board.proofs.books.Book.hand_in.Goals as goal
 
 pub overflow_sub-self : goal.overflow_sub-self
