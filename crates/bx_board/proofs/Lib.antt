@@ -14,3 +14,4 @@ pub mod TermsCross
 pub mod CodeCrosses
 pub mod ProcessesCross
 pub mod EndsCross
+pub mod Crossing

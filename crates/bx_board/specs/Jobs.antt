@@ -21,6 +21,17 @@ pub record Job : Type 0 where
   pub plan : Planned
   pub chains : Chained
 
+-- a campaign of nothing
+abbrev pub no_job : Job
+no_job =
+    let nobody : AtomId = record { 0 = 0 } in
+    record {
+      image = record { atoms = []; modules = [] };
+      start = (nobody, nobody);
+      plan = record { lines = []; tree = record { steps = []; paths = [] } };
+      chains = record { heads = []; kids = []; owners = [] };
+    }
+
 -- the world at the start; none of a start that is not exported
 abbrev pub world_or_none : Result State Fault → State
 world_or_none (Ok w) = w

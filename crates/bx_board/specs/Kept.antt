@@ -84,6 +84,11 @@ Leases old k (Some work) new = (n : ℕ) × Happens old (Lease k n) new × (work
 abbrev pub IsOf : Job → Work → ℕ → Type 0
 IsOf job work n = (n < chain_count job.chains) × (work ≡ work_of job n)
 
+-- a lease, with the chain that was leased
+abbrev pub Takes : Kept → ℕ → Option (ℕ × Work) → Kept → Type 0
+Takes old k None new = (new ≡ old) × ((n : ℕ) → May old.job old.state (Lease k n) → ⊥)
+Takes old k (Some task) new = Happens old (Lease k task.0) new × IsOf old.job task.1 task.0
+
 abbrev pub Submits : Kept → ℕ → Work → Kept → Type 0
 Submits old k work new = (n : ℕ) × IsOf old.job work n × Happens old (Submit k n) new
 

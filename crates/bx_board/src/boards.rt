@@ -1,9 +1,14 @@
 //! A book behind a lock, which workers serve.
 
+ghost use Rattle.std.specs.Prelude.{◌≡◌, IfOk, IfSome};
+ghost use Rattle.bx_board.specs.Kept.{IsOf};
+
 use crate::books::Book;
+use crate::slots::Counts;
 use crate::working::{Lease, Piece, work};
 use bx_terms::Fault;
 use std::alloc::Global;
+use std::marker::{Brand, Model, PhantomData};
 use std::sync::{Condvar, Mutex, Wait};
 
 /// What is called as workers go on, never while the book's lock is held.
@@ -25,26 +30,100 @@ impl Gate for FreeGate {
     fn worked(&self, _worker: usize, _piece: &Piece<'_>) {}
 }
 
-/// A book that workers share. Each critical section is one call of the book, beside a look at its counts.
+/// Which campaign a board is of. Each call of a program picks it.
+pub trait Campaign {
+    ghost use Rattle.bx_board.specs.Jobs.{Job};
+
+    ghost job: { Job };
+}
+
+impl Campaign for Brand {
+    ghost use Rattle.bx_board.specs.Jobs.{no_job};
+
+    ghost job = { no_job };
+}
+
+/// The book of that campaign.
 #[derive(Drop)]
-pub struct Board<'a> {
-    book: Mutex<Book<'a>>,
+struct Shelf<'a, J: Campaign> {
+    book: Book<'a>,
+    of: PhantomData<J>,
+}
+
+impl<'a, J: Campaign> Model for Shelf<'a, J> {
+    ghost use Rattle.std.specs.Prelude.{◌≡◌};
+
+    ghost Value = { Unit {0} };
+
+    ghost view = { λ s. tt };
+
+    ghost invariant = { λ s. s.book.job ≡ J.job };
+}
+
+impl<'a, J: Campaign> Shelf<'a, J> {
+    fn new(book: Book<'a>) -> Shelf<'a, J>
+        requires { book.job ≡ J.job }
+    {
+        Shelf {
+            book,
+            of: PhantomData,
+        }
+    }
+
+    fn into_book(self) -> Book<'a>
+        ensures { result.job ≡ J.job }
+    {
+        let Shelf { book, of: _ } = self;
+        book
+    }
+
+    fn counts(&self) -> Counts {
+        self.book.counts()
+    }
+
+    /// A lease, with its chain's number.
+    fn take(&mut self, alloc: Global, worker: usize) -> Result<Option<(usize, Lease<'a>)>, Fault>
+        ensures { IfOk result (λ found. IfSome found (λ task. IsOf J.job task.1 task.0)) }
+    {
+        self.book.take(alloc, worker)
+    }
+
+    /// Hands in what came of a chain. Whether the worker held it.
+    fn accept(&mut self, worker: usize, chain: usize, piece: Piece<'a>) -> bool
+        requires { IsOf J.job piece chain }
+    {
+        self.book.accept(worker, chain, piece)
+    }
+
+    fn give_back(&mut self, worker: usize) {
+        let _held = self.book.give_back(worker);
+    }
+}
+
+/// The book of that campaign, which workers share. Each critical section is one call of the book, beside a look at its counts.
+#[derive(Drop)]
+pub struct Board<'a, J: Campaign> {
+    shelf: Mutex<Shelf<'a, J>>,
     changed: Condvar,
 }
 
-impl<'a> Board<'a> {
+impl<'a, J: Campaign> Board<'a, J> {
     /// A board of that book.
-    pub fn new(book: Book<'a>) -> Board<'a> {
+    pub fn new(book: Book<'a>) -> Board<'a, J>
+        requires { book.job ≡ J.job }
+    {
         Board {
-            book: Mutex::new(book),
+            shelf: Mutex::new(Shelf::new(book)),
             changed: Condvar::new(),
         }
     }
 
     /// The book, as its workers left it.
-    pub fn close(self) -> Book<'a> {
-        let Board { book, changed: _ } = self;
-        book.into_inner()
+    pub fn close(self) -> Book<'a>
+        ensures { result.job ≡ J.job }
+    {
+        let Board { shelf, changed: _ } = self;
+        shelf.into_inner().into_book()
     }
 
     /// Leases, works and submits until nothing is left for this worker. Where memory runs out, the worker's lease is given
@@ -57,14 +136,14 @@ impl<'a> Board<'a> {
         gate: &G,
     ) -> Result<(), Fault> {
         for _ in rt.forever() {
-            let Some(lease) = self.next(rt, alloc, worker)? else {
+            let Some((chain, lease)) = self.next(rt, alloc, worker)? else {
                 return Ok(());
             };
             gate.leased(worker);
             match work(alloc, lease) {
                 Ok(piece) => {
                     gate.worked(worker, &piece);
-                    if !self.hand_in(rt, worker, piece) {
+                    if !self.hand_in(rt, worker, chain, piece) {
                         return Ok(());
                     }
                 }
@@ -77,37 +156,42 @@ impl<'a> Board<'a> {
         unreachable!()
     }
 
-    /// The next lease. After none was to be had a worker waits only where nothing is free and something is leased.
+    /// The next lease, with its chain's number. After none was to be had a worker waits only where nothing is free and
+    /// something is leased.
     fn next<R: Wait>(
         &self,
         rt: &R,
         alloc: Global,
         worker: usize,
-    ) -> Result<Option<Lease<'a>>, Fault> {
-        let mut book = self.book.lock(rt);
+    ) -> Result<Option<(usize, Lease<'a>)>, Fault>
+        ensures { IfOk result (λ found. IfSome found (λ task. IsOf J.job task.1 task.0)) }
+    {
+        let mut shelf = self.shelf.lock(rt);
         for _ in rt.forever() {
-            if let Some(lease) = book.lease(alloc, worker)? {
-                return Ok(Some(lease));
+            if let Some(task) = shelf.take(alloc, worker)? {
+                return Ok(Some(task));
             }
-            let counts = book.counts();
+            let counts = shelf.counts();
             if counts.free > 0 || counts.leased == 0 {
                 return Ok(None);
             }
-            book = self.changed.wait(rt, book);
+            shelf = self.changed.wait(rt, shelf);
         }
         unreachable!()
     }
 
-    /// Submits a piece, and wakes all who wait. Whether it was taken.
-    fn hand_in<R: Wait>(&self, rt: &R, worker: usize, piece: Piece<'a>) -> bool {
-        let submitted = self.book.lock(rt).submit(worker, piece);
+    /// Hands a piece in, and wakes all who wait. Whether it was taken.
+    fn hand_in<R: Wait>(&self, rt: &R, worker: usize, chain: usize, piece: Piece<'a>) -> bool
+        requires { IsOf J.job piece chain }
+    {
+        let taken = self.shelf.lock(rt).accept(worker, chain, piece);
         self.changed.notify_all();
-        submitted.is_ok()
+        taken
     }
 
     /// Gives the worker's lease back, and wakes all who wait.
     fn hand_back<R: Wait>(&self, rt: &R, worker: usize) {
-        let _held = self.book.lock(rt).give_back(worker);
+        self.shelf.lock(rt).give_back(worker);
         self.changed.notify_all();
     }
 }

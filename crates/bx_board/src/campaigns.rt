@@ -1,19 +1,20 @@
 //! Campaigns: a book served by threads.
 
-ghost use Rattle.std.specs.Prelude.{⊤, IsOk, IsSome};
+ghost use Rattle.std.specs.Prelude.{⊤, ◌≡◌, IsOk, IsSome};
 ghost use Rattle.bx_terms.specs.Outcomes.{Gives};
 ghost use Rattle.bx_load.specs.Image.{export};
 ghost use Rattle.bx_world.specs.World.{started};
 ghost use Rattle.bx_plan.specs.Planned.{schedules};
 ghost use Rattle.bx_board.specs.Reported.{report_by, report_from};
 
-use crate::boards::{Board, Gate};
+use crate::boards::{Board, Campaign, Gate};
 use crate::books::{Book, report_alone};
 use crate::reports::Report;
 use bx_load::Image;
 use bx_plan::Plan;
 use bx_terms::{AtomId, Fault};
 use std::alloc::Global;
+use std::marker::Brand;
 use std::sync::Wait;
 use std::thread;
 use std::thread::Threads;
@@ -23,10 +24,10 @@ const MOST_WORKERS: u32 = 64;
 
 /// Serves a board by so many workers, each in a thread where one can be made; worker 0 in the caller's. False where
 /// one of them met want of memory.
-fn serve_all<R: Threads + Wait + Sync, G: Gate + Sync>(
+fn serve_all<J: Campaign + Send + Sync, R: Threads + Wait + Sync, G: Gate + Sync>(
     rt: &R,
     alloc: Global,
-    board: &Board<'_>,
+    board: &Board<'_, J>,
     workers: usize,
     gate: &G,
 ) -> bool {
@@ -43,6 +44,21 @@ fn serve_all<R: Threads + Wait + Sync, G: Gate + Sync>(
         Ok(ended) => ended.iter().all(|well| *well),
         Err(_) => false,
     }
+}
+
+/// A book that so many workers have served, and whether all of them had the memory that they asked for.
+fn served<'a, J: Campaign + Send + Sync, R: Threads + Wait + Sync, G: Gate + Sync>(
+    rt: &R,
+    alloc: Global,
+    book: Book<'a>,
+    workers: usize,
+    gate: &G,
+) -> (bool, Book<'a>)
+    requires { book.job ≡ J.job }
+{
+    let board = Board::<J>::new(book);
+    let well = serve_all(rt, alloc, &board, workers, gate);
+    (well, board.close())
 }
 
 /// The report of a campaign whose threads have ended: the chains that are left are run on the book, where it is still this
@@ -65,7 +81,7 @@ fn settle(
 }
 
 /// The report of the plan's schedules, each as if it were run alone from the start, by 1 to 64 workers that share the chains
-/// of the plan's tree.
+/// of the plan's tree. The caller's thread is worker 0; a thread that cannot be started is done without.
 ///
 /// `Workers` exactly where they are not 1 to 64; else `NoEntry` exactly where the module does not export that function of no
 /// arguments. `Memory` where a worker lacked it and chains are left, or the report lacks it. The promise holds if the call
@@ -86,9 +102,7 @@ pub fn campaign<R: Threads + Wait + Sync, G: Gate + Sync>(
         return Err(Fault::Workers);
     }
     let book = Book::new(alloc, image, module, function, plan)?;
-    let board = Board::new(book);
-    let well = serve_all(rt, alloc, &board, workers as usize, gate);
-    let book = board.close();
+    let (well, book) = served::<Brand, R, G>(rt, alloc, book, workers as usize, gate);
     if !well && !book.is_done() {
         return Err(Fault::Memory);
     }

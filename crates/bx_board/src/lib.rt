@@ -10,7 +10,7 @@ mod slots;
 mod texts;
 mod working;
 
-pub use boards::{Board, FreeGate, Gate};
+pub use boards::{Board, Campaign, FreeGate, Gate};
 pub use books::{Book, report_alone};
 pub use campaigns::campaign;
 pub use reports::{Report, ScheduleName, Scheduled};

@@ -60,6 +60,19 @@ impl<'a> Book<'a> {
         self.events.push_reserved(Event::Submit(worker, chain));
     }
 
+    /// Hands in what came of that chain, of which the piece is known to be: whether the worker holds it. It takes no memory,
+    /// and no time in proportion to the code or the path.
+    pub(crate) fn accept(&mut self, worker: usize, chain: usize, piece: Piece<'a>) -> bool
+        requires { IsOf self.old.job piece chain }
+        ensures { MatchBool result (Happens self.old (Event.Submit worker chain) self.new) (self.new ≡ self.old) }
+    {
+        if let Some(_fault) = self.refusal(worker, chain) {
+            return false;
+        }
+        self.hand_in(worker, chain, piece.into_end());
+        true
+    }
+
     /// Hands in what came of a chain.
     ///
     /// `Foreign` exactly where the piece is no chain's of this campaign, else `Twice` exactly where that chain is done,

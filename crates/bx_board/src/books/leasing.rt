@@ -2,7 +2,7 @@
 
 ghost use Rattle.std.specs.Prelude.{◌≡◌, IfErr, IfOk, IsTrue};
 ghost use Rattle.bx_board.specs.Jobs.{work_of};
-ghost use Rattle.bx_board.specs.Kept.{Leases};
+ghost use Rattle.bx_board.specs.Kept.{Leases, Takes};
 ghost use Rattle.bx_board.specs.Machine.{is_free};
 
 use crate::books::Book;
@@ -38,12 +38,13 @@ impl<'a> Book<'a> {
         })
     }
 
-    /// Leases a free chain to the worker; none exactly where no chain is free, the campaign was stopped, or the worker
-    /// holds one, and then nothing has changed.
-    ///
-    /// Memory is all that it may lack, and then nothing has changed. Room is taken for the lease's end too.
-    pub fn lease(&mut self, alloc: Global, worker: usize) -> Result<Option<Lease<'a>>, Fault>
-        ensures ok { IfOk result (λ lease. Leases self.old worker lease self.new) }
+    /// Leases a free chain to the worker, as `lease` does, and says which.
+    pub(crate) fn take(
+        &mut self,
+        alloc: Global,
+        worker: usize,
+    ) -> Result<Option<(usize, Lease<'a>)>, Fault>
+        ensures ok { IfOk result (λ task. Takes self.old worker task self.new) }
         ensures err { IfErr result (λ fault. (fault ≡ Fault.Memory) × (self.new ≡ self.old)) }
     {
         if self.stopped {
@@ -67,6 +68,21 @@ impl<'a> Book<'a> {
         self.slots[chain] = Slot::Leased(worker);
         self.leased += 1;
         self.events.push_reserved(Event::Lease(worker, chain));
+        Ok(Some((chain, lease)))
+    }
+
+    /// Leases a free chain to the worker; none exactly where no chain is free, the campaign was stopped, or the worker
+    /// holds one, and then nothing has changed.
+    ///
+    /// Memory is all that it may lack, and then nothing has changed. Room is taken for the lease's end too.
+    pub fn lease(&mut self, alloc: Global, worker: usize) -> Result<Option<Lease<'a>>, Fault>
+        ensures ok { IfOk result (λ lease. Leases self.old worker lease self.new) }
+        ensures err { IfErr result (λ fault. (fault ≡ Fault.Memory) × (self.new ≡ self.old)) }
+    {
+        let taken = self.take(alloc, worker)?;
+        let Some((_, lease)) = taken else {
+            return Ok(None);
+        };
         Ok(Some(lease))
     }
 }
