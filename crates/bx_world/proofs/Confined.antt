@@ -26,14 +26,14 @@ use Rattle.bx_world.specs.Choosing.{born_too, made, made_or, chosen}
 use Rattle.bx_world.specs.Posting.{behind, all_behind}
 use Rattle.bx_world.proofs.Keeping.{AmongKept, lives_run_kept}
 
-get_set_other : {A : Type 0} (xs : List A) (n k : ℕ) (y : A) → k ≢ n → slice_get (slice_set xs n y) k ≡ slice_get xs k
+pub get_set_other : {A : Type 0} (xs : List A) (n k : ℕ) (y : A) → k ≢ n → slice_get (slice_set xs n y) k ≡ slice_get xs k
 get_set_other [] n k y other = refl
 get_set_other (z ∷ xs) zero zero y other = absurd (other refl)
 get_set_other (z ∷ xs) zero (suc k) y other = refl
 get_set_other (z ∷ xs) (suc n) zero y other = refl
 get_set_other (z ∷ xs) (suc n) (suc k) y other = get_set_other xs n k y (λ same. other (ap (λ m. suc m) same))
 
-get_set_same : {A : Type 0} (xs : List A) (n : ℕ) (y : A) → n < length xs → slice_get (slice_set xs n y) n ≡ Some y
+pub get_set_same : {A : Type 0} (xs : List A) (n : ℕ) (y : A) → n < length xs → slice_get (slice_set xs n y) n ≡ Some y
 get_set_same [] n y h = absurd (omega arith)
 get_set_same (z ∷ xs) zero y h = refl
 get_set_same (z ∷ xs) (suc n) y h = get_set_same xs n y (omega arith)

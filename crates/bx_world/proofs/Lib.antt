@@ -13,3 +13,4 @@ pub mod Members
 pub mod Lawful
 pub mod Arriving
 pub mod Confined
+pub mod Entering

@@ -14,3 +14,4 @@ pub mod Running
 pub mod Seen
 pub mod Texts
 pub mod Posting
+pub mod Entering

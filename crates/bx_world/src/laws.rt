@@ -1,6 +1,6 @@
 //! Laws of the definitions: the functions do nothing, and their clauses are the laws.
 
-ghost use Rattle.std.specs.Prelude.{◌≡◌, ◌≢◌, ◌↔◌, ◌+◌, ◌<◌, ◌≤◌, ◌++◌, ℕ, List, [], length, slice_get, false, None, Some, IsTrue, IsSome, Contains};
+ghost use Rattle.std.specs.Prelude.{◌≡◌, ◌≢◌, ◌↔◌, ◌⊎◌, ◌+◌, ◌<◌, ◌≤◌, ◌++◌, ℕ, List, [], length, slice_get, true, false, None, Some, IsTrue, IsSome, Contains};
 ghost use Rattle.bx_load.specs.Image.{Loaded};
 ghost use Rattle.bx_terms.specs.declared.kinds.Trap.{Trap};
 ghost use Rattle.bx_world.specs.declared.choices.Choice.{Choice};
@@ -13,6 +13,7 @@ ghost use Rattle.bx_world.specs.Running.{Ended, advanced, ran};
 ghost use Rattle.bx_signals.specs.Channels.{waiting};
 ghost use Rattle.bx_terms.specs.declared.places.Place.{Place};
 ghost use Rattle.bx_world.specs.Posting.{all_put, all_taken, all_behind};
+ghost use Rattle.bx_world.specs.Entering.{is_linked, Enters, Entered};
 
 /// What is looked up of a choice is whether it is among those that are enabled.
 pub fn a_choice_can_be_made_where_it_is_enabled()
@@ -68,4 +69,12 @@ pub fn a_choice_changes_its_own_process_alone()
 pub fn an_ended_process_keeps_its_reason()
     ensures kept { (image : Loaded) (choices : List Choice) (w : State) (p : ℕ) (reason : Tree) → slice_get w.processes p ≡ Some (Gone reason) → slice_get (all_behind image choices w).processes p ≡ Some (Gone reason) }
     ensures idle { (w : State) (p : ℕ) (reason : Tree) → slice_get w.processes p ≡ Some (Gone reason) → (can w (Run p) ≡ false) × (can w (Expire p) ≡ false) }
+{}
+
+/// A process enters another's set of links only by that one's own `link`, by a `spawn_link` of either, or by a link signal of its
+/// own that is delivered there: by one choice, and over every list of choices. At the start no process is linked.
+pub fn a_link_comes_by_link_by_spawn_link_or_by_a_signal()
+    ensures one { (image : Loaded) (choice : Choice) (w : State) (p q : ℕ) → is_linked (chosen image choice w).processes p q ≡ true → (is_linked w.processes p q ≡ true) ⊎ Enters image w choice p q }
+    ensures all { (image : Loaded) (choices : List Choice) (w : State) (p q : ℕ) → is_linked (all_behind image choices w).processes p q ≡ true → (is_linked w.processes p q ≡ true) ⊎ Entered image choices w p q }
+    ensures from_the_start { (image : Loaded) (choices : List Choice) (place : Place) (p q : ℕ) → is_linked (all_behind image choices (begun place)).processes p q ≡ true → Entered image choices (begun place) p q }
 {}
