@@ -4,6 +4,8 @@
 #[cfg(test)]
 mod catching;
 #[cfg(test)]
+mod choosing;
+#[cfg(test)]
 mod faults;
 #[cfg(test)]
 mod frames;

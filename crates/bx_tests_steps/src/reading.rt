@@ -1,7 +1,7 @@
 //! Registers that hold nothing, a tag, or a trace, where a term is read.
 
-use crate::reports::{report_of, trapped};
-use std::alloc::{AllocError, Global};
+use crate::reports::is_trapped;
+use std::alloc::Global;
 use std::test::Fail;
 
 /// Instructions that copy what a register holds, whose text is left out between the two.
@@ -43,116 +43,65 @@ const READERS: [(&str, &str); 28] = [
     ("{wait_timeout,{f,2},", "}."),
 ];
 
-/// These items, and behind them an instruction on that register.
-fn items_of(
+/// Items, the register behind them that is read, and the trap that the last of so many runs is. The first holds nothing; y0 without
+/// a frame, and past its size, is none; then one holds a tag, and one a trace.
+const REGISTERS: [(&str, &str, u32, &str); 6] = [
+    ("", "{x,9}", 1, "Unset"),
+    ("{allocate,1,0}. ", "{y,0}", 2, "Unset"),
+    ("", "{y,0}", 1, "NoFrame"),
+    ("{allocate,1,0}. ", "{y,1}", 2, "FrameSize"),
+    (
+        "{allocate,1,0}. {'try',{y,0},{f,2}}. ",
+        "{y,0}",
+        3,
+        "NotATerm",
+    ),
+    (
+        "{allocate,1,0}. {'try',{y,0},{f,3}}. if_end. {label,3}. {try_case,{y,0}}. ",
+        "{x,2}",
+        5,
+        "NotATerm",
+    ),
+];
+
+/// The same of what is copied, a trace aside.
+const UNCARRIED: [(&str, &str, u32, &str); 2] = [
+    ("{move,nil,{x,0}}. ", "{x,9}", 2, "Unset"),
+    (
+        "{move,nil,{x,0}}. {allocate,1,0}. {'try',{y,0},{f,2}}. ",
+        "{y,0}",
+        4,
+        "NotATerm",
+    ),
+];
+
+/// How many of those instructions, from the first on, are that trap with that register behind those items.
+fn trapped_by(
     alloc: Global,
-    first: &str,
-    instruction: (&str, &str),
-    register: &str,
-) -> Result<String, AllocError> {
-    let (before, behind) = instruction;
-    format!(in alloc; "{first}{before}{register}{behind}")
+    instructions: &[(&str, &str)],
+    (first, register, runs, trap): (&str, &str, u32, &str),
+) -> Result<usize, Fail> {
+    for (number, (before, behind)) in instructions.iter().enumerate() {
+        let items = format!(in alloc; "{first}{before}{register}{behind}")?;
+        if !is_trapped(alloc, items.as_str(), runs, trap)? {
+            return Ok(number);
+        }
+    }
+    Ok(instructions.len())
 }
 
 #[test]
-fn nothing_is_carried_from_a_register_that_holds_nothing(rt: HostRuntime) -> Result<(), Fail> {
-    let alloc = rt.alloc();
-    let want = trapped(alloc, 2, "Unset")?;
-    for carrier in CARRIERS {
-        let items = items_of(alloc, "{move,nil,{x,0}}. ", carrier, "{x,9}")?;
-        let report = report_of(alloc, items.as_str(), 2)?;
-        assert!(rt; report.as_str() == want.as_str(), "{items} {report}");
+fn registers_that_are_not_read(rt: HostRuntime) -> Result<(), Fail> {
+    for row in REGISTERS {
+        assert_eq!(rt; trapped_by(rt.alloc(), &READERS, row)?, READERS.len());
     }
     Ok(())
 }
 
 #[test]
-fn a_tag_is_not_carried(rt: HostRuntime) -> Result<(), Fail> {
-    let alloc = rt.alloc();
-    let want = trapped(alloc, 4, "NotATerm")?;
-    let first = "{move,nil,{x,0}}. {allocate,1,0}. {'try',{y,0},{f,2}}. ";
-    for carrier in CARRIERS {
-        let items = items_of(alloc, first, carrier, "{y,0}")?;
-        let report = report_of(alloc, items.as_str(), 4)?;
-        assert!(rt; report.as_str() == want.as_str(), "{items} {report}");
-    }
-    Ok(())
-}
-
-#[test]
-fn a_register_that_holds_nothing_is_not_read(rt: HostRuntime) -> Result<(), Fail> {
-    let alloc = rt.alloc();
-    let want = trapped(alloc, 1, "Unset")?;
-    for reader in READERS {
-        let items = items_of(alloc, "", reader, "{x,9}")?;
-        let report = report_of(alloc, items.as_str(), 1)?;
-        assert!(rt; report.as_str() == want.as_str(), "{items} {report}");
-    }
-    Ok(())
-}
-
-#[test]
-fn a_y_register_that_holds_nothing_is_not_read(rt: HostRuntime) -> Result<(), Fail> {
-    let alloc = rt.alloc();
-    let want = trapped(alloc, 2, "Unset")?;
-    for reader in READERS {
-        let items = items_of(alloc, "{allocate,1,0}. ", reader, "{y,0}")?;
-        let report = report_of(alloc, items.as_str(), 2)?;
-        assert!(rt; report.as_str() == want.as_str(), "{items} {report}");
-    }
-    Ok(())
-}
-
-#[test]
-fn a_y_register_without_a_frame_is_not_read(rt: HostRuntime) -> Result<(), Fail> {
-    let alloc = rt.alloc();
-    let want = trapped(alloc, 1, "NoFrame")?;
-    for reader in READERS {
-        let items = items_of(alloc, "", reader, "{y,0}")?;
-        let report = report_of(alloc, items.as_str(), 1)?;
-        assert!(rt; report.as_str() == want.as_str(), "{items} {report}");
-    }
-    Ok(())
-}
-
-#[test]
-fn a_y_register_past_the_size_is_not_read(rt: HostRuntime) -> Result<(), Fail> {
-    let alloc = rt.alloc();
-    let want = trapped(alloc, 2, "FrameSize")?;
-    for reader in READERS {
-        let items = items_of(alloc, "{allocate,1,0}. ", reader, "{y,1}")?;
-        let report = report_of(alloc, items.as_str(), 2)?;
-        assert!(rt; report.as_str() == want.as_str(), "{items} {report}");
-    }
-    Ok(())
-}
-
-#[test]
-fn a_tag_is_not_read(rt: HostRuntime) -> Result<(), Fail> {
-    let alloc = rt.alloc();
-    let want = trapped(alloc, 3, "NotATerm")?;
-    for reader in READERS {
-        let items = items_of(
-            alloc,
-            "{allocate,1,0}. {'try',{y,0},{f,2}}. ",
-            reader,
-            "{y,0}",
-        )?;
-        let report = report_of(alloc, items.as_str(), 3)?;
-        assert!(rt; report.as_str() == want.as_str(), "{items} {report}");
-    }
-    Ok(())
-}
-
-#[test]
-fn a_trace_is_not_read(rt: HostRuntime) -> Result<(), Fail> {
-    let alloc = rt.alloc();
-    let want = trapped(alloc, 5, "NotATerm")?;
-    let first = "{allocate,1,0}. {'try',{y,0},{f,3}}. if_end. {label,3}. {try_case,{y,0}}. ";
-    for reader in READERS {
-        let items = items_of(alloc, first, reader, "{x,2}")?;
-        let report = report_of(alloc, items.as_str(), 5)?;
-        assert!(rt; report.as_str() == want.as_str(), "{items} {report}");
+fn registers_that_are_not_carried(rt: HostRuntime) -> Result<(), Fail> {
+    for row in UNCARRIED {
+        assert_eq!(rt; trapped_by(rt.alloc(), &CARRIERS, row)?, CARRIERS.len());
     }
     Ok(())
 }

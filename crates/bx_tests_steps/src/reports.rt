@@ -29,8 +29,23 @@ pub fn ended(alloc: Global, runs: u32, reason: &str) -> Result<String, AllocErro
 }
 
 /// The report of a process whose last run was this trap.
-pub fn trapped(alloc: Global, runs: u32, trap: &str) -> Result<String, AllocError> {
+fn trapped(alloc: Global, runs: u32, trap: &str) -> Result<String, AllocError> {
     format!(in alloc;
         "schedule a\napplied {runs}\nstate trapped {trap} <0.0.0>\nprocess <0.0.0> ready\nend\n"
     )
+}
+
+/// How many rows of items, runs and a reason, from the first on, end the process so.
+pub fn right_ends(alloc: Global, rows: &[(&str, u32, &str)]) -> Result<usize, Fail> {
+    for (number, (items, runs, reason)) in rows.iter().enumerate() {
+        if report_of(alloc, items, *runs)?.as_str() != ended(alloc, *runs, reason)?.as_str() {
+            return Ok(number);
+        }
+    }
+    Ok(rows.len())
+}
+
+/// Whether the last of so many runs of these items is that trap.
+pub fn is_trapped(alloc: Global, items: &str, runs: u32, trap: &str) -> Result<bool, Fail> {
+    Ok(report_of(alloc, items, runs)?.as_str() == trapped(alloc, runs, trap)?.as_str())
 }

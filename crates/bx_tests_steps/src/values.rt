@@ -10,91 +10,101 @@ fn report_of_x0(alloc: Global, items: &str, runs: u32) -> Result<String, Fail> {
     report_of(alloc, items.as_str(), runs)
 }
 
+/// How many rows of items, runs and a value, from the first on, leave that value in x0.
+fn right_values(alloc: Global, rows: &[(&str, u32, &str)]) -> Result<usize, Fail> {
+    for (number, (items, runs, value)) in rows.iter().enumerate() {
+        if report_of_x0(alloc, items, *runs)?.as_str() != ended(alloc, *runs, value)?.as_str() {
+            return Ok(number);
+        }
+    }
+    Ok(rows.len())
+}
+
+/// Items, how many runs with the one that ends the process, and what x0 then holds.
+const INSTRUCTIONS: [(&str, u32, &str); 23] = [
+    ("{move,{integer,5},{x,0}}.", 2, "5"),
+    ("{move,{literal,{a,[1|b]}},{x,0}}.", 2, "{a,[1|b]}"),
+    ("{move,nil,{x,0}}.", 2, "[]"),
+    (
+        "{allocate,1,0}. {move,{atom,a},{y,0}}. {move,{y,0},{x,0}}.",
+        4,
+        "a",
+    ),
+    (
+        "{move,{atom,a},{x,1}}. {move,{atom,b},{x,0}}. {swap,{x,0},{x,1}}.",
+        4,
+        "a",
+    ),
+    ("{move,{atom,a},{x,0}}. {swap,{x,0},{x,0}}.", 3, "a"),
+    ("{put_list,{integer,1},nil,{x,0}}.", 2, "[1]"),
+    ("{put_list,{integer,1},{integer,2},{x,0}}.", 2, "[1|2]"),
+    ("{put_tuple2,{x,0},{list,[]}}.", 2, "{}"),
+    ("{put_tuple2,{x,0},{list,[{atom,a},nil]}}.", 2, "{a,[]}"),
+    (
+        "{move,{literal,[1,2]},{x,1}}. {get_list,{x,1},{x,0},{x,1}}.",
+        3,
+        "1",
+    ),
+    (
+        "{move,{literal,[1,2]},{x,1}}. {get_list,{x,1},{x,1},{x,0}}.",
+        3,
+        "[2]",
+    ),
+    (
+        "{move,{literal,[1,2]},{x,1}}. {get_list,{x,1},{x,0},{x,0}}.",
+        3,
+        "[2]",
+    ),
+    (
+        "{move,{literal,[1,2]},{x,1}}. {get_hd,{x,1},{x,0}}.",
+        3,
+        "1",
+    ),
+    (
+        "{move,{literal,[1,2]},{x,1}}. {get_tl,{x,1},{x,0}}.",
+        3,
+        "[2]",
+    ),
+    (
+        "{move,{literal,{a,b}},{x,1}}. {get_tuple_element,{x,1},1,{x,0}}.",
+        3,
+        "b",
+    ),
+    ("{bif,self,{f,0},[],{x,0}}.", 2, "<0.0.0>"),
+    ("{test_heap,9,0}. {move,{atom,a},{x,0}}.", 3, "a"),
+    (
+        "{allocate,1,0}. {init_yregs,{list,[{y,0}]}}. {move,{y,0},{x,0}}.",
+        4,
+        "[]",
+    ),
+    (
+        "{move,{atom,a},{x,0}}. {select_val,{x,0},{f,2},{list,[{atom,b},{f,1},{atom,a},{f,3}]}}. {label,3}.",
+        3,
+        "a",
+    ),
+    (
+        "{move,{integer,7},{x,0}}. {select_val,{x,0},{f,3},{list,[{atom,b},{f,1}]}}. {label,3}.",
+        3,
+        "7",
+    ),
+    (
+        "{move,{literal,{a}},{x,0}}. {select_tuple_arity,{x,0},{f,1},{list,[2,{f,1},1,{f,3}]}}. {label,3}.",
+        3,
+        "{a}",
+    ),
+    (
+        "{move,nil,{x,0}}. {select_tuple_arity,{x,0},{f,3},{list,[0,{f,1}]}}. {label,3}.",
+        3,
+        "[]",
+    ),
+];
+
 #[test]
 fn instructions_that_build_and_move(rt: HostRuntime) -> Result<(), Fail> {
-    let alloc = rt.alloc();
-    let rows = [
-        ("{move,{integer,5},{x,0}}.", 2, "5"),
-        ("{move,{literal,{a,[1|b]}},{x,0}}.", 2, "{a,[1|b]}"),
-        ("{move,nil,{x,0}}.", 2, "[]"),
-        (
-            "{allocate,1,0}. {move,{atom,a},{y,0}}. {move,{y,0},{x,0}}.",
-            4,
-            "a",
-        ),
-        (
-            "{move,{atom,a},{x,1}}. {move,{atom,b},{x,0}}. {swap,{x,0},{x,1}}.",
-            4,
-            "a",
-        ),
-        ("{move,{atom,a},{x,0}}. {swap,{x,0},{x,0}}.", 3, "a"),
-        ("{put_list,{integer,1},nil,{x,0}}.", 2, "[1]"),
-        ("{put_list,{integer,1},{integer,2},{x,0}}.", 2, "[1|2]"),
-        ("{put_tuple2,{x,0},{list,[]}}.", 2, "{}"),
-        ("{put_tuple2,{x,0},{list,[{atom,a},nil]}}.", 2, "{a,[]}"),
-        (
-            "{move,{literal,[1,2]},{x,1}}. {get_list,{x,1},{x,0},{x,1}}.",
-            3,
-            "1",
-        ),
-        (
-            "{move,{literal,[1,2]},{x,1}}. {get_list,{x,1},{x,1},{x,0}}.",
-            3,
-            "[2]",
-        ),
-        (
-            "{move,{literal,[1,2]},{x,1}}. {get_list,{x,1},{x,0},{x,0}}.",
-            3,
-            "[2]",
-        ),
-        (
-            "{move,{literal,[1,2]},{x,1}}. {get_hd,{x,1},{x,0}}.",
-            3,
-            "1",
-        ),
-        (
-            "{move,{literal,[1,2]},{x,1}}. {get_tl,{x,1},{x,0}}.",
-            3,
-            "[2]",
-        ),
-        (
-            "{move,{literal,{a,b}},{x,1}}. {get_tuple_element,{x,1},1,{x,0}}.",
-            3,
-            "b",
-        ),
-        ("{bif,self,{f,0},[],{x,0}}.", 2, "<0.0.0>"),
-        ("{test_heap,9,0}. {move,{atom,a},{x,0}}.", 3, "a"),
-        (
-            "{allocate,1,0}. {init_yregs,{list,[{y,0}]}}. {move,{y,0},{x,0}}.",
-            4,
-            "[]",
-        ),
-        (
-            "{move,{atom,a},{x,0}}. {select_val,{x,0},{f,2},{list,[{atom,b},{f,1},{atom,a},{f,3}]}}. {label,3}.",
-            3,
-            "a",
-        ),
-        (
-            "{move,{integer,7},{x,0}}. {select_val,{x,0},{f,3},{list,[{atom,b},{f,1}]}}. {label,3}.",
-            3,
-            "7",
-        ),
-        (
-            "{move,{literal,{a}},{x,0}}. {select_tuple_arity,{x,0},{f,1},{list,[2,{f,1},1,{f,3}]}}. {label,3}.",
-            3,
-            "{a}",
-        ),
-        (
-            "{move,nil,{x,0}}. {select_tuple_arity,{x,0},{f,3},{list,[0,{f,1}]}}. {label,3}.",
-            3,
-            "[]",
-        ),
-    ];
-    for (items, runs, value) in rows {
-        let report = report_of_x0(alloc, items, runs)?;
-        let want = ended(alloc, runs, value)?;
-        assert!(rt; report.as_str() == want.as_str(), "{items} {report}");
-    }
+    assert_eq!(rt;
+        right_values(rt.alloc(), &INSTRUCTIONS)?,
+        INSTRUCTIONS.len()
+    );
     Ok(())
 }
 
@@ -104,159 +114,160 @@ fn report_of_bif(alloc: Global, name: &str, arguments: &str) -> Result<String, F
     report_of_x0(alloc, items.as_str(), 2)
 }
 
+/// How many rows of a name, arguments and a value, from the first on, are what that guard BIF gives.
+fn right_bifs(alloc: Global, rows: &[(&str, &str, &str)]) -> Result<usize, Fail> {
+    for (number, (name, arguments, value)) in rows.iter().enumerate() {
+        if report_of_bif(alloc, name, arguments)?.as_str() != ended(alloc, 2, value)?.as_str() {
+            return Ok(number);
+        }
+    }
+    Ok(rows.len())
+}
+
+/// Operators, their operands, and the value.
+const ARITHMETIC: [(&str, &str, &str); 19] = [
+    ("'+'", "{integer,2},{integer,3}", "5"),
+    ("'-'", "{integer,2},{integer,3}", "-1"),
+    ("'*'", "{integer,-2},{integer,3}", "-6"),
+    ("'div'", "{integer,-7},{integer,2}", "-3"),
+    ("'rem'", "{integer,-7},{integer,2}", "-1"),
+    ("'rem'", "{integer,7},{integer,-2}", "1"),
+    ("'rem'", "{integer,-9223372036854775808},{integer,-1}", "0"),
+    ("'band'", "{integer,12},{integer,10}", "8"),
+    ("'bor'", "{integer,12},{integer,10}", "14"),
+    ("'bxor'", "{integer,12},{integer,10}", "6"),
+    ("'bsl'", "{integer,3},{integer,2}", "12"),
+    ("'bsl'", "{integer,3},{integer,-1}", "1"),
+    ("'bsr'", "{integer,-7},{integer,1}", "-4"),
+    ("'bsr'", "{integer,3},{integer,-2}", "12"),
+    ("'bsl'", "{integer,0},{integer,9223372036854775807}", "0"),
+    ("'bnot'", "{integer,5}", "-6"),
+    ("'-'", "{integer,5}", "-5"),
+    ("'+'", "{integer,5}", "5"),
+    ("abs", "{integer,-5}", "5"),
+];
+
 #[test]
 fn arithmetic(rt: HostRuntime) -> Result<(), Fail> {
-    let alloc = rt.alloc();
-    let rows = [
-        ("'+'", "{integer,2},{integer,3}", "5"),
-        ("'-'", "{integer,2},{integer,3}", "-1"),
-        ("'*'", "{integer,-2},{integer,3}", "-6"),
-        ("'div'", "{integer,-7},{integer,2}", "-3"),
-        ("'rem'", "{integer,-7},{integer,2}", "-1"),
-        ("'rem'", "{integer,7},{integer,-2}", "1"),
-        ("'rem'", "{integer,-9223372036854775808},{integer,-1}", "0"),
-        ("'band'", "{integer,12},{integer,10}", "8"),
-        ("'bor'", "{integer,12},{integer,10}", "14"),
-        ("'bxor'", "{integer,12},{integer,10}", "6"),
-        ("'bsl'", "{integer,3},{integer,2}", "12"),
-        ("'bsl'", "{integer,3},{integer,-1}", "1"),
-        ("'bsr'", "{integer,-7},{integer,1}", "-4"),
-        ("'bsr'", "{integer,3},{integer,-2}", "12"),
-        ("'bsl'", "{integer,0},{integer,9223372036854775807}", "0"),
-        ("'bnot'", "{integer,5}", "-6"),
-        ("'-'", "{integer,5}", "-5"),
-        ("'+'", "{integer,5}", "5"),
-        ("abs", "{integer,-5}", "5"),
-    ];
-    for (name, arguments, value) in rows {
-        let report = report_of_bif(alloc, name, arguments)?;
-        let want = ended(alloc, 2, value)?;
-        assert!(rt; report.as_str() == want.as_str(), "{name} {report}");
-    }
+    assert_eq!(rt; right_bifs(rt.alloc(), &ARITHMETIC)?, ARITHMETIC.len());
     Ok(())
 }
+
+/// The same, of comparisons, of truth, and of parts of terms.
+const COMPARISONS: [(&str, &str, &str); 23] = [
+    ("'<'", "{integer,9},{atom,a}", "true"),
+    ("'>'", "nil,{literal,{a}}", "true"),
+    ("'=<'", "{literal,[1]},nil", "false"),
+    ("'>='", "{integer,2},{integer,2}", "true"),
+    ("'=:='", "{literal,{a,1}},{literal,{a,1}}", "true"),
+    ("'=='", "{integer,1},{integer,2}", "false"),
+    ("'=/='", "{atom,a},{atom,b}", "true"),
+    ("'/='", "{atom,a},{atom,a}", "false"),
+    ("min", "{integer,2},{integer,1}", "1"),
+    ("max", "{atom,a},{integer,1}", "a"),
+    ("'not'", "{atom,true}", "false"),
+    ("'and'", "{atom,true},{atom,false}", "false"),
+    ("'or'", "{atom,true},{atom,false}", "true"),
+    ("'xor'", "{atom,true},{atom,true}", "false"),
+    ("hd", "{literal,[a,b]}", "a"),
+    ("tl", "{literal,[a,b]}", "[b]"),
+    ("length", "{literal,[a,b]}", "2"),
+    ("tuple_size", "{literal,{a,b,c}}", "3"),
+    ("element", "{integer,2},{literal,{a,b,c}}", "b"),
+    ("is_list", "{literal,[a|b]}", "true"),
+    ("is_tuple", "nil", "false"),
+    ("is_boolean", "{atom,false}", "true"),
+    ("is_float", "{integer,1}", "false"),
+];
 
 #[test]
 fn comparisons_and_parts(rt: HostRuntime) -> Result<(), Fail> {
-    let alloc = rt.alloc();
-    let rows = [
-        ("'<'", "{integer,9},{atom,a}", "true"),
-        ("'>'", "nil,{literal,{a}}", "true"),
-        ("'=<'", "{literal,[1]},nil", "false"),
-        ("'>='", "{integer,2},{integer,2}", "true"),
-        ("'=:='", "{literal,{a,1}},{literal,{a,1}}", "true"),
-        ("'=='", "{integer,1},{integer,2}", "false"),
-        ("'=/='", "{atom,a},{atom,b}", "true"),
-        ("'/='", "{atom,a},{atom,a}", "false"),
-        ("min", "{integer,2},{integer,1}", "1"),
-        ("max", "{atom,a},{integer,1}", "a"),
-        ("'not'", "{atom,true}", "false"),
-        ("'and'", "{atom,true},{atom,false}", "false"),
-        ("'or'", "{atom,true},{atom,false}", "true"),
-        ("'xor'", "{atom,true},{atom,true}", "false"),
-        ("hd", "{literal,[a,b]}", "a"),
-        ("tl", "{literal,[a,b]}", "[b]"),
-        ("length", "{literal,[a,b]}", "2"),
-        ("tuple_size", "{literal,{a,b,c}}", "3"),
-        ("element", "{integer,2},{literal,{a,b,c}}", "b"),
-        ("is_list", "{literal,[a|b]}", "true"),
-        ("is_tuple", "nil", "false"),
-        ("is_boolean", "{atom,false}", "true"),
-        ("is_float", "{integer,1}", "false"),
-    ];
-    for (name, arguments, value) in rows {
-        let report = report_of_bif(alloc, name, arguments)?;
-        let want = ended(alloc, 2, value)?;
-        assert!(rt; report.as_str() == want.as_str(), "{name} {report}");
-    }
+    assert_eq!(rt; right_bifs(rt.alloc(), &COMPARISONS)?, COMPARISONS.len());
     Ok(())
 }
 
+/// The same, of calls by name.
+const CALLS: [(&str, u32, &str); 16] = [
+    (
+        "{move,{literal,[1,2]},{x,0}}. {move,{literal,[3]},{x,1}}. {call_ext,2,{extfunc,erlang,'++',2}}.",
+        4,
+        "[1,2,3]",
+    ),
+    (
+        "{move,{literal,[1,2]},{x,0}}. {move,{integer,3},{x,1}}. {call_ext,2,{extfunc,erlang,'++',2}}.",
+        4,
+        "[1,2|3]",
+    ),
+    (
+        "{move,nil,{x,0}}. {move,{atom,a},{x,1}}. {call_ext,2,{extfunc,erlang,'++',2}}.",
+        4,
+        "a",
+    ),
+    (
+        "{move,{integer,2},{x,0}}. {move,{literal,{a,b}},{x,1}}. {move,nil,{x,2}}. {call_ext,3,{extfunc,erlang,setelement,3}}.",
+        5,
+        "{a,[]}",
+    ),
+    (
+        "{move,{integer,1},{x,0}}. {move,{literal,{a,b}},{x,1}}. {move,nil,{x,2}}. {call_ext,3,{extfunc,erlang,setelement,3}}.",
+        5,
+        "{[],b}",
+    ),
+    (
+        "{move,{literal,[1,2]},{x,0}}. {call_ext,1,{extfunc,erlang,list_to_tuple,1}}.",
+        3,
+        "{1,2}",
+    ),
+    (
+        "{move,nil,{x,0}}. {call_ext,1,{extfunc,erlang,list_to_tuple,1}}.",
+        3,
+        "{}",
+    ),
+    (
+        "{move,{literal,{1,[2]}},{x,0}}. {call_ext,1,{extfunc,erlang,tuple_to_list,1}}.",
+        3,
+        "[1,[2]]",
+    ),
+    (
+        "{move,{literal,{}},{x,0}}. {call_ext,1,{extfunc,erlang,tuple_to_list,1}}.",
+        3,
+        "[]",
+    ),
+    (
+        "{move,{atom,trap_exit},{x,0}}. {move,{atom,true},{x,1}}. {call_ext,2,{extfunc,erlang,process_flag,2}}.",
+        4,
+        "false",
+    ),
+    (
+        "{move,{atom,trap_exit},{x,0}}. {move,{atom,true},{x,1}}. {call_ext,2,{extfunc,erlang,process_flag,2}}. {move,{atom,trap_exit},{x,0}}. {call_ext,2,{extfunc,erlang,process_flag,2}}.",
+        6,
+        "true",
+    ),
+    (
+        "{move,{literal,[1,2]},{x,0}}. {call_ext,1,{extfunc,erlang,length,1}}.",
+        3,
+        "2",
+    ),
+    (
+        "{move,{integer,3},{x,0}}. {move,{integer,4},{x,1}}. {call_ext,2,{extfunc,erlang,'*',2}}.",
+        4,
+        "12",
+    ),
+    ("{call_ext,0,{extfunc,erlang,self,0}}.", 2, "<0.0.0>"),
+    (
+        "{move,{literal,[b]},{x,0}}. {call,1,{f,3}}. {call_ext_only,1,{extfunc,erlang,exit,1}}. {label,3}. {call_ext_only,1,{extfunc,erlang,list_to_tuple,1}}.",
+        4,
+        "{b}",
+    ),
+    (
+        "{allocate,0,0}. {move,{literal,[b]},{x,0}}. {call,1,{f,3}}. {call_ext_only,1,{extfunc,erlang,exit,1}}. {label,3}. {allocate,0,0}. {call_ext_last,1,{extfunc,erlang,list_to_tuple,1},0}.",
+        6,
+        "{b}",
+    ),
+];
+
 #[test]
 fn calls_by_name(rt: HostRuntime) -> Result<(), Fail> {
-    let alloc = rt.alloc();
-    let rows = [
-        (
-            "{move,{literal,[1,2]},{x,0}}. {move,{literal,[3]},{x,1}}. {call_ext,2,{extfunc,erlang,'++',2}}.",
-            4,
-            "[1,2,3]",
-        ),
-        (
-            "{move,{literal,[1,2]},{x,0}}. {move,{integer,3},{x,1}}. {call_ext,2,{extfunc,erlang,'++',2}}.",
-            4,
-            "[1,2|3]",
-        ),
-        (
-            "{move,nil,{x,0}}. {move,{atom,a},{x,1}}. {call_ext,2,{extfunc,erlang,'++',2}}.",
-            4,
-            "a",
-        ),
-        (
-            "{move,{integer,2},{x,0}}. {move,{literal,{a,b}},{x,1}}. {move,nil,{x,2}}. {call_ext,3,{extfunc,erlang,setelement,3}}.",
-            5,
-            "{a,[]}",
-        ),
-        (
-            "{move,{integer,1},{x,0}}. {move,{literal,{a,b}},{x,1}}. {move,nil,{x,2}}. {call_ext,3,{extfunc,erlang,setelement,3}}.",
-            5,
-            "{[],b}",
-        ),
-        (
-            "{move,{literal,[1,2]},{x,0}}. {call_ext,1,{extfunc,erlang,list_to_tuple,1}}.",
-            3,
-            "{1,2}",
-        ),
-        (
-            "{move,nil,{x,0}}. {call_ext,1,{extfunc,erlang,list_to_tuple,1}}.",
-            3,
-            "{}",
-        ),
-        (
-            "{move,{literal,{1,[2]}},{x,0}}. {call_ext,1,{extfunc,erlang,tuple_to_list,1}}.",
-            3,
-            "[1,[2]]",
-        ),
-        (
-            "{move,{literal,{}},{x,0}}. {call_ext,1,{extfunc,erlang,tuple_to_list,1}}.",
-            3,
-            "[]",
-        ),
-        (
-            "{move,{atom,trap_exit},{x,0}}. {move,{atom,true},{x,1}}. {call_ext,2,{extfunc,erlang,process_flag,2}}.",
-            4,
-            "false",
-        ),
-        (
-            "{move,{atom,trap_exit},{x,0}}. {move,{atom,true},{x,1}}. {call_ext,2,{extfunc,erlang,process_flag,2}}. {move,{atom,trap_exit},{x,0}}. {call_ext,2,{extfunc,erlang,process_flag,2}}.",
-            6,
-            "true",
-        ),
-        (
-            "{move,{literal,[1,2]},{x,0}}. {call_ext,1,{extfunc,erlang,length,1}}.",
-            3,
-            "2",
-        ),
-        (
-            "{move,{integer,3},{x,0}}. {move,{integer,4},{x,1}}. {call_ext,2,{extfunc,erlang,'*',2}}.",
-            4,
-            "12",
-        ),
-        ("{call_ext,0,{extfunc,erlang,self,0}}.", 2, "<0.0.0>"),
-        (
-            "{move,{literal,[b]},{x,0}}. {call,1,{f,3}}. {call_ext_only,1,{extfunc,erlang,exit,1}}. {label,3}. {call_ext_only,1,{extfunc,erlang,list_to_tuple,1}}.",
-            4,
-            "{b}",
-        ),
-        (
-            "{allocate,0,0}. {move,{literal,[b]},{x,0}}. {call,1,{f,3}}. {call_ext_only,1,{extfunc,erlang,exit,1}}. {label,3}. {allocate,0,0}. {call_ext_last,1,{extfunc,erlang,list_to_tuple,1},0}.",
-            6,
-            "{b}",
-        ),
-    ];
-    for (items, runs, value) in rows {
-        let report = report_of_x0(alloc, items, runs)?;
-        let want = ended(alloc, runs, value)?;
-        assert!(rt; report.as_str() == want.as_str(), "{items} {report}");
-    }
+    assert_eq!(rt; right_values(rt.alloc(), &CALLS)?, CALLS.len());
     Ok(())
 }
