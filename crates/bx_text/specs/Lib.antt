@@ -6,6 +6,7 @@ pub mod Form
 pub mod Forms
 pub mod Letters
 pub mod Lexing
+pub mod Named
 pub mod Number
 pub mod Place
 pub mod Rows
