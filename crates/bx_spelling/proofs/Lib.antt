@@ -1,0 +1,12 @@
+pub mod Escapes
+pub mod Frame
+pub mod Free
+pub mod Longest
+pub mod Marks
+pub mod Means
+pub mod Numbers
+pub mod NumbersFound
+pub mod Quotes
+pub mod Readings
+pub mod Runs
+pub mod Words
