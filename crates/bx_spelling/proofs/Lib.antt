@@ -1,4 +1,6 @@
+pub mod Blanking
 pub mod Escapes
+pub mod Finding
 pub mod Frame
 pub mod Free
 pub mod Longest

@@ -157,7 +157,7 @@ same_front text xs ys us vs e f l = (
   sym (drop_at xs us (length ys) l) ∙ ap (λ w. drop (length ys) w) (sym e ∙ f) ∙ drop_at ys vs (length ys) refl,
 )
 
-same_place : (p q : Place) → p.rest ≡ q.rest → p.at ≡ q.at → p.line ≡ q.line → p ≡ q
+pub same_place : (p q : Place) → p.rest ≡ q.rest → p.at ≡ q.at → p.line ≡ q.line → p ≡ q
 same_place p q a b c = λ i. record { rest = a i; at = b i; line = c i }
 
 longest_takes : (p : Place) (t : Token) (q : Place) → IsClear p.rest → Longest p t q → Takes p t q

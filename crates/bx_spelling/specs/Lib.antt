@@ -1,4 +1,6 @@
+pub mod Blanks
 pub mod Characters
+pub mod Lexemes
 pub mod Numerals
 pub mod Quoted
 pub mod Spelling

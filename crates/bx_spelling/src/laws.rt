@@ -1,8 +1,11 @@
 //! Laws over the definitions of the reader: each function's clause is one, and its body is empty.
 
-ghost use Rattle.std.specs.Prelude.{◌≡◌, ◌↔◌};
+ghost use Rattle.std.specs.Prelude.{◌≡◌, ◌↔◌, Ok};
 ghost use Rattle.bx_text.specs.Place.{Place};
+ghost use Rattle.bx_text.specs.Blank.{skip};
 ghost use Rattle.bx_text.specs.Token.{Token};
+ghost use Rattle.bx_spelling.specs.Blanks.{Passes};
+ghost use Rattle.bx_spelling.specs.Lexemes.{Finds};
 ghost use Rattle.bx_spelling.specs.Quoted.{IsClear};
 ghost use Rattle.bx_spelling.specs.Tokens.{Takes, Longest};
 
@@ -10,4 +13,15 @@ ghost use Rattle.bx_spelling.specs.Tokens.{Takes, Longest};
 /// one begins; where the text holds no `\^\`, of which the reader takes the last backslash as one that begins an escape.
 pub fn tokens_are_the_longest_spellings()
     ensures { (p : Place) (t : Token) (q : Place) → IsClear p.rest → Takes p t q ↔ Longest p t q }
+{}
+
+/// What the reader skips is the spaces and comments that stand there, all of them and nothing else.
+pub fn blanks_are_skipped()
+    ensures { (p q : Place) → (skip p ≡ Ok q) ↔ Passes p q }
+{}
+
+/// What the reader finds as the next token is the longest spelling behind the blanks, and it finds one exactly where one
+/// begins there; where the text holds no `\^\`.
+pub fn the_next_token_is_the_longest()
+    ensures { (p q : Place) (t : Token) (r : Place) → IsClear p.rest → Finds p q t r ↔ (Passes p q × Longest q t r) }
 {}
