@@ -149,7 +149,7 @@ not_space b n = by (is_space b) refl
     by true e = absurd (n (space_is b e))
     by false e = refl
 
-not_line : (b : ℕ) → is_space b ≡ false → eqb b 10 ≡ false
+pub not_line : (b : ℕ) → is_space b ≡ false → eqb b 10 ≡ false
 not_line b e = grind (arith, nat_tests)
 
 not_percent : (b : ℕ) → b ≢ 37 → eqb b 37 ≡ false
@@ -158,7 +158,7 @@ not_percent b n = grind (arith, nat_tests)
 space_percent : (b : ℕ) → IsSpace b → (eqb b 37 ≡ false) × (is_space b ≡ true)
 space_percent b h = (grind (arith, nat_tests), grind (arith, nat_tests))
 
-tests_by : (b : ℕ) (bs : List ℕ) (at line : ℕ) (f s : Bool) → eqb b 37 ≡ false → eqb b 10 ≡ f → is_space b ≡ s
+pub tests_by : (b : ℕ) (bs : List ℕ) (at line : ℕ) (f s : Bool) → eqb b 37 ≡ false → eqb b 10 ≡ f → is_space b ≡ s
     → skip_from (b ∷ bs) at line ≡ cond f (skip_from bs (at + 1) (line + 1)) (cond s (skip_from bs (at + 1) line) (Ok (on (b ∷ bs) at line)))
 tests_by b bs at line f s c ef es =
     ap (λ (t : Bool). cond t (cond (eqb (utf8_valid_len (line_of bs)) (length (line_of bs))) (skip_line bs (at + 1) line) (Err (NotUtf8 line))) (cond (eqb b 10) (skip_from bs (at + 1) (line + 1)) (cond (is_space b) (skip_from bs (at + 1) line) (Ok (on (b ∷ bs) at line))))) c

@@ -15,7 +15,7 @@ use Rattle.bx_spelling.proofs.Blanking.{skipped_is_blank}
 use Rattle.bx_spelling.proofs.Longest.{same_place, taken_is_longest}
 
 -- a token where it stands
-abbrev standing : Place → Token × Place → Lexeme
+abbrev pub standing : Place → Token × Place → Lexeme
 standing q x = record { token = x.0; from = q.at; line = q.line; begin = q.rest; after = x.1 }
 
 clear_at : (p q : Place) → Passes p q → IsClear p.rest → IsClear q.rest

@@ -8,7 +8,9 @@ pub mod Marks
 pub mod Means
 pub mod Numbers
 pub mod NumbersFound
+pub mod Printing
 pub mod Quotes
+pub mod ReadBack
 pub mod Readings
 pub mod Runs
 pub mod Words

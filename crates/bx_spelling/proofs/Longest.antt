@@ -80,7 +80,7 @@ sound p x c h = by_list p.rest p.at p.line x c h
 not_minus : (d : ℕ) → is_digit d ≡ true → eqb d 45 ≡ false
 not_minus d e = grind (arith, nat_tests)
 
-unsigned : (ds : List ℕ) → list_all is_digit ds ≡ true → number ds ≡ pos (decimal ds)
+pub unsigned : (ds : List ℕ) → list_all is_digit ds ≡ true → number ds ≡ pos (decimal ds)
 unsigned [] a = refl
 unsigned (d ∷ ds) a = ap (λ t. cond t (signed true (decimal ds)) (signed false (decimal (d ∷ ds)))) (not_minus d (and_parts (is_digit d) (list_all is_digit ds) a).0)
 

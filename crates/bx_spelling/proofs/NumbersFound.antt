@@ -21,7 +21,7 @@ not_lower d e = grind (arith, nat_tests)
 digit_first : (d : ℕ) (p : Place) → is_digit d ≡ true → token_by (kind_of d) p ≡ number_at p 0
 digit_first d p digit = rw (not_lower d digit, digit) refl
 
-first_number : {front : List ℕ} → Minus front → (ds X : List ℕ) (at line : ℕ) → list_all is_digit ds ≡ true → 0 < length ds
+pub first_number : {front : List ℕ} → Minus front → (ds X : List ℕ) (at line : ℕ) → list_all is_digit ds ≡ true → 0 < length ds
     → token_at (on (front ++ (ds ++ X)) at line) ≡ number_at (on (front ++ (ds ++ X)) at line) (length front)
 first_number m [] X at line a l = absurd (omega arith)
 first_number no_minus (d ∷ ds) X at line a l = digit_first d (on (d ∷ (ds ++ X)) at line) (and_parts (is_digit d) (list_all is_digit ds) a).0
@@ -30,7 +30,7 @@ first_number a_minus (d ∷ ds) X at line a l = refl
 some_digits : (n : ℕ) → 0 < n → eqb n 0 ≡ false
 some_digits n h = grind (arith, nat_tests)
 
-digits_on : (front X : List ℕ) (at line n : ℕ) → n ≡ prefix_len is_digit X → 0 < n
+pub digits_on : (front X : List ℕ) (at line n : ℕ) → n ≡ prefix_len is_digit X → 0 < n
     → number_at (on (front ++ X) at line) (length front) ≡ number_by (on (front ++ X) at line) (length front + n) (fraction_len (drop (length front + n) (front ++ X)))
 digits_on front X at line n e some =
     let p : Place = on (front ++ X) at line in

@@ -65,7 +65,7 @@ quote_line q h = grind (arith, nat_tests)
 quote_low : (q : ℕ) → IsQuote q → q < 128
 quote_low q h = grind arith
 
-quote_slash : (q : ℕ) → IsQuote q → q ≢ 92
+pub quote_slash : (q : ℕ) → IsQuote q → q ≢ 92
 quote_slash q h e = grind arith
 
 quote_slash_test : (q : ℕ) → IsQuote q → eqb q 92 ≡ false
@@ -79,7 +79,7 @@ all_lines q bytes h =
 pub grouped : (q : ℕ) (bytes zs : List ℕ) → (q ∷ (bytes ++ q ∷ [])) ++ zs ≡ q ∷ (bytes ++ q ∷ zs)
 grouped q bytes zs = ap (λ us. q ∷ us) (append_assoc bytes (q ∷ []) zs)
 
-behind_rest : (q : ℕ) (bytes zs : List ℕ) → drop (length bytes + 2) (q ∷ (bytes ++ q ∷ zs)) ≡ zs
+pub behind_rest : (q : ℕ) (bytes zs : List ℕ) → drop (length bytes + 2) (q ∷ (bytes ++ q ∷ zs)) ≡ zs
 behind_rest q bytes zs =
     ap (λ us. drop (length bytes + 2) us) (sym (grouped q bytes zs))
     ∙ drop_at (q ∷ (bytes ++ q ∷ [])) zs (length bytes + 2) (omega (arith, length-append bytes (q ∷ [])))
@@ -301,7 +301,7 @@ pub a_string : (b : ℕ) (bs : List ℕ) (at line : ℕ) (x : Token × Place) �
 a_string = a_quote 34 token.text text_quoting
 
 -- what is spelled between quotes is taken
-abbrev Gives : ℕ → List ℕ → List ℕ → ℕ → ℕ → List ℕ → Type 0
+abbrev pub Gives : ℕ → List ℕ → List ℕ → ℕ → ℕ → List ℕ → Type 0
 Gives q bytes rest at line vs =
     (b : Body) × (quoted_at q (on (q ∷ (bytes ++ q ∷ rest)) at line) ≡ Ok (b, behind (on (q ∷ (bytes ++ q ∷ rest)) at line) (bytes ++ q ∷ rest) (length bytes))) × (spelled b ≡ encode_utf8_all vs)
 
@@ -353,9 +353,9 @@ plain_found q cs vs bytes rest at line h r u a =
         ∙ ap (λ (t : Bool). cond t (escaped_at p B (body_len q B)) (Ok (token.plain (take (length bytes) B), behind p B (length bytes)))) (quote_slash_test q h)
         ∙ ap (λ us. Ok (token.plain us, behind p B (length bytes))) front
 
-escapes_found : (q : ℕ) (cs vs bytes rest : List ℕ) (at line : ℕ) → IsQuote q → IsClear bytes → Quoted q cs vs → InUtf8 cs bytes
+escapes_found : (q : ℕ) (cs vs bytes rest : List ℕ) (at line : ℕ) → IsQuote q → free q bytes ≡ true → Quoted q cs vs → InUtf8 cs bytes
     → escaped_at (on (q ∷ (bytes ++ q ∷ rest)) at line) (bytes ++ q ∷ rest) (body_len q (bytes ++ q ∷ rest)) ≡ Ok (token.escaped bytes, behind (on (q ∷ (bytes ++ q ∷ rest)) at line) (bytes ++ q ∷ rest) (length bytes))
-escapes_found q cs vs bytes rest at line h c r u =
+escapes_found q cs vs bytes rest at line h is_free r u =
     ap (λ n. escaped_at p B n) count
     ∙ ap (λ (t : Bool). cond t (ended_at p B (length bytes) (drop (length bytes) B)) (Err (broken p (valid_front (take (length bytes) B)) (open_in (valid_front (take (length bytes) B)))))) valid
     ∙ ap (λ us. ended_at p B (length bytes) us) (drop_at bytes (q ∷ rest) (length bytes) refl)
@@ -367,9 +367,6 @@ escapes_found q cs vs bytes rest at line h c r u =
 
     p : Place
     p = on (q ∷ B) at line
-
-    is_free : free q bytes ≡ true
-    is_free = ap (free q) (sym u.1) ∙ free_text q cs (quote_low q h) ∙ quoted_free r h (clear_chars cs (subst IsClear (sym u.1) c))
 
     count : body_len q B ≡ length bytes
     count = body_of q (quote_slash q h) bytes rest is_free
@@ -408,9 +405,9 @@ free_next q (b ∷ raw) z zs a n f =
         by true e f = absurd (n (eqb-true b 92 e))
         by false e f = (and_parts (not (eqb b q)) (free q bs) f).1
 
-slashed_found : (q : ℕ) (cs vs raw zs rest : List ℕ) (z at line : ℕ) → IsQuote q → IsClear (raw ++ z ∷ zs) → Quoted q cs vs → InUtf8 cs (raw ++ z ∷ zs) → list_all (is_plain q) raw ≡ true → is_plain q z ≡ false
+slashed_found : (q : ℕ) (cs vs raw zs rest : List ℕ) (z at line : ℕ) → IsQuote q → free q (raw ++ z ∷ zs) ≡ true → Quoted q cs vs → InUtf8 cs (raw ++ z ∷ zs) → list_all (is_plain q) raw ≡ true → is_plain q z ≡ false
     → Gives q (raw ++ z ∷ zs) rest at line vs
-slashed_found q cs vs raw zs rest z at line h c r u a n =
+slashed_found q cs vs raw zs rest z at line h is_free r u a n =
     (token.escaped bytes, here, decodes cs bytes u ∙ ap encode_utf8_all (means r).0)
   where
     bytes : List ℕ
@@ -421,9 +418,6 @@ slashed_found q cs vs raw zs rest z at line h c r u a n =
 
     p : Place
     p = on (q ∷ B) at line
-
-    is_free : free q bytes ≡ true
-    is_free = ap (free q) (sym u.1) ∙ free_text q cs (quote_low q h) ∙ quoted_free r h (clear_chars cs (subst IsClear (sym u.1) c))
 
     slash : eqb z 92 ≡ true
     slash = free_next q raw z zs a n is_free
@@ -455,29 +449,32 @@ slashed_found q cs vs raw zs rest z at line h c r u a n =
         ∙ ap (λ (t : Bool). cond t (closing_at q p B (length raw) (drop (length raw) B)) (Err (NotUtf8 (line + feeds (valid_front (take (length raw) B)))))) valid
         ∙ ap (λ us. closing_at q p B (length raw) us) (ap (λ us. drop (length raw) us) parted ∙ drop_at raw (z ∷ (zs ++ q ∷ rest)) (length raw) refl)
         ∙ ap (λ (t : Bool). cond t (escaped_at p B (body_len q B)) (Ok (token.plain (take (length raw) B), behind p B (length raw)))) slash
-        ∙ escapes_found q cs vs bytes rest at line h c r u
+        ∙ escapes_found q cs vs bytes rest at line h is_free r u
 
-gives : (q : ℕ) (cs vs bytes rest : List ℕ) (at line : ℕ) → IsQuote q → IsClear bytes → Quoted q cs vs → InUtf8 cs bytes → Gives q bytes rest at line vs
-gives q cs vs bytes rest at line h c r u = by_run (run_split (is_plain q) bytes)
+pub gives : (q : ℕ) (cs vs bytes rest : List ℕ) (at line : ℕ) → IsQuote q → free q bytes ≡ true → Quoted q cs vs → InUtf8 cs bytes → Gives q bytes rest at line vs
+gives q cs vs bytes rest at line h f r u = by_run (run_split (is_plain q) bytes)
   where
     by_rest : (raw zs : List ℕ) → bytes ≡ raw ++ zs → list_all (is_plain q) raw ≡ true → prefix_len (is_plain q) bytes ≡ length raw → Gives q bytes rest at line vs
     by_rest raw [] e a n = plain_found q cs vs bytes rest at line h r u (subst (λ us. list_all (is_plain q) us ≡ true) (sym (e ∙ append-nil raw)) a)
     by_rest raw (z ∷ zs) e a n =
         subst (λ bytes. Gives q bytes rest at line vs) (sym e)
-        (slashed_found q cs vs raw zs rest z at line h (subst IsClear e c) r (subst (InUtf8 cs) e u) a (stop_at (is_plain q) raw z zs a (sym (ap (λ us. prefix_len (is_plain q) us) e) ∙ n)))
+        (slashed_found q cs vs raw zs rest z at line h (subst (λ us. free q us ≡ true) e f) r (subst (InUtf8 cs) e u) a (stop_at (is_plain q) raw z zs a (sym (ap (λ us. prefix_len (is_plain q) us) e) ∙ n)))
 
     by_run : ((raw zs : List ℕ) × (bytes ≡ raw ++ zs) × (list_all (is_plain q) raw ≡ true) × (prefix_len (is_plain q) bytes ≡ length raw)) → Gives q bytes rest at line vs
     by_run (raw, zs, e, a, n) = by_rest raw zs e a n
 
 quote_found : (q : ℕ) (make : Body → Token) → Quoting q make → ((bs : List ℕ) (at line : ℕ) → token_at (on (q ∷ bs) at line) ≡ (quoted_at q (on (q ∷ bs) at line) >>= λ y. Ok (make y.0, y.1)))
     → (cs vs bytes rest : List ℕ) (at line : ℕ) → IsClear bytes → Quoted q cs vs → InUtf8 cs bytes → Found (on ((q ∷ (bytes ++ q ∷ [])) ++ rest) at line) (make (token.plain (encode_utf8_all vs))) rest
-quote_found q make k first cs vs bytes rest at line c r u = by_gives (gives q cs vs bytes rest at line k.quote c r u)
+quote_found q make k first cs vs bytes rest at line c r u = by_gives (gives q cs vs bytes rest at line k.quote is_free r u)
   where
     B : List ℕ
     B = bytes ++ q ∷ rest
 
     p : Place
     p = on (q ∷ B) at line
+
+    is_free : free q bytes ≡ true
+    is_free = ap (free q) (sym u.1) ∙ free_text q cs (quote_low q k.quote) ∙ quoted_free r k.quote (clear_chars cs (subst IsClear (sym u.1) c))
 
     by_gives : Gives q bytes rest at line vs → Found (on ((q ∷ (bytes ++ q ∷ [])) ++ rest) at line) (make (token.plain (encode_utf8_all vs))) rest
     by_gives (b, e, m) =

@@ -224,7 +224,7 @@ behind_caret q k (a ∷ cs) h next l f c w = by (is_control a) (eqb a 92) refl r
 abbrev NameOr : ℕ → Type 0
 NameOr c = (Named c (escapes.named c)) ⊎ ((IsNamed c → ⊥) × (escapes.named c ≡ c))
 
-not_named : {c v : ℕ} → Named c v → c ≢ 98 → c ≢ 100 → c ≢ 101 → c ≢ 102 → c ≢ 110 → c ≢ 114 → c ≢ 115 → c ≢ 116 → c ≢ 118 → ⊥
+pub not_named : {c v : ℕ} → Named c v → c ≢ 98 → c ≢ 100 → c ≢ 101 → c ≢ 102 → c ≢ 110 → c ≢ 114 → c ≢ 115 → c ≢ 116 → c ≢ 118 → ⊥
 not_named backspace a b d e f g h i j = a refl
 not_named delete a b d e f g h i j = b refl
 not_named escape a b d e f g h i j = d refl
@@ -281,7 +281,7 @@ name_or c =
 octal_is : (c x : ℕ) → Digit 8 c x → is_octal c ≡ true
 octal_is c x h = grind (arith, nat_tests)
 
-no_octal_is : (c : ℕ) → is_octal c ≡ false → IsOctal c → ⊥
+pub no_octal_is : (c : ℕ) → is_octal c ≡ false → IsOctal c → ⊥
 no_octal_is c e (x, d) = never (is_octal c) e (octal_is c x d)
 
 unlike : (c d : ℕ) → eqb c d ≡ false → c ≢ d
@@ -336,7 +336,7 @@ pub reads : (q : ℕ) (cs : List ℕ) → IsQuote q → free q cs ≡ true → I
 reads q cs h f c w = within (length cs) q h cs (omega arith) f c w
 
 -- and what is quoted is free
-hex_from : (q : ℕ) (ds cs : List ℕ) → IsQuote q → list_all is_hex ds ≡ true → free q cs ≡ true → free q (ds ++ cs) ≡ true
+pub hex_from : (q : ℕ) (ds cs : List ℕ) → IsQuote q → list_all is_hex ds ≡ true → free q cs ≡ true → free q (ds ++ cs) ≡ true
 hex_from q [] cs h a f = f
 hex_from q (d ∷ ds) cs h a f =
     let all = and_parts (is_hex d) (list_all is_hex ds) a in

@@ -253,7 +253,7 @@ letter_first c p is = rw is refl
 accent_first : (p : Place) (b : ℕ) (bs : List ℕ) → is_accented_lower b ≡ true → drop 1 p.rest ≡ b ∷ bs → accent_at p ≡ word_at p
 accent_first p b bs is e = ap (λ (t : Bool). cond t (word_at p) (foreign_at p)) (ap (λ ws. begins is_accented_lower ws) e ∙ is)
 
-first_small : (c : ℕ) (X : List ℕ) (at line : ℕ) → IsSmall c → token_at (on (encode_utf8 c ++ X) at line) ≡ word_at (on (encode_utf8 c ++ X) at line)
+pub first_small : (c : ℕ) (X : List ℕ) (at line : ℕ) → IsSmall c → token_at (on (encode_utf8 c ++ X) at line) ≡ word_at (on (encode_utf8 c ++ X) at line)
 first_small c X at line h = by_class (small_class c h)
   where
     by_class : ((is_lower c ≡ true) × (c < 128)) ⊎ ((is_accented_lower (c - 64) ≡ true) × (192 ≤ c) × (c ≤ 255)) → token_at (on (encode_utf8 c ++ X) at line) ≡ word_at (on (encode_utf8 c ++ X) at line)

@@ -7,6 +7,8 @@ ghost use Rattle.bx_text.specs.Token.{Token};
 ghost use Rattle.bx_spelling.specs.Blanks.{Passes};
 ghost use Rattle.bx_spelling.specs.Lexemes.{Finds};
 ghost use Rattle.bx_spelling.specs.Quoted.{IsClear};
+ghost use Rattle.bx_text.specs.Tree.{Tree};
+ghost use Rattle.bx_spelling.specs.Shown.{Shown, IsReadBack};
 ghost use Rattle.bx_spelling.specs.Tokens.{Takes, Longest};
 
 /// What the reader takes as a token at a place is the longest spelling that begins there, and it takes one exactly where
@@ -24,4 +26,10 @@ pub fn blanks_are_skipped()
 /// begins there; where the text holds no `\^\`.
 pub fn the_next_token_is_the_longest()
     ensures { (p q : Place) (t : Token) (r : Place) → IsClear p.rest → Finds p q t r ↔ (Passes p q × Longest q t r) }
+{}
+
+/// What is printed of a term, and a full stop behind it, is read as the same term, spans aside: integers of any size,
+/// atoms, tuples, and lists with and without tails, nested at most as deep as is read.
+pub fn what_is_printed_is_read_back()
+    ensures { (t : Tree) → Shown 256 t → IsReadBack t }
 {}
