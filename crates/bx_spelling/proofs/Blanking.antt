@@ -90,9 +90,13 @@ over_comment b bs at line q e v (text, bytes, t, a, ends, k, n, (f, l)) =
     let first : b ≡ 37 = eqb-true b 37 e in
     let is : line_of bs ≡ text = ap line_of t ∙ line_is text (bytes ++ q.rest) a ends in
     let valid : IsUtf8 text = subst IsUtf8 is (valid_is (line_of bs) (eqb-true (utf8_valid_len (line_of bs)) (length (line_of bs)) v)) in
-    let whole : b ∷ bs ≡ (37 ∷ (text ++ bytes)) ++ q.rest = ap (λ b. b ∷ bs) first ∙ ap (λ us. 37 ∷ us) (t ∙ sym (append_assoc text bytes q.rest)) in
-    (37 ∷ (text ++ bytes), whole, comment text (a, valid) ends k, n,
-    (omega (arith, f, length-append text bytes), omega (arith, l, lines-append text bytes, text_lines text a)))
+    let whole : b ∷ bs ≡ (37 ∷ (text ++ bytes)) ++ q.rest = ap (λ b. b ∷ bs) first ∙ ap (λ us. 37 ∷ us) (t ∙ sym (append_assoc text bytes q.rest)) in (
+      37 ∷ (text ++ bytes),
+      whole,
+      comment text (a, valid) ends k,
+      n,
+      (omega (arith, f, length-append text bytes), omega (arith, l, lines-append text bytes, text_lines text a)),
+    )
 
 by_byte : (b : ℕ) (bs : List ℕ) (at line : ℕ) (q : Place) → (skip_line bs (at + 1) line ≡ Ok q → Over bs (at + 1) line q) → ((l : ℕ) → skip_from bs (at + 1) l ≡ Ok q → Passed bs (at + 1) l q)
     → skip_from (b ∷ bs) at line ≡ Ok q → Passed (b ∷ bs) at line q
@@ -195,7 +199,7 @@ gone_comment text bytes rest (a, u) ends more at line =
     ∙ ap (λ us. skip_from us (at + 1 + length text) line) (drop_at text (bytes ++ rest) (length text) refl)
     ∙ more (at + 1 + length text) line
     ∙ placed rest (at + 1 + length text + length bytes) (at + length (37 ∷ (text ++ bytes))) (line + lines bytes) (line + lines (37 ∷ (text ++ bytes)))
-      (omega (arith, length-append text bytes)) (omega (arith, lines-append text bytes, text_lines text a)))
+    (omega (arith, length-append text bytes)) (omega (arith, lines-append text bytes, text_lines text a)))
   where
     Y : List ℕ
     Y = text ++ (bytes ++ rest)

@@ -121,10 +121,14 @@ integer_exact (negsuc n) rest d =
 
 -- bare atoms
 word_exact : (c : ℕ) (cs bytes rest : List ℕ) → IsSmall c → AllByRecursion IsNameCharacter cs → InUtf8 (c ∷ cs) bytes → bytes ≢ codes "fun" → Delimits rest → Exactly bytes (token.atom (token.plain bytes)) rest
-word_exact c cs bytes rest small a (s, e) other d at line =
-    (word (take n text), after p n, begun, ap (λ n. drop n text) count ∙ drop_at bytes rest (length bytes) refl,
-    ap (λ n. meant (word (take n text))) count ∙ ap (λ w. meant (word w)) (take_at bytes rest (length bytes) refl)
-    ∙ ap (λ t. meant (cond t named.the_word_fun (token.atom (token.plain bytes)))) (not_fun (bytes_eq bytes (codes "fun")) refl))
+word_exact c cs bytes rest small a (s, e) other d at line = (
+  word (take n text),
+  after p n,
+  begun,
+  ap (λ n. drop n text) count ∙ drop_at bytes rest (length bytes) refl,
+  ap (λ n. meant (word (take n text))) count ∙ ap (λ w. meant (word w)) (take_at bytes rest (length bytes) refl)
+      ∙ ap (λ t. meant (cond t named.the_word_fun (token.atom (token.plain bytes)))) (not_fun (bytes_eq bytes (codes "fun")) refl),
+)
   where
     text : List ℕ
     text = bytes ++ rest
@@ -190,14 +194,20 @@ pair_utf8 : (b : ℕ) → b < 128 → InUtf8 (92 ∷ b ∷ []) (92 ∷ b ∷ [])
 pair_utf8 b low = ascii_utf8 (92 ∷ b ∷ []) (omega arith, (low, tt))
 
 quote_other : IsOther 39
-quote_other =
-    (λ x. not_named x.1 (λ e. omega arith) (λ e. omega arith) (λ e. omega arith) (λ e. omega arith) (λ e. omega arith) (λ e. omega arith) (λ e. omega arith) (λ e. omega arith) (λ e. omega arith),
-    no_octal_is 39 refl, λ e. omega arith, λ e. omega arith)
+quote_other = (
+  λ x. not_named x.1 (λ e. omega arith) (λ e. omega arith) (λ e. omega arith) (λ e. omega arith) (λ e. omega arith) (λ e. omega arith) (λ e. omega arith) (λ e. omega arith) (λ e. omega arith),
+  no_octal_is 39 refl,
+  λ e. omega arith,
+  λ e. omega arith,
+)
 
 slash_other : IsOther 92
-slash_other =
-    (λ x. not_named x.1 (λ e. omega arith) (λ e. omega arith) (λ e. omega arith) (λ e. omega arith) (λ e. omega arith) (λ e. omega arith) (λ e. omega arith) (λ e. omega arith) (λ e. omega arith),
-    no_octal_is 92 refl, λ e. omega arith, λ e. omega arith)
+slash_other = (
+  λ x. not_named x.1 (λ e. omega arith) (λ e. omega arith) (λ e. omega arith) (λ e. omega arith) (λ e. omega arith) (λ e. omega arith) (λ e. omega arith) (λ e. omega arith) (λ e. omega arith),
+  no_octal_is 92 refl,
+  λ e. omega arith,
+  λ e. omega arith,
+)
 
 other_written : (c : ℕ) → c < 128 → IsOther c → Written c (92 ∷ c ∷ [])
 other_written c low h = (92 ∷ c ∷ [], pair_utf8 c low, λ cs vs k. quoted.other h k, λ cs f. f)
@@ -240,9 +250,10 @@ code_written c h = by (eqb (c / 16) 0) (eqb (c / 16 / 16) 0) refl refl
         let none : c / 16 ≡ 0 = nothing_left (c / 16) e in
         let all : c % 16 ≡ c = omega arith in
         (subst (Numeral 16 (digit_glyph false (c % 16) ∷ [])) all (one_digit (glyph_digit (c % 16) low)), (glyph_low (c % 16) low, tt))
-    by false true e f =
-        (subst (Numeral 16 (digit_glyph false ((c / 16) % 16) ∷ digit_glyph false (c % 16) ∷ [])) value (digit_more (one_digit (glyph_digit ((c / 16) % 16) high)) (glyph_digit (c % 16) low)),
-        (glyph_low ((c / 16) % 16) high, (glyph_low (c % 16) low, tt)))
+    by false true e f = (
+      subst (Numeral 16 (digit_glyph false ((c / 16) % 16) ∷ digit_glyph false (c % 16) ∷ [])) value (digit_more (one_digit (glyph_digit ((c / 16) % 16) high)) (glyph_digit (c % 16) low)),
+      (glyph_low ((c / 16) % 16) high, (glyph_low (c % 16) low, tt)),
+    )
     by false false e f = absurd (some_left (c / 16 / 16) (omega arith) f)
 
 all_low_append : (xs ys : List ℕ) → AllByRecursion (λ b. b < 128) xs → AllByRecursion (λ b. b < 128) ys → AllByRecursion (λ b. b < 128) (xs ++ ys)
@@ -253,11 +264,12 @@ braced_written : (c : ℕ) → c < 128 → Written c (by_code c)
 braced_written c h = by_digits (digits 16 false c) (code_written c (omega arith))
   where
     by_digits : (ds : List ℕ) → Code c ds → Written c ((codes "\\x{" ++ ds) ++ codes "}")
-    by_digits ds (n, a) =
-        (92 ∷ 120 ∷ 123 ∷ (ds ++ 125 ∷ []),
-        ascii_utf8 (92 ∷ 120 ∷ 123 ∷ (ds ++ 125 ∷ [])) (omega arith, (omega arith, (omega arith, all_low_append ds (125 ∷ []) a (omega arith, tt)))),
-        (λ cs vs k. subst (λ us. Quoted 39 (92 ∷ 120 ∷ 123 ∷ us) (c ∷ vs)) (sym (append_assoc ds (125 ∷ []) cs)) (quoted.braced n (low_scalar c (omega arith)) k)),
-        (λ cs f. subst (λ us. free 39 (92 ∷ 120 ∷ 123 ∷ us) ≡ true) (sym (append_assoc ds (125 ∷ []) cs)) (braced_free ds cs n f)))
+    by_digits ds (n, a) = (
+      92 ∷ 120 ∷ 123 ∷ (ds ++ 125 ∷ []),
+      ascii_utf8 (92 ∷ 120 ∷ 123 ∷ (ds ++ 125 ∷ [])) (omega arith, (omega arith, (omega arith, all_low_append ds (125 ∷ []) a (omega arith, tt)))),
+      (λ cs vs k. subst (λ us. Quoted 39 (92 ∷ 120 ∷ 123 ∷ us) (c ∷ vs)) (sym (append_assoc ds (125 ∷ []) cs)) (quoted.braced n (low_scalar c (omega arith)) k)),
+      (λ cs f. subst (λ us. free 39 (92 ∷ 120 ∷ 123 ∷ us) ≡ true) (sym (append_assoc ds (125 ∷ []) cs)) (braced_free ds cs n f)),
+    )
       where
         braced_free : (ds cs : List ℕ) → Numeral 16 ds c → free 39 cs ≡ true → free 39 (123 ∷ (ds ++ 125 ∷ cs)) ≡ true
         braced_free ds cs n f = free_plain 39 123 (ds ++ 125 ∷ cs) refl refl (hex_from 39 ds (125 ∷ cs) (inl refl) (numeral_value n).0 (free_plain 39 125 cs refl refl f))
@@ -306,9 +318,13 @@ quoted_exact w rest utf8 at line = by_written (all_written (chars w) (scalars-ch
     F = flat_map atoms.escaped (chars w)
 
     by_gives : Gives 39 F rest at line (chars w) → (u : Token) × (q : Place) × (token_at (on (39 ∷ (F ++ 39 ∷ rest)) at line) ≡ Ok (u, q)) × (q.rest ≡ rest) × (meant u ≡ token.atom (token.plain w))
-    by_gives (b, e, m) =
-        (token.atom b, behind (on (39 ∷ (F ++ 39 ∷ rest)) at line) (F ++ 39 ∷ rest) (length F), ap (λ r. r >>= λ y. Ok (token.atom y.0, y.1)) e, behind_rest 39 F rest,
-        ap (λ w. token.atom (token.plain w)) (m ∙ encodes-chars w utf8))
+    by_gives (b, e, m) = (
+      token.atom b,
+      behind (on (39 ∷ (F ++ 39 ∷ rest)) at line) (F ++ 39 ∷ rest) (length F),
+      ap (λ r. r >>= λ y. Ok (token.atom y.0, y.1)) e,
+      behind_rest 39 F rest,
+      ap (λ w. token.atom (token.plain w)) (m ∙ encodes-chars w utf8),
+    )
 
     by_written : AllWritten (chars w) F → (u : Token) × (q : Place) × (token_at (on (((39 ∷ F) ++ 39 ∷ []) ++ rest) at line) ≡ Ok (u, q)) × (q.rest ≡ rest) × (meant u ≡ token.atom (token.plain w))
     by_written (src, u, k, f) =

@@ -120,8 +120,11 @@ record Closed (d : ℕ) (p : Place) (rest : List ℕ) (u : Tree) : Type 0 where
 -- one element more, behind a comma
 abbrev follow_more : (d : ℕ) (bytes X : List ℕ) (b : Tree) (at line : ℕ) → (r : Read d (on (bytes ++ X) (at + 1) line) X b) → Follow d (on X r.end.at r.end.line) → Follow d (on (44 ∷ (bytes ++ X)) at line)
 follow_more d bytes X b at line r f =
-    record { mark = f.mark; trees = r.tree ∷ f.trees;
-             row = λ l t s. more s (next_by 44 (bytes ++ X) at line named.comma (on (bytes ++ X) (at + 1) line) refl refl refl) refl r.next (f.row r.first r.tree (ended r)) }
+    record {
+      mark = f.mark;
+      trees = r.tree ∷ f.trees;
+      row = λ l t s. more s (next_by 44 (bytes ++ X) at line named.comma (on (bytes ++ X) (at + 1) line) refl refl refl) refl r.next (f.row r.first r.tree (ended r));
+    }
 
 same_cons : (a b u v : Tree) → unplaced a ≡ unplaced b → unplaced u ≡ unplaced v → unplaced (cons a u) ≡ unplaced (cons b v)
 same_cons a b u v e f = ap (λ x. cons x (unplaced u)) e ∙ ap (λ x. cons (unplaced b) x) f
@@ -156,8 +159,13 @@ Tupled d rest t = (at line : ℕ) (p : Place) → Whole (suc d) (standing p (tok
 tupled_none : (d : ℕ) (rest : List ℕ) → Tupled d rest nil
 tupled_none d rest at line p =
     let l : Lexeme = standing p (token.open_tuple, on (125 ∷ rest) at line) in
-    record { tree = tuple (span l (on rest (at + 1) line)) nil; end = on rest (at + 1) line;
-             spells = empty_tuple {m = standing (on (125 ∷ rest) at line) (named.close_tuple, on rest (at + 1) line)} refl (next_by 125 rest at line named.close_tuple (on rest (at + 1) line) refl refl refl) refl; left = refl; same = refl }
+    record {
+      tree = tuple (span l (on rest (at + 1) line)) nil;
+      end = on rest (at + 1) line;
+      spells = empty_tuple {m = standing (on (125 ∷ rest) at line) (named.close_tuple, on rest (at + 1) line)} refl (next_by 125 rest at line named.close_tuple (on rest (at + 1) line) refl refl refl) refl;
+      left = refl;
+      same = refl;
+    }
 
 tupled_some : (d : ℕ) (rest : List ℕ) (a u : Tree) → Reads d (node_text a) (rest_text u ++ 125 ∷ rest) a → Ends d rest u → Tupled d rest (cons a u)
 tupled_some d rest a u reads ends at line p =
@@ -166,9 +174,13 @@ tupled_some d rest a u reads ends at line p =
     let c = ends r.end.at r.end.line in
     let l : Lexeme = standing p (token.open_tuple, on (node_text a ++ X) at line) in
     subst (λ us. Whole (suc d) (standing p (token.open_tuple, on us at line)) rest (tuple nowhere (unplaced (cons a u)))) (sym (append_assoc (node_text a) (rest_text u) (125 ∷ rest)))
-    (record { tree = tuple (span l c.row.mark.after) (chain (r.tree ∷ c.row.trees) nil); end = c.row.mark.after;
-              spells = a_tuple refl r.next (c.row.row r.first r.tree (ended r)) c.closes; left = c.left;
-              same = ap (λ x. tuple nowhere x) (same_cons r.tree a (chain c.row.trees nil) u r.same c.same) })
+    (record {
+      tree = tuple (span l c.row.mark.after) (chain (r.tree ∷ c.row.trees) nil);
+      end = c.row.mark.after;
+      spells = a_tuple refl r.next (c.row.row r.first r.tree (ended r)) c.closes;
+      left = c.left;
+      same = ap (λ x. tuple nowhere x) (same_cons r.tree a (chain c.row.trees nil) u r.same c.same);
+    })
 
 opened : (b c : ℕ) (body rest : List ℕ) → ((b ∷ body) ++ c ∷ []) ++ rest ≡ b ∷ (body ++ c ∷ rest)
 opened b c body rest = ap (λ us. b ∷ us) (append_assoc body (c ∷ []) rest)
@@ -212,8 +224,12 @@ Tails d rest u = (at line : ℕ) → Listed d (on (rest_text u ++ 93 ∷ rest) a
 listed_end : (d : ℕ) (rest : List ℕ) → Tails d rest nil
 listed_end d rest at line =
     let m : Lexeme = standing (on (93 ∷ rest) at line) (named.close_list, on rest (at + 1) line) in
-    record { row = record { mark = m; trees = []; row = λ l t s. one s (next_by 93 rest at line named.close_list (on rest (at + 1) line) refl refl refl) };
-             tail = nil; ends = inl (record { closes = refl; left = refl; none = refl }); same = refl }
+    record {
+      row = record { mark = m; trees = []; row = λ l t s. one s (next_by 93 rest at line named.close_list (on rest (at + 1) line) refl refl refl) };
+      tail = nil;
+      ends = inl (record { closes = refl; left = refl; none = refl });
+      same = refl;
+    }
 
 listed_more : (d : ℕ) (rest : List ℕ) (b v : Tree) → Reads d (node_text b) (rest_text v ++ 93 ∷ rest) b → Tails d rest v → Tails d rest (cons b v)
 listed_more d rest b v reads tails at line =
@@ -250,12 +266,24 @@ untailed (cons t w) u k e = refl
 listed_tail : (d : ℕ) (rest : List ℕ) (u : Tree) → IsTail u → rest_text u ≡ 124 ∷ node_text u → Reads d (node_text u) (93 ∷ rest) u → Tails d rest u
 listed_tail d rest u k text reads at line =
     subst (λ us. Listed d (on (us ++ 93 ∷ rest) at line) rest u) (sym text)
-    (record { row = record { mark = bar; trees = []; row = λ l t s. one s (next_by 124 (node_text u ++ 93 ∷ rest) at line named.bar (on (node_text u ++ 93 ∷ rest) (at + 1) line) refl refl refl) };
-              tail = r.tree;
-              ends = inr (record { is_bar = refl; start = r.first; tree = r.tree; end = on (93 ∷ rest) r.end.at r.end.line; close = standing (on (93 ∷ rest) r.end.at r.end.line) (named.close_list, on rest (r.end.at + 1) r.end.line);
-                                   begins = r.next; spells = ended r; closing = next_by 93 rest r.end.at r.end.line named.close_list (on rest (r.end.at + 1) r.end.line) refl refl refl; closes = refl; left = refl;
-                                   same = untailed r.tree u k r.same });
-              same = r.same })
+    (record {
+      row = record { mark = bar; trees = []; row = λ l t s. one s (next_by 124 (node_text u ++ 93 ∷ rest) at line named.bar (on (node_text u ++ 93 ∷ rest) (at + 1) line) refl refl refl) };
+      tail = r.tree;
+      ends = inr (record {
+        is_bar = refl;
+        start = r.first;
+        tree = r.tree;
+        end = on (93 ∷ rest) r.end.at r.end.line;
+        close = standing (on (93 ∷ rest) r.end.at r.end.line) (named.close_list, on rest (r.end.at + 1) r.end.line);
+        begins = r.next;
+        spells = ended r;
+        closing = next_by 93 rest r.end.at r.end.line named.close_list (on rest (r.end.at + 1) r.end.line) refl refl refl;
+        closes = refl;
+        left = refl;
+        same = untailed r.tree u k r.same;
+      });
+      same = r.same;
+    })
   where
     bar : Lexeme
     bar = standing (on (124 ∷ (node_text u ++ 93 ∷ rest)) at line) (named.bar, on (node_text u ++ 93 ∷ rest) (at + 1) line)
@@ -269,16 +297,26 @@ Bracketed d rest t = (at line : ℕ) (p : Place) → Whole (suc d) (standing p (
 bracketed_none : (d : ℕ) (rest : List ℕ) → Bracketed d rest nil
 bracketed_none d rest at line p =
     let l : Lexeme = standing p (token.open_list, on (93 ∷ rest) at line) in
-    record { tree = list (span l (on rest (at + 1) line)) nil; end = on rest (at + 1) line;
-             spells = empty_list {m = standing (on (93 ∷ rest) at line) (named.close_list, on rest (at + 1) line)} refl (next_by 93 rest at line named.close_list (on rest (at + 1) line) refl refl refl) refl; left = refl; same = refl }
+    record {
+      tree = list (span l (on rest (at + 1) line)) nil;
+      end = on rest (at + 1) line;
+      spells = empty_list {m = standing (on (93 ∷ rest) at line) (named.close_list, on rest (at + 1) line)} refl (next_by 93 rest at line named.close_list (on rest (at + 1) line) refl refl refl) refl;
+      left = refl;
+      same = refl;
+    }
 
 by_ends : (d : ℕ) (rest : List ℕ) (l : Lexeme) (first m : Lexeme) (ts : List Tree) (tail : Tree) → l.token ≡ token.open_list → lexeme_at l.after ≡ Ok first → Row d first ts m → Proper m rest tail ⊎ Tailed d m rest tail
     → Whole (suc d) l rest (list nowhere (unplaced (chain ts tail)))
 by_ends d rest l first m ts tail o n row (inl k) =
     record { tree = list (span l m.after) (chain ts nil); end = m.after; spells = a_list o n row k.closes; left = k.left; same = ap (λ u. list nowhere (unplaced (chain ts u))) k.none }
 by_ends d rest l first m ts tail o n row (inr k) =
-    record { tree = list (span l k.close.after) (chain ts (tail_of k.tree)); end = k.close.after;
-             spells = a_list_with_tail o n row k.is_bar k.begins k.spells k.closing k.closes; left = k.left; same = ap (λ u. list nowhere (unplaced (chain ts u))) k.same }
+    record {
+      tree = list (span l k.close.after) (chain ts (tail_of k.tree));
+      end = k.close.after;
+      spells = a_list_with_tail o n row k.is_bar k.begins k.spells k.closing k.closes;
+      left = k.left;
+      same = ap (λ u. list nowhere (unplaced (chain ts u))) k.same;
+    }
 
 whole_is : {d : ℕ} {l : Lexeme} {rest : List ℕ} {t u : Tree} → t ≡ u → Whole d l rest t → Whole d l rest u
 whole_is {d = d} {l = l} {rest = rest} e w = subst (λ t. Whole d l rest t) e w
@@ -329,36 +367,51 @@ tuple_tail s t f (suc d) rest h = listed_tail (suc d) rest (tuple s t) tt refl (
 
 facts : (t : Tree) → Facts t
 facts (integer s n) = record {
-      node = λ d rest h k. integer_read d n (integer s n) rest refl k;
-      inside = λ d rest h. absurd h; ends = λ d rest h. absurd h; listed = λ d rest h. absurd h;
-      tails = λ d rest h. listed_tail d rest (integer s n) tt refl (integer_read d n (integer s n) (93 ∷ rest) refl (list_end rest))
-    }
+  node = λ d rest h k. integer_read d n (integer s n) rest refl k;
+  inside = λ d rest h. absurd h;
+  ends = λ d rest h. absurd h;
+  listed = λ d rest h. absurd h;
+  tails = λ d rest h. listed_tail d rest (integer s n) tt refl (integer_read d n (integer s n) (93 ∷ rest) refl (list_end rest));
+}
 facts (atom s w) = record {
-      node = λ d rest h k. atom_read d w (atom s w) rest refl h k;
-      inside = λ d rest h. absurd h; ends = λ d rest h. absurd h; listed = λ d rest h. absurd h;
-      tails = λ d rest h. listed_tail d rest (atom s w) tt refl (atom_read d w (atom s w) (93 ∷ rest) refl h (list_end rest))
-    }
+  node = λ d rest h k. atom_read d w (atom s w) rest refl h k;
+  inside = λ d rest h. absurd h;
+  ends = λ d rest h. absurd h;
+  listed = λ d rest h. absurd h;
+  tails = λ d rest h. listed_tail d rest (atom s w) tt refl (atom_read d w (atom s w) (93 ∷ rest) refl h (list_end rest));
+}
 facts (tuple s t) =
     let f = facts t in
     record {
       node = λ d rest h k. tuple_node s t f d rest h;
-      inside = λ d rest h. absurd h; ends = λ d rest h. absurd h; listed = λ d rest h. absurd h;
-      tails = λ d rest h. tuple_tail s t f d rest h
+      inside = λ d rest h. absurd h;
+      ends = λ d rest h. absurd h;
+      listed = λ d rest h. absurd h;
+      tails = λ d rest h. tuple_tail s t f d rest h;
     }
 facts (list s t) =
     let f = facts t in
     record {
       node = λ d rest h k. list_node s t f d rest h;
-      inside = λ d rest h. absurd h; ends = λ d rest h. absurd h; listed = λ d rest h. absurd h; tails = λ d rest h. absurd h
+      inside = λ d rest h. absurd h;
+      ends = λ d rest h. absurd h;
+      listed = λ d rest h. absurd h;
+      tails = λ d rest h. absurd h;
     }
 facts (other s k w) = record {
-      node = λ d rest h k. absurd h;
-      inside = λ d rest h. absurd h; ends = λ d rest h. absurd h; listed = λ d rest h. absurd h; tails = λ d rest h. absurd h
-    }
+  node = λ d rest h k. absurd h;
+  inside = λ d rest h. absurd h;
+  ends = λ d rest h. absurd h;
+  listed = λ d rest h. absurd h;
+  tails = λ d rest h. absurd h;
+}
 facts nil = record {
-      node = λ d rest h k. absurd h;
-      inside = λ d rest h. tupled_none d rest; ends = λ d rest h. closed_end d rest; listed = λ d rest h. bracketed_none d rest; tails = λ d rest h. listed_end d rest
-    }
+  node = λ d rest h k. absurd h;
+  inside = λ d rest h. tupled_none d rest;
+  ends = λ d rest h. closed_end d rest;
+  listed = λ d rest h. bracketed_none d rest;
+  tails = λ d rest h. listed_end d rest;
+}
 facts (cons a u) =
     let f = facts a in
     let g = facts u in
@@ -367,7 +420,7 @@ facts (cons a u) =
       inside = λ d rest h. tupled_some d rest a u (f.node d (rest_text u ++ 125 ∷ rest) h.0 (delimits u (125 ∷ rest) (tuple_end rest))) (g.ends d rest h.1);
       ends = λ d rest h. closed_more d rest a u (f.node d (rest_text u ++ 125 ∷ rest) h.0 (delimits u (125 ∷ rest) (tuple_end rest))) (g.ends d rest h.1);
       listed = λ d rest h. bracketed_some d rest a u (f.node d (rest_text u ++ 93 ∷ rest) h.0 (delimits u (93 ∷ rest) (list_end rest))) (g.tails d rest h.1);
-      tails = λ d rest h. listed_more d rest a u (f.node d (rest_text u ++ 93 ∷ rest) h.0 (delimits u (93 ∷ rest) (list_end rest))) (g.tails d rest h.1)
+      tails = λ d rest h. listed_more d rest a u (f.node d (rest_text u ++ 93 ∷ rest) h.0 (delimits u (93 ∷ rest) (list_end rest))) (g.tails d rest h.1);
     }
 
 pub read_back : (t : Tree) → Shown 256 t → IsReadBack t
