@@ -18,10 +18,10 @@ use Rattle.bx_spelling.proofs.Longest.{same_place, taken_is_longest}
 abbrev pub standing : Place → Token × Place → Lexeme
 standing q x = record { token = x.0; from = q.at; line = q.line; begin = q.rest; after = x.1 }
 
-clear_at : (p q : Place) → Passes p q → IsClear p.rest → IsClear q.rest
+pub clear_at : (p q : Place) → Passes p q → IsClear p.rest → IsClear q.rest
 clear_at p q (bytes, e, k, n, st) c = clear_past bytes q.rest (subst IsClear e c)
 
-parts : (p : Place) (l : Lexeme) → lexeme_at p ≡ Ok l → (q : Place) × (x : Token × Place) × (skip p ≡ Ok q) × (token_at q ≡ Ok x) × (standing q x ≡ l)
+pub parts : (p : Place) (l : Lexeme) → lexeme_at p ≡ Ok l → (q : Place) × (x : Token × Place) × (skip p ≡ Ok q) × (token_at q ≡ Ok x) × (standing q x ≡ l)
 parts p l h =
     let s = bind_ok (skip p) lexeme_from l h in
     let t = bind_ok (token_at s.0) (λ x. Ok (standing s.0 x)) l s.2 in

@@ -13,4 +13,5 @@ pub mod Quotes
 pub mod ReadBack
 pub mod Readings
 pub mod Runs
+pub mod Sentences
 pub mod Words

@@ -56,7 +56,7 @@ integer_meant token.open_map n e = cc
 integer_meant token.open_binary n e = cc
 integer_meant (token.mark m) n e = cc
 
-atom_meant : (u : Token) (w : List ℕ) → meant u ≡ token.atom (token.plain w) → (b : Body) × (u ≡ token.atom b) × (spelled b ≡ w)
+pub atom_meant : (u : Token) (w : List ℕ) → meant u ≡ token.atom (token.plain w) → (b : Body) × (u ≡ token.atom b) × (spelled b ≡ w)
 atom_meant (token.integer m) w e = cc
 atom_meant token.float w e = cc
 atom_meant (token.atom b) w e = (b, refl, text)

@@ -5,4 +5,5 @@ pub mod Numerals
 pub mod Quoted
 pub mod Shown
 pub mod Spelling
+pub mod Terms
 pub mod Tokens

@@ -1,14 +1,16 @@
 //! Laws over the definitions of the reader: each function's clause is one, and its body is empty.
 
-ghost use Rattle.std.specs.Prelude.{◌≡◌, ◌↔◌, Ok};
+ghost use Rattle.std.specs.Prelude.{◌≡◌, ◌↔◌, Ok, Some, None};
 ghost use Rattle.bx_text.specs.Place.{Place};
 ghost use Rattle.bx_text.specs.Blank.{skip};
+ghost use Rattle.bx_text.specs.Forms.{form_at};
 ghost use Rattle.bx_text.specs.Token.{Token};
 ghost use Rattle.bx_spelling.specs.Blanks.{Passes};
 ghost use Rattle.bx_spelling.specs.Lexemes.{Finds};
 ghost use Rattle.bx_spelling.specs.Quoted.{IsClear};
 ghost use Rattle.bx_text.specs.Tree.{Tree};
 ghost use Rattle.bx_spelling.specs.Shown.{Shown, IsReadBack};
+ghost use Rattle.bx_spelling.specs.Terms.{Sentence, OnlyBlanks};
 ghost use Rattle.bx_spelling.specs.Tokens.{Takes, Longest};
 
 /// What the reader takes as a token at a place is the longest spelling that begins there, and it takes one exactly where
@@ -26,6 +28,17 @@ pub fn blanks_are_skipped()
 /// begins there; where the text holds no `\^\`.
 pub fn the_next_token_is_the_longest()
     ensures { (p q : Place) (t : Token) (r : Place) → IsClear p.rest → Finds p q t r ↔ (Passes p q × Longest q t r) }
+{}
+
+/// What is read as a form is a term and its full stop, by the bytes of their tokens: all of it and nothing else; where the
+/// text holds no `\^\`.
+pub fn forms_are_terms_by_their_bytes()
+    ensures { (p : Place) (t : Tree) (q : Place) → IsClear p.rest → (form_at p ≡ Ok (Some (t, q))) ↔ Sentence 256 p t q }
+{}
+
+/// No form is read exactly where only spaces and comments follow.
+pub fn none_is_blank_by_its_bytes()
+    ensures { (p : Place) → (form_at p ≡ Ok None) ↔ OnlyBlanks p }
 {}
 
 /// What is printed of a term, and a full stop behind it, is read as the same term, spans aside: integers of any size,
