@@ -14,4 +14,5 @@ pub mod ReadBack
 pub mod Readings
 pub mod Runs
 pub mod Sentences
+pub mod Wholes
 pub mod Words

@@ -55,3 +55,11 @@ unplaced (cons t u) = cons (unplaced t) (unplaced u)
 -- the term's text and a full stop are read as the same term, up to the end
 abbrev pub IsReadBack : Tree → Type 0
 IsReadBack t = (u : Tree) × (q : Place) × (form_at (place_in (node_text t ++ codes ".") 0) ≡ Ok (Some (u, q))) × (q.rest ≡ []) × (unplaced u ≡ unplaced t)
+
+-- no float, map, binary or fun is in the term
+abbrev pub IsValued : Tree → Type 0
+IsValued (other s k w) = ⊥
+IsValued (tuple s t) = IsValued t
+IsValued (list s t) = IsValued t
+IsValued (cons t u) = IsValued t × IsValued u
+IsValued t = Unit {0}

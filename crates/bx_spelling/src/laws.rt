@@ -9,7 +9,7 @@ ghost use Rattle.bx_spelling.specs.Blanks.{Passes};
 ghost use Rattle.bx_spelling.specs.Lexemes.{Finds};
 ghost use Rattle.bx_spelling.specs.Quoted.{IsClear};
 ghost use Rattle.bx_text.specs.Tree.{Tree};
-ghost use Rattle.bx_spelling.specs.Shown.{Shown, IsReadBack};
+ghost use Rattle.bx_spelling.specs.Shown.{Shown, IsReadBack, IsValued};
 ghost use Rattle.bx_spelling.specs.Terms.{Sentence, OnlyBlanks};
 ghost use Rattle.bx_spelling.specs.Tokens.{Takes, Longest};
 
@@ -45,4 +45,10 @@ pub fn none_is_blank_by_its_bytes()
 /// atoms, tuples, and lists with and without tails, nested at most as deep as is read.
 pub fn what_is_printed_is_read_back()
     ensures { (t : Tree) → Shown 256 t → IsReadBack t }
+{}
+
+/// What was read, and holds no float, map, binary or fun, is printed and read back as the same term, spans aside; where
+/// the text that it was read from holds no `\^\`.
+pub fn what_was_read_is_printed_and_read_back()
+    ensures { (p : Place) (t : Tree) (q : Place) → IsClear p.rest → form_at p ≡ Ok (Some (t, q)) → IsValued t → IsReadBack t }
 {}
