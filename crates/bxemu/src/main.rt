@@ -12,7 +12,5 @@ fn main(rt: HostRuntime) -> ExitCode {
     let mut input = rt.stdin();
     let mut output = rt.stdout();
     let mut errors = rt.stderr();
-    ExitCode::from(program::status_of_program(
-        &rt, &mut input, &mut output, &mut errors,
-    ))
+    ExitCode::from(program::status_of_program(&rt, &mut input, &mut output, &mut errors))
 }

@@ -13,6 +13,15 @@ fn words(alloc: Global, line: &str) -> Result<Vec<String>, AllocError> {
     Ok(words)
 }
 
+/// Asserts that these are the files, parted by spaces.
+fn assert_files(rt: &impl Abort, given: &[&str], files: &str) {
+    let mut wanted = files.split(' ');
+    for file in given {
+        assert!(rt; wanted.next() == Some(*file));
+    }
+    assert!(rt; wanted.next().is_none());
+}
+
 /// Asserts what a run has for its start and its plan, and for its files, parted by spaces.
 fn assert_run(rt: &impl Abort, order: &Order<'_>, start: &str, plan: &str, files: &str) {
     let Order::Run {
@@ -26,11 +35,7 @@ fn assert_run(rt: &impl Abort, order: &Order<'_>, start: &str, plan: &str, files
     };
     assert!(rt; *start_given == start);
     assert!(rt; *plan_given == plan);
-    let mut wanted = files.split(' ');
-    for file in files_given {
-        assert!(rt; wanted.next() == Some(*file));
-    }
-    assert!(rt; wanted.next().is_none());
+    assert_files(rt, files_given, files);
 }
 
 #[test]
@@ -80,7 +85,7 @@ fn assert_campaign(rt: &impl Abort, order: &Order<'_>, workers: u32, files: &str
         return;
     };
     assert!(rt; *start == "m:f" && *plan == "p" && *workers_given == workers);
-    assert!(rt; files_given.iter().copied().eq(files.split(' ')));
+    assert_files(rt, files_given, files);
 }
 
 #[test]
@@ -118,7 +123,8 @@ fn orders_sessions(rt: HostRuntime) -> Result<(), Fail> {
         assert!(rt; false, "another order");
         return Ok(());
     };
-    assert!(rt; start == "m:f" && files.iter().copied().eq("b.S --plan".split(' ')));
+    assert!(rt; start == "m:f");
+    assert_files(&rt, &files, "b.S --plan");
     Ok(())
 }
 
@@ -200,7 +206,10 @@ fn refuses_other_words_over_plans(rt: HostRuntime) -> Result<(), Fail> {
     ];
     for (words, kind) in rows {
         let line = format!(in rt.alloc(); "bxemu {words}")?;
-        assert!(rt; kind_of_line(rt.alloc(), line.as_str())? == Some(kind), "{line}");
+        assert!(rt;
+            kind_of_line(rt.alloc(), line.as_str())? == Some(kind),
+            "{line}"
+        );
     }
     Ok(())
 }
