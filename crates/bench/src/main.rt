@@ -1,18 +1,15 @@
 //! Measures of `bxemu`, on standard error. Without arguments it does nothing.
 //!
-//! `bench listing ITEMS`, `bench choices ROUNDS`, `bench worlds ROUNDS`, `bench mailbox ROUNDS`, `bench session CHOICES`,
-//! `bench campaign SCHEDULES`; over a listing in a file, `bench program CHOICES FILE` and `bench forms ROUNDS FILE`. At random:
-//! `bench fuzz ROUNDS`, `bench walk CHOICES`, `bench texts ROUNDS FILE`.
+//! `bench listing ITEMS`, `bench choices ROUNDS`, `bench mailbox ROUNDS`, `bench fuzz ROUNDS`,
+//! `bench walk CHOICES`, `bench worlds ROUNDS`, `bench program CHOICES LISTING`, `bench forms ROUNDS LISTING`, `bench texts ROUNDS LISTING`.
 #![tactic(auto)]
 
-mod campaigns;
 mod choices;
 mod fuzz;
 mod generated;
 mod listings;
 mod mailboxes;
 mod programs;
-mod sessions;
 mod texts;
 mod trouble;
 mod walks;
@@ -23,12 +20,7 @@ use std::env;
 use std::process::ExitCode;
 
 fn main(rt: HostRuntime) -> ExitCode {
-    let taken = match schedules(&rt) {
-        Ok(Some(number)) => campaigns::measure(&rt, number),
-        Ok(None) => take(&rt),
-        Err(trouble) => Err(trouble),
-    };
-    match taken {
+    match take(&rt) {
         Ok(()) => ExitCode::SUCCESS,
         Err(trouble) => {
             let _ = eprintln!(rt; "bench: {trouble}");
@@ -37,16 +29,7 @@ fn main(rt: HostRuntime) -> ExitCode {
     }
 }
 
-/// How many schedules the arguments ask to be run by threads, where they ask for that.
-fn schedules(rt: &HostRuntime) -> Result<Option<u32>, Trouble> {
-    let words: Vec<String> = env::args(rt)?.collect(rt.alloc())?;
-    match words.as_slice() {
-        [_, word, number] if word.as_str() == "campaign" => Ok(Some(parsed(number.as_str())?)),
-        _ => Ok(None),
-    }
-}
-
-/// Takes the measure that the arguments ask for, which starts no thread: a word, a number and, for some, a file.
+/// Takes the measure that the arguments ask for: a word, a number and, for some, a file.
 fn take(rt: &HostRuntime) -> Result<(), Trouble> {
     let words: Vec<String> = env::args(rt)?.collect(rt.alloc())?;
     match words.as_slice() {
@@ -76,7 +59,6 @@ fn by_number(rt: &HostRuntime, word: &str, number: u32) -> Result<(), Trouble> {
         "choices" => choices::measure(rt, number),
         "mailbox" => mailboxes::measure(rt, number),
         "fuzz" => fuzz::measure(rt, number),
-        "session" => sessions::measure(rt, number),
         "walk" => walks::measure(rt, number),
         "worlds" => worlds::measure(rt, number),
         _ => Err(Trouble::Usage),
