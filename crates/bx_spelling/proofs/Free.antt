@@ -4,7 +4,7 @@ use Rattle.std.specs.List.{AllByRecursion}
 use Rattle.std.specs.Char.{encode_utf8}
 use Rattle.std.proofs.lemmas.Bool.{eqb-true, and_parts}
 use Rattle.std.proofs.lemmas.Bool.Decides.{nat_tests}
-use Rattle.bx_text.specs.Lexing.{body_len, escaped_len}
+use Rattle.bx_text.specs.Lexing.{body_len, escaped_len, control_len}
 
 abbrev mutual
   pub free : ℕ → List ℕ → Bool
@@ -14,14 +14,19 @@ abbrev mutual
   -- behind a backslash any element may stand, and one has to
   pub freed : ℕ → List ℕ → Bool
   freed q [] = false
-  freed q (c ∷ cs) = free q cs
+  freed q (c ∷ cs) = cond (eqb c 94) (capped q cs) (free q cs)
+
+  -- and behind `^` there any but the quote
+  pub capped : ℕ → List ℕ → Bool
+  capped q [] = true
+  capped q (c ∷ cs) = not (eqb c q) && free q cs
 
 -- bytes beyond ASCII are none of these
 abbrev pub High : List ℕ → Type 0
 High bs = AllByRecursion (λ b. 128 ≤ b) bs
 
-high_plain : (q b : ℕ) → q < 128 → 128 ≤ b → (eqb b 92 ≡ false) × (eqb b q ≡ false)
-high_plain q b l h = (grind (arith, nat_tests), grind (arith, nat_tests))
+high_plain : (q b : ℕ) → q < 128 → 128 ≤ b → (eqb b 92 ≡ false) × (eqb b q ≡ false) × (eqb b 94 ≡ false)
+high_plain q b l h = (grind (arith, nat_tests), grind (arith, nat_tests), grind (arith, nat_tests))
 
 past_plain : (q b : ℕ) (bs : List ℕ) → eqb b 92 ≡ false → eqb b q ≡ false → free q (b ∷ bs) ≡ free q bs
 past_plain q b bs e f = ap (λ (t : Bool). cond t (freed q bs) (not (eqb b q) && free q bs)) e ∙ ap (λ (t : Bool). not t && free q bs) f
@@ -54,24 +59,39 @@ shape c = by_size (ltb c 128) (ltb c 2048) (ltb c 65536) refl
 free_step : (q c : ℕ) (bs cs : List ℕ) → free q bs ≡ free q cs → freed q bs ≡ freed q cs → free q (c ∷ bs) ≡ free q (c ∷ cs)
 free_step q c bs cs e f = ap (λ (t : Bool). cond (eqb c 92) t (not (eqb c q) && free q bs)) f ∙ ap (λ (t : Bool). cond (eqb c 92) (freed q cs) (not (eqb c q) && t)) e
 
+-- the same of what stands behind a backslash
+freed_step : (q c : ℕ) (bs cs : List ℕ) → free q bs ≡ free q cs → capped q bs ≡ capped q cs → freed q (c ∷ bs) ≡ freed q (c ∷ cs)
+freed_step q c bs cs e f = ap (λ (t : Bool). cond (eqb c 94) t (free q bs)) f ∙ ap (λ (t : Bool). cond (eqb c 94) (capped q cs) t) e
+
+pub past_cap : (q c : ℕ) (cs : List ℕ) → eqb c 94 ≡ false → freed q (c ∷ cs) ≡ free q cs
+past_cap q c cs e = ap (λ (t : Bool). cond t (capped q cs) (free q cs)) e
+
+past_capped : (q c : ℕ) (cs : List ℕ) → eqb c q ≡ false → capped q (c ∷ cs) ≡ free q cs
+past_capped q c cs e = ap (λ (t : Bool). not t && free q cs) e
+
+abbrev Alike : ℕ → List ℕ → List ℕ → Type 0
+Alike q bs cs = (free q bs ≡ free q cs) × (freed q bs ≡ freed q cs) × (capped q bs ≡ capped q cs)
+
 -- the bytes are free where the characters are
-free_bytes : (q : ℕ) → q < 128 → (cs : List ℕ) → (free q (encode_utf8_all cs) ≡ free q cs) × (freed q (encode_utf8_all cs) ≡ freed q cs)
-free_bytes q l [] = (refl, refl)
+free_bytes : (q : ℕ) → q < 128 → (cs : List ℕ) → Alike q (encode_utf8_all cs) cs
+free_bytes q l [] = (refl, refl, refl)
 free_bytes q l (c ∷ cs) = by_shape (shape c) (free_bytes q l cs)
   where
     X : List ℕ
     X = encode_utf8_all cs
 
-    Both : List ℕ → Type 0
-    Both bytes = (free q (bytes ++ X) ≡ free q (c ∷ cs)) × (freed q (bytes ++ X) ≡ freed q (c ∷ cs))
-
-    by_shape : Shape c (encode_utf8 c) → (free q X ≡ free q cs) × (freed q X ≡ freed q cs) → (free q (encode_utf8 c ++ X) ≡ free q (c ∷ cs)) × (freed q (encode_utf8 c ++ X) ≡ freed q (c ∷ cs))
-    by_shape (inl (low, e)) (a, b) =
-        subst (λ bytes. (free q (bytes ++ X) ≡ free q (c ∷ cs)) × (freed q (bytes ++ X) ≡ freed q (c ∷ cs))) (sym e) (free_step q c X cs a b, a)
-    by_shape (inr (high, (b, hs, e, first, rest))) (a, z) =
+    by_shape : Shape c (encode_utf8 c) → Alike q X cs → Alike q (encode_utf8 c ++ X) (c ∷ cs)
+    by_shape (inl (low, e)) (a, b, d) =
+        subst (λ bytes. Alike q (bytes ++ X) (c ∷ cs)) (sym e) (free_step q c X cs a b, freed_step q c X cs a d, ap (λ (t : Bool). not (eqb c q) && t) a)
+    by_shape (inr (high, (b, hs, e, first, rest))) (a, z, d) =
         let plain = high_plain q c l high in
-        subst (λ bytes. (free q (bytes ++ X) ≡ free q (c ∷ cs)) × (freed q (bytes ++ X) ≡ freed q (c ∷ cs))) (sym e)
-        (free_high q (b ∷ hs) X l (first, rest) ∙ a ∙ sym (past_plain q c cs plain.0 plain.1), free_high q hs X l rest ∙ a)
+        let lead = high_plain q b l first in
+        let tail : free q (hs ++ X) ≡ free q cs = free_high q hs X l rest ∙ a in
+        subst (λ bytes. Alike q (bytes ++ X) (c ∷ cs)) (sym e) (
+          past_plain q b (hs ++ X) lead.0 lead.1 ∙ tail ∙ sym (past_plain q c cs plain.0 plain.1),
+          past_cap q b (hs ++ X) lead.2 ∙ tail ∙ sym (past_cap q c cs plain.2),
+          past_capped q b (hs ++ X) lead.1 ∙ tail ∙ sym (past_capped q c cs plain.1),
+        )
 
 pub free_text : (q : ℕ) (cs : List ℕ) → q < 128 → free q (encode_utf8_all cs) ≡ free q cs
 free_text q cs l = (free_bytes q l cs).0
@@ -80,12 +100,12 @@ free_text q cs l = (free_bytes q l cs).0
 len_cond : (q b : ℕ) (bs : List ℕ) (t u : Bool) → eqb b q ≡ t → eqb b 92 ≡ u → body_len q (b ∷ bs) ≡ cond t 0 (cond u (1 + escaped_len q bs) (1 + body_len q bs))
 len_cond q b bs t u e f = ap (λ (t : Bool). cond t 0 (cond (eqb b 92) (1 + escaped_len q bs) (1 + body_len q bs))) e ∙ ap (λ (u : Bool). cond t 0 (cond u (1 + escaped_len q bs) (1 + body_len q bs))) f
 
+same : (q : ℕ) → eqb q q ≡ true
+same q = grind (arith, nat_tests)
+
 -- free bytes go on to the quote
 quote_len : (q : ℕ) (zs : List ℕ) → body_len q (q ∷ zs) ≡ 0
 quote_len q zs = ap (λ (t : Bool). cond t 0 (cond (eqb q 92) (1 + escaped_len q zs) (1 + body_len q zs))) (same q)
-  where
-    same : (q : ℕ) → eqb q q ≡ true
-    same q = grind (arith, nat_tests)
 
 slash_quote : (q b : ℕ) → q ≢ 92 → eqb b 92 ≡ true → eqb b q ≡ false
 slash_quote q b n e = grind (arith, nat_tests)
@@ -108,7 +128,18 @@ mutual
 
   escaped_of : (q : ℕ) → q ≢ 92 → (bytes zs : List ℕ) → freed q bytes ≡ true → escaped_len q (bytes ++ q ∷ zs) ≡ length bytes
   escaped_of q n [] zs f = cc
-  escaped_of q n (b ∷ bs) zs f = omega (arith, body_of q n bs zs f)
+  escaped_of q n (b ∷ bs) zs f = by (eqb b 94) f (body_of q n bs zs) (control_of q n bs zs)
+    where
+      by : (t : Bool) → cond t (capped q bs) (free q bs) ≡ true → (free q bs ≡ true → body_len q (bs ++ q ∷ zs) ≡ length bs)
+          → (capped q bs ≡ true → control_len q (bs ++ q ∷ zs) ≡ length bs) → cond t (1 + control_len q (bs ++ q ∷ zs)) (1 + body_len q (bs ++ q ∷ zs)) ≡ suc (length bs)
+      by true f plain control = omega (arith, control f)
+      by false f plain control = omega (arith, plain f)
+
+  control_of : (q : ℕ) → q ≢ 92 → (bytes zs : List ℕ) → capped q bytes ≡ true → control_len q (bytes ++ q ∷ zs) ≡ length bytes
+  control_of q n [] zs f = ap (λ (t : Bool). cond t 0 (1 + body_len q zs)) (same q)
+  control_of q n (b ∷ bs) zs f =
+      let both = and_parts (not (eqb b q)) (free q bs) f in
+      ap (λ (t : Bool). cond t 0 (1 + body_len q (bs ++ q ∷ zs))) (not_one (eqb b q) both.0) ∙ omega (arith, body_of q n bs zs both.1)
 
 -- the bytes before the first quote that is not escaped, or all
 abbrev pub Ended : ℕ → (List ℕ → Bool) → List ℕ → List ℕ → Type 0
@@ -143,4 +174,17 @@ mutual
 
   escaped_split : (q : ℕ) (bs : List ℕ) → Split q (freed q) bs (escaped_len q bs)
   escaped_split q [] = ([], [], refl, refl, inl refl)
-  escaped_split q (b ∷ bs) = split_more q b (body_len q bs) (free q) (freed q) bs (λ raw g. g) (body_split q bs)
+  escaped_split q (b ∷ bs) = by (eqb b 94) refl (body_split q bs) (control_split q bs)
+    where
+      by : (t : Bool) → eqb b 94 ≡ t → Split q (free q) bs (body_len q bs) → Split q (capped q) bs (control_len q bs)
+          → Split q (freed q) (b ∷ bs) (cond t (1 + control_len q bs) (1 + body_len q bs))
+      by true e plain control = split_more q b (control_len q bs) (capped q) (freed q) bs (λ raw g. ap (λ (t : Bool). cond t (capped q raw) (free q raw)) e ∙ g) control
+      by false e plain control = split_more q b (body_len q bs) (free q) (freed q) bs (λ raw g. past_cap q b raw e ∙ g) plain
+
+  control_split : (q : ℕ) (bs : List ℕ) → Split q (capped q) bs (control_len q bs)
+  control_split q [] = ([], [], refl, refl, inl refl)
+  control_split q (b ∷ bs) = by (eqb b q) refl (body_split q bs)
+    where
+      by : (t : Bool) → eqb b q ≡ t → Split q (free q) bs (body_len q bs) → Split q (capped q) (b ∷ bs) (cond t 0 (1 + body_len q bs))
+      by true e plain = ([], b ∷ bs, refl, refl, inr (refl, (bs, ap (λ c. c ∷ bs) (eqb-true b q e))))
+      by false e plain = split_more q b (body_len q bs) (free q) (capped q) bs (λ raw g. past_capped q b raw e ∙ g) plain

@@ -14,7 +14,6 @@ use Rattle.bx_text.specs.Token as token
 use Rattle.bx_text.specs.Token.{Token}
 use Rattle.bx_text.specs.Lexing.{number_at, kind_of, punctuation_of, token_by, token_at}
 use Rattle.bx_text.proofs.Outcomes.{ok_same}
-use Rattle.bx_spelling.specs.Quoted.{IsClear}
 use Rattle.bx_spelling.specs.Spelling.{Spelling, MayFollow, Begins, no_minus, a_minus, open_tuple, close_tuple, open_list, close_list, open_map, open_binary, close_binary, comma, bar, arrow, colon, slash, open_parenthesis, close_parenthesis, full_stop, the_word_fun, integer, negative, float, bare_atom, quoted_atom, string}
 use Rattle.bx_spelling.specs.Tokens.{lines, meant, Longest, Takes}
 use Rattle.bx_spelling.proofs.Frame.{on, Spelled, Found, found_exact}
@@ -23,8 +22,7 @@ use Rattle.bx_spelling.proofs.Numbers.{a_number}
 use Rattle.bx_spelling.proofs.NumbersFound.{integer_found, float_found}
 use Rattle.bx_spelling.proofs.Runs.{digits_of}
 use Rattle.bx_spelling.proofs.Words.{a_letter, an_accent, no_foreign, atom_found, fun_found}
-use Rattle.bx_spelling.proofs.Quotes.{a_quoted_atom, a_string, quoted_found, string_found, clear_front, grouped}
-use Rattle.bx_spelling.proofs.Readings.{clear_past}
+use Rattle.bx_spelling.proofs.Quotes.{a_quoted_atom, a_string, quoted_found, string_found}
 
 pick : {R : Type 0} (p : Place) (x : Token × Place) (t : Bool) (k l : named.Beginning) → (t ≡ true → token_by k p ≡ Ok x → R) → (t ≡ false → token_by l p ≡ Ok x → R) → token_by (cond t k l) p ≡ Ok x → R
 pick p x true k l f g h = f refl h
@@ -40,8 +38,8 @@ by_minus : (b : ℕ) (bs : List ℕ) (at line : ℕ) (x : Token × Place) → eq
 by_minus b bs at line x e =
     subst (λ b. number_at (on (b ∷ bs) at line) 1 ≡ Ok x → Spelled (on (b ∷ bs) at line) x) (sym (eqb-true b 45 e)) (a_number (45 ∷ []) bs at line x a_minus)
 
-by_punctuation : (b : ℕ) (bs : List ℕ) (at line : ℕ) (x : Token × Place) → IsClear (b ∷ bs) → token_by (punctuation_of b) (on (b ∷ bs) at line) ≡ Ok x → Spelled (on (b ∷ bs) at line) x
-by_punctuation b bs at line x c =
+by_punctuation : (b : ℕ) (bs : List ℕ) (at line : ℕ) (x : Token × Place) → token_by (punctuation_of b) (on (b ∷ bs) at line) ≡ Ok x → Spelled (on (b ∷ bs) at line) x
+by_punctuation b bs at line x =
     let p : Place = on (b ∷ bs) at line in
     pick p x (eqb b 123) _ _ (one_byte b 123 bs at line token.open_tuple x refl open_tuple (λ e. cc)) (λ _.
     pick p x (eqb b 125) _ _ (one_byte b 125 bs at line named.close_tuple x refl close_tuple (λ e. cc)) (λ _.
@@ -50,8 +48,8 @@ by_punctuation b bs at line x c =
     pick p x (eqb b 44) _ _ (one_byte b 44 bs at line named.comma x refl comma (λ e. cc)) (λ _.
     pick p x (eqb b 124) _ _ (one_byte b 124 bs at line named.bar x refl bar (λ e. cc)) (λ _.
     pick p x (eqb b 46) _ _ (a_stop b bs at line x) (λ _.
-    pick p x (eqb b 39) _ _ (a_quoted_atom b bs at line x c) (λ _.
-    pick p x (eqb b 34) _ _ (a_string b bs at line x c) (λ _.
+    pick p x (eqb b 39) _ _ (a_quoted_atom b bs at line x) (λ _.
+    pick p x (eqb b 34) _ _ (a_string b bs at line x) (λ _.
     pick p x (eqb b 45) _ _ (by_minus b bs at line x) (λ _.
     pick p x (eqb b 58) _ _ (one_byte b 58 bs at line named.colon x refl colon (λ e. cc)) (λ _.
     pick p x (eqb b 47) _ _ (one_byte b 47 bs at line named.slash x refl slash (λ e. cc)) (λ _.
@@ -61,20 +59,20 @@ by_punctuation b bs at line x c =
     pick p x (eqb b 61) _ _ (two_bytes b 61 62 bs at line named.arrow x refl arrow (λ rest e. cc)) (λ _.
     pick p x (eqb b 62) _ _ (two_bytes b 62 62 bs at line named.close_binary x refl close_binary (λ rest e. cc)) (λ _ h. cc)))))))))))))))))
 
-by_byte : (b : ℕ) (bs : List ℕ) (at line : ℕ) (x : Token × Place) → IsClear (b ∷ bs) → token_by (kind_of b) (on (b ∷ bs) at line) ≡ Ok x → Spelled (on (b ∷ bs) at line) x
-by_byte b bs at line x c =
+by_byte : (b : ℕ) (bs : List ℕ) (at line : ℕ) (x : Token × Place) → token_by (kind_of b) (on (b ∷ bs) at line) ≡ Ok x → Spelled (on (b ∷ bs) at line) x
+by_byte b bs at line x =
     let p : Place = on (b ∷ bs) at line in
     pick p x (is_lower b) _ _ (a_letter b bs at line x) (λ _.
     pick p x (is_digit b) _ _ (λ _. a_number [] (b ∷ bs) at line x no_minus) (λ _.
     pick p x (eqb b 195) _ _ (an_accent b bs at line x) (λ _.
-    pick p x (leb 128 b) _ _ (λ _ h. absurd (no_foreign (eqb (utf8_valid_len (b ∷ bs)) 0) line x h)) (λ _. by_punctuation b bs at line x c))))
+    pick p x (leb 128 b) _ _ (λ _ h. absurd (no_foreign (eqb (utf8_valid_len (b ∷ bs)) 0) line x h)) (λ _. by_punctuation b bs at line x))))
 
-sound : (p : Place) (x : Token × Place) → IsClear p.rest → token_at p ≡ Ok x → Spelled p x
-sound p x c h = by_list p.rest p.at p.line x c h
+sound : (p : Place) (x : Token × Place) → token_at p ≡ Ok x → Spelled p x
+sound p x h = by_list p.rest p.at p.line x h
   where
-    by_list : (bs : List ℕ) (at line : ℕ) (x : Token × Place) → IsClear bs → token_at (on bs at line) ≡ Ok x → Spelled (on bs at line) x
-    by_list [] at line x c h = cc
-    by_list (b ∷ bs) at line x c h = by_byte b bs at line x c h
+    by_list : (bs : List ℕ) (at line : ℕ) (x : Token × Place) → token_at (on bs at line) ≡ Ok x → Spelled (on bs at line) x
+    by_list [] at line x h = cc
+    by_list (b ∷ bs) at line x h = by_byte b bs at line x h
 
 -- what is spelled is taken
 not_minus : (d : ℕ) → is_digit d ≡ true → eqb d 45 ≡ false
@@ -93,61 +91,58 @@ stop_found rest at line f =
 marked : (p : Place) (n : ℕ) (u : Token) (rest : List ℕ) → token_at p ≡ Ok (u, after p n) → drop n p.rest ≡ rest → meant u ≡ u → Found p u rest
 marked p n u rest h e m = found_exact p (after p n) u u rest h e m
 
-inside : (q : ℕ) (bytes rest : List ℕ) → IsClear ((q ∷ (bytes ++ q ∷ [])) ++ rest) → IsClear bytes
-inside q bytes rest c = clear_front bytes (q ∷ rest) (clear_past (q ∷ []) (bytes ++ q ∷ rest) (subst IsClear (grouped q bytes rest) c))
-
-complete : {bytes : List ℕ} {t : Token} → Spelling bytes t → (rest : List ℕ) (at line : ℕ) → IsClear (bytes ++ rest) → MayFollow t rest → Found (on (bytes ++ rest) at line) t rest
-complete open_tuple rest at line c f = marked (on (123 ∷ rest) at line) 1 token.open_tuple rest refl refl refl
-complete close_tuple rest at line c f = marked (on (125 ∷ rest) at line) 1 named.close_tuple rest refl refl refl
-complete open_list rest at line c f = marked (on (91 ∷ rest) at line) 1 token.open_list rest refl refl refl
-complete close_list rest at line c f = marked (on (93 ∷ rest) at line) 1 named.close_list rest refl refl refl
-complete open_map rest at line c f = marked (on (35 ∷ 123 ∷ rest) at line) 2 token.open_map rest refl refl refl
-complete open_binary rest at line c f = marked (on (60 ∷ 60 ∷ rest) at line) 2 token.open_binary rest refl refl refl
-complete close_binary rest at line c f = marked (on (62 ∷ 62 ∷ rest) at line) 2 named.close_binary rest refl refl refl
-complete comma rest at line c f = marked (on (44 ∷ rest) at line) 1 named.comma rest refl refl refl
-complete bar rest at line c f = marked (on (124 ∷ rest) at line) 1 named.bar rest refl refl refl
-complete arrow rest at line c f = marked (on (61 ∷ 62 ∷ rest) at line) 2 named.arrow rest refl refl refl
-complete colon rest at line c f = marked (on (58 ∷ rest) at line) 1 named.colon rest refl refl refl
-complete slash rest at line c f = marked (on (47 ∷ rest) at line) 1 named.slash rest refl refl refl
-complete open_parenthesis rest at line c f = marked (on (40 ∷ rest) at line) 1 named.parenthesis rest refl refl refl
-complete close_parenthesis rest at line c f = marked (on (41 ∷ rest) at line) 1 named.parenthesis rest refl refl refl
-complete full_stop rest at line c f = stop_found rest at line f
-complete the_word_fun rest at line c f = fun_found rest at line
-complete (integer {ds = ds} {n = n} k) rest at line c f =
+complete : {bytes : List ℕ} {t : Token} → Spelling bytes t → (rest : List ℕ) (at line : ℕ) → MayFollow t rest → Found (on (bytes ++ rest) at line) t rest
+complete open_tuple rest at line f = marked (on (123 ∷ rest) at line) 1 token.open_tuple rest refl refl refl
+complete close_tuple rest at line f = marked (on (125 ∷ rest) at line) 1 named.close_tuple rest refl refl refl
+complete open_list rest at line f = marked (on (91 ∷ rest) at line) 1 token.open_list rest refl refl refl
+complete close_list rest at line f = marked (on (93 ∷ rest) at line) 1 named.close_list rest refl refl refl
+complete open_map rest at line f = marked (on (35 ∷ 123 ∷ rest) at line) 2 token.open_map rest refl refl refl
+complete open_binary rest at line f = marked (on (60 ∷ 60 ∷ rest) at line) 2 token.open_binary rest refl refl refl
+complete close_binary rest at line f = marked (on (62 ∷ 62 ∷ rest) at line) 2 named.close_binary rest refl refl refl
+complete comma rest at line f = marked (on (44 ∷ rest) at line) 1 named.comma rest refl refl refl
+complete bar rest at line f = marked (on (124 ∷ rest) at line) 1 named.bar rest refl refl refl
+complete arrow rest at line f = marked (on (61 ∷ 62 ∷ rest) at line) 2 named.arrow rest refl refl refl
+complete colon rest at line f = marked (on (58 ∷ rest) at line) 1 named.colon rest refl refl refl
+complete slash rest at line f = marked (on (47 ∷ rest) at line) 1 named.slash rest refl refl refl
+complete open_parenthesis rest at line f = marked (on (40 ∷ rest) at line) 1 named.parenthesis rest refl refl refl
+complete close_parenthesis rest at line f = marked (on (41 ∷ rest) at line) 1 named.parenthesis rest refl refl refl
+complete full_stop rest at line f = stop_found rest at line f
+complete the_word_fun rest at line f = fun_found rest at line
+complete (integer {ds = ds} {n = n} k) rest at line f =
     let d = digits_of k refl in
     subst (λ z. Found (on (ds ++ rest) at line) (token.integer z) rest) (unsigned ds d.0 ∙ ap (λ n. pos n) d.1) (integer_found no_minus ds rest at line d.0 d.2)
-complete (negative {ds = ds} {n = n} k) rest at line c f =
+complete (negative {ds = ds} {n = n} k) rest at line f =
     let d = digits_of k refl in
     subst (λ n. Found (on (45 ∷ (ds ++ rest)) at line) (token.integer (neg_ℤ (pos n))) rest) d.1 (integer_found a_minus ds rest at line d.0 d.2)
-complete (float {ds = ds} {fs = fs} mi (m, k) (n, l) ex) rest at line c f =
+complete (float {ds = ds} {fs = fs} mi (m, k) (n, l) ex) rest at line f =
     let d = digits_of k refl in
     let e = digits_of l refl in
     float_found mi ds fs rest at line d.0 d.2 e.0 e.2 ex
-complete (bare_atom x cs {bytes = bytes} small a utf8 other) rest at line c f = atom_found x cs bytes rest at line small a utf8 other
-complete (quoted_atom {cs = cs} {vs = vs} {bytes = bytes} q utf8) rest at line c f = quoted_found cs vs bytes rest at line (inside 39 bytes rest c) q utf8
-complete (string {cs = cs} {vs = vs} {bytes = bytes} q utf8) rest at line c f = string_found cs vs bytes rest at line (inside 34 bytes rest c) q utf8
+complete (bare_atom x cs {bytes = bytes} small a utf8 other) rest at line f = atom_found x cs bytes rest at line small a utf8 other
+complete (quoted_atom {cs = cs} {vs = vs} {bytes = bytes} q utf8) rest at line f = quoted_found cs vs bytes rest at line q utf8
+complete (string {cs = cs} {vs = vs} {bytes = bytes} q utf8) rest at line f = string_found cs vs bytes rest at line q utf8
 
-found : (p : Place) (bytes : List ℕ) (t : Token) (rest : List ℕ) → IsClear p.rest → Begins p.rest bytes t rest → Found p t rest
-found p bytes t rest c (e, s, f) = subst (λ text. Found (on text p.at p.line) t rest) (sym e) (complete s rest p.at p.line (subst IsClear e c) f)
+found : (p : Place) (bytes : List ℕ) (t : Token) (rest : List ℕ) → Begins p.rest bytes t rest → Found p t rest
+found p bytes t rest (e, s, f) = subst (λ text. Found (on text p.at p.line) t rest) (sym e) (complete s rest p.at p.line f)
 
 -- both ways
 sizes : (text bytes rest : List ℕ) → text ≡ bytes ++ rest → length text ≡ length bytes + length rest
 sizes text bytes rest e = ap length e ∙ length-append bytes rest
 
-furthest : (p : Place) (x : Token × Place) → IsClear p.rest → token_at p ≡ Ok x → (bytes : List ℕ) (t : Token) (rest : List ℕ) → Begins p.rest bytes t rest → length x.1.rest ≤ length rest
-furthest p x c h bytes t rest b = by_found (found p bytes t rest c b)
+furthest : (p : Place) (x : Token × Place) → token_at p ≡ Ok x → (bytes : List ℕ) (t : Token) (rest : List ℕ) → Begins p.rest bytes t rest → length x.1.rest ≤ length rest
+furthest p x h bytes t rest b = by_found (found p bytes t rest b)
   where
     by_found : Found p t rest → length x.1.rest ≤ length rest
     by_found (y, g, short, same) = subst (λ (z : Token × Place). length z.1.rest ≤ length rest) (ok_same y x (sym g ∙ h)) short
 
-takes_longest : (p : Place) (t : Token) (q : Place) → IsClear p.rest → Takes p t q → Longest p t q
-takes_longest p t q c (u, h, m) = by_spelled (sound p (u, q) c h)
+takes_longest : (p : Place) (t : Token) (q : Place) → Takes p t q → Longest p t q
+takes_longest p t q (u, h, m) = by_spelled (sound p (u, q) h)
   where
     by_spelled : Spelled p (u, q) → Longest p t q
     by_spelled (bytes, b, st) = (
       bytes,
       subst (λ t. Begins p.rest bytes t q.rest) m b,
-      (λ others v rest d. omega (arith, sizes p.rest bytes q.rest b.0, sizes p.rest others rest d.0, furthest p (u, q) c h others v rest d)),
+      (λ others v rest d. omega (arith, sizes p.rest bytes q.rest b.0, sizes p.rest others rest d.0, furthest p (u, q) h others v rest d)),
       st,
     )
 
@@ -160,8 +155,8 @@ same_front text xs ys us vs e f l = (
 pub same_place : (p q : Place) → p.rest ≡ q.rest → p.at ≡ q.at → p.line ≡ q.line → p ≡ q
 same_place p q a b c = λ i. record { rest = a i; at = b i; line = c i }
 
-longest_takes : (p : Place) (t : Token) (q : Place) → IsClear p.rest → Longest p t q → Takes p t q
-longest_takes p t q clear (bytes, b, none, st) = by_found (found p bytes t q.rest clear b)
+longest_takes : (p : Place) (t : Token) (q : Place) → Longest p t q → Takes p t q
+longest_takes p t q (bytes, b, none, st) = by_found (found p bytes t q.rest b)
   where
     both : (u : Token) (r : Place) → token_at p ≡ Ok (u, r) → length r.rest ≤ length q.rest → (length r.rest ≡ length q.rest → meant u ≡ t) → Spelled p (u, r) → Takes p t q
     both u r h short same (others, c, su) =
@@ -173,7 +168,7 @@ longest_takes p t q clear (bytes, b, none, st) = by_found (found p bytes t q.res
         (u, h ∙ ap (λ r. Ok (u, r)) there, same left)
 
     by_found : Found p t q.rest → Takes p t q
-    by_found ((u, r), h, short, same) = both u r h short same (sound p (u, r) clear h)
+    by_found ((u, r), h, short, same) = both u r h short same (sound p (u, r) h)
 
-pub taken_is_longest : (p : Place) (t : Token) (q : Place) → IsClear p.rest → Takes p t q ↔ Longest p t q
-taken_is_longest p t q c = (takes_longest p t q c, longest_takes p t q c)
+pub taken_is_longest : (p : Place) (t : Token) (q : Place) → Takes p t q ↔ Longest p t q
+taken_is_longest p t q = (takes_longest p t q, longest_takes p t q)

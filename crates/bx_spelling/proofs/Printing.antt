@@ -31,9 +31,9 @@ use Rattle.bx_spelling.proofs.Frame.{on}
 use Rattle.bx_spelling.proofs.Runs.{run_append, digits_of}
 use Rattle.bx_spelling.proofs.NumbersFound.{first_number, digits_on}
 use Rattle.bx_spelling.proofs.Words.{first_small, name_take, small_name}
-use Rattle.bx_spelling.proofs.Free.{free, free_plain, free_text}
+use Rattle.bx_spelling.proofs.Free.{free, free_plain, free_text, past_cap}
 use Rattle.bx_spelling.proofs.Escapes.{numeral_value}
-use Rattle.bx_spelling.proofs.Readings.{hex_from, no_octal_is, not_named}
+use Rattle.bx_spelling.proofs.Readings.{hex_from, no_octal_is, not_named, different, named_uncapped}
 use Rattle.bx_spelling.proofs.Quotes.{Gives, gives, behind_rest, grouped}
 use Rattle.bx_spelling.proofs.Longest.{unsigned}
 
@@ -210,10 +210,10 @@ slash_other = (
 )
 
 other_written : (c : ℕ) → c < 128 → IsOther c → Written c (92 ∷ c ∷ [])
-other_written c low h = (92 ∷ c ∷ [], pair_utf8 c low, λ cs vs k. quoted.other h k, λ cs f. f)
+other_written c low h = (92 ∷ c ∷ [], pair_utf8 c low, λ cs vs k. quoted.other h k, λ cs f. past_cap 39 c cs (different c 94 h.3) ∙ f)
 
 named_written : (c n : ℕ) → n < 128 → Named n c → Written c (92 ∷ n ∷ [])
-named_written c n low h = (92 ∷ n ∷ [], pair_utf8 n low, λ cs vs k. quoted.named h k, λ cs f. f)
+named_written c n low h = (92 ∷ n ∷ [], pair_utf8 n low, λ cs vs k. quoted.named h k, λ cs f. past_cap 39 n cs (named_uncapped h) ∙ f)
 
 -- codes of control characters
 glyph_digit : (x : ℕ) → x < 16 → Digit 16 (digit_glyph false x) x

@@ -8,7 +8,7 @@ use Rattle.std.proofs.lemmas.Bool.{eqb-true, and_parts, and_from}
 use Rattle.std.proofs.lemmas.Bool.Decides.{nat_tests}
 use Rattle.std.proofs.lemmas.List.{get_or_at}
 use Rattle.std.proofs.lemmas.List.Recursion.{is_count_by}
-use Rattle.std.proofs.lemmas.Str.{IsUtf8-nil, IsUtf8-from_is_utf8, IsUtf8-take, IsCharBoundary-before_ascii, utf8_valid_len-IsUtf8, chars-encodes, encodes-append, encode_ascii}
+use Rattle.std.proofs.lemmas.Str.{IsUtf8-nil, IsUtf8-from_is_utf8, IsUtf8-take, IsCharBoundary-before_ascii, utf8_valid_len-IsUtf8, chars-encodes}
 use Rattle.bx_terms.specs.Outcomes.{◌>>=◌}
 use Rattle.bx_terms.specs.declared.faults.Fault.{Fault}
 use Rattle.bx_terms.specs.declared.faults.Fault.TheVariants.{BadToken, NotUtf8}
@@ -21,7 +21,7 @@ use Rattle.bx_text.specs.Token.{Token, Body, spelled}
 use Rattle.bx_text.specs.Lexing.{token_at, quoted_at, body_at, closing_at, escaped_at, ended_at, behind, body_len, valid_front, broken}
 use Rattle.bx_text.proofs.Outcomes.{ok_same, bind_ok}
 use Rattle.bx_spelling.specs.Quoted as quoted
-use Rattle.bx_spelling.specs.Quoted.{Quoted, IsClear}
+use Rattle.bx_spelling.specs.Quoted.{Quoted}
 use Rattle.bx_spelling.specs.Spelling.{Spelling, MayFollow, InUtf8, quoted_atom, string}
 use Rattle.bx_spelling.specs.Tokens.{lines, meant}
 use Rattle.bx_spelling.proofs.Frame.{on, Spelled, Found, found_exact, lines-append}
@@ -29,7 +29,7 @@ use Rattle.bx_spelling.proofs.Runs.{run_split, run_append}
 use Rattle.bx_spelling.proofs.Free.{free, freed, shape, Shape, free_text, body_of, body_split, Split}
 use Rattle.bx_spelling.proofs.Escapes.{run, whole, over_itself}
 use Rattle.bx_spelling.proofs.Means.{means}
-use Rattle.bx_spelling.proofs.Readings.{IsQuote, Read, reads, quoted_free, clear_past}
+use Rattle.bx_spelling.proofs.Readings.{IsQuote, Read, reads, quoted_free}
 
 -- UTF-8
 valid_le : (bs : List ℕ) (n : ℕ) → valid_len_up_to bs n ≤ n
@@ -115,21 +115,6 @@ plain_chars q l (c ∷ cs) a = by_shape (shape c) (plain_chars q l cs (all_past 
         (and_parts (is_plain q c) (list_all (is_plain q) (encode_utf8_all cs)) (subst (λ us. list_all (is_plain q) (us ++ encode_utf8_all cs) ≡ true) e a)).0 rest
     by_shape (inr (high, s)) rest = and_from (is_plain q c) (list_all (is_plain q) cs) (high_is_plain q c l high) rest
 
--- clear texts have clear parts
-pub clear_front : (xs ys : List ℕ) → IsClear (xs ++ ys) → IsClear xs
-clear_front xs ys c front rest e = c front (rest ++ ys) (ap (λ us. us ++ ys) e ∙ append_assoc front (92 ∷ 94 ∷ 92 ∷ rest) ys)
-
-ascii_three : (rest : List ℕ) → encode_utf8_all (92 ∷ 94 ∷ 92 ∷ rest) ≡ 92 ∷ 94 ∷ 92 ∷ encode_utf8_all rest
-ascii_three rest =
-    ap (λ us. us ++ (encode_utf8 94 ++ (encode_utf8 92 ++ encode_utf8_all rest))) (encode_ascii 92 (omega arith))
-    ∙ ap (λ us. 92 ∷ (us ++ (encode_utf8 92 ++ encode_utf8_all rest))) (encode_ascii 94 (omega arith))
-    ∙ ap (λ us. 92 ∷ 94 ∷ (us ++ encode_utf8_all rest)) (encode_ascii 92 (omega arith))
-
-clear_chars : (cs : List ℕ) → IsClear (encode_utf8_all cs) → IsClear cs
-clear_chars cs c front rest e =
-    c (encode_utf8_all front) (encode_utf8_all rest)
-    (ap encode_utf8_all e ∙ encodes-append front (92 ∷ 94 ∷ 92 ∷ rest) ∙ ap (λ us. encode_utf8_all front ++ us) (ascii_three rest))
-
 -- with no backslash
 plain_taken : (q : ℕ) (raw zs : List ℕ) (at line : ℕ) (y : Body × Place) → IsQuote q → list_all (is_plain q) raw ≡ true → utf8_valid_len raw ≡ length raw
     → y ≡ (token.plain raw, behind (on (q ∷ (raw ++ q ∷ zs)) at line) (raw ++ q ∷ zs) (length raw)) → Taken q (raw ++ q ∷ zs) at line y
@@ -159,12 +144,12 @@ opens cs raw (s, t) =
     let same : chars raw ≡ cs = ap chars (sym t) ∙ chars-encodes cs s in
     ap (λ us. whole named.nothing us) same
 
-escaped_taken : (q : ℕ) (raw zs : List ℕ) (at line : ℕ) (y : Body × Place) → IsQuote q → IsClear raw → free q raw ≡ true → utf8_valid_len raw ≡ length raw → is_whole (open_in raw) ≡ true
+escaped_taken : (q : ℕ) (raw zs : List ℕ) (at line : ℕ) (y : Body × Place) → IsQuote q → free q raw ≡ true → utf8_valid_len raw ≡ length raw → is_whole (open_in raw) ≡ true
     → y ≡ (token.escaped raw, behind (on (q ∷ (raw ++ q ∷ zs)) at line) (raw ++ q ∷ zs) (length raw)) → Taken q (raw ++ q ∷ zs) at line y
-escaped_taken q raw zs at line y h c f v w e = by_text (valid_is raw v)
+escaped_taken q raw zs at line y h f v w e = by_text (valid_is raw v)
   where
     by_text : IsUtf8 raw → Taken q (raw ++ q ∷ zs) at line y
-    by_text (cs, (s, t)) = by_read (reads q cs h (sym (free_text q cs (quote_low q h)) ∙ ap (free q) t ∙ f) (clear_chars cs (subst IsClear (sym t) c)) (sym (opens cs raw (s, t)) ∙ w))
+    by_text (cs, (s, t)) = by_read (reads q cs h (sym (free_text q cs (quote_low q h)) ∙ ap (free q) t ∙ f) (sym (opens cs raw (s, t)) ∙ w))
       where
         by_read : Read q cs → Taken q (raw ++ q ∷ zs) at line y
         by_read (vs, r, m) =
@@ -178,9 +163,9 @@ good : (t : Bool) (a : Parsed) (f : Fault) (y : Body × Place) → cond t a (Err
 good true a f y h = (refl, h)
 good false a f y h = cc
 
-by_escapes : (q : ℕ) (body : List ℕ) (at line : ℕ) (y : Body × Place) → IsQuote q → IsClear body → Split q (free q) body (body_len q body)
+by_escapes : (q : ℕ) (body : List ℕ) (at line : ℕ) (y : Body × Place) → IsQuote q → Split q (free q) body (body_len q body)
     → escaped_at (on (q ∷ body) at line) body (body_len q body) ≡ Ok y → Taken q body at line y
-by_escapes q body at line y h c (raw, zs, e, l, d) g =
+by_escapes q body at line y h (raw, zs, e, l, d) g =
     let n : ℕ = body_len q body in
     let p : Place = on (q ∷ body) at line in
     let front : take n body ≡ raw = ap (λ us. take n us) e ∙ take_at raw zs n (sym l) in
@@ -199,9 +184,8 @@ by_escapes q body at line y h c (raw, zs, e, l, d) g =
         let text : body ≡ raw ++ q ∷ us = e ∙ ap (λ zs. raw ++ zs) d in
         let ended = good (is_whole (open_in (take n body))) (Ok (token.escaped (take n body), behind p body n)) (BadToken line) y k in
         let closed : is_whole (open_in raw) ≡ true = ap (λ us. is_whole (open_in us)) (sym front) ∙ ended.0 in
-        let clear : IsClear raw = clear_front raw (q ∷ us) (subst IsClear text c) in
         let is : y ≡ (token.escaped raw, behind p body (length raw)) = sym (ok_same (token.escaped (take n body), behind p body n) y ended.1) ∙ ap (λ us. (token.escaped us, behind p body n)) front ∙ ap (λ n. (token.escaped raw, behind p body n)) l in
-        subst (λ b. y ≡ (token.escaped raw, behind (on (q ∷ b) at line) b (length raw)) → Taken q b at line y) (sym text) (escaped_taken q raw us at line y h clear f size closed) is
+        subst (λ b. y ≡ (token.escaped raw, behind (on (q ∷ b) at line) b (length raw)) → Taken q b at line y) (sym text) (escaped_taken q raw us at line y h f size closed) is
 
 not_slash : (q b : ℕ) → is_plain q b ≡ false → eqb b 92 ≡ false → b ≡ q
 not_slash q b e f = grind (arith, nat_tests)
@@ -216,8 +200,8 @@ stop_at p raw z zs a n = by (p z) refl
     by true e = absurd (omega (arith, none, ap (λ (t : Bool). cond t (1 + prefix_len p zs) 0) e))
     by false e = refl
 
-taken : (q : ℕ) (body : List ℕ) (at line : ℕ) (y : Body × Place) → IsQuote q → IsClear body → quoted_at q (on (q ∷ body) at line) ≡ Ok y → Taken q body at line y
-taken q body at line y h c g = by_run (run_split (is_plain q) body)
+taken : (q : ℕ) (body : List ℕ) (at line : ℕ) (y : Body × Place) → IsQuote q → quoted_at q (on (q ∷ body) at line) ≡ Ok y → Taken q body at line y
+taken q body at line y h g = by_run (run_split (is_plain q) body)
   where
     by_stop : (raw zs : List ℕ) → body ≡ raw ++ zs → list_all (is_plain q) raw ≡ true → prefix_len (is_plain q) body ≡ length raw → take (prefix_len (is_plain q) body) body ≡ raw → utf8_valid_len raw ≡ length raw
         → closing_at q (on (q ∷ body) at line) body (prefix_len (is_plain q) body) zs ≡ Ok y → Taken q body at line y
@@ -226,7 +210,7 @@ taken q body at line y h c g = by_run (run_split (is_plain q) body)
       where
         by : (t : Bool) → eqb z 92 ≡ t
             → cond t (escaped_at (on (q ∷ body) at line) body (body_len q body)) (Ok (token.plain (take (prefix_len (is_plain q) body) body), behind (on (q ∷ body) at line) body (prefix_len (is_plain q) body))) ≡ Ok y → Taken q body at line y
-        by true s k = by_escapes q body at line y h c (body_split q body) k
+        by true s k = by_escapes q body at line y h (body_split q body) k
         by false s k =
             let m : ℕ = prefix_len (is_plain q) body in
             let p : Place = on (q ∷ body) at line in
@@ -276,17 +260,17 @@ spelled_quote q make k body at line y (cs, vs, bytes, zs, e, u, r, m, w) =
           (ap (λ (p : Place). p.at) w ∙ ap (λ n. at + n) long, ap (λ (p : Place). p.line) w ∙ ap (λ n. line + n) fed),
         )
 
-a_quote : (q : ℕ) (make : Body → Token) → Quoting q make → (b : ℕ) (bs : List ℕ) (at line : ℕ) (x : Token × Place) → IsClear (b ∷ bs) → eqb b q ≡ true
+a_quote : (q : ℕ) (make : Body → Token) → Quoting q make → (b : ℕ) (bs : List ℕ) (at line : ℕ) (x : Token × Place) → eqb b q ≡ true
     → (quoted_at q (on (b ∷ bs) at line) >>= λ y. Ok (make y.0, y.1)) ≡ Ok x → Spelled (on (b ∷ bs) at line) x
-a_quote q make k b bs at line x c e h =
+a_quote q make k b bs at line x e h =
     let is : q ≡ b = sym (eqb-true b q e) in
-    subst (λ b. IsClear (b ∷ bs) → (quoted_at q (on (b ∷ bs) at line) >>= λ y. Ok (make y.0, y.1)) ≡ Ok x → Spelled (on (b ∷ bs) at line) x) is first c h
+    subst (λ b. (quoted_at q (on (b ∷ bs) at line) >>= λ y. Ok (make y.0, y.1)) ≡ Ok x → Spelled (on (b ∷ bs) at line) x) is first h
   where
-    first : IsClear (q ∷ bs) → (quoted_at q (on (q ∷ bs) at line) >>= λ y. Ok (make y.0, y.1)) ≡ Ok x → Spelled (on (q ∷ bs) at line) x
-    first c h =
+    first : (quoted_at q (on (q ∷ bs) at line) >>= λ y. Ok (make y.0, y.1)) ≡ Ok x → Spelled (on (q ∷ bs) at line) x
+    first h =
         let y = bind_ok (quoted_at q (on (q ∷ bs) at line)) (λ y. Ok (make y.0, y.1)) x h in
         subst (Spelled (on (q ∷ bs) at line)) (ok_same (make y.0.0, y.0.1) x y.2)
-        (spelled_quote q make k bs at line y.0 (taken q bs at line y.0 k.quote (clear_past (q ∷ []) bs c) y.1))
+        (spelled_quote q make k bs at line y.0 (taken q bs at line y.0 k.quote y.1))
 
 atom_quoting : Quoting 39 token.atom
 atom_quoting = record { quote = inl refl; means = λ b. refl; spells = λ cs vs bytes r u. quoted_atom r u; follows = λ b rest e. cc }
@@ -294,10 +278,10 @@ atom_quoting = record { quote = inl refl; means = λ b. refl; spells = λ cs vs 
 text_quoting : Quoting 34 token.text
 text_quoting = record { quote = inr refl; means = λ b. refl; spells = λ cs vs bytes r u. string r u; follows = λ b rest e. cc }
 
-pub a_quoted_atom : (b : ℕ) (bs : List ℕ) (at line : ℕ) (x : Token × Place) → IsClear (b ∷ bs) → eqb b 39 ≡ true → (quoted_at 39 (on (b ∷ bs) at line) >>= λ y. Ok (token.atom y.0, y.1)) ≡ Ok x → Spelled (on (b ∷ bs) at line) x
+pub a_quoted_atom : (b : ℕ) (bs : List ℕ) (at line : ℕ) (x : Token × Place) → eqb b 39 ≡ true → (quoted_at 39 (on (b ∷ bs) at line) >>= λ y. Ok (token.atom y.0, y.1)) ≡ Ok x → Spelled (on (b ∷ bs) at line) x
 a_quoted_atom = a_quote 39 token.atom atom_quoting
 
-pub a_string : (b : ℕ) (bs : List ℕ) (at line : ℕ) (x : Token × Place) → IsClear (b ∷ bs) → eqb b 34 ≡ true → (quoted_at 34 (on (b ∷ bs) at line) >>= λ y. Ok (token.text y.0, y.1)) ≡ Ok x → Spelled (on (b ∷ bs) at line) x
+pub a_string : (b : ℕ) (bs : List ℕ) (at line : ℕ) (x : Token × Place) → eqb b 34 ≡ true → (quoted_at 34 (on (b ∷ bs) at line) >>= λ y. Ok (token.text y.0, y.1)) ≡ Ok x → Spelled (on (b ∷ bs) at line) x
 a_string = a_quote 34 token.text text_quoting
 
 -- what is spelled between quotes is taken
@@ -464,8 +448,8 @@ gives q cs vs bytes rest at line h f r u = by_run (run_split (is_plain q) bytes)
     by_run (raw, zs, e, a, n) = by_rest raw zs e a n
 
 quote_found : (q : ℕ) (make : Body → Token) → Quoting q make → ((bs : List ℕ) (at line : ℕ) → token_at (on (q ∷ bs) at line) ≡ (quoted_at q (on (q ∷ bs) at line) >>= λ y. Ok (make y.0, y.1)))
-    → (cs vs bytes rest : List ℕ) (at line : ℕ) → IsClear bytes → Quoted q cs vs → InUtf8 cs bytes → Found (on ((q ∷ (bytes ++ q ∷ [])) ++ rest) at line) (make (token.plain (encode_utf8_all vs))) rest
-quote_found q make k first cs vs bytes rest at line c r u = by_gives (gives q cs vs bytes rest at line k.quote is_free r u)
+    → (cs vs bytes rest : List ℕ) (at line : ℕ) → Quoted q cs vs → InUtf8 cs bytes → Found (on ((q ∷ (bytes ++ q ∷ [])) ++ rest) at line) (make (token.plain (encode_utf8_all vs))) rest
+quote_found q make k first cs vs bytes rest at line r u = by_gives (gives q cs vs bytes rest at line k.quote is_free r u)
   where
     B : List ℕ
     B = bytes ++ q ∷ rest
@@ -474,7 +458,7 @@ quote_found q make k first cs vs bytes rest at line c r u = by_gives (gives q cs
     p = on (q ∷ B) at line
 
     is_free : free q bytes ≡ true
-    is_free = ap (free q) (sym u.1) ∙ free_text q cs (quote_low q k.quote) ∙ quoted_free r k.quote (clear_chars cs (subst IsClear (sym u.1) c))
+    is_free = ap (free q) (sym u.1) ∙ free_text q cs (quote_low q k.quote) ∙ quoted_free r k.quote
 
     by_gives : Gives q bytes rest at line vs → Found (on ((q ∷ (bytes ++ q ∷ [])) ++ rest) at line) (make (token.plain (encode_utf8_all vs))) rest
     by_gives (b, e, m) =
@@ -482,8 +466,8 @@ quote_found q make k first cs vs bytes rest at line c r u = by_gives (gives q cs
         (found_exact p (behind p B (length bytes)) (make b) (make (token.plain (encode_utf8_all vs))) rest
         (first B at line ∙ ap (λ r. r >>= λ y. Ok (make y.0, y.1)) e) (behind_rest q bytes rest) (k.means b ∙ ap (λ w. make (token.plain w)) m))
 
-pub quoted_found : (cs vs bytes rest : List ℕ) (at line : ℕ) → IsClear bytes → Quoted 39 cs vs → InUtf8 cs bytes → Found (on ((39 ∷ (bytes ++ 39 ∷ [])) ++ rest) at line) (token.atom (token.plain (encode_utf8_all vs))) rest
+pub quoted_found : (cs vs bytes rest : List ℕ) (at line : ℕ) → Quoted 39 cs vs → InUtf8 cs bytes → Found (on ((39 ∷ (bytes ++ 39 ∷ [])) ++ rest) at line) (token.atom (token.plain (encode_utf8_all vs))) rest
 quoted_found = quote_found 39 token.atom atom_quoting (λ bs at line. refl)
 
-pub string_found : (cs vs bytes rest : List ℕ) (at line : ℕ) → IsClear bytes → Quoted 34 cs vs → InUtf8 cs bytes → Found (on ((34 ∷ (bytes ++ 34 ∷ [])) ++ rest) at line) (token.text (token.plain (encode_utf8_all vs))) rest
+pub string_found : (cs vs bytes rest : List ℕ) (at line : ℕ) → Quoted 34 cs vs → InUtf8 cs bytes → Found (on ((34 ∷ (bytes ++ 34 ∷ [])) ++ rest) at line) (token.text (token.plain (encode_utf8_all vs))) rest
 string_found = quote_found 34 token.text text_quoting (λ bs at line. refl)

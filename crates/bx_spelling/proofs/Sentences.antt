@@ -17,14 +17,12 @@ use Rattle.bx_text.specs.Grammar as grammar
 use Rattle.bx_text.specs.Grammar.{Next, NoString, Strings, Content, Size, Encoding, Segment, Segments, Spells, Row, Form, Kept, OnlyBlank}
 use Rattle.bx_text.specs.Forms.{form_at}
 use Rattle.bx_text.proofs.Grammatical.{forms_are, none_are}
-use Rattle.bx_spelling.specs.Quoted.{IsClear}
 use Rattle.bx_spelling.specs.Lexemes.{Finds}
-use Rattle.bx_spelling.specs.Tokens.{meant, Longest}
+use Rattle.bx_spelling.specs.Tokens.{meant}
 use Rattle.bx_spelling.specs.Terms as terms
 use Rattle.bx_spelling.specs.Terms.{Stood, NoQuote, NoText, Texts, Written, Held, Sized, Encoded, Part, Parts, Term, Elements, Pairs, Sentence, OnlyBlanks}
 use Rattle.bx_spelling.proofs.Blanking.{skipped_is_blank}
-use Rattle.bx_spelling.proofs.Finding.{next_is_longest, clear_at, parts, standing}
-use Rattle.bx_spelling.proofs.Readings.{clear_past}
+use Rattle.bx_spelling.proofs.Finding.{next_is_longest, parts, standing}
 use Rattle.bx_spelling.proofs.Quotes.{valid_is}
 use Rattle.bx_spelling.proofs.ReadBack.{atom_meant}
 
@@ -32,23 +30,17 @@ use Rattle.bx_spelling.proofs.ReadBack.{atom_meant}
 abbrev pub plainly : Lexeme → Lexeme
 plainly l = record { token = meant l.token; from = l.from; line = l.line; begin = l.begin; after = l.after }
 
-clear_behind : (q : Place) (t : Token) (r : Place) → Longest q t r → IsClear q.rest → IsClear r.rest
-clear_behind q t r (bytes, b, more, st) c = clear_past bytes r.rest (subst IsClear b.0 c)
-
 -- one token
-abbrev Step : Place → Lexeme → Type 0
-Step p l = Stood p (plainly l) × IsClear l.after.rest
-
-step : (p : Place) (l : Lexeme) → Next p l → IsClear p.rest → Step p l
-step p l n c = by_parts (parts p l n)
+step : (p : Place) (l : Lexeme) → Next p l → Stood p (plainly l)
+step p l n = by_parts (parts p l n)
   where
-    by_parts : ((q : Place) × (x : Token × Place) × (skip p ≡ Ok q) × (token_at q ≡ Ok x) × (standing q x ≡ l)) → Step p l
+    by_parts : ((q : Place) × (x : Token × Place) × (skip p ≡ Ok q) × (token_at q ≡ Ok x) × (standing q x ≡ l)) → Stood p (plainly l)
     by_parts (q, x, s, k, e) =
         let from_is : l.from ≡ q.at = sym (ap (λ (l : Lexeme). l.from) e) in
         let line_is : l.line ≡ q.line = sym (ap (λ (l : Lexeme). l.line) e) in
         let begin_is : l.begin ≡ q.rest = sym (ap (λ (l : Lexeme). l.begin) e) in
-        let found = (next_is_longest p q (meant l.token) l.after c).0 (l, n, refl, refl, from_is, line_is, begin_is) in
-        ((q, found.0, found.1, from_is, line_is, begin_is), clear_behind q (meant l.token) l.after found.1 (clear_at p q found.0 c))
+        let found = (next_is_longest p q (meant l.token) l.after).0 (l, n, refl, refl, from_is, line_is, begin_is) in
+        (q, found.0, found.1, from_is, line_is, begin_is)
 
 no_quote : (bs : List ℕ) → begins is_quote bs ≡ false → NoQuote bs
 no_quote [] e = tt
@@ -60,19 +52,19 @@ no_quote (b ∷ bs) e = unlike b e
 no_text_is : (p : Place) → NoString p → NoText p
 no_text_is p (q, s, n) = (q, (skipped_is_blank p q).0 s, no_quote q.rest n)
 
-texts_are : {p q : Place} {ts : List Tree} → Strings p ts q → IsClear p.rest → Texts p ts q × IsClear q.rest
-texts_are (grammar.no_string {p = p} n) c = (terms.no_text (no_text_is p n), c)
-texts_are (grammar.a_string {p = p} {l = l} n t s) c =
-    let first = step p l n c in
-    let more = texts_are s first.1 in
-    (terms.a_text {l = plainly l} first.0 (ap meant t) more.0, more.1)
+texts_are : {p q : Place} {ts : List Tree} → Strings p ts q → Texts p ts q
+texts_are (grammar.no_string {p = p} n) = terms.no_text (no_text_is p n)
+texts_are (grammar.a_string {p = p} {l = l} n t s) =
+    let first = step p l n in
+    let more = texts_are s in
+    terms.a_text {l = plainly l} first (ap meant t) more
 
 kept_is : (l : Lexeme) (q : Place) → Kept l q → Written (plainly l) q
 kept_is l q k = valid_is (taken l q) k
 
-held_is : {d : ℕ} {l : Lexeme} {q : Place} → Content d l q → IsClear l.after.rest → Held d (plainly l) q × IsClear q.rest
-held_is (grammar.a_number {l = l} t) c = (terms.a_number {l = plainly l} (ap meant t), c)
-held_is (grammar.a_text {l = l} t s) c = let more = texts_are s c in (terms.some_texts {l = plainly l} (ap meant t) more.0, more.1)
+held_is : {d : ℕ} {l : Lexeme} {q : Place} → Content d l q → Held d (plainly l) q
+held_is (grammar.a_number {l = l} t) = terms.a_number {l = plainly l} (ap meant t)
+held_is (grammar.a_text {l = l} t s) = let more = texts_are s in terms.some_texts {l = plainly l} (ap meant t) more
 
 same_colon : (t : Token) → is_colon (meant t) ≡ is_colon t
 same_colon (token.atom b) = refl
@@ -107,121 +99,119 @@ utf8_named token.open_map e = cc
 utf8_named token.open_binary e = cc
 utf8_named (token.mark m) e = cc
 
-sized_is : {m k : Lexeme} → Size m k → IsClear m.after.rest → Sized (plainly m) (plainly k) × IsClear k.after.rest
-sized_is (grammar.no_size {m = m} e) c = (terms.unsized {m = plainly m} (same_colon m.token ∙ e), c)
-sized_is (grammar.a_size {m = m} {n = n} {k = k} t a i b) c =
-    let first = step m.after n a c in
-    let second = step n.after k b first.1 in
-    (terms.a_size {m = plainly m} {n = plainly n} {k = plainly k} (ap meant t) first.0 (ap meant i) second.0, second.1)
+sized_is : {m k : Lexeme} → Size m k → Sized (plainly m) (plainly k)
+sized_is (grammar.no_size {m = m} e) = terms.unsized {m = plainly m} (same_colon m.token ∙ e)
+sized_is (grammar.a_size {m = m} {n = n} {k = k} t a i b) =
+    let first = step m.after n a in
+    let second = step n.after k b in
+    terms.a_size {m = plainly m} {n = plainly n} {k = plainly k} (ap meant t) first (ap meant i) second
 
-encoded_is : {m k : Lexeme} → Encoding m k → IsClear m.after.rest → Encoded (plainly m) (plainly k) × IsClear k.after.rest
-encoded_is (grammar.no_encoding {m = m} e) c = (terms.unencoded {m = plainly m} (same_slash m.token ∙ e), c)
-encoded_is (grammar.in_utf8 {m = m} {n = n} {k = k} t a i b) c =
-    let first = step m.after n a c in
-    let second = step n.after k b first.1 in
-    (terms.in_utf8 {m = plainly m} {n = plainly n} {k = plainly k} (ap meant t) first.0 (utf8_named n.token i) second.0, second.1)
+encoded_is : {m k : Lexeme} → Encoding m k → Encoded (plainly m) (plainly k)
+encoded_is (grammar.no_encoding {m = m} e) = terms.unencoded {m = plainly m} (same_slash m.token ∙ e)
+encoded_is (grammar.in_utf8 {m = m} {n = n} {k = k} t a i b) =
+    let first = step m.after n a in
+    let second = step n.after k b in
+    terms.in_utf8 {m = plainly m} {n = plainly n} {k = plainly k} (ap meant t) first (utf8_named n.token i) second
 
-part_is : {d : ℕ} {l e : Lexeme} → Segment d l e → IsClear l.after.rest → Part d (plainly l) (plainly e) × IsClear e.after.rest
-part_is (grammar.a_segment {l = l} {m = m} {n = n} {e = e} {q = q} h a s k) c =
-    let held = held_is h c in
-    let first = step q m a held.1 in
-    let sized = sized_is s first.1 in
-    let encoded = encoded_is k sized.1 in
-    (terms.a_part {l = plainly l} {m = plainly m} {n = plainly n} {e = plainly e} held.0 first.0 sized.0 encoded.0, encoded.1)
+part_is : {d : ℕ} {l e : Lexeme} → Segment d l e → Part d (plainly l) (plainly e)
+part_is (grammar.a_segment {l = l} {m = m} {n = n} {e = e} {q = q} h a s k) =
+    let held = held_is h in
+    let first = step q m a in
+    let sized = sized_is s in
+    let encoded = encoded_is k in
+    terms.a_part {l = plainly l} {m = plainly m} {n = plainly n} {e = plainly e} held first sized encoded
 
-parts_are : {d : ℕ} {l m : Lexeme} → Segments d l m → IsClear l.after.rest → Parts d (plainly l) (plainly m) × IsClear m.after.rest
-parts_are (grammar.one_segment s) c = let part = part_is s c in (terms.one_part part.0, part.1)
-parts_are (grammar.more_segments {comma = comma} {next = next} s t a r) c =
-    let part = part_is s c in
-    let first = step comma.after next a part.1 in
-    let more = parts_are r first.1 in
-    (terms.more_parts {comma = plainly comma} {next = plainly next} part.0 (ap meant t) first.0 more.0, more.1)
+parts_are : {d : ℕ} {l m : Lexeme} → Segments d l m → Parts d (plainly l) (plainly m)
+parts_are (grammar.one_segment s) = let part = part_is s in terms.one_part part
+parts_are (grammar.more_segments {comma = comma} {next = next} s t a r) =
+    let part = part_is s in
+    let first = step comma.after next a in
+    let more = parts_are r in
+    terms.more_parts {comma = plainly comma} {next = plainly next} part (ap meant t) first more
 
 mutual
-  term_is : {d : ℕ} {l : Lexeme} {t : Tree} {q : Place} → Spells d l t q → IsClear l.after.rest → Term d (plainly l) t q × IsClear q.rest
-  term_is (grammar.an_integer {l = l} t) c = (terms.an_integer {l = plainly l} (ap meant t), c)
-  term_is (grammar.an_atom {l = l} t) c = (terms.an_atom {l = plainly l} (ap meant t), c)
-  term_is (grammar.strings {l = l} t s) c = let more = texts_are s c in (terms.texts {l = plainly l} (ap meant t) more.0, more.1)
-  term_is (grammar.empty_tuple {l = l} {m = m} t a k) c = let first = step l.after m a c in (terms.empty_tuple {l = plainly l} {m = plainly m} (ap meant t) first.0 (ap meant k), first.1)
-  term_is (grammar.a_tuple {l = l} {first = f} {m = m} t a r k) c =
-      let first = step l.after f a c in
-      let row = elements_are r first.1 in
-      (terms.a_tuple {l = plainly l} {first = plainly f} {m = plainly m} (ap meant t) first.0 row.0 (ap meant k), row.1)
-  term_is (grammar.empty_list {l = l} {m = m} t a k) c = let first = step l.after m a c in (terms.empty_list {l = plainly l} {m = plainly m} (ap meant t) first.0 (ap meant k), first.1)
-  term_is (grammar.a_list {l = l} {first = f} {m = m} t a r k) c =
-      let first = step l.after f a c in
-      let row = elements_are r first.1 in
-      (terms.a_list {l = plainly l} {first = plainly f} {m = plainly m} (ap meant t) first.0 row.0 (ap meant k), row.1)
-  term_is (grammar.a_list_with_tail {l = l} {first = f} {bar = bar} {start = start} {m = m} {r = r} t a w b s u z k) c =
-      let first = step l.after f a c in
-      let row = elements_are w first.1 in
-      let begun = step bar.after start s row.1 in
-      let tail = term_is u begun.1 in
-      let last = step r m z tail.1 in
-      (terms.a_list_with_tail {l = plainly l} {first = plainly f} {bar = plainly bar} {start = plainly start} {m = plainly m} (ap meant t) first.0 row.0 (ap meant b) begun.0 tail.0 last.0 (ap meant k), last.1)
-  term_is (grammar.a_float {l = l} t k) c = (terms.a_float {l = plainly l} (ap meant t) (kept_is l l.after k), c)
-  term_is (grammar.an_empty_map {l = l} {m = m} t a k w) c =
-      let first = step l.after m a c in (terms.an_empty_map {l = plainly l} {m = plainly m} (ap meant t) first.0 (ap meant k) (kept_is l m.after w), first.1)
-  term_is (grammar.a_map {l = l} {first = f} {m = m} t a r k w) c =
-      let first = step l.after f a c in
-      let row = pairs_are r first.1 in
-      (terms.a_map {l = plainly l} {first = plainly f} {m = plainly m} (ap meant t) first.0 row.0 (ap meant k) (kept_is l m.after w), row.1)
-  term_is (grammar.an_empty_binary {l = l} {m = m} t a k w) c =
-      let first = step l.after m a c in (terms.an_empty_binary {l = plainly l} {m = plainly m} (ap meant t) first.0 (ap meant k) (kept_is l m.after w), first.1)
-  term_is (grammar.a_binary {l = l} {first = f} {m = m} t a r k w) c =
-      let first = step l.after f a c in
-      let row = parts_are r first.1 in
-      (terms.a_binary {l = plainly l} {first = plainly f} {m = plainly m} (ap meant t) first.0 row.0 (ap meant k) (kept_is l m.after w), row.1)
-  term_is (grammar.a_fun {l = l} {f = f} {colon = colon} {g = g} {slash = slash} {n = n} t a x b y k z j u i v w) c =
-      let first = step l.after f a c in
-      let second = step f.after colon b first.1 in
-      let third = step colon.after g k second.1 in
-      let fourth = step g.after slash j third.1 in
-      let fifth = step slash.after n i fourth.1 in (
-        terms.a_fun {l = plainly l} {f = plainly f} {colon = plainly colon} {g = plainly g} {slash = plainly slash} {n = plainly n}
-            (ap meant t) first.0 (ap meant x) second.0 (ap meant y) third.0 (ap meant z) fourth.0 (ap meant u) fifth.0 (ap meant v) (kept_is l n.after w),
-        fifth.1,
-      )
+  term_is : {d : ℕ} {l : Lexeme} {t : Tree} {q : Place} → Spells d l t q → Term d (plainly l) t q
+  term_is (grammar.an_integer {l = l} t) = terms.an_integer {l = plainly l} (ap meant t)
+  term_is (grammar.an_atom {l = l} t) = terms.an_atom {l = plainly l} (ap meant t)
+  term_is (grammar.strings {l = l} t s) = let more = texts_are s in terms.texts {l = plainly l} (ap meant t) more
+  term_is (grammar.empty_tuple {l = l} {m = m} t a k) = let first = step l.after m a in terms.empty_tuple {l = plainly l} {m = plainly m} (ap meant t) first (ap meant k)
+  term_is (grammar.a_tuple {l = l} {first = f} {m = m} t a r k) =
+      let first = step l.after f a in
+      let row = elements_are r in
+      terms.a_tuple {l = plainly l} {first = plainly f} {m = plainly m} (ap meant t) first row (ap meant k)
+  term_is (grammar.empty_list {l = l} {m = m} t a k) = let first = step l.after m a in terms.empty_list {l = plainly l} {m = plainly m} (ap meant t) first (ap meant k)
+  term_is (grammar.a_list {l = l} {first = f} {m = m} t a r k) =
+      let first = step l.after f a in
+      let row = elements_are r in
+      terms.a_list {l = plainly l} {first = plainly f} {m = plainly m} (ap meant t) first row (ap meant k)
+  term_is (grammar.a_list_with_tail {l = l} {first = f} {bar = bar} {start = start} {m = m} {r = r} t a w b s u z k) =
+      let first = step l.after f a in
+      let row = elements_are w in
+      let begun = step bar.after start s in
+      let tail = term_is u in
+      let last = step r m z in
+      terms.a_list_with_tail {l = plainly l} {first = plainly f} {bar = plainly bar} {start = plainly start} {m = plainly m} (ap meant t) first row (ap meant b) begun tail last (ap meant k)
+  term_is (grammar.a_float {l = l} t k) = terms.a_float {l = plainly l} (ap meant t) (kept_is l l.after k)
+  term_is (grammar.an_empty_map {l = l} {m = m} t a k w) =
+      let first = step l.after m a in terms.an_empty_map {l = plainly l} {m = plainly m} (ap meant t) first (ap meant k) (kept_is l m.after w)
+  term_is (grammar.a_map {l = l} {first = f} {m = m} t a r k w) =
+      let first = step l.after f a in
+      let row = pairs_are r in
+      terms.a_map {l = plainly l} {first = plainly f} {m = plainly m} (ap meant t) first row (ap meant k) (kept_is l m.after w)
+  term_is (grammar.an_empty_binary {l = l} {m = m} t a k w) =
+      let first = step l.after m a in terms.an_empty_binary {l = plainly l} {m = plainly m} (ap meant t) first (ap meant k) (kept_is l m.after w)
+  term_is (grammar.a_binary {l = l} {first = f} {m = m} t a r k w) =
+      let first = step l.after f a in
+      let row = parts_are r in
+      terms.a_binary {l = plainly l} {first = plainly f} {m = plainly m} (ap meant t) first row (ap meant k) (kept_is l m.after w)
+  term_is (grammar.a_fun {l = l} {f = f} {colon = colon} {g = g} {slash = slash} {n = n} t a x b y k z j u i v w) =
+      let first = step l.after f a in
+      let second = step f.after colon b in
+      let third = step colon.after g k in
+      let fourth = step g.after slash j in
+      let fifth = step slash.after n i in
+      terms.a_fun {l = plainly l} {f = plainly f} {colon = plainly colon} {g = plainly g} {slash = plainly slash} {n = plainly n}
+      (ap meant t) first (ap meant x) second (ap meant y) third (ap meant z) fourth (ap meant u) fifth (ap meant v) (kept_is l n.after w)
 
-  elements_are : {d : ℕ} {l m : Lexeme} {ts : List Tree} → Row d l ts m → IsClear l.after.rest → Elements d (plainly l) ts (plainly m) × IsClear m.after.rest
-  elements_are (grammar.one {m = m} {r = r} s a) c =
-      let term = term_is s c in
-      let last = step r m a term.1 in
-      (terms.one {m = plainly m} term.0 last.0, last.1)
-  elements_are (grammar.more {comma = comma} {next = next} {r = r} s a k b w) c =
-      let term = term_is s c in
-      let first = step r comma a term.1 in
-      let second = step comma.after next b first.1 in
-      let rest = elements_are w second.1 in
-      (terms.more {comma = plainly comma} {next = plainly next} term.0 first.0 (ap meant k) second.0 rest.0, rest.1)
+  elements_are : {d : ℕ} {l m : Lexeme} {ts : List Tree} → Row d l ts m → Elements d (plainly l) ts (plainly m)
+  elements_are (grammar.one {m = m} {r = r} s a) =
+      let term = term_is s in
+      let last = step r m a in
+      terms.one {m = plainly m} term last
+  elements_are (grammar.more {comma = comma} {next = next} {r = r} s a k b w) =
+      let term = term_is s in
+      let first = step r comma a in
+      let second = step comma.after next b in
+      let rest = elements_are w in
+      terms.more {comma = plainly comma} {next = plainly next} term first (ap meant k) second rest
 
-  pairs_are : {d : ℕ} {l m : Lexeme} → grammar.Pairs d l m → IsClear l.after.rest → Pairs d (plainly l) (plainly m) × IsClear m.after.rest
-  pairs_are (grammar.one_pair {arrow = arrow} {v = v} {m = m} {r = r} {q = q} s a k b u z) c =
-      let key = term_is s c in
-      let first = step r arrow a key.1 in
-      let second = step arrow.after v b first.1 in
-      let value = term_is u second.1 in
-      let last = step q m z value.1 in
-      (terms.one_pair {arrow = plainly arrow} {v = plainly v} {m = plainly m} key.0 first.0 (ap meant k) second.0 value.0 last.0, last.1)
-  pairs_are (grammar.more_pairs {arrow = arrow} {v = v} {comma = comma} {next = next} {r = r} {q = q} s a k b u z j e w) c =
-      let key = term_is s c in
-      let first = step r arrow a key.1 in
-      let second = step arrow.after v b first.1 in
-      let value = term_is u second.1 in
-      let third = step q comma z value.1 in
-      let fourth = step comma.after next e third.1 in
-      let rest = pairs_are w fourth.1 in
-      (terms.more_pairs {arrow = plainly arrow} {v = plainly v} {comma = plainly comma} {next = plainly next} key.0 first.0 (ap meant k) second.0 value.0 third.0 (ap meant j) fourth.0 rest.0, rest.1)
+  pairs_are : {d : ℕ} {l m : Lexeme} → grammar.Pairs d l m → Pairs d (plainly l) (plainly m)
+  pairs_are (grammar.one_pair {arrow = arrow} {v = v} {m = m} {r = r} {q = q} s a k b u z) =
+      let key = term_is s in
+      let first = step r arrow a in
+      let second = step arrow.after v b in
+      let value = term_is u in
+      let last = step q m z in
+      terms.one_pair {arrow = plainly arrow} {v = plainly v} {m = plainly m} key first (ap meant k) second value last
+  pairs_are (grammar.more_pairs {arrow = arrow} {v = v} {comma = comma} {next = next} {r = r} {q = q} s a k b u z j e w) =
+      let key = term_is s in
+      let first = step r arrow a in
+      let second = step arrow.after v b in
+      let value = term_is u in
+      let third = step q comma z in
+      let fourth = step comma.after next e in
+      let rest = pairs_are w in
+      terms.more_pairs {arrow = plainly arrow} {v = plainly v} {comma = plainly comma} {next = plainly next} key first (ap meant k) second value third (ap meant j) fourth rest
 
-sentence_is : {d : ℕ} {p q : Place} {t : Tree} → Form d p t q → IsClear p.rest → Sentence d p t q
-sentence_is (grammar.a_form {p = p} {r = r} {l = l} {m = m} n s a k) c =
-    let first = step p l n c in
-    let term = term_is s first.1 in
-    let last = step r m a term.1 in
-    terms.a_sentence {l = plainly l} {m = plainly m} first.0 term.0 last.0 (ap meant k)
+sentence_is : {d : ℕ} {p q : Place} {t : Tree} → Form d p t q → Sentence d p t q
+sentence_is (grammar.a_form {p = p} {r = r} {l = l} {m = m} n s a k) =
+    let first = step p l n in
+    let term = term_is s in
+    let last = step r m a in
+    terms.a_sentence {l = plainly l} {m = plainly m} first term last (ap meant k)
 
-pub read_is_sentence : (p : Place) (t : Tree) (q : Place) → IsClear p.rest → form_at p ≡ Ok (Some (t, q)) → Sentence 256 p t q
-read_is_sentence p t q c h = sentence_is ((forms_are p t q).0 h) c
+pub read_is_sentence : (p : Place) (t : Tree) (q : Place) → form_at p ≡ Ok (Some (t, q)) → Sentence 256 p t q
+read_is_sentence p t q h = sentence_is ((forms_are p t q).0 h)
 
 -- what is one by its bytes is read
 abbrev IsBare : Token → Type 0
@@ -281,10 +271,9 @@ record Behind (p : Place) (l : Lexeme) : Type 0 where
   lexeme : Lexeme
   next : Next p lexeme
   plain : plainly lexeme ≡ l
-  clear : IsClear lexeme.after.rest
 
-back : (p : Place) (l : Lexeme) → Stood p l → IsClear p.rest → Behind p l
-back p l (q, passed, longest, from_is, line_is, begin_is) c = by_found ((next_is_longest p q l.token l.after c).1 (passed, longest))
+back : (p : Place) (l : Lexeme) → Stood p l → Behind p l
+back p l (q, passed, longest, from_is, line_is, begin_is) = by_found ((next_is_longest p q l.token l.after).1 (passed, longest))
   where
     by_found : Finds p q l.token l.after → Behind p l
     by_found (k, h, m, a, f, n, b) =
@@ -292,12 +281,11 @@ back p l (q, passed, longest, from_is, line_is, begin_is) c = by_found ((next_is
           lexeme = k;
           next = h;
           plain = λ i. record { token = m i; from = (f ∙ sym from_is) i; line = (n ∙ sym line_is) i; begin = (b ∙ sym begin_is) i; after = a i };
-          clear = subst (λ (r : Place). IsClear r.rest) (sym a) (clear_behind q l.token l.after longest (clear_at p q passed c));
         }
 
 -- from the place behind a lexeme
-back_on : (l k : Lexeme) → plainly l ≡ k → (m : Lexeme) → Stood k.after m → IsClear l.after.rest → Behind l.after m
-back_on l k e m st c = back l.after m (subst (λ (r : Place). Stood r m) (sym (ap (λ (l : Lexeme). l.after) e)) st) c
+back_on : (l k : Lexeme) → plainly l ≡ k → (m : Lexeme) → Stood k.after m → Behind l.after m
+back_on l k e m st = back l.after m (subst (λ (r : Place). Stood r m) (sym (ap (λ (l : Lexeme). l.after) e)) st)
 
 token_back : (l k : Lexeme) (v : Token) → plainly l ≡ k → IsBare v → k.token ≡ v → l.token ≡ v
 token_back l k v e b t = bare_is l.token v b (ap (λ (l : Lexeme). l.token) e ∙ t)
@@ -312,47 +300,42 @@ quote_not (b ∷ bs) n = unlike b n
     unlike : (b : ℕ) → b ≢ 34 → is_quote b ≡ false
     unlike b n = grind (arith, nat_tests)
 
-texts_back : {p q : Place} {ts : List Tree} → Texts p ts q → IsClear p.rest → Strings p ts q × IsClear q.rest
-texts_back (terms.no_text {p = p} (q, s, n)) c = (grammar.no_string (q, (skipped_is_blank p q).1 s, quote_not q.rest n), c)
-texts_back (terms.a_text {p = p} {q = q} {l = k} {w = w} {ts = ts} st t s) c =
-    let f = back p k st c in
+texts_back : {p q : Place} {ts : List Tree} → Texts p ts q → Strings p ts q
+texts_back (terms.no_text {p = p} (q, s, n)) = grammar.no_string (q, (skipped_is_blank p q).1 s, quote_not q.rest n)
+texts_back (terms.a_text {p = p} {q = q} {l = k} {w = w} {ts = ts} st t s) =
+    let f = back p k st in
     let after_is : f.lexeme.after ≡ k.after = ap (λ (l : Lexeme). l.after) f.plain in
-    let rest = texts_back s (subst (λ (r : Place). IsClear r.rest) after_is f.clear) in
     let text = text_meant f.lexeme.token w (ap (λ (l : Lexeme). l.token) f.plain ∙ t) in
-    let read : Strings p (letters (span f.lexeme f.lexeme.after) (spelled text.0) ++ ts) q = grammar.a_string f.next text.1 (subst (λ r. Strings r ts q) (sym after_is) rest.0) in
-    (subst (λ l. Strings p (letters (span l l.after) w ++ ts) q) f.plain (subst (λ w. Strings p (letters (span f.lexeme f.lexeme.after) w ++ ts) q) text.2 read), rest.1)
+    let read : Strings p (letters (span f.lexeme f.lexeme.after) (spelled text.0) ++ ts) q = grammar.a_string f.next text.1 (subst (λ r. Strings r ts q) (sym after_is) (texts_back s)) in
+    subst (λ l. Strings p (letters (span l l.after) w ++ ts) q) f.plain (subst (λ w. Strings p (letters (span f.lexeme f.lexeme.after) w ++ ts) q) text.2 read)
 
 kept_back : (l k : Lexeme) (q : Place) → plainly l ≡ k → Written k q → Kept l q
 kept_back l k q e w = utf8_valid_len-IsUtf8 (taken l q) (subst (λ l. Written l q) (sym e) w)
 
 -- the strings behind the first
-texts_on : (l k : Lexeme) {ts : List Tree} {q : Place} → plainly l ≡ k → Texts k.after ts q → (IsClear k.after.rest → Strings k.after ts q × IsClear q.rest) → IsClear l.after.rest → Strings l.after ts q × IsClear q.rest
-texts_on l k {ts} {q} e t more c =
-    let after_is : l.after ≡ k.after = ap (λ (l : Lexeme). l.after) e in
-    let rest = more (subst (λ (r : Place). IsClear r.rest) after_is c) in
-    (subst (λ r. Strings r ts q) (sym after_is) rest.0, rest.1)
+texts_on : (l k : Lexeme) {ts : List Tree} {q : Place} → plainly l ≡ k → Strings k.after ts q → Strings l.after ts q
+texts_on l k {ts} {q} e read = subst (λ r. Strings r ts q) (sym (ap (λ (l : Lexeme). l.after) e)) read
 
-held_back : {d : ℕ} {k : Lexeme} {q : Place} → Held d k q → (l : Lexeme) → plainly l ≡ k → IsClear l.after.rest → Content d l q × IsClear q.rest
-held_back (terms.a_number {d = d} {l = k} {n = n} t) l e c =
-    subst (λ (k : Lexeme). Content d l k.after × IsClear k.after.rest) e (grammar.a_number (token_back l k (token.integer n) e tt t), c)
-held_back (terms.some_texts {l = k} {w = w} {ts = ts} {q = q} t s) l e c =
-    let rest = texts_on l k e s (λ c. texts_back s c) c in
+held_back : {d : ℕ} {k : Lexeme} {q : Place} → Held d k q → (l : Lexeme) → plainly l ≡ k → Content d l q
+held_back (terms.a_number {d = d} {l = k} {n = n} t) l e =
+    subst (λ (k : Lexeme). Content d l k.after) e (grammar.a_number (token_back l k (token.integer n) e tt t))
+held_back (terms.some_texts {l = k} {w = w} {ts = ts} {q = q} t s) l e =
+    let rest = texts_on l k e (texts_back s) in
     let text = text_meant l.token w (ap (λ (l : Lexeme). l.token) e ∙ t) in
-    (grammar.a_text text.1 rest.0, rest.1)
+    grammar.a_text text.1 rest
 
 -- the token behind, and what led there
 record Onward (P : Lexeme → Type 0) (k : Lexeme) : Type 0 where
   lexeme : Lexeme
   plain : plainly lexeme ≡ k
   leads : P lexeme
-  clear : IsClear lexeme.after.rest
 
-sized_back : {m k : Lexeme} → Sized m k → (l : Lexeme) → plainly l ≡ m → IsClear l.after.rest → Onward (Size l) k
-sized_back (terms.unsized {m = m} t) l e c = record { lexeme = l; plain = e; leads = grammar.no_size (sym (same_colon l.token) ∙ ap (λ (l : Lexeme). is_colon l.token) e ∙ t); clear = c }
-sized_back (terms.a_size {m = m} {n = n} {k = k} {i = i} t a j b) l e c =
-    let first = back_on l m e n a c in
-    let second = back_on first.lexeme n first.plain k b first.clear in
-    record { lexeme = second.lexeme; plain = second.plain; leads = grammar.a_size (token_back l m named.colon e tt t) first.next (token_back first.lexeme n (token.integer i) first.plain tt j) second.next; clear = second.clear }
+sized_back : {m k : Lexeme} → Sized m k → (l : Lexeme) → plainly l ≡ m → Onward (Size l) k
+sized_back (terms.unsized {m = m} t) l e = record { lexeme = l; plain = e; leads = grammar.no_size (sym (same_colon l.token) ∙ ap (λ (l : Lexeme). is_colon l.token) e ∙ t) }
+sized_back (terms.a_size {m = m} {n = n} {k = k} {i = i} t a j b) l e =
+    let first = back_on l m e n a in
+    let second = back_on first.lexeme n first.plain k b in
+    record { lexeme = second.lexeme; plain = second.plain; leads = grammar.a_size (token_back l m named.colon e tt t) first.next (token_back first.lexeme n (token.integer i) first.plain tt j) second.next }
 
 utf8_back : (t : Token) → meant t ≡ token.atom (token.plain (codes "utf8")) → is_utf8_name t ≡ true
 utf8_back (token.atom b) e = (bytes_eq-Decides (spelled b) (codes "utf8")).1 text
@@ -368,28 +351,28 @@ utf8_back token.open_map e = cc
 utf8_back token.open_binary e = cc
 utf8_back (token.mark m) e = cc
 
-encoded_back : {m k : Lexeme} → Encoded m k → (l : Lexeme) → plainly l ≡ m → IsClear l.after.rest → Onward (Encoding l) k
-encoded_back (terms.unencoded {m = m} t) l e c = record { lexeme = l; plain = e; leads = grammar.no_encoding (sym (same_slash l.token) ∙ ap (λ (l : Lexeme). is_slash l.token) e ∙ t); clear = c }
-encoded_back (terms.in_utf8 {m = m} {n = n} {k = k} t a j b) l e c =
-    let first = back_on l m e n a c in
-    let second = back_on first.lexeme n first.plain k b first.clear in
-    record { lexeme = second.lexeme; plain = second.plain; leads = grammar.in_utf8 (token_back l m named.slash e tt t) first.next (utf8_back first.lexeme.token (ap (λ (l : Lexeme). l.token) first.plain ∙ j)) second.next; clear = second.clear }
+encoded_back : {m k : Lexeme} → Encoded m k → (l : Lexeme) → plainly l ≡ m → Onward (Encoding l) k
+encoded_back (terms.unencoded {m = m} t) l e = record { lexeme = l; plain = e; leads = grammar.no_encoding (sym (same_slash l.token) ∙ ap (λ (l : Lexeme). is_slash l.token) e ∙ t) }
+encoded_back (terms.in_utf8 {m = m} {n = n} {k = k} t a j b) l e =
+    let first = back_on l m e n a in
+    let second = back_on first.lexeme n first.plain k b in
+    record { lexeme = second.lexeme; plain = second.plain; leads = grammar.in_utf8 (token_back l m named.slash e tt t) first.next (utf8_back first.lexeme.token (ap (λ (l : Lexeme). l.token) first.plain ∙ j)) second.next }
 
-part_back : {d : ℕ} {k e : Lexeme} → Part d k e → (l : Lexeme) → plainly l ≡ k → IsClear l.after.rest → Onward (Segment d l) e
-part_back (terms.a_part {m = m} {q = q} h a s k) l e c =
-    let held = held_back h l e c in
-    let first = back q m a held.1 in
-    let size = sized_back s first.lexeme first.plain first.clear in
-    let encoding = encoded_back k size.lexeme size.plain size.clear in
-    record { lexeme = encoding.lexeme; plain = encoding.plain; leads = grammar.a_segment held.0 first.next size.leads encoding.leads; clear = encoding.clear }
+part_back : {d : ℕ} {k e : Lexeme} → Part d k e → (l : Lexeme) → plainly l ≡ k → Onward (Segment d l) e
+part_back (terms.a_part {m = m} {q = q} h a s k) l e =
+    let held = held_back h l e in
+    let first = back q m a in
+    let size = sized_back s first.lexeme first.plain in
+    let encoding = encoded_back k size.lexeme size.plain in
+    record { lexeme = encoding.lexeme; plain = encoding.plain; leads = grammar.a_segment held first.next size.leads encoding.leads }
 
-parts_back : {d : ℕ} {k e : Lexeme} → Parts d k e → (l : Lexeme) → plainly l ≡ k → IsClear l.after.rest → Onward (Segments d l) e
-parts_back (terms.one_part s) l e c = let part = part_back s l e c in record { lexeme = part.lexeme; plain = part.plain; leads = grammar.one_segment part.leads; clear = part.clear }
-parts_back (terms.more_parts {comma = comma} {next = next} s t a r) l e c =
-    let part = part_back s l e c in
-    let first = back_on part.lexeme comma part.plain next a part.clear in
-    let rest = parts_back r first.lexeme first.plain first.clear in
-    record { lexeme = rest.lexeme; plain = rest.plain; leads = grammar.more_segments part.leads (token_back part.lexeme comma named.comma part.plain tt t) first.next rest.leads; clear = rest.clear }
+parts_back : {d : ℕ} {k e : Lexeme} → Parts d k e → (l : Lexeme) → plainly l ≡ k → Onward (Segments d l) e
+parts_back (terms.one_part s) l e = let part = part_back s l e in record { lexeme = part.lexeme; plain = part.plain; leads = grammar.one_segment part.leads }
+parts_back (terms.more_parts {comma = comma} {next = next} s t a r) l e =
+    let part = part_back s l e in
+    let first = back_on part.lexeme comma part.plain next a in
+    let rest = parts_back r first.lexeme first.plain in
+    record { lexeme = rest.lexeme; plain = rest.plain; leads = grammar.more_segments part.leads (token_back part.lexeme comma named.comma part.plain tt t) first.next rest.leads }
 
 kept_two : (l k m n : Lexeme) → plainly l ≡ k → plainly m ≡ n → Written k n.after → Kept l m.after
 kept_two l k m n e f w = utf8_valid_len-IsUtf8 (taken l m.after) (both (λ k n. Written k n.after) (sym e) (sym f) w)
@@ -398,123 +381,118 @@ kept_here : (l k : Lexeme) → plainly l ≡ k → Written k k.after → Kept l 
 kept_here l k e w = kept_two l k l k e e w
 
 mutual
-  term_back : {d : ℕ} {k : Lexeme} {t : Tree} {q : Place} → Term d k t q → (l : Lexeme) → plainly l ≡ k → IsClear l.after.rest → Spells d l t q × IsClear q.rest
-  term_back (terms.an_integer {d = d} {l = k} {n = n} t) l e c =
-      subst (λ (k : Lexeme). Spells d l (integer (span k k.after) n) k.after × IsClear k.after.rest) e (grammar.an_integer (token_back l k (token.integer n) e tt t), c)
-  term_back (terms.an_atom {d = d} {l = k} {w = w} t) l e c =
+  term_back : {d : ℕ} {k : Lexeme} {t : Tree} {q : Place} → Term d k t q → (l : Lexeme) → plainly l ≡ k → Spells d l t q
+  term_back (terms.an_integer {d = d} {l = k} {n = n} t) l e =
+      subst (λ (k : Lexeme). Spells d l (integer (span k k.after) n) k.after) e (grammar.an_integer (token_back l k (token.integer n) e tt t))
+  term_back (terms.an_atom {d = d} {l = k} {w = w} t) l e =
       let a = atom_meant l.token w (ap (λ (l : Lexeme). l.token) e ∙ t) in
-      subst (λ (k : Lexeme). Spells d l (atom (span k k.after) w) k.after × IsClear k.after.rest) e (subst (λ w. Spells d l (atom (span l l.after) w) l.after) a.2 (grammar.an_atom a.1), c)
-  term_back (terms.texts {d = d} {l = k} {w = w} {ts = ts} {q = q} t s) l e c =
-      let rest = texts_on l k e s (λ c. texts_back s c) c in
-      let text = text_meant l.token w (ap (λ (l : Lexeme). l.token) e ∙ t) in (
-        subst (λ (k : Lexeme). Spells (suc d) l (list (span k q) (chain (letters (span k k.after) w ++ ts) nil)) q) e
-            (subst (λ w. Spells (suc d) l (list (span l q) (chain (letters (span l l.after) w ++ ts) nil)) q) text.2 (grammar.strings text.1 rest.0)),
-        rest.1,
-      )
-  term_back (terms.empty_tuple {d = d} {l = k} {m = m} t a z) l e c =
-      let f = back_on l k e m a c in
-      both (λ k m. Spells (suc d) l (tuple (span k m.after) nil) m.after × IsClear m.after.rest) e f.plain
-      (grammar.empty_tuple (token_back l k token.open_tuple e tt t) f.next (token_back f.lexeme m named.close_tuple f.plain tt z), f.clear)
-  term_back (terms.a_tuple {d = d} {l = k} {first = first} {m = m} {ts = ts} t a w z) l e c =
-      let f = back_on l k e first a c in
-      let r = elements_back w f.lexeme f.plain f.clear in
-      both (λ k m. Spells (suc d) l (tuple (span k m.after) (chain ts nil)) m.after × IsClear m.after.rest) e r.plain
-      (grammar.a_tuple (token_back l k token.open_tuple e tt t) f.next r.leads (token_back r.lexeme m named.close_tuple r.plain tt z), r.clear)
-  term_back (terms.empty_list {d = d} {l = k} {m = m} t a z) l e c =
-      let f = back_on l k e m a c in
-      both (λ k m. Spells (suc d) l (list (span k m.after) nil) m.after × IsClear m.after.rest) e f.plain
-      (grammar.empty_list (token_back l k token.open_list e tt t) f.next (token_back f.lexeme m named.close_list f.plain tt z), f.clear)
-  term_back (terms.a_list {d = d} {l = k} {first = first} {m = m} {ts = ts} t a w z) l e c =
-      let f = back_on l k e first a c in
-      let r = elements_back w f.lexeme f.plain f.clear in
-      both (λ k m. Spells (suc d) l (list (span k m.after) (chain ts nil)) m.after × IsClear m.after.rest) e r.plain
-      (grammar.a_list (token_back l k token.open_list e tt t) f.next r.leads (token_back r.lexeme m named.close_list r.plain tt z), r.clear)
-  term_back (terms.a_list_with_tail {d = d} {l = k} {first = first} {bar = bar} {start = start} {m = m} {ts = ts} {t = tail} {r = r} t a w b s u y z) l e c =
-      let f = back_on l k e first a c in
-      let row = elements_back w f.lexeme f.plain f.clear in
-      let begun = back_on row.lexeme bar row.plain start s row.clear in
-      let term = term_back u begun.lexeme begun.plain begun.clear in
-      let last = back r m y term.1 in
-      both (λ k m. Spells (suc d) l (list (span k m.after) (chain ts (tail_of tail))) m.after × IsClear m.after.rest) e last.plain
-      (grammar.a_list_with_tail (token_back l k token.open_list e tt t) f.next row.leads (token_back row.lexeme bar named.bar row.plain tt b) begun.next term.0 last.next (token_back last.lexeme m named.close_list last.plain tt z), last.clear)
-  term_back (terms.a_float {d = d} {l = k} t w) l e c =
-      subst (λ (k : Lexeme). Spells d l (other (span k k.after) sort.Float (taken k k.after)) k.after × IsClear k.after.rest) e (grammar.a_float (token_back l k token.float e tt t) (kept_here l k e w), c)
-  term_back (terms.an_empty_map {d = d} {l = k} {m = m} t a z w) l e c =
-      let f = back_on l k e m a c in
-      both (λ k m. Spells (suc d) l (other (span k m.after) sort.Map (taken k m.after)) m.after × IsClear m.after.rest) e f.plain
-      (grammar.an_empty_map (token_back l k token.open_map e tt t) f.next (token_back f.lexeme m named.close_tuple f.plain tt z) (kept_two l k f.lexeme m e f.plain w), f.clear)
-  term_back (terms.a_map {d = d} {l = k} {first = first} {m = m} t a v z w) l e c =
-      let f = back_on l k e first a c in
-      let r = pairs_back v f.lexeme f.plain f.clear in
-      both (λ k m. Spells (suc d) l (other (span k m.after) sort.Map (taken k m.after)) m.after × IsClear m.after.rest) e r.plain
-      (grammar.a_map (token_back l k token.open_map e tt t) f.next r.leads (token_back r.lexeme m named.close_tuple r.plain tt z) (kept_two l k r.lexeme m e r.plain w), r.clear)
-  term_back (terms.an_empty_binary {d = d} {l = k} {m = m} t a z w) l e c =
-      let f = back_on l k e m a c in
-      both (λ k m. Spells (suc d) l (other (span k m.after) sort.Binary (taken k m.after)) m.after × IsClear m.after.rest) e f.plain
-      (grammar.an_empty_binary (token_back l k token.open_binary e tt t) f.next (token_back f.lexeme m named.close_binary f.plain tt z) (kept_two l k f.lexeme m e f.plain w), f.clear)
-  term_back (terms.a_binary {d = d} {l = k} {first = first} {m = m} t a v z w) l e c =
-      let f = back_on l k e first a c in
-      let r = parts_back v f.lexeme f.plain f.clear in
-      both (λ k m. Spells (suc d) l (other (span k m.after) sort.Binary (taken k m.after)) m.after × IsClear m.after.rest) e r.plain
-      (grammar.a_binary (token_back l k token.open_binary e tt t) f.next r.leads (token_back r.lexeme m named.close_binary r.plain tt z) (kept_two l k r.lexeme m e r.plain w), r.clear)
-  term_back (terms.a_fun {d = d} {l = k} {f = f} {colon = colon} {g = g} {slash = slash} {n = n} {v = v} {w = w} {i = i} t a x b y j z o u h s r) l e c =
-      let first = back_on l k e f a c in
+      subst (λ (k : Lexeme). Spells d l (atom (span k k.after) w) k.after) e (subst (λ w. Spells d l (atom (span l l.after) w) l.after) a.2 (grammar.an_atom a.1))
+  term_back (terms.texts {d = d} {l = k} {w = w} {ts = ts} {q = q} t s) l e =
+      let rest = texts_on l k e (texts_back s) in
+      let text = text_meant l.token w (ap (λ (l : Lexeme). l.token) e ∙ t) in
+      subst (λ (k : Lexeme). Spells (suc d) l (list (span k q) (chain (letters (span k k.after) w ++ ts) nil)) q) e
+      (subst (λ w. Spells (suc d) l (list (span l q) (chain (letters (span l l.after) w ++ ts) nil)) q) text.2 (grammar.strings text.1 rest))
+  term_back (terms.empty_tuple {d = d} {l = k} {m = m} t a z) l e =
+      let f = back_on l k e m a in
+      both (λ k m. Spells (suc d) l (tuple (span k m.after) nil) m.after) e f.plain
+      (grammar.empty_tuple (token_back l k token.open_tuple e tt t) f.next (token_back f.lexeme m named.close_tuple f.plain tt z))
+  term_back (terms.a_tuple {d = d} {l = k} {first = first} {m = m} {ts = ts} t a w z) l e =
+      let f = back_on l k e first a in
+      let r = elements_back w f.lexeme f.plain in
+      both (λ k m. Spells (suc d) l (tuple (span k m.after) (chain ts nil)) m.after) e r.plain
+      (grammar.a_tuple (token_back l k token.open_tuple e tt t) f.next r.leads (token_back r.lexeme m named.close_tuple r.plain tt z))
+  term_back (terms.empty_list {d = d} {l = k} {m = m} t a z) l e =
+      let f = back_on l k e m a in
+      both (λ k m. Spells (suc d) l (list (span k m.after) nil) m.after) e f.plain
+      (grammar.empty_list (token_back l k token.open_list e tt t) f.next (token_back f.lexeme m named.close_list f.plain tt z))
+  term_back (terms.a_list {d = d} {l = k} {first = first} {m = m} {ts = ts} t a w z) l e =
+      let f = back_on l k e first a in
+      let r = elements_back w f.lexeme f.plain in
+      both (λ k m. Spells (suc d) l (list (span k m.after) (chain ts nil)) m.after) e r.plain
+      (grammar.a_list (token_back l k token.open_list e tt t) f.next r.leads (token_back r.lexeme m named.close_list r.plain tt z))
+  term_back (terms.a_list_with_tail {d = d} {l = k} {first = first} {bar = bar} {start = start} {m = m} {ts = ts} {t = tail} {r = r} t a w b s u y z) l e =
+      let f = back_on l k e first a in
+      let row = elements_back w f.lexeme f.plain in
+      let begun = back_on row.lexeme bar row.plain start s in
+      let term = term_back u begun.lexeme begun.plain in
+      let last = back r m y in
+      both (λ k m. Spells (suc d) l (list (span k m.after) (chain ts (tail_of tail))) m.after) e last.plain
+      (grammar.a_list_with_tail (token_back l k token.open_list e tt t) f.next row.leads (token_back row.lexeme bar named.bar row.plain tt b) begun.next term last.next (token_back last.lexeme m named.close_list last.plain tt z))
+  term_back (terms.a_float {d = d} {l = k} t w) l e =
+      subst (λ (k : Lexeme). Spells d l (other (span k k.after) sort.Float (taken k k.after)) k.after) e (grammar.a_float (token_back l k token.float e tt t) (kept_here l k e w))
+  term_back (terms.an_empty_map {d = d} {l = k} {m = m} t a z w) l e =
+      let f = back_on l k e m a in
+      both (λ k m. Spells (suc d) l (other (span k m.after) sort.Map (taken k m.after)) m.after) e f.plain
+      (grammar.an_empty_map (token_back l k token.open_map e tt t) f.next (token_back f.lexeme m named.close_tuple f.plain tt z) (kept_two l k f.lexeme m e f.plain w))
+  term_back (terms.a_map {d = d} {l = k} {first = first} {m = m} t a v z w) l e =
+      let f = back_on l k e first a in
+      let r = pairs_back v f.lexeme f.plain in
+      both (λ k m. Spells (suc d) l (other (span k m.after) sort.Map (taken k m.after)) m.after) e r.plain
+      (grammar.a_map (token_back l k token.open_map e tt t) f.next r.leads (token_back r.lexeme m named.close_tuple r.plain tt z) (kept_two l k r.lexeme m e r.plain w))
+  term_back (terms.an_empty_binary {d = d} {l = k} {m = m} t a z w) l e =
+      let f = back_on l k e m a in
+      both (λ k m. Spells (suc d) l (other (span k m.after) sort.Binary (taken k m.after)) m.after) e f.plain
+      (grammar.an_empty_binary (token_back l k token.open_binary e tt t) f.next (token_back f.lexeme m named.close_binary f.plain tt z) (kept_two l k f.lexeme m e f.plain w))
+  term_back (terms.a_binary {d = d} {l = k} {first = first} {m = m} t a v z w) l e =
+      let f = back_on l k e first a in
+      let r = parts_back v f.lexeme f.plain in
+      both (λ k m. Spells (suc d) l (other (span k m.after) sort.Binary (taken k m.after)) m.after) e r.plain
+      (grammar.a_binary (token_back l k token.open_binary e tt t) f.next r.leads (token_back r.lexeme m named.close_binary r.plain tt z) (kept_two l k r.lexeme m e r.plain w))
+  term_back (terms.a_fun {d = d} {l = k} {f = f} {colon = colon} {g = g} {slash = slash} {n = n} {v = v} {w = w} {i = i} t a x b y j z o u h s r) l e =
+      let first = back_on l k e f a in
       let name = atom_meant first.lexeme.token v (ap (λ (l : Lexeme). l.token) first.plain ∙ x) in
-      let second = back_on first.lexeme f first.plain colon b first.clear in
-      let third = back_on second.lexeme colon second.plain g j second.clear in
+      let second = back_on first.lexeme f first.plain colon b in
+      let third = back_on second.lexeme colon second.plain g j in
       let called = atom_meant third.lexeme.token w (ap (λ (l : Lexeme). l.token) third.plain ∙ z) in
-      let fourth = back_on third.lexeme g third.plain slash o third.clear in
-      let fifth = back_on fourth.lexeme slash fourth.plain n h fourth.clear in
-      both (λ k n. Spells d l (other (span k n.after) sort.Fun (taken k n.after)) n.after × IsClear n.after.rest) e fifth.plain (
-        grammar.a_fun (token_back l k named.the_word_fun e tt t) first.next name.1 second.next (token_back second.lexeme colon named.colon second.plain tt y) third.next called.1
-            fourth.next (token_back fourth.lexeme slash named.slash fourth.plain tt u) fifth.next (token_back fifth.lexeme n (token.integer i) fifth.plain tt s) (kept_two l k fifth.lexeme n e fifth.plain r),
-        fifth.clear,
-      )
+      let fourth = back_on third.lexeme g third.plain slash o in
+      let fifth = back_on fourth.lexeme slash fourth.plain n h in
+      both (λ k n. Spells d l (other (span k n.after) sort.Fun (taken k n.after)) n.after) e fifth.plain
+      (grammar.a_fun (token_back l k named.the_word_fun e tt t) first.next name.1 second.next (token_back second.lexeme colon named.colon second.plain tt y) third.next called.1
+      fourth.next (token_back fourth.lexeme slash named.slash fourth.plain tt u) fifth.next (token_back fifth.lexeme n (token.integer i) fifth.plain tt s) (kept_two l k fifth.lexeme n e fifth.plain r))
 
-  elements_back : {d : ℕ} {k m : Lexeme} {ts : List Tree} → Elements d k ts m → (l : Lexeme) → plainly l ≡ k → IsClear l.after.rest → Onward (λ m. Row d l ts m) m
-  elements_back (terms.one {m = m} {r = r} u a) l e c =
-      let term = term_back u l e c in
-      let last = back r m a term.1 in
-      record { lexeme = last.lexeme; plain = last.plain; leads = grammar.one term.0 last.next; clear = last.clear }
-  elements_back (terms.more {comma = comma} {next = next} {r = r} u a t b w) l e c =
-      let term = term_back u l e c in
-      let first = back r comma a term.1 in
-      let second = back_on first.lexeme comma first.plain next b first.clear in
-      let rest = elements_back w second.lexeme second.plain second.clear in
-      record { lexeme = rest.lexeme; plain = rest.plain; leads = grammar.more term.0 first.next (token_back first.lexeme comma named.comma first.plain tt t) second.next rest.leads; clear = rest.clear }
+  elements_back : {d : ℕ} {k m : Lexeme} {ts : List Tree} → Elements d k ts m → (l : Lexeme) → plainly l ≡ k → Onward (λ m. Row d l ts m) m
+  elements_back (terms.one {m = m} {r = r} u a) l e =
+      let term = term_back u l e in
+      let last = back r m a in
+      record { lexeme = last.lexeme; plain = last.plain; leads = grammar.one term last.next }
+  elements_back (terms.more {comma = comma} {next = next} {r = r} u a t b w) l e =
+      let term = term_back u l e in
+      let first = back r comma a in
+      let second = back_on first.lexeme comma first.plain next b in
+      let rest = elements_back w second.lexeme second.plain in
+      record { lexeme = rest.lexeme; plain = rest.plain; leads = grammar.more term first.next (token_back first.lexeme comma named.comma first.plain tt t) second.next rest.leads }
 
-  pairs_back : {d : ℕ} {k m : Lexeme} → Pairs d k m → (l : Lexeme) → plainly l ≡ k → IsClear l.after.rest → Onward (grammar.Pairs d l) m
-  pairs_back (terms.one_pair {arrow = arrow} {v = v} {m = m} {r = r} {q = q} u a t b w z) l e c =
-      let key = term_back u l e c in
-      let first = back r arrow a key.1 in
-      let second = back_on first.lexeme arrow first.plain v b first.clear in
-      let value = term_back w second.lexeme second.plain second.clear in
-      let last = back q m z value.1 in
-      record { lexeme = last.lexeme; plain = last.plain; leads = grammar.one_pair key.0 first.next (token_back first.lexeme arrow named.arrow first.plain tt t) second.next value.0 last.next; clear = last.clear }
-  pairs_back (terms.more_pairs {arrow = arrow} {v = v} {comma = comma} {next = next} {r = r} {q = q} u a t b w z s o y) l e c =
-      let key = term_back u l e c in
-      let first = back r arrow a key.1 in
-      let second = back_on first.lexeme arrow first.plain v b first.clear in
-      let value = term_back w second.lexeme second.plain second.clear in
-      let third = back q comma z value.1 in
-      let fourth = back_on third.lexeme comma third.plain next o third.clear in
-      let rest = pairs_back y fourth.lexeme fourth.plain fourth.clear in
+  pairs_back : {d : ℕ} {k m : Lexeme} → Pairs d k m → (l : Lexeme) → plainly l ≡ k → Onward (grammar.Pairs d l) m
+  pairs_back (terms.one_pair {arrow = arrow} {v = v} {m = m} {r = r} {q = q} u a t b w z) l e =
+      let key = term_back u l e in
+      let first = back r arrow a in
+      let second = back_on first.lexeme arrow first.plain v b in
+      let value = term_back w second.lexeme second.plain in
+      let last = back q m z in
+      record { lexeme = last.lexeme; plain = last.plain; leads = grammar.one_pair key first.next (token_back first.lexeme arrow named.arrow first.plain tt t) second.next value last.next }
+  pairs_back (terms.more_pairs {arrow = arrow} {v = v} {comma = comma} {next = next} {r = r} {q = q} u a t b w z s o y) l e =
+      let key = term_back u l e in
+      let first = back r arrow a in
+      let second = back_on first.lexeme arrow first.plain v b in
+      let value = term_back w second.lexeme second.plain in
+      let third = back q comma z in
+      let fourth = back_on third.lexeme comma third.plain next o in
+      let rest = pairs_back y fourth.lexeme fourth.plain in
       record {
         lexeme = rest.lexeme;
         plain = rest.plain;
-        leads = grammar.more_pairs key.0 first.next (token_back first.lexeme arrow named.arrow first.plain tt t) second.next value.0 third.next (token_back third.lexeme comma named.comma third.plain tt s) fourth.next rest.leads;
-        clear = rest.clear;
+        leads = grammar.more_pairs key first.next (token_back first.lexeme arrow named.arrow first.plain tt t) second.next value third.next (token_back third.lexeme comma named.comma third.plain tt s) fourth.next rest.leads;
       }
 
-sentence_back : {d : ℕ} {p q : Place} {t : Tree} → Sentence d p t q → IsClear p.rest → Form d p t q
-sentence_back (terms.a_sentence {d = d} {p = p} {r = r} {l = k} {m = m} {t = t} a u b z) c =
-    let first = back p k a c in
-    let term = term_back u first.lexeme first.plain first.clear in
-    let last = back r m b term.1 in
-    subst (λ (m : Lexeme). Form d p t m.after) last.plain (grammar.a_form first.next term.0 last.next (token_back last.lexeme m named.full_stop last.plain tt z))
+sentence_back : {d : ℕ} {p q : Place} {t : Tree} → Sentence d p t q → Form d p t q
+sentence_back (terms.a_sentence {d = d} {p = p} {r = r} {l = k} {m = m} {t = t} a u b z) =
+    let first = back p k a in
+    let term = term_back u first.lexeme first.plain in
+    let last = back r m b in
+    subst (λ (m : Lexeme). Form d p t m.after) last.plain (grammar.a_form first.next term last.next (token_back last.lexeme m named.full_stop last.plain tt z))
 
-pub forms_are_sentences : (p : Place) (t : Tree) (q : Place) → IsClear p.rest → (form_at p ≡ Ok (Some (t, q))) ↔ Sentence 256 p t q
-forms_are_sentences p t q c = (read_is_sentence p t q c, λ s. (forms_are p t q).1 (sentence_back s c))
+pub forms_are_sentences : (p : Place) (t : Tree) (q : Place) → (form_at p ≡ Ok (Some (t, q))) ↔ Sentence 256 p t q
+forms_are_sentences p t q = (read_is_sentence p t q, λ s. (forms_are p t q).1 (sentence_back s))
 
 pub none_is_blank : (p : Place) → (form_at p ≡ Ok None) ↔ OnlyBlanks p
 none_is_blank p = (λ h. only ((none_are p).0 h), λ b. (none_are p).1 (blank b))

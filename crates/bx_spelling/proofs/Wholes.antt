@@ -13,7 +13,7 @@ use Rattle.bx_text.specs.Forms.{form_at}
 use Rattle.bx_text.specs.Terms.{span, letters, tail_of}
 use Rattle.bx_text.specs.Tree.{Tree, integer, atom, tuple, list, other, nil, cons, chain}
 use Rattle.bx_spelling.specs.Quoted as quoted
-use Rattle.bx_spelling.specs.Quoted.{Quoted, Named, IsClear, backspace, delete, escape, form_feed, line_feed, carriage_return, space, tab, vertical_tab}
+use Rattle.bx_spelling.specs.Quoted.{Quoted, Named, backspace, delete, escape, form_feed, line_feed, carriage_return, space, tab, vertical_tab}
 use Rattle.bx_spelling.specs.Shown.{Shown, ShownRow, ShownList, ShownRest, IsValued, IsReadBack}
 use Rattle.bx_spelling.specs.Spelling as spelling
 use Rattle.bx_spelling.specs.Spelling.{Spelling}
@@ -236,5 +236,5 @@ mutual
 sentence_shown : {d : ℕ} {p q : Place} {t : Tree} → Sentence d p t q → IsValued t → Shown d t
 sentence_shown (terms.a_sentence {p = p} {l = l} st t a z) v = term_shown t (spoken p l st) v
 
-pub read_and_back : (p : Place) (t : Tree) (q : Place) → IsClear p.rest → form_at p ≡ Ok (Some (t, q)) → IsValued t → IsReadBack t
-read_and_back p t q c h v = read_back t (sentence_shown (read_is_sentence p t q c h) v)
+pub read_and_back : (p : Place) (t : Tree) (q : Place) → form_at p ≡ Ok (Some (t, q)) → IsValued t → IsReadBack t
+read_and_back p t q h v = read_back t (sentence_shown (read_is_sentence p t q h) v)

@@ -49,7 +49,3 @@ pub data Quoted : ℕ → List ℕ → List ℕ → Type 0 where
   control : {q c : ℕ} {cs vs : List ℕ} → IsControl c → Quoted q cs vs → Quoted q (92 ∷ 94 ∷ c ∷ cs) (c % 32 ∷ vs)
   -- any other character stands for itself behind a backslash
   other : {q c : ℕ} {cs vs : List ℕ} → IsOther c → Quoted q cs vs → Quoted q (92 ∷ c ∷ cs) (c ∷ vs)
-
--- nowhere does `\^` stand before another backslash
-abbrev pub IsClear : List ℕ → Type 0
-IsClear cs = (front rest : List ℕ) → cs ≡ front ++ (92 ∷ 94 ∷ 92 ∷ rest) → ⊥

@@ -7,16 +7,15 @@ ghost use Rattle.bx_text.specs.Forms.{form_at};
 ghost use Rattle.bx_text.specs.Token.{Token};
 ghost use Rattle.bx_spelling.specs.Blanks.{Passes};
 ghost use Rattle.bx_spelling.specs.Lexemes.{Finds};
-ghost use Rattle.bx_spelling.specs.Quoted.{IsClear};
 ghost use Rattle.bx_text.specs.Tree.{Tree};
 ghost use Rattle.bx_spelling.specs.Shown.{Shown, IsReadBack, IsValued};
 ghost use Rattle.bx_spelling.specs.Terms.{Sentence, OnlyBlanks};
 ghost use Rattle.bx_spelling.specs.Tokens.{Takes, Longest};
 
 /// What the reader takes as a token at a place is the longest spelling that begins there, and it takes one exactly where
-/// one begins; where the text holds no `\^\`, of which the reader takes the last backslash as one that begins an escape.
+/// one begins.
 pub fn tokens_are_the_longest_spellings()
-    ensures { (p : Place) (t : Token) (q : Place) → IsClear p.rest → Takes p t q ↔ Longest p t q }
+    ensures { (p : Place) (t : Token) (q : Place) → Takes p t q ↔ Longest p t q }
 {}
 
 /// What the reader skips is the spaces and comments that stand there, all of them and nothing else.
@@ -25,15 +24,14 @@ pub fn blanks_are_skipped()
 {}
 
 /// What the reader finds as the next token is the longest spelling behind the blanks, and it finds one exactly where one
-/// begins there; where the text holds no `\^\`.
+/// begins there.
 pub fn the_next_token_is_the_longest()
-    ensures { (p q : Place) (t : Token) (r : Place) → IsClear p.rest → Finds p q t r ↔ (Passes p q × Longest q t r) }
+    ensures { (p q : Place) (t : Token) (r : Place) → Finds p q t r ↔ (Passes p q × Longest q t r) }
 {}
 
-/// What is read as a form is a term and its full stop, by the bytes of their tokens: all of it and nothing else; where the
-/// text holds no `\^\`.
+/// What is read as a form is a term and its full stop, by the bytes of their tokens: all of it and nothing else.
 pub fn forms_are_terms_by_their_bytes()
-    ensures { (p : Place) (t : Tree) (q : Place) → IsClear p.rest → (form_at p ≡ Ok (Some (t, q))) ↔ Sentence 256 p t q }
+    ensures { (p : Place) (t : Tree) (q : Place) → (form_at p ≡ Ok (Some (t, q))) ↔ Sentence 256 p t q }
 {}
 
 /// No form is read exactly where only spaces and comments follow.
@@ -47,8 +45,7 @@ pub fn what_is_printed_is_read_back()
     ensures { (t : Tree) → Shown 256 t → IsReadBack t }
 {}
 
-/// What was read, and holds no float, map, binary or fun, is printed and read back as the same term, spans aside; where
-/// the text that it was read from holds no `\^\`.
+/// What was read, and holds no float, map, binary or fun, is printed and read back as the same term, spans aside.
 pub fn what_was_read_is_printed_and_read_back()
-    ensures { (p : Place) (t : Tree) (q : Place) → IsClear p.rest → form_at p ≡ Ok (Some (t, q)) → IsValued t → IsReadBack t }
+    ensures { (p : Place) (t : Tree) (q : Place) → form_at p ≡ Ok (Some (t, q)) → IsValued t → IsReadBack t }
 {}

@@ -131,7 +131,8 @@ pair_on c t (b ∷ bs) p = if b == c then Ok (t, after p 2) else Err (BadToken p
 abbrev pub pair_at : ℕ → Token → Place → Result (Token × Place) Fault
 pair_at c t p = pair_on c t (drop 1 p.rest) p
 
--- how many bytes stand before the closing quote or the end of the text; a backslash takes the next byte with it
+-- how many bytes stand before the closing quote or the end of the text; a backslash takes the next byte with it, and
+-- `\^` the byte behind it too, unless that is the quote
 abbrev mutual
   pub body_len : ℕ → List ℕ → ℕ
   body_len quote [] = 0
@@ -139,13 +140,23 @@ abbrev mutual
 
   pub escaped_len : ℕ → List ℕ → ℕ
   escaped_len quote [] = 0
-  escaped_len quote (b ∷ bs) = 1 + body_len quote bs
+  escaped_len quote (b ∷ bs) = if b == 94 then 1 + control_len quote bs else 1 + body_len quote bs
 
--- how many bytes the first part of these takes: a byte, or a backslash with the byte that follows it
+  pub control_len : ℕ → List ℕ → ℕ
+  control_len quote [] = 0
+  control_len quote (b ∷ bs) = if b == quote then 0 else 1 + body_len quote bs
+
+-- how many bytes `\^` takes together with the byte behind it, unless that is the quote
+abbrev pub control_width : ℕ → List ℕ → ℕ
+control_width quote [] = 2
+control_width quote (b ∷ bs) = if b == quote then 2 else 3
+
+-- how many bytes the first part of these takes: a byte, a backslash with the byte that follows it, or `\^` with the byte
+-- behind it
 abbrev pub part_width : ℕ → List ℕ → ℕ
 part_width quote [] = 0
 part_width quote (b ∷ []) = if b == quote then 0 else 1
-part_width quote (b ∷ c ∷ bs) = if b == quote then 0 else (if b == 92 then 2 else 1)
+part_width quote (b ∷ c ∷ bs) = if b == quote then 0 else (if b == 92 then (if c == 94 then control_width quote bs else 2) else 1)
 
 -- the place behind a quoted token with n bytes between the quotes, at the place of the first quote
 abbrev pub behind : Place → List ℕ → ℕ → Place

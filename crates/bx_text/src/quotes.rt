@@ -29,7 +29,8 @@ fn plain_len(bytes: &[u8], quote: u8) -> usize
         .count()
 }
 
-/// How many bytes stand before the closing quote or the end of the text; a backslash takes the next byte with it.
+/// How many bytes stand before the closing quote or the end of the text; a backslash takes the next byte
+/// with it, and `\^` the byte behind it too, unless that is the quote.
 #[tactic(auto, using(crate::proofs::Bodies::body_step, crate::proofs::Bodies::body_end))]
 fn body_len(bytes: &[u8], quote: u8) -> usize
     ensures exact { result ≡ lexing.body_len quote bytes.now }
@@ -46,7 +47,8 @@ fn body_len(bytes: &[u8], quote: u8) -> usize
     n
 }
 
-/// How many bytes the next part takes: a byte, or a backslash with the byte that follows it.
+/// How many bytes the next part takes: a byte, a backslash with the byte that follows it, or `\^` with the
+/// byte behind it, unless that is the quote.
 fn part_width(bytes: &[u8], quote: u8) -> usize
     ensures exact { result ≡ lexing.part_width quote bytes.now }
     ensures bounded { result ≤ length bytes.now }
@@ -54,6 +56,7 @@ fn part_width(bytes: &[u8], quote: u8) -> usize
     match bytes {
         [] => 0,
         [b, ..] if *b == quote => 0,
+        [b'\\', b'^', c, ..] if !(*c == quote) => 3,
         [b'\\', _, ..] => 2,
         _ => 1,
     }
