@@ -1,29 +1,59 @@
-//! Modules that were written by hand, loaded.
+//! Modules that were written by hand, loaded, and what a debugger over one tells.
 
-use bx_asm::assemble;
-use bx_listing::read_listing;
-use bx_load::{Image, load};
-use bx_terms::{AtomId, Atoms, Fault};
-use std::alloc::Global;
+use bx_debugger::debug_text;
+use bx_engine::{Failure, fault_line, image_of};
+use bx_load::Image;
+use bx_terms::{AtomId, Fault};
+use std::alloc::{AllocError, Global};
+use std::io::Read;
 
-/// Module `m` with `f/0`, which is exported. The items that are given stand behind these, from item 3 on.
-const HEAD: &str = "{module,m}. {exports,[{f,0}]}. {attributes,[]}. {labels,9}.
-{function,f,0,2}. {label,1}. {func_info,{atom,m},{atom,f},0}. {label,2}.
-";
-
-/// The image of a module `m` whose `f/0` has these items.
-pub fn image_of_items(alloc: Global, items: &str) -> Result<Image, Fault> {
-    let mut text = String::from_str(alloc, HEAD)?;
-    text.push_str(items)?;
-    let mut atoms = Atoms::new(alloc)?;
-    let listing = read_listing(alloc, &mut atoms, text.as_bytes())?;
-    let unit = assemble(alloc, &listing)?;
-    load(alloc, atoms, vec![in alloc; unit]?).map_err(|refused| refused.fault)
+/// The image of a listing's module.
+pub fn loaded(alloc: Global, listing: &str) -> Result<Image, Fault> {
+    match image_of(alloc, &mut [listing.as_bytes()]) {
+        Ok(image) => Ok(image),
+        Err(Failure::Refused(fault, _)) => Err(fault),
+        Err(_) => Err(Fault::NoEntry),
+    }
 }
 
 /// The atom that a text spells; one that no table has, where the image's has none.
 pub fn atom(image: &Image, text: &str) -> AtomId {
     image.atoms().find(text).unwrap_or(AtomId(u32::MAX))
+}
+
+/// Writes the line of a failure, if it is one.
+pub fn tell(
+    alloc: Global,
+    ended: Result<(), Failure>,
+    written: &mut Vec<u8>,
+) -> Result<(), AllocError> {
+    if let Err(failure) = ended {
+        let mut names = Vec::new(alloc);
+        names.push(String::from_str(alloc, "m.S")?)?;
+        names.push(String::from_str(alloc, "-")?)?;
+        fault_line(&failure, &names, written);
+    }
+    Ok(())
+}
+
+/// Whether a debugger over a listing answers this to the commands, the line of its failure behind the answers.
+pub fn is_told<C: Read>(
+    alloc: Global,
+    listing: &str,
+    start: &str,
+    commands: &mut C,
+    want: &str,
+) -> Result<bool, AllocError> {
+    let mut written = Vec::new(alloc);
+    let ended = debug_text(
+        alloc,
+        &mut [listing.as_bytes()],
+        start,
+        commands,
+        &mut written,
+    );
+    tell(alloc, ended, &mut written)?;
+    Ok(written.as_slice() == want.as_bytes())
 }
 
 /// Module `m`, whose `f/0` jumps to itself at item 4.
@@ -40,6 +70,11 @@ pub const QUOTED: &str = "{module,'k k'}. {exports,[{f,0}]}. {attributes,[]}. {l
 pub const TRAPS: &str = "{module,m}. {exports,[{f,0}]}. {attributes,[]}. {labels,9}.
 {function,f,0,2}. {label,1}. {func_info,{atom,m},{atom,f},0}. {label,2}.
 {move,{atom,ok},{x,0}}. {move,{x,5},{x,0}}.";
+
+/// The same with `return` for item 4, which ends the process.
+pub const TWO: &str = "{module,m}. {exports,[{f,0}]}. {attributes,[]}. {labels,9}.
+{function,f,0,2}. {label,1}. {func_info,{atom,m},{atom,f},0}. {label,2}.
+{move,{atom,ok},{x,0}}. return.";
 
 /// The example's listing, as `erlc -S` made it, but for its other functions.
 pub const HELLO: &str = "{module, hello}.  %% version = 0

@@ -1,35 +1,13 @@
 //! Readers and writers that fail, that are asked too often, and long lines.
 
-use crate::samples::LOOP;
+use crate::samples::{LOOP, is_told, tell};
 use bx_debugger::debug_text;
-use bx_engine::{Failure, INPUT_LIMIT, fault_line};
-use std::alloc::Global;
+use bx_engine::INPUT_LIMIT;
+use std::alloc::{AllocError, Global};
 use std::cell::Cell;
 use std::io;
 use std::io::{ErrorKind, Read, Write};
 use std::test::Fail;
-
-/// The line of a failure, or nothing.
-fn line_of(alloc: Global, ended: Result<(), Failure>) -> Result<String, Fail> {
-    let mut line = Vec::new(alloc);
-    if let Err(failure) = ended {
-        let names = vec![in alloc;
-            String::from_str(alloc, "m.S")?,
-            String::from_str(alloc, "-")?,
-        ]?;
-        fault_line(&failure, &names, &mut line);
-    }
-    Ok(String::from_utf8(line).ok().ok_or("text")?)
-}
-
-/// What a session over `LOOP` writes, and behind it the line of its failure.
-fn told<C: Read>(alloc: Global, commands: &mut C) -> Result<String, Fail> {
-    let mut written = Vec::new(alloc);
-    let ended = debug_text(alloc, &mut [LOOP.as_bytes()], "m:f", commands, &mut written);
-    let mut text = String::from_utf8(written).ok().ok_or("text")?;
-    text.push_str(line_of(alloc, ended)?.as_str())?;
-    Ok(text)
-}
 
 /// A reader that gives one byte at a time, is interrupted before each, and fails once it has given so many.
 #[derive(Drop)]
@@ -58,40 +36,46 @@ impl Read for Dripping<'_> {
     }
 }
 
-const FIRST: &str = "at 2 of 2: done\n";
+/// Whether a session over `LOOP` that reads a text so, with that much room, tells this.
+fn drips_to(alloc: Global, text: &[u8], room: usize, want: &str) -> Result<bool, AllocError> {
+    let mut commands = Dripping {
+        text,
+        room,
+        rests: false,
+    };
+    is_told(alloc, LOOP, "m:f", &mut commands, want)
+}
+
+/// Room, and what is told with no more.
+const READS: [(usize, &str); 7] = [
+    (0, "bxemu: read -\n"),
+    (7, "bxemu: read -\n"),
+    (8, "at 2 of 2: done\nbxemu: read -\n"),
+    (14, "at 2 of 2: done\nbxemu: read -\n"),
+    (15, "at 2 of 2: done\nat 1 of 2\nbxemu: read -\n"),
+    (24, "at 2 of 2: done\nat 1 of 2\nbxemu: read -\n"),
+    (25, "at 2 of 2: done\nat 1 of 2\nat 2 of 2\n"),
+];
+
+/// How many rows, from the first on, are so.
+fn right_reads(alloc: Global, rows: &[(usize, &str)]) -> Result<usize, AllocError> {
+    for (number, (room, want)) in rows.iter().enumerate() {
+        if !drips_to(alloc, b"go r0*2\nback 1\nforward 1", *room, want)? {
+            return Ok(number);
+        }
+    }
+    Ok(rows.len())
+}
 
 #[test]
 fn readers_that_fail_at_each_read(rt: HostRuntime) -> Result<(), Fail> {
-    let rows = [
-        (0, "bxemu: read -\n"),
-        (7, "bxemu: read -\n"),
-        (8, "at 2 of 2: done\nbxemu: read -\n"),
-        (14, "at 2 of 2: done\nbxemu: read -\n"),
-        (15, "at 2 of 2: done\nat 1 of 2\nbxemu: read -\n"),
-        (24, "at 2 of 2: done\nat 1 of 2\nbxemu: read -\n"),
-        (25, "at 2 of 2: done\nat 1 of 2\nat 2 of 2\n"),
-    ];
-    for (room, want) in rows {
-        let mut commands = Dripping {
-            text: b"go r0*2\nback 1\nforward 1",
-            room,
-            rests: false,
-        };
-        let text = told(rt.alloc(), &mut commands)?;
-        assert!(rt; text.as_str() == want, "{room}: {text}");
-    }
+    assert_eq!(rt; right_reads(rt.alloc(), &READS)?, READS.len());
     Ok(())
 }
 
 #[test]
 fn a_reader_is_not_asked_behind_a_line_that_quits(rt: HostRuntime) -> Result<(), Fail> {
-    let mut commands = Dripping {
-        text: b"go r0*2\nquit\n",
-        room: 13,
-        rests: false,
-    };
-    let text = told(rt.alloc(), &mut commands)?;
-    assert!(rt; text.as_str() == FIRST, "{text}");
+    assert!(rt; drips_to(rt.alloc(), b"go r0*2\nquit\n", 13, "at 2 of 2: done\n")?);
     Ok(())
 }
 
@@ -114,26 +98,35 @@ impl Read for Filled<'_> {
     }
 }
 
-#[test]
-fn lines_as_long_as_an_input_may_be(rt: HostRuntime) -> Result<(), Fail> {
-    let rows = [
-        (
-            INPUT_LIMIT - 8,
-            "at 2 of 2: done\nrefused R33 BadCommand line 2\n",
-        ),
-        (
-            INPUT_LIMIT - 7,
-            "at 2 of 2: done\nbxemu: R16 TooLarge in -\n",
-        ),
-    ];
-    for (more, want) in rows {
+/// How many more bytes, and what is told.
+const FILLS: [(usize, &str); 2] = [
+    (
+        INPUT_LIMIT - 8,
+        "at 2 of 2: done\nrefused R33 BadCommand line 2\n",
+    ),
+    (
+        INPUT_LIMIT - 7,
+        "at 2 of 2: done\nbxemu: R16 TooLarge in -\n",
+    ),
+];
+
+/// How many rows, from the first on, are so.
+fn right_fills(alloc: Global, rows: &[(usize, &str)]) -> Result<usize, AllocError> {
+    for (number, (more, want)) in rows.iter().enumerate() {
         let mut commands = Filled {
             text: b"go r0*2\n",
-            more,
+            more: *more,
         };
-        let text = told(rt.alloc(), &mut commands)?;
-        assert!(rt; text.as_str() == want, "{text}");
+        if !is_told(alloc, LOOP, "m:f", &mut commands, want)? {
+            return Ok(number);
+        }
     }
+    Ok(rows.len())
+}
+
+#[test]
+fn lines_as_long_as_an_input_may_be(rt: HostRuntime) -> Result<(), Fail> {
+    assert_eq!(rt; right_fills(rt.alloc(), &FILLS)?, FILLS.len());
     Ok(())
 }
 
@@ -158,22 +151,34 @@ impl Write for Narrow {
     }
 }
 
+/// Whether the line of a session's failure is this, whose reader and writer these are.
+fn ends_by<C: Read, W: Write>(
+    alloc: Global,
+    commands: &mut C,
+    writer: &mut W,
+    want: &str,
+) -> Result<bool, AllocError> {
+    let mut line = Vec::new(alloc);
+    let ended = debug_text(alloc, &mut [LOOP.as_bytes()], "m:f", commands, writer);
+    tell(alloc, ended, &mut line)?;
+    Ok(line.as_slice() == want.as_bytes())
+}
+
+/// How many writers, from one without room on, fail below 26 bytes of room alone.
+fn right_rooms(alloc: Global, count: usize) -> Result<usize, AllocError> {
+    for room in 0..count {
+        let mut commands = b"go r0*2\nback 1\n".as_slice();
+        let want = if room < 26 { "bxemu: write\n" } else { "" };
+        if !ends_by(alloc, &mut commands, &mut Narrow { room }, want)? {
+            return Ok(room);
+        }
+    }
+    Ok(count)
+}
+
 #[test]
 fn writers_that_fail_at_each_write(rt: HostRuntime) -> Result<(), Fail> {
-    for room in 0..27 {
-        let mut writer = Narrow { room };
-        let mut commands = b"go r0*2\nback 1\n".as_slice();
-        let ended = debug_text(
-            rt.alloc(),
-            &mut [LOOP.as_bytes()],
-            "m:f",
-            &mut commands,
-            &mut writer,
-        );
-        let line = line_of(rt.alloc(), ended)?;
-        let want = if room < 26 { "bxemu: write\n" } else { "" };
-        assert!(rt; line.as_str() == want, "{room}: {line}");
-    }
+    assert_eq!(rt; right_rooms(rt.alloc(), 27)?, 27);
     Ok(())
 }
 
@@ -217,24 +222,22 @@ impl Write for Flushed<'_> {
     }
 }
 
-#[test]
-fn answers_are_flushed_before_more_is_asked_for(rt: HostRuntime) -> Result<(), Fail> {
+const LINES: [&[u8]; 3] = [b"go r0\n", b"back 1\nsho", b"w\n"];
+
+/// Whether a session answers all those lines, and each answer is flushed before more is asked for.
+fn flushes(alloc: Global) -> Result<bool, AllocError> {
     let waiting = Cell::new(false);
-    let lines: [&[u8]; 3] = [b"go r0\n", b"back 1\nsho", b"w\n"];
     let mut commands = Asking {
-        lines: &lines,
+        lines: &LINES,
         asked: 0,
         waiting: &waiting,
     };
     let mut writer = Flushed { waiting: &waiting };
-    let ended = debug_text(
-        rt.alloc(),
-        &mut [LOOP.as_bytes()],
-        "m:f",
-        &mut commands,
-        &mut writer,
-    );
-    let line = line_of(rt.alloc(), ended)?;
-    assert!(rt; line.is_empty() && !waiting.get(), "{line}");
+    Ok(ends_by(alloc, &mut commands, &mut writer, "")? && !waiting.get())
+}
+
+#[test]
+fn answers_are_flushed_before_more_is_asked_for(rt: HostRuntime) -> Result<(), Fail> {
+    assert!(rt; flushes(rt.alloc())?);
     Ok(())
 }
