@@ -1,12 +1,14 @@
 //! Measures of `bxemu`, on standard error. Without arguments it does nothing.
 //!
-//! `bench listing ITEMS`, `bench choices ROUNDS`, `bench mailbox ROUNDS`, `bench fuzz ROUNDS`.
+//! `bench listing ITEMS`, `bench choices ROUNDS`, `bench mailbox ROUNDS`, `bench fuzz ROUNDS`,
+//! `bench session CHOICES`.
 #![tactic(auto)]
 
 mod choices;
 mod fuzz;
 mod listings;
 mod mailboxes;
+mod sessions;
 mod trouble;
 
 use crate::trouble::Trouble;
@@ -22,6 +24,7 @@ enum Measure {
     Choices(u32),
     Mailbox(u32),
     Fuzz(u32),
+    Session(u32),
 }
 
 fn main(rt: HostRuntime) -> ExitCode {
@@ -41,6 +44,7 @@ fn take(rt: &HostRuntime) -> Result<(), Trouble> {
         Measure::Choices(rounds) => choices::measure(rt, rounds),
         Measure::Mailbox(rounds) => mailboxes::measure(rt, rounds),
         Measure::Fuzz(rounds) => fuzz::measure(rt, rounds),
+        Measure::Session(choices) => sessions::measure(rt, choices),
     }
 }
 
@@ -62,6 +66,7 @@ fn asked<R: Env + AllocGlobal>(rt: &R) -> Result<Measure, Trouble> {
         "choices" => Ok(Measure::Choices(number)),
         "mailbox" => Ok(Measure::Mailbox(number)),
         "fuzz" => Ok(Measure::Fuzz(number)),
+        "session" => Ok(Measure::Session(number)),
         _ => Err(Trouble::Usage),
     }
 }

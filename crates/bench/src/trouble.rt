@@ -20,7 +20,9 @@ pub enum Trouble {
 impl fmt::Display for Trouble {
     fn fmt<W: fmt::Write>(&self, f: &mut fmt::Formatter<W>) -> fmt::Result {
         match self {
-            Trouble::Usage => f.write_str("listing, choices, mailbox or fuzz, and a number"),
+            Trouble::Usage => f.write_str(
+                "listing, choices, mailbox, fuzz or session, and a number",
+            ),
             Trouble::Memory => f.write_str("memory"),
             Trouble::Machine => f.write_str("clock, arguments or standard error"),
             Trouble::Refused(fault) => write!(f, "{fault}"),

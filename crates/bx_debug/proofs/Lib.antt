@@ -2,6 +2,7 @@ pub mod Leads
 pub mod Keeping
 pub mod Applies
 pub mod Sets
+pub mod Sameness
 pub mod Walking
 pub mod Replaying
 pub mod Moving

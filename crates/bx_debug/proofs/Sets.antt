@@ -1,6 +1,7 @@
 -- Sets of places, kept as numbers in order.
-use Rattle.std.proofs.Common.{◌≡◌, ℕ, List, Bool, true, false, cond, not, refl, sym, ap, ◌∙◌}
-use Rattle.std.specs.Prelude.{◌||◌, ◌&&◌}
+use Rattle.std.proofs.Common.{◌≡◌, ℕ, BTreeSet, List, Bool, true, false, cond, not, refl, sym, ap, subst, ◌∙◌}
+use Rattle.std.specs.Prelude.{◌||◌, ◌&&◌, IsTrue}
+use Rattle.std.specs.BTreeSet.{IsSubset}
 use Rattle.std.specs.declared.cmp.Ordering.{Ordering}
 use Rattle.std.specs.declared.cmp.Ordering.TheVariants.{Less, Equal, Greater}
 use Rattle.std.specs.List.{list_any}
@@ -63,3 +64,16 @@ held_same xs ys is = same_set pair_cmp_total pair_cmp-IsAntisymmetric _ _ (λ q.
 
 pub same_held : (xs ys : List (ℕ × ℕ)) → set.from_list {R = pair_cmp} xs ≡ set.from_list ys → (q : ℕ × ℕ) → list_any (eq_by_cmp pair_cmp q) xs ≡ list_any (eq_by_cmp pair_cmp q) ys
 same_held xs ys is q = sym (held xs q) ∙ ap (λ s. set.contains s q) is ∙ held ys q
+
+-- sets are the same where each holds what the other holds
+both_ways : (a b : Bool) → (IsTrue a → IsTrue b) → (IsTrue b → IsTrue a) → a ≡ b
+both_ways true true f g = refl
+both_ways true false f g = sym (f refl)
+both_ways false true f g = g refl
+both_ways false false f g = refl
+
+pub each_holds : (s t : BTreeSet (ℕ × ℕ)) → IsSubset pair_cmp s t → IsSubset pair_cmp t s → set.from_list {R = pair_cmp} s.keys ≡ set.from_list t.keys
+each_holds s t there back = held_same s.keys t.keys (λ q. both_ways _ _ (there q) (back q))
+
+pub holds_each : (s t : BTreeSet (ℕ × ℕ)) → set.from_list {R = pair_cmp} s.keys ≡ set.from_list t.keys → IsSubset pair_cmp s t
+holds_each s t is q h = subst IsTrue (same_held s.keys t.keys is q) h

@@ -1,6 +1,6 @@
 //! Sets of places in loaded code.
 
-ghost use Rattle.std.specs.Prelude.{◌≡◌, false, OnOk, OnErr};
+ghost use Rattle.std.specs.Prelude.{◌≡◌, ◌↔◌, false, IsTrue, OnOk, OnErr};
 ghost use Rattle.std.specs.FinSet as set;
 ghost use Rattle.bx_debug.specs.Places.{is_set, with_place, without_place};
 
@@ -43,6 +43,13 @@ impl Places {
         ensures { result ≡ is_set self.now place }
     {
         self.numbers.contains(&(place.module, place.item))
+    }
+
+    /// Whether both hold the same places.
+    pub(crate) fn same(&self, other: &Places) -> bool
+        ensures { IsTrue result ↔ (self.now ≡ other.now) }
+    {
+        self.numbers.is_subset(&other.numbers) && other.numbers.is_subset(&self.numbers)
     }
 
     /// Puts a place into the set. Memory is taken only where it is not in it; where it runs out, nothing has changed.

@@ -14,6 +14,7 @@ use crate::rows::replace_tails;
 use crate::stops::{Stop, refusal, stop_at_once};
 use crate::walks::{KEPT_EACH, Walk, follow, replay, shared};
 use bx_load::Image;
+use bx_share::{Same, same_rows};
 use bx_terms::{AtomId, Fault, Place};
 use bx_world::{Choice, RcWorld};
 use std::alloc::{AllocError, Global};
@@ -131,6 +132,18 @@ impl<'a> Session<'a> {
         ensures { result.now ≡ self.now.start }
     {
         &self.start
+    }
+
+    /// Whether both are sessions over equal code from equal starts, with the same choices and places, at the same position.
+    #[tactic(auto, using(crate::proofs::Sameness::same_history))]
+    pub fn same(&self, other: &Session<'_>) -> bool
+        ensures { IsTrue result ↔ (self.now ≡ other.now) }
+    {
+        self.at == other.at
+            && self.places.same(&other.places)
+            && same_rows(&self.choices, &other.choices)
+            && self.start.same(&other.start)
+            && self.image.same(other.image)
     }
 
     /// Whether a run breaks off at this place.

@@ -1,16 +1,18 @@
 -- The command lines of the program, and what each orders, by the meaning that `clap` gives to the
 -- words of simple commands.
-use Rattle.std.specs.Prelude.{◌≡◌, ◌⊎◌, true, List, [], Option, Some, None, codes, map}
+use Rattle.std.specs.Prelude.{◌≡◌, ◌⊎◌, ◌<◌, ◌^◌, ℕ, pos, true, false, List, [], ◌∷◌, Option, Some, None, codes, map}
+use Rattle.std.specs.Str.Parse.{IsNumeral, signed_digits_value, without_leading_sign}
 use Rattle.clap.specs.Kinds.{HasKind}
 use Rattle.clap.specs.Faults.{fault_of}
 use Rattle.clap.specs.Values.{kind_of}
 use Rattle.clap.specs.Simple.{App, new_app, new_rule, on_top, subcommand_of, with_rule, with_subcommand}
 use Rattle.clap.specs.Walk.{Row, Rule, Text, all_of, first_of}
 use Rattle.clap.specs.declared.builder.action.ArgAction.TheVariants.{Set, Append}
+use Rattle.clap.specs.declared.builder.value_parser.ValueParser.TheVariants.{Signed}
 use Rattle.clap.specs.declared.error.Error.{Error}
 use Rattle.clap.specs.declared.error.kind.ErrorKind.TheVariants.{OutOfMemory}
 use Rattle.bxemu.specs.declared.commands.Order.{Order}
-use Rattle.bxemu.specs.declared.commands.Order.TheVariants.{Run, Dis}
+use Rattle.bxemu.specs.declared.commands.Order.TheVariants.{Campaign, Debug, Dis, Run}
 
 -- `--NAME VALUE`, which stands once
 abbrev pub option_rule : Text → Rule
@@ -25,23 +27,51 @@ option_rule name = record (new_rule name) {
 abbrev pub files_rule : Rule
 files_rule = record (new_rule (codes "FILES")) { action = Some Append; required = true }
 
+-- one file
+abbrev pub file_rule : Rule
+file_rule = record (new_rule (codes "FILE")) { action = Some Set; required = true }
+
+-- `--workers N`, a number of 32 bits, which may be left out and is 4 then
+abbrev pub workers_rule : Rule
+workers_rule = record (option_rule (codes "workers")) {
+  required = false;
+  defaults = codes "4" ∷ [];
+  parser = Some (Signed (pos 0) (pos 4294967295));
+}
+
 -- `run --start M:F --plan FILE FILES..`
 abbrev pub run_command : App
 run_command = with_rule (with_rule (with_rule (new_app (codes "run")) (option_rule (codes "start")))
     (option_rule (codes "plan"))) files_rule
 
--- one file
-abbrev pub file_rule : Rule
-file_rule = record (new_rule (codes "FILE")) { action = Some Set; required = true }
+-- `campaign --start M:F --plan FILE --workers N FILES..`
+abbrev pub campaign_command : App
+campaign_command = with_rule (with_rule (with_rule (with_rule (new_app (codes "campaign")) (option_rule (codes "start")))
+    (option_rule (codes "plan"))) workers_rule) files_rule
+
+-- `debug --start M:F FILES..`
+abbrev pub debug_command : App
+debug_command = with_rule (with_rule (new_app (codes "debug")) (option_rule (codes "start"))) files_rule
 
 -- `dis FILE`
 abbrev pub dis_command : App
 dis_command = with_rule (new_app (codes "dis")) file_rule
 
 -- the program, of which a subcommand is wanted
+abbrev pub bare_program : App
+bare_program = on_top (λ top. record top { subcommand_required = true }) (new_app (codes "bxemu"))
+
+-- with the subcommands that run the schedules of a plan
+abbrev pub plan_program : App
+plan_program = with_subcommand (with_subcommand bare_program run_command.top) campaign_command.top
+
+-- with all its subcommands
 abbrev pub program : App
-program = with_subcommand (with_subcommand (on_top (λ top. record top { subcommand_required = true })
-    (new_app (codes "bxemu"))) run_command.top) dis_command.top
+program = with_subcommand (with_subcommand plan_program debug_command.top) dis_command.top
+
+-- a text spells a number of 32 bits, behind a sign or none
+abbrev pub Spells : Text → ℕ → Type 0
+Spells text n = IsNumeral 10 (without_leading_sign text) × (signed_digits_value 10 text ≡ pos n) × (n < 2 ^ 32)
 
 -- a run with these parts is what the subcommand's values say
 abbrev pub IsRun : Option (Text × List Row) → Text → Text → List Text → Type 0
@@ -49,6 +79,22 @@ IsRun None start plan files = ⊥
 IsRun (Some p) start plan files = (p.0 ≡ codes "run")
     × (first_of (codes "start") p.1 ≡ Some start)
     × (first_of (codes "plan") p.1 ≡ Some plan)
+    × (all_of (codes "FILES") p.1 ≡ Some files)
+
+-- a campaign with these parts is what the subcommand's values say
+abbrev pub IsCampaign : Option (Text × List Row) → Text → Text → ℕ → List Text → Type 0
+IsCampaign None start plan workers files = ⊥
+IsCampaign (Some p) start plan workers files = (p.0 ≡ codes "campaign")
+    × (first_of (codes "start") p.1 ≡ Some start)
+    × (first_of (codes "plan") p.1 ≡ Some plan)
+    × ((text : Text) × (first_of (codes "workers") p.1 ≡ Some text) × Spells text workers)
+    × (all_of (codes "FILES") p.1 ≡ Some files)
+
+-- a session with these parts is what the subcommand's values say
+abbrev pub IsDebug : Option (Text × List Row) → Text → List Text → Type 0
+IsDebug None start files = ⊥
+IsDebug (Some p) start files = (p.0 ≡ codes "debug")
+    × (first_of (codes "start") p.1 ≡ Some start)
     × (all_of (codes "FILES") p.1 ≡ Some files)
 
 -- a code form of this file is what the subcommand's values say
@@ -60,7 +106,22 @@ IsDis (Some p) file = (p.0 ≡ codes "dis") × (first_of (codes "FILE") p.1 ≡ 
 abbrev pub Orders : Option (Text × List Row) → Order → Type 0
 Orders named (Run start plan files) =
     IsRun named start.now plan.now (map (λ file. file.now) files.items)
+Orders named (Campaign start plan workers files) =
+    IsCampaign named start.now plan.now workers (map (λ file. file.now) files.items)
+Orders named (Debug start files) = IsDebug named start.now (map (λ file. file.now) files.items)
 Orders named (Dis file) = IsDis named file.now
+
+-- an order whose text goes out line by line, so that some of it may be out where it fails
+abbrev pub TellsByLine : Order → Type 0
+TellsByLine (Run start plan files) = ⊥
+TellsByLine (Campaign start plan workers files) = ⊥
+TellsByLine (Debug start files) = Unit {0}
+TellsByLine (Dis file) = ⊥
+
+-- the subcommand whose text does
+abbrev pub NamesSession : Option (Text × List Row) → Type 0
+NamesSession None = ⊥
+NamesSession (Some p) = p.0 ≡ codes "debug"
 
 -- there is no order with these values, or memory ran out
 abbrev pub Lacks : Option (Text × List Row) → Error → Type 0
@@ -75,6 +136,15 @@ OrdersNothing words e =
 abbrev pub OrdersRun : List Text → Text → Text → List Text → Type 0
 OrdersRun words start plan files =
     (fault_of program words ≡ []) × IsRun (subcommand_of program words) start plan files
+
+-- the words order a campaign with these parts, and have no fault
+abbrev pub OrdersCampaign : List Text → Text → Text → ℕ → List Text → Type 0
+OrdersCampaign words start plan workers files =
+    (fault_of program words ≡ []) × IsCampaign (subcommand_of program words) start plan workers files
+
+-- the words order a session with these parts, and have no fault
+abbrev pub OrdersDebug : List Text → Text → List Text → Type 0
+OrdersDebug words start files = (fault_of program words ≡ []) × IsDebug (subcommand_of program words) start files
 
 -- the words order the code form of this file, and have no fault
 abbrev pub OrdersDis : List Text → Text → Type 0

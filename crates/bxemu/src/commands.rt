@@ -1,12 +1,12 @@
 //! What the words of a command line order.
-ghost use Rattle.std.specs.Prelude.{◌≡◌, ◌⊎◌, [], IfErr, IfOk, codes, false, map, string_bytes};
-ghost use Rattle.clap.specs.Words.{app_of, found_of, kind_of, rows_of, rule_of, subcommand_of, subcommand_rows_of};
+ghost use Rattle.std.specs.Prelude.{◌≡◌, ◌⊎◌, ℕ, [], IfErr, IfNone, IfOk, IfSome, codes, map, string_bytes};
+ghost use Rattle.clap.specs.Words.{found_of, kind_of, rows_of, subcommand_of, subcommand_rows_of};
 ghost use Rattle.clap.specs.Faults.{fault_of};
-ghost use Rattle.clap.specs.declared.builder.command.Command.TheViews.{out-Command as fields_of};
-ghost use Rattle.bxemu.specs.CommandLines.{Lacks, Orders, OrdersNothing, dis_command, file_rule, files_rule, option_rule, program, run_command};
+ghost use Rattle.bxemu.specs.CommandLines.{Lacks, Orders, OrdersNothing, Spells, program};
 
+use crate::syntax::program_command;
 use clap::error::ErrorKind;
-use clap::{Arg, ArgAction, ArgMatches, Command, Error};
+use clap::{ArgMatches, Error};
 use std::alloc::{AllocError, Global};
 
 /// What a command line orders.
@@ -18,6 +18,24 @@ pub enum Order<'a> {
         start: &'a str,
         /// The file of the plan.
         plan: &'a str,
+        /// The files of the listings, in order.
+        files: Vec<&'a str>,
+    },
+    /// The same by several workers.
+    Campaign {
+        /// The function to start with, as `M:F`.
+        start: &'a str,
+        /// The file of the plan.
+        plan: &'a str,
+        /// How many workers there are.
+        workers: u32,
+        /// The files of the listings, in order.
+        files: Vec<&'a str>,
+    },
+    /// Opens a session, and does what lines of standard input say.
+    Debug {
+        /// The function to start with, as `M:F`.
+        start: &'a str,
         /// The files of the listings, in order.
         files: Vec<&'a str>,
     },
@@ -51,6 +69,8 @@ fn order_of<'a>(alloc: Global, matches: &ArgMatches<'a>) -> Result<Order<'a>, Er
     };
     match name {
         "run" => run_order(alloc, values),
+        "campaign" => campaign_order(alloc, values),
+        "debug" => debug_order(alloc, values),
         "dis" => dis_order(alloc, values),
         _ => Err(incomplete(alloc)),
     }
@@ -72,6 +92,64 @@ fn run_order<'a>(alloc: Global, values: &ArgMatches<'a>) -> Result<Order<'a>, Er
     };
     let files = Vec::from_slice(alloc, files)?;
     Ok(Order::Run { start, plan, files })
+}
+
+/// The order of a campaign, by the values of `campaign`.
+fn campaign_order<'a>(alloc: Global, values: &ArgMatches<'a>) -> Result<Order<'a>, Error>
+    ensures ok { IfOk result (Orders (Some (codes "campaign", rows_of (found_of values.now)))) }
+    ensures err { IfErr result (Lacks (Some (codes "campaign", rows_of (found_of values.now)))) }
+{
+    let Some(start) = values.get_str("start") else {
+        return Err(incomplete(alloc));
+    };
+    let Some(plan) = values.get_str("plan") else {
+        return Err(incomplete(alloc));
+    };
+    let Some(text) = values.get_str("workers") else {
+        return Err(incomplete(alloc));
+    };
+    let Some(workers) = workers_of(text) else {
+        return Err(incomplete(alloc));
+    };
+    let Some(files) = values.get_raw("FILES") else {
+        return Err(incomplete(alloc));
+    };
+    let files = Vec::from_slice(alloc, files)?;
+    Ok(Order::Campaign {
+        start,
+        plan,
+        workers,
+        files,
+    })
+}
+
+/// The number of workers that a text spells.
+fn workers_of(text: &str) -> Option<u32>
+    ensures some { IfSome result (Spells text.now) }
+    ensures none { IfNone result ((n : ℕ) → Spells text.now n → ⊥) }
+{
+    let Ok(number) = text.parse::<i64>() else {
+        return None;
+    };
+    match u32::try_from(number) {
+        Ok(workers) => Some(workers),
+        Err(_) => None,
+    }
+}
+
+/// The order to open a session, by the values of `debug`.
+fn debug_order<'a>(alloc: Global, values: &ArgMatches<'a>) -> Result<Order<'a>, Error>
+    ensures ok { IfOk result (Orders (Some (codes "debug", rows_of (found_of values.now)))) }
+    ensures err { IfErr result (Lacks (Some (codes "debug", rows_of (found_of values.now)))) }
+{
+    let Some(start) = values.get_str("start") else {
+        return Err(incomplete(alloc));
+    };
+    let Some(files) = values.get_raw("FILES") else {
+        return Err(incomplete(alloc));
+    };
+    let files = Vec::from_slice(alloc, files)?;
+    Ok(Order::Debug { start, files })
 }
 
 /// The order to write a code form, by the values of `dis`.
@@ -103,87 +181,6 @@ fn incomplete_error(alloc: Global) -> Result<Error, AllocError>
         ErrorKind::MissingSubcommand,
         "the command line lacks a part",
     )
-}
-
-/// The program with its subcommands.
-fn program_command<'a>(alloc: Global) -> Result<Command<'a>, AllocError>
-    ensures app { IfOk result (λ c. app_of c ≡ program) }
-{
-    Command::new(alloc, "bxemu")
-        .about("Runs Erlang assembly listings under given schedules")
-        .subcommand_required(true)
-        .subcommand(run_subcommand(alloc)?)?
-        .subcommand(dis_subcommand(alloc)?)
-}
-
-/// `run`, with its options and files.
-fn run_subcommand<'a>(alloc: Global) -> Result<Command<'a>, AllocError>
-    ensures app { IfOk result (λ c. app_of c ≡ run_command) }
-    ensures local { IfOk result (λ c. (fields_of c).has_globals ≡ false) }
-{
-    Command::new(alloc, "run")
-        .about("Runs each schedule of a plan and prints the report")
-        .arg(start_option(alloc))?
-        .arg(plan_option(alloc))?
-        .arg(files_argument(alloc))
-}
-
-/// `dis`, with its file.
-fn dis_subcommand<'a>(alloc: Global) -> Result<Command<'a>, AllocError>
-    ensures app { IfOk result (λ c. app_of c ≡ dis_command) }
-    ensures local { IfOk result (λ c. (fields_of c).has_globals ≡ false) }
-{
-    Command::new(alloc, "dis")
-        .about("Reads a listing, numbers its code and prints what the numbers spell")
-        .arg(file_argument(alloc))
-}
-
-/// `--start M:F`.
-fn start_option<'a>(alloc: Global) -> Arg<'a>
-    ensures rule { rule_of result ≡ option_rule (codes "start") }
-    ensures local { result.global ≡ false }
-{
-    Arg::new(alloc, "start")
-        .long("start")
-        .value_name("M:F")
-        .help("The function to start with, of no arguments")
-        .action(ArgAction::Set)
-        .required(true)
-}
-
-/// `--plan FILE`.
-fn plan_option<'a>(alloc: Global) -> Arg<'a>
-    ensures rule { rule_of result ≡ option_rule (codes "plan") }
-    ensures local { result.global ≡ false }
-{
-    Arg::new(alloc, "plan")
-        .long("plan")
-        .value_name("FILE")
-        .help("The schedules to run")
-        .action(ArgAction::Set)
-        .required(true)
-}
-
-/// The files of the listings.
-fn files_argument<'a>(alloc: Global) -> Arg<'a>
-    ensures rule { rule_of result ≡ files_rule }
-    ensures local { result.global ≡ false }
-{
-    Arg::new(alloc, "FILES")
-        .help("The assembly listings to load, in order")
-        .action(ArgAction::Append)
-        .required(true)
-}
-
-/// The file of the listing.
-fn file_argument<'a>(alloc: Global) -> Arg<'a>
-    ensures rule { rule_of result ≡ file_rule }
-    ensures local { result.global ≡ false }
-{
-    Arg::new(alloc, "FILE")
-        .help("The assembly listing to read")
-        .action(ArgAction::Set)
-        .required(true)
 }
 
 #[cfg(test)]

@@ -1,6 +1,6 @@
 //! What the program's command lines come to. Each function has an empty body; its clause is the law.
 ghost use Rattle.std.specs.Prelude.{◌∷◌, [], codes};
-ghost use Rattle.bxemu.specs.CommandLines.{OrdersDis, OrdersRun};
+ghost use Rattle.bxemu.specs.CommandLines.{OrdersCampaign, OrdersDebug, OrdersDis, OrdersRun};
 
 /// `run` names the start, the plan and each file, in this order or with the options last; what
 /// stands behind `--` is a file, and so is `-`.
@@ -11,6 +11,25 @@ pub fn a_run_names_its_parts()
         (codes "m:f") (codes "p") (codes "a.S" ∷ []) }
     ensures files_only { OrdersRun (codes "bxemu" ∷ codes "run" ∷ codes "--start" ∷ codes "m:f" ∷ codes "--plan" ∷ codes "p"
         ∷ codes "-" ∷ codes "--" ∷ codes "--plan" ∷ []) (codes "m:f") (codes "p") (codes "-" ∷ codes "--plan" ∷ []) }
+{}
+
+/// `campaign` names the same and the number of workers, which is 4 where none is named.
+pub fn a_campaign_names_its_parts()
+    ensures named { OrdersCampaign (codes "bxemu" ∷ codes "campaign" ∷ codes "--start" ∷ codes "m:f" ∷ codes "--plan" ∷ codes "p"
+        ∷ codes "--workers" ∷ codes "64" ∷ codes "a.S" ∷ []) (codes "m:f") (codes "p") 64 (codes "a.S" ∷ []) }
+    ensures signed { OrdersCampaign (codes "bxemu" ∷ codes "campaign" ∷ codes "a.S" ∷ codes "--workers=+2" ∷ codes "--plan=p"
+        ∷ codes "--start=m:f" ∷ []) (codes "m:f") (codes "p") 2 (codes "a.S" ∷ []) }
+    ensures left_out { OrdersCampaign (codes "bxemu" ∷ codes "campaign" ∷ codes "--start" ∷ codes "m:f" ∷ codes "--plan" ∷ codes "p"
+        ∷ codes "a.S" ∷ codes "b.S" ∷ []) (codes "m:f") (codes "p") 4 (codes "a.S" ∷ codes "b.S" ∷ []) }
+{}
+
+/// `debug` names its start and each file, in this order or with the option last; what stands behind `--` is a file.
+pub fn a_session_names_its_parts()
+    ensures in_order { OrdersDebug (codes "bxemu" ∷ codes "debug" ∷ codes "--start" ∷ codes "m:f" ∷ codes "a.S" ∷ codes "b.S" ∷ [])
+        (codes "m:f") (codes "a.S" ∷ codes "b.S" ∷ []) }
+    ensures option_last { OrdersDebug (codes "bxemu" ∷ codes "debug" ∷ codes "a.S" ∷ codes "--start=m:f" ∷ []) (codes "m:f") (codes "a.S" ∷ []) }
+    ensures files_only { OrdersDebug (codes "bxemu" ∷ codes "debug" ∷ codes "--start" ∷ codes "m:f" ∷ codes "--" ∷ codes "--plan" ∷ [])
+        (codes "m:f") (codes "--plan" ∷ []) }
 {}
 
 /// `dis` names its file; what stands behind `--` is a file, and so is `-`.

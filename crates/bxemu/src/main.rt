@@ -4,11 +4,13 @@
 mod commands;
 mod laws;
 mod program;
+mod syntax;
 
 use std::process::ExitCode;
 
 fn main(rt: HostRuntime) -> ExitCode {
+    let mut input = rt.stdin();
     let mut output = rt.stdout();
     let mut errors = rt.stderr();
-    ExitCode::from(program::status_of_run(&rt, &mut output, &mut errors))
+    ExitCode::from(program::status_of_program(&rt, &mut input, &mut output, &mut errors))
 }

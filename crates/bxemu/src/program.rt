@@ -1,47 +1,105 @@
 //! The program over a runtime: its words, its files, and the status that it ends with.
-ghost use Rattle.std.specs.Prelude.{◌≡◌, ◌≢◌, ◌≤◌, ◌↔◌, ◌⊎◌, ◌++◌, ◌∷◌, [], IfErr, IfOk, IsOk, map, string_bytes};
+ghost use Rattle.std.specs.Prelude.{◌≡◌, ◌≢◌, ◌≤◌, ◌↔◌, ◌⊎◌, ◌++◌, ◌∷◌, [], IfErr, IfOk, IsOk, IsOkAnd, map, string_bytes};
 ghost use Rattle.std.specs.Io.KnownBytes.{Keeps};
 ghost use Rattle.std.specs.IoError.{error_kind};
 ghost use Rattle.std.specs.declared.io.ErrorKind.TheVariants.{OutOfMemory};
-ghost use Rattle.clap.specs.Words.{kind_of};
+ghost use Rattle.clap.specs.Words.{kind_of, subcommand_of};
 ghost use Rattle.bx_terms.specs.declared.faults.Fault.TheVariants.{Memory};
+ghost use Rattle.bxemu.specs.CommandLines.{NamesSession, TellsByLine, program};
 ghost use Rattle.bxemu.specs.Statuses.{status_after};
 
 use crate::commands::{Order, command_of};
-use bx_engine::{Failure, dis_text, fault_line, run_text, start_of};
+use bx_debugger::debug_text;
+use bx_engine::{Failure, campaign_text, dis_text, fault_line, run_text, start_of};
 use bx_terms::Fault;
 use clap::Error;
 use clap::error::ErrorKind;
 use std::alloc::{AllocError, Global};
-use std::io::Write;
+use std::io::{Read, Write};
 use std::rt::{Env, Files};
+use std::sync::Wait;
+use std::thread::Threads;
 use std::{env, fs, io};
 
 /// Does what the command line orders, with its text on `output` and lines on `errors`, and gives the status to end with,
-/// 0 to 4. Where it is none of 0 and 4, nothing was written to `output`.
-pub fn status_of_run<R, O, W>(rt: &R, output: &mut O, errors: &mut W) -> u8
+/// 0 to 4. `input` is read for a session alone.
+pub fn status_of_program<R, I, O, W>(rt: &R, input: &mut I, output: &mut O, errors: &mut W) -> u8
 where
-    R: Files + Env + Print + Eprint + AllocGlobal,
+    R: Files + Env + Print + Eprint + AllocGlobal + Threads + Wait + Sync,
+    I: Read,
+    O: Write,
+    W: Write,
+    ensures { result ≤ 4 }
+{
+    let words = words_of(rt);
+    status_of_words(rt, &words, input, output, errors)
+}
+
+/// Does what the words of a command line order, and gives the status to end with. Where it is none of 0 and 4, nothing was
+/// written to `output`, unless the words order a session, whose answers go out line by line.
+fn status_of_words<R, I, O, W>(
+    rt: &R,
+    words: &io::Result<Vec<String>>,
+    input: &mut I,
+    output: &mut O,
+    errors: &mut W,
+) -> u8
+where
+    R: Files + Print + Eprint + AllocGlobal + Threads + Wait + Sync,
+    I: Read,
     O: Write,
     W: Write,
     ensures few { result ≤ 4 }
-    ensures unwritten { (result ≡ 0) ⊎ (result ≡ 4) ⊎ Keeps (O.contents output.old) (O.contents output.new) }
+    ensures unwritten { (result ≡ 0) ⊎ (result ≡ 4)
+        ⊎ IsOkAnd words.now (λ words. NamesSession (subcommand_of program (map string_bytes words.items)))
+        ⊎ Keeps (O.contents output.old) (O.contents output.new) }
 {
-    let words = match words_of(rt) {
+    let words = match words {
         Ok(words) => words,
-        Err(error) => return refuse_words(&error, errors),
+        Err(error) => return refuse_words(error, errors),
     };
     match command_of(rt.alloc(), words.as_slice()) {
-        Ok(Order::Run { start, plan, files }) => {
-            status_of_report(rt, start, files.as_slice(), plan, output, errors)
-        }
-        Ok(Order::Dis { file }) => status_of_dis(rt, file, output, errors),
+        Ok(order) => status_of_order(rt, &order, input, output, errors),
         Err(error) => explain(rt, &error, errors),
     }
 }
 
+/// Does what an order says, and gives the status to end with. Where it is none of 0 and 4, nothing was written to `output`, but
+/// for a session, whose answers go out line by line.
+fn status_of_order<R, I, O, W>(
+    rt: &R,
+    order: &Order<'_>,
+    input: &mut I,
+    output: &mut O,
+    errors: &mut W,
+) -> u8
+where
+    R: Files + AllocGlobal + Threads + Wait + Sync,
+    I: Read,
+    O: Write,
+    W: Write,
+    ensures few { result ≤ 4 }
+    ensures unwritten { (result ≡ 0) ⊎ (result ≡ 4) ⊎ TellsByLine order.now ⊎ Keeps (O.contents output.old) (O.contents output.new) }
+{
+    match order {
+        Order::Run { start, plan, files } => {
+            status_of_run(rt, start, files.as_slice(), plan, output, errors)
+        }
+        Order::Campaign {
+            start,
+            plan,
+            workers,
+            files,
+        } => status_of_campaign(rt, start, files.as_slice(), plan, *workers, output, errors),
+        Order::Debug { start, files } => {
+            status_of_session(rt, start, files.as_slice(), input, output, errors)
+        }
+        Order::Dis { file } => status_of_dis(rt, file, output, errors),
+    }
+}
+
 /// Does what `run` orders, and gives the status to end with.
-fn status_of_report<R, O, W>(
+fn status_of_run<R, O, W>(
     rt: &R,
     start: &str,
     files: &[&str],
@@ -64,6 +122,55 @@ where
     told(&ended, names.as_slice(), errors)
 }
 
+/// Does what `campaign` orders, and gives the status to end with.
+fn status_of_campaign<R, O, W>(
+    rt: &R,
+    start: &str,
+    files: &[&str],
+    plan: &str,
+    workers: u32,
+    output: &mut O,
+    errors: &mut W,
+) -> u8
+where
+    R: Files + AllocGlobal + Threads + Wait + Sync,
+    O: Write,
+    W: Write,
+    ensures few { result ≤ 4 }
+    ensures unwritten { (result ≡ 0) ⊎ (result ≡ 4) ⊎ Keeps (O.contents output.old) (O.contents output.new) }
+{
+    let names = match names_of(rt.alloc(), files, plan) {
+        Ok(names) => names,
+        Err(_) => return fault_line(&memory(), &[], errors),
+    };
+    let ended = campaign(rt, start, names.as_slice(), workers, output);
+    told(&ended, names.as_slice(), errors)
+}
+
+/// Does what `debug` orders, and gives the status to end with.
+fn status_of_session<R, I, O, W>(
+    rt: &R,
+    start: &str,
+    files: &[&str],
+    input: &mut I,
+    output: &mut O,
+    errors: &mut W,
+) -> u8
+where
+    R: Files + AllocGlobal,
+    I: Read,
+    O: Write,
+    W: Write,
+    ensures { result ≤ 4 }
+{
+    let names = match names_of(rt.alloc(), files, "-") {
+        Ok(names) => names,
+        Err(_) => return fault_line(&memory(), &[], errors),
+    };
+    let ended = debug(rt, start, names.as_slice(), input, output);
+    told(&ended, names.as_slice(), errors)
+}
+
 /// Does what `dis` orders, and gives the status to end with.
 fn status_of_dis<R, O, W>(rt: &R, file: &str, output: &mut O, errors: &mut W) -> u8
 where
@@ -81,7 +188,7 @@ where
     told(&ended, names.as_slice(), errors)
 }
 
-/// The status that a run ends with: 0 where it was done, and else that of its failure, whose line is written to `errors`.
+/// The status that an order ends with: 0 where it was done, and else that of its failure, whose line is written to `errors`.
 fn told<W: Write>(ended: &Result<(), Failure>, names: &[String], errors: &mut W) -> u8
     ensures status { result ≡ status_after ended.now }
     ensures done { (result ≡ 0) ↔ IsOk ended.now }
@@ -169,6 +276,29 @@ where
     }
 }
 
+/// Looks at the start, opens all the files, the plan last, and then writes the report of the campaign.
+fn campaign<R, W>(
+    rt: &R,
+    start: &str,
+    names: &[String],
+    workers: u32,
+    writer: &mut W,
+) -> Result<(), Failure>
+where
+    R: Files + AllocGlobal + Threads + Wait + Sync,
+    W: Write,
+    ensures { IfErr result (λ failure. (failure ≡ Failure.Write) ⊎ Keeps (W.contents writer.old) (W.contents writer.new)) }
+{
+    let _ = start_of(rt.alloc(), start)?;
+    let mut inputs = open_all(rt, names)?;
+    match inputs.split_last_mut() {
+        Some((plan, listings)) => {
+            campaign_text(rt, rt.alloc(), listings, start, plan, workers, writer)
+        }
+        None => Ok(()),
+    }
+}
+
 /// Opens the file, and then writes the code form of its listing.
 fn dis<R, W>(rt: &R, names: &[String], writer: &mut W) -> Result<(), Failure>
 where
@@ -181,6 +311,27 @@ where
         Some((listing, _)) => dis_text(rt.alloc(), listing, writer),
         None => Ok(()),
     }
+}
+
+/// Looks at the start, opens the listings, which are all the files but the last, and then answers the lines of commands.
+fn debug<R, I, W>(
+    rt: &R,
+    start: &str,
+    names: &[String],
+    commands: &mut I,
+    writer: &mut W,
+) -> Result<(), Failure>
+where
+    R: Files + AllocGlobal,
+    I: Read,
+    W: Write,
+{
+    let _ = start_of(rt.alloc(), start)?;
+    let Some((_, listings)) = names.split_last() else {
+        return Ok(());
+    };
+    let mut inputs = open_all(rt, listings)?;
+    debug_text(rt.alloc(), inputs.as_mut_slice(), start, commands, writer)
 }
 
 /// Opens each file, the first that can't be opened being the failure.

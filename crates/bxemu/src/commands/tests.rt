@@ -13,6 +13,15 @@ fn words(alloc: Global, line: &str) -> Result<Vec<String>, AllocError> {
     Ok(words)
 }
 
+/// Asserts that these are the files, parted by spaces.
+fn assert_files(rt: &impl Abort, given: &[&str], files: &str) {
+    let mut wanted = files.split(' ');
+    for file in given {
+        assert!(rt; wanted.next() == Some(*file));
+    }
+    assert!(rt; wanted.next().is_none());
+}
+
 /// Asserts what a run has for its start and its plan, and for its files, parted by spaces.
 fn assert_run(rt: &impl Abort, order: &Order<'_>, start: &str, plan: &str, files: &str) {
     let Order::Run {
@@ -26,11 +35,7 @@ fn assert_run(rt: &impl Abort, order: &Order<'_>, start: &str, plan: &str, files
     };
     assert!(rt; *start_given == start);
     assert!(rt; *plan_given == plan);
-    let mut wanted = files.split(' ');
-    for file in files_given {
-        assert!(rt; wanted.next() == Some(*file));
-    }
-    assert!(rt; wanted.next().is_none());
+    assert_files(rt, files_given, files);
 }
 
 #[test]
@@ -67,54 +72,144 @@ fn orders_runs(rt: HostRuntime) -> Result<(), Fail> {
     Ok(())
 }
 
+/// Asserts what a campaign has for the number of its workers, and for its files, parted by spaces.
+fn assert_campaign(rt: &impl Abort, order: &Order<'_>, workers: u32, files: &str) {
+    let Order::Campaign {
+        start,
+        plan,
+        workers: workers_given,
+        files: files_given,
+    } = order
+    else {
+        assert!(rt; false, "another order");
+        return;
+    };
+    assert!(rt; *start == "m:f" && *plan == "p" && *workers_given == workers);
+    assert_files(rt, files_given, files);
+}
+
+#[test]
+fn orders_campaigns(rt: HostRuntime) -> Result<(), Fail> {
+    let rows = [
+        ("bxemu campaign --start m:f --plan p a.S", 4, "a.S"),
+        (
+            "bxemu campaign --start m:f --plan p --workers 0 a.S",
+            0,
+            "a.S",
+        ),
+        (
+            "bxemu campaign --workers=+64 b.S --plan p --start m:f a.S",
+            64,
+            "b.S a.S",
+        ),
+        (
+            "bxemu campaign --start m:f --plan p --workers 4294967295 -- -x",
+            4294967295,
+            "-x",
+        ),
+    ];
+    for (line, workers, files) in rows {
+        let words = words(rt.alloc(), line)?;
+        let order = command_of(rt.alloc(), words.as_slice())?;
+        assert_campaign(&rt, &order, workers, files);
+    }
+    Ok(())
+}
+
+#[test]
+fn orders_sessions(rt: HostRuntime) -> Result<(), Fail> {
+    let words = words(rt.alloc(), "bxemu debug b.S --start m:f -- --plan")?;
+    let Order::Debug { start, files } = command_of(rt.alloc(), words.as_slice())? else {
+        assert!(rt; false, "another order");
+        return Ok(());
+    };
+    assert!(rt; start == "m:f");
+    assert_files(&rt, &files, "b.S --plan");
+    Ok(())
+}
+
+/// The kind of the fault that a line's words have, or nothing where they have none.
+fn kind_of_line(alloc: Global, line: &str) -> Result<Option<ErrorKind>, Fail> {
+    let words = words(alloc, line)?;
+    match command_of(alloc, words.as_slice()) {
+        Ok(_order) => Ok(None),
+        Err(error) => Ok(Some(error.kind())),
+    }
+}
+
 #[test]
 fn refuses_other_words(rt: HostRuntime) -> Result<(), Fail> {
     let rows = [
         ("bxemu", ErrorKind::MissingSubcommand),
+        ("bxemu frob a.S", ErrorKind::InvalidSubcommand),
         ("bxemu dis", ErrorKind::MissingRequiredArgument),
         ("bxemu dis a.S b.S", ErrorKind::UnknownArgument),
         ("bxemu dis --plan p a.S", ErrorKind::UnknownArgument),
-        ("bxemu debug --start m:f a.S", ErrorKind::InvalidSubcommand),
+        ("bxemu debug a.S", ErrorKind::MissingRequiredArgument),
         (
-            "bxemu campaign --start m:f --plan p a.S",
-            ErrorKind::InvalidSubcommand,
-        ),
-        (
-            "bxemu run --start m:f --plan p",
-            ErrorKind::MissingRequiredArgument,
-        ),
-        ("bxemu run --plan p a.S", ErrorKind::MissingRequiredArgument),
-        (
-            "bxemu run --start m:f a.S",
+            "bxemu debug --start m:f",
             ErrorKind::MissingRequiredArgument,
         ),
         (
-            "bxemu run --start m:f --start m:f --plan p a.S",
-            ErrorKind::ArgumentConflict,
-        ),
-        (
-            "bxemu run --start m:f --plan p --plan p a.S",
-            ErrorKind::ArgumentConflict,
-        ),
-        (
-            "bxemu run --start -1 --plan p a.S",
-            ErrorKind::UnknownArgument,
-        ),
-        (
-            "bxemu run --start m:f --plan p --workers 1 a.S",
+            "bxemu debug --start m:f --plan p a.S",
             ErrorKind::UnknownArgument,
         ),
         ("bxemu -V", ErrorKind::UnknownArgument),
         ("bxemu --help", ErrorKind::DisplayHelp),
         ("bxemu run --help", ErrorKind::DisplayHelp),
-        ("bxemu help run", ErrorKind::DisplayHelp),
+        ("bxemu help debug", ErrorKind::DisplayHelp),
     ];
     for (line, kind) in rows {
-        let words = words(rt.alloc(), line)?;
-        let refused = command_of(rt.alloc(), words.as_slice());
-        let error = refused.err().ok_or("an error")?;
-        assert!(rt; error.kind() == kind, "{line}");
-        assert_eq!(rt; error.use_stderr(), kind != ErrorKind::DisplayHelp);
+        assert!(rt; kind_of_line(rt.alloc(), line)? == Some(kind), "{line}");
+    }
+    Ok(())
+}
+
+#[test]
+fn refuses_other_words_over_plans(rt: HostRuntime) -> Result<(), Fail> {
+    let rows = [
+        (
+            "run --start m:f --plan p",
+            ErrorKind::MissingRequiredArgument,
+        ),
+        ("run --plan p a.S", ErrorKind::MissingRequiredArgument),
+        ("run --start m:f a.S", ErrorKind::MissingRequiredArgument),
+        (
+            "run --start m:f --start m:f --plan p a.S",
+            ErrorKind::ArgumentConflict,
+        ),
+        ("run --start -1 --plan p a.S", ErrorKind::UnknownArgument),
+        (
+            "run --start m:f --plan p --workers 1 a.S",
+            ErrorKind::UnknownArgument,
+        ),
+        (
+            "campaign --start m:f a.S",
+            ErrorKind::MissingRequiredArgument,
+        ),
+        (
+            "campaign --start m:f --plan p --workers 4294967296 a.S",
+            ErrorKind::ValueValidation,
+        ),
+        (
+            "campaign --start m:f --plan p --workers four a.S",
+            ErrorKind::ValueValidation,
+        ),
+        (
+            "campaign --start m:f --plan p --workers -1 a.S",
+            ErrorKind::UnknownArgument,
+        ),
+        (
+            "campaign --start m:f --plan p --workers 1 --workers 1 a.S",
+            ErrorKind::ArgumentConflict,
+        ),
+    ];
+    for (words, kind) in rows {
+        let line = format!(in rt.alloc(); "bxemu {words}")?;
+        assert!(rt;
+            kind_of_line(rt.alloc(), line.as_str())? == Some(kind),
+            "{line}"
+        );
     }
     Ok(())
 }

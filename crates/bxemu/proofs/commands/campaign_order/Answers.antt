@@ -1,0 +1,41 @@
+use Rattle.std.proofs.Common.{◌∙◌, codes, inr, refl, sym, ap, map, Some}
+use Rattle.clap.specs.Words.{found_of, rows_of}
+use Rattle.clap.proofs.WalkLemmas.{first_value-rows, raw_values-rows}
+use Rattle.bxemu.proofs.CommandLemmas.{campaign_lacks_files, campaign_lacks_plan, campaign_lacks_start, campaign_lacks_workers, campaign_misspelt}
+use Rattle.bxemu.proofs.commands.campaign_order.Goals as goal
+
+pub returns-in_default-clause-err : goal.returns-in_default-clause-err
+returns-in_default-clause-err c =
+    let found = found_of c.args.values.now in
+    inr (campaign_lacks_start (rows_of found) (sym (first_value-rows found (codes "start")) ∙ sym c.in_default.ensures))
+
+pub returns-in_default-get_str-clause-err : goal.returns-in_default-get_str-clause-err
+returns-in_default-get_str-clause-err c =
+    let found = found_of c.args.values.now in
+    inr (campaign_lacks_plan (rows_of found) (sym (first_value-rows found (codes "plan")) ∙ sym c.in_default-get_str.ensures))
+
+pub returns-in_default-get_str-2-clause-err : goal.returns-in_default-get_str-2-clause-err
+returns-in_default-get_str-2-clause-err c =
+    let found = found_of c.args.values.now in
+    inr (campaign_lacks_workers (rows_of found) (sym (first_value-rows found (codes "workers")) ∙ sym c.in_default-get_str-2.ensures))
+
+pub returns-in_default-workers_of-clause-err : goal.returns-in_default-workers_of-clause-err
+returns-in_default-workers_of-clause-err c =
+    let found = found_of c.args.values.now in
+    inr (campaign_misspelt (rows_of found) c.in-Some-get_str-2.text.now (sym (first_value-rows found (codes "workers")) ∙ sym c.in-Some-get_str-2.ensures) c.in_default-workers_of.ensures.none)
+
+pub returns-in_default-get_raw-clause-err : goal.returns-in_default-get_raw-clause-err
+returns-in_default-get_raw-clause-err c =
+    let found = found_of c.args.values.now in
+    inr (campaign_lacks_files (rows_of found) (sym (raw_values-rows found (codes "FILES")) ∙ sym c.in_default-get_raw.ensures))
+
+pub returns-clause-ok : goal.returns-clause-ok
+returns-clause-ok c =
+    let found = found_of c.args.values.now in (
+      refl,
+      sym (first_value-rows found (codes "start")) ∙ sym c.in-Some.ensures,
+      sym (first_value-rows found (codes "plan")) ∙ sym c.in-Some-get_str.ensures,
+      (c.in-Some-get_str-2.text.now, sym (first_value-rows found (codes "workers")) ∙ sym c.in-Some-get_str-2.ensures, c.in-Some-workers_of.ensures.some),
+      sym (raw_values-rows found (codes "FILES")) ∙ sym c.in-Some-get_raw.ensures
+          ∙ ap (λ texts. Some (map (λ file. file.now) texts)) (sym c.in_ok-files.ensures.items),
+    )

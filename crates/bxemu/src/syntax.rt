@@ -1,0 +1,148 @@
+//! The program's subcommands and options, with the texts of its help.
+ghost use Rattle.std.specs.Prelude.{◌≡◌, IfOk, codes, false};
+ghost use Rattle.clap.specs.Words.{app_of, rule_of};
+ghost use Rattle.clap.specs.declared.builder.command.Command.TheViews.{out-Command as fields_of};
+ghost use Rattle.bxemu.specs.CommandLines.{campaign_command, debug_command, dis_command, file_rule, files_rule, option_rule, plan_program, program, run_command, workers_rule};
+
+use clap::{Arg, ArgAction, Command};
+use std::alloc::{AllocError, Global};
+
+/// The program with its subcommands.
+pub fn program_command<'a>(alloc: Global) -> Result<Command<'a>, AllocError>
+    ensures app { IfOk result (λ c. app_of c ≡ program) }
+{
+    plan_program(alloc)?
+        .subcommand(debug_subcommand(alloc)?)?
+        .subcommand(dis_subcommand(alloc)?)
+}
+
+/// The program with the subcommands that run the schedules of a plan.
+fn plan_program<'a>(alloc: Global) -> Result<Command<'a>, AllocError>
+    ensures app { IfOk result (λ c. app_of c ≡ plan_program) }
+{
+    Command::new(alloc, "bxemu")
+        .about("Runs Erlang assembly listings under given schedules")
+        .subcommand_required(true)
+        .subcommand(run_subcommand(alloc)?)?
+        .subcommand(campaign_subcommand(alloc)?)
+}
+
+/// `run`, with its options and files.
+fn run_subcommand<'a>(alloc: Global) -> Result<Command<'a>, AllocError>
+    ensures app { IfOk result (λ c. app_of c ≡ run_command) }
+    ensures local { IfOk result (λ c. (fields_of c).has_globals ≡ false) }
+{
+    Command::new(alloc, "run")
+        .about("Runs each schedule of a plan and prints the report")
+        .arg(start_option(alloc))?
+        .arg(plan_option(alloc))?
+        .arg(files_argument(alloc))
+}
+
+/// `campaign`, with its options and files.
+fn campaign_subcommand<'a>(alloc: Global) -> Result<Command<'a>, AllocError>
+    ensures app { IfOk result (λ c. app_of c ≡ campaign_command) }
+    ensures local { IfOk result (λ c. (fields_of c).has_globals ≡ false) }
+{
+    Command::new(alloc, "campaign")
+        .about("Runs each schedule of a plan by several workers and prints the same report")
+        .arg(start_option(alloc))?
+        .arg(plan_option(alloc))?
+        .arg(workers_option(alloc))?
+        .arg(files_argument(alloc))
+}
+
+/// What the help of `debug` says of the lines of standard input.
+const SESSION_HELP: &str = "Commands, each a line of standard input:
+  step C       Makes a choice: r0 runs process 0, d0>1 delivers the first signal from 0 to 1, e0 ends the wait of 0
+  back N       Goes back over N choices
+  forward N    Goes forward over N choices
+  go C C ..    Makes choices in order, up to the first that stops it; C*N makes C N times
+  break M:I    Lets go stop behind a run that leaves its process at item I of module M
+  clear M:I    Takes such a place back
+  show         Shows the outcome of the choices so far
+  quit         Ends the session";
+
+/// `debug`, with its option and files.
+fn debug_subcommand<'a>(alloc: Global) -> Result<Command<'a>, AllocError>
+    ensures app { IfOk result (λ c. app_of c ≡ debug_command) }
+    ensures local { IfOk result (λ c. (fields_of c).has_globals ≡ false) }
+{
+    Command::new(alloc, "debug")
+        .about("Opens a session, which lines of standard input step, move and show")
+        .after_help(SESSION_HELP)
+        .arg(start_option(alloc))?
+        .arg(files_argument(alloc))
+}
+
+/// `dis`, with its file.
+fn dis_subcommand<'a>(alloc: Global) -> Result<Command<'a>, AllocError>
+    ensures app { IfOk result (λ c. app_of c ≡ dis_command) }
+    ensures local { IfOk result (λ c. (fields_of c).has_globals ≡ false) }
+{
+    Command::new(alloc, "dis")
+        .about("Reads a listing, numbers its code and prints what the numbers spell")
+        .arg(file_argument(alloc))
+}
+
+/// `--start M:F`.
+fn start_option<'a>(alloc: Global) -> Arg<'a>
+    ensures rule { rule_of result ≡ option_rule (codes "start") }
+    ensures local { result.global ≡ false }
+{
+    Arg::new(alloc, "start")
+        .long("start")
+        .value_name("M:F")
+        .help("The function to start with, of no arguments")
+        .action(ArgAction::Set)
+        .required(true)
+}
+
+/// `--plan FILE`.
+fn plan_option<'a>(alloc: Global) -> Arg<'a>
+    ensures rule { rule_of result ≡ option_rule (codes "plan") }
+    ensures local { result.global ≡ false }
+{
+    Arg::new(alloc, "plan")
+        .long("plan")
+        .value_name("FILE")
+        .help("The schedules to run")
+        .action(ArgAction::Set)
+        .required(true)
+}
+
+/// `--workers N`.
+fn workers_option<'a>(alloc: Global) -> Arg<'a>
+    ensures rule { rule_of result ≡ workers_rule }
+    ensures local { result.global ≡ false }
+{
+    Arg::new(alloc, "workers")
+        .long("workers")
+        .value_name("N")
+        .help("How many workers share the schedules, from 1 to 64")
+        .action(ArgAction::Set)
+        .value_parser(clap::value_parser!(u32))
+        .default_value("4")
+}
+
+/// The files of the listings.
+fn files_argument<'a>(alloc: Global) -> Arg<'a>
+    ensures rule { rule_of result ≡ files_rule }
+    ensures local { result.global ≡ false }
+{
+    Arg::new(alloc, "FILES")
+        .help("The assembly listings to load, in order")
+        .action(ArgAction::Append)
+        .required(true)
+}
+
+/// The file of the listing.
+fn file_argument<'a>(alloc: Global) -> Arg<'a>
+    ensures rule { rule_of result ≡ file_rule }
+    ensures local { result.global ≡ false }
+{
+    Arg::new(alloc, "FILE")
+        .help("The assembly listing to read")
+        .action(ArgAction::Set)
+        .required(true)
+}
