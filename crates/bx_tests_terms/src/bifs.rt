@@ -468,15 +468,27 @@ fn of_zeros(alloc: Global, bif: Bif, count: u32, tail: Term) -> Result<Given, Fa
     Ok(guard_of_one(alloc, bif, &list)?)
 }
 
+fn is_integer(given: &Given, number: i64) -> bool {
+    given.same(&Given::Value(Term::int(number)))
+}
+
+fn is_atom(given: &Given, atom: AtomId) -> bool {
+    given.same(&Given::Value(Term::atom(atom)))
+}
+
+/// Whether it is a value of that height.
+fn is_as_high(given: &Given, height: u32) -> bool {
+    matches!(given, Given::Value(term) if term.height() == height)
+}
+
 #[test]
 fn lists_as_high_as_terms_may_be(rt: HostRuntime) -> Result<(), Fail> {
     let alloc = rt.alloc();
     let length = of_zeros(alloc, Bif::Length, 10_000, Term::nil())?;
-    assert!(rt; length.same(&Given::Value(Term::int(10_000))));
     let improper = of_zeros(alloc, Bif::Length, 10_000, Term::int(0))?;
-    assert!(rt; improper.same(&Given::Fault(Class::Error, Term::atom(fixed::BADARG))));
     let tail = of_zeros(alloc, Bif::Tl, 10_000, Term::nil())?;
-    assert!(rt; matches!(&tail, Given::Value(term) if term.height() == 9_999));
+    let is_refused = improper.same(&Given::Fault(Class::Error, Term::atom(fixed::BADARG)));
+    assert!(rt; is_integer(&length, 10_000) && is_refused && is_as_high(&tail, 9_999));
     Ok(())
 }
 
@@ -492,80 +504,106 @@ fn comparisons_as_high_as_terms_may_be(rt: HostRuntime) -> Result<(), Fail> {
     let alloc = rt.alloc();
     let atoms = Atoms::new(alloc)?;
     let equal = of_two_lists(alloc, &atoms, Bif::Equal)?;
-    assert!(rt; equal.same(&Given::Value(Term::atom(fixed::TRUE))));
     let greater = of_two_lists(alloc, &atoms, Bif::Greater)?;
-    assert!(rt; greater.same(&Given::Value(Term::atom(fixed::FALSE))));
     let greatest = of_two_lists(alloc, &atoms, Bif::Max)?;
-    assert!(rt; matches!(&greatest, Given::Value(term) if term.height() == 10_000));
+    let are_told = is_atom(&equal, fixed::TRUE) && is_atom(&greater, fixed::FALSE);
+    assert!(rt; are_told && is_as_high(&greatest, 10_000));
     Ok(())
 }
 
 #[test]
 fn pids_are_a_kind(rt: HostRuntime) -> Result<(), Fail> {
-    let alloc = rt.alloc();
-    let pid = guard_of_one(alloc, Bif::IsPid, &Term::pid(7))?;
-    assert!(rt; pid.same(&Given::Value(Term::atom(fixed::TRUE))));
-    let number = guard_of_one(alloc, Bif::IsNumber, &Term::pid(7))?;
-    assert!(rt; number.same(&Given::Value(Term::atom(fixed::FALSE))));
+    let pid = guard_of_one(rt.alloc(), Bif::IsPid, &Term::pid(7))?;
+    let number = guard_of_one(rt.alloc(), Bif::IsNumber, &Term::pid(7))?;
+    assert!(rt; is_atom(&pid, fixed::TRUE) && is_atom(&number, fixed::FALSE));
     Ok(())
+}
+
+static NO_SUCH_ARITY: [(&str, i64); 5] = [
+    ("self", 0),
+    ("self", 1),
+    ("hd", 2),
+    ("+", 3),
+    ("send", 2),
+];
+
+/// Whether a call by name of so many integers is of no BIF.
+fn is_undefined(alloc: Global, atoms: &Atoms, name: &str, count: i64) -> Result<bool, Fail> {
+    let mut answer = String::new(alloc);
+    let mut arguments = Vec::new(alloc);
+    for n in 0..count {
+        arguments.push(Term::int(n))?;
+    }
+    push_call(alloc, &mut answer, atoms, name, &arguments)?;
+    Ok(answer.as_str() == "undef")
 }
 
 #[test]
 fn another_number_of_arguments(rt: HostRuntime) -> Result<(), Fail> {
-    let alloc = rt.alloc();
-    let (atoms, _) = table_with_a(alloc)?;
-    for (name, count) in [("self", 0), ("self", 1), ("hd", 2), ("+", 3), ("send", 2)] {
-        let mut answer = String::new(alloc);
-        let mut arguments = Vec::new(alloc);
-        for n in 0..count {
-            arguments.push(Term::int(n))?;
-        }
-        push_call(alloc, &mut answer, &atoms, name, &arguments)?;
-        assert_eq!(rt; answer.as_str(), "undef", "{name} of {count}");
+    let (atoms, _) = table_with_a(rt.alloc())?;
+    for (name, count) in &NO_SUCH_ARITY {
+        assert!(rt; is_undefined(rt.alloc(), &atoms, *name, *count)?);
     }
-    let given = guard_decoded(alloc, &atoms, Bif::Abs, &[Term::int(-2)])?;
-    assert!(rt; given.same(&Given::Value(Term::int(2))));
     Ok(())
+}
+
+#[test]
+fn decoded_calls_are_as_those_by_name(rt: HostRuntime) -> Result<(), Fail> {
+    let (atoms, _) = table_with_a(rt.alloc())?;
+    let given = guard_decoded(rt.alloc(), &atoms, Bif::Abs, &[Term::int(-2)])?;
+    assert!(rt; is_integer(&given, 2));
+    Ok(())
+}
+
+static NATIVES: [(&str, u32, Native); 16] = [
+    ("spawn", 3, Native::Spawn),
+    ("spawn_link", 3, Native::SpawnLink),
+    ("link", 1, Native::Link),
+    ("unlink", 1, Native::Unlink),
+    ("exit", 1, Native::Exit),
+    ("throw", 1, Native::Throw),
+    ("error", 1, Native::Error),
+    ("exit", 2, Native::ExitSignal),
+    ("process_flag", 2, Native::ProcessFlag),
+    ("send", 2, Native::Send),
+    ("!", 2, Native::Send),
+    ("display", 1, Native::Display),
+    ("++", 2, Native::Append),
+    ("setelement", 3, Native::SetElement),
+    ("list_to_tuple", 1, Native::ListToTuple),
+    ("tuple_to_list", 1, Native::TupleToList),
+];
+
+/// Whether a native is told by its name and arity.
+fn is_told(atoms: &Atoms, name: &str, arity: u32, want: Native) -> bool {
+    let told = atoms
+        .find(name)
+        .and_then(|name| native(atoms, fixed::ERLANG, name, arity));
+    told == Some(want)
 }
 
 #[test]
 fn names_of_natives(rt: HostRuntime) -> Result<(), Fail> {
-    let alloc = rt.alloc();
-    let atoms = Atoms::new(alloc)?;
-    let rows = [
-        ("spawn", 3, Native::Spawn),
-        ("spawn_link", 3, Native::SpawnLink),
-        ("link", 1, Native::Link),
-        ("unlink", 1, Native::Unlink),
-        ("exit", 1, Native::Exit),
-        ("throw", 1, Native::Throw),
-        ("error", 1, Native::Error),
-        ("exit", 2, Native::ExitSignal),
-        ("process_flag", 2, Native::ProcessFlag),
-        ("send", 2, Native::Send),
-        ("!", 2, Native::Send),
-        ("display", 1, Native::Display),
-        ("++", 2, Native::Append),
-        ("setelement", 3, Native::SetElement),
-        ("list_to_tuple", 1, Native::ListToTuple),
-        ("tuple_to_list", 1, Native::TupleToList),
-    ];
-    for (name, arity, want) in rows {
-        let name = atoms.find(name).ok_or("a name that is not there")?;
-        assert_eq!(rt; native(&atoms, fixed::ERLANG, name, arity), Some(want));
+    let atoms = Atoms::new(rt.alloc())?;
+    for (name, arity, want) in &NATIVES {
+        assert!(rt; is_told(&atoms, *name, *arity, *want), "{name}");
     }
     Ok(())
 }
 
+/// Whether no native is told by another module, arity or name.
+fn are_no_natives(atoms: &Atoms, a: AtomId) -> bool {
+    native(atoms, a, fixed::LINK, 1).is_none()
+        && native(atoms, fixed::ERLANG, fixed::LINK, 2).is_none()
+        && native(atoms, fixed::ERLANG, fixed::SELF, 0).is_none()
+        && native(atoms, fixed::ERLANG, AtomId(70_000), 1).is_none()
+}
+
 #[test]
 fn other_names(rt: HostRuntime) -> Result<(), Fail> {
-    let alloc = rt.alloc();
-    let (atoms, a) = table_with_a(alloc)?;
-    assert!(rt; native(&atoms, a, fixed::LINK, 1).is_none());
-    assert!(rt; native(&atoms, fixed::ERLANG, fixed::LINK, 2).is_none());
-    assert!(rt; native(&atoms, fixed::ERLANG, fixed::SELF, 0).is_none());
-    assert!(rt; native(&atoms, fixed::ERLANG, AtomId(70_000), 1).is_none());
-    assert!(rt; is_guard(&atoms, fixed::SELF, 0) && !is_guard(&atoms, fixed::SELF, 1));
-    assert!(rt; !is_guard(&atoms, a, 1) && !is_guard(&atoms, AtomId(70_000), 1));
+    let (atoms, a) = table_with_a(rt.alloc())?;
+    let is_self = is_guard(&atoms, fixed::SELF, 0) && !is_guard(&atoms, fixed::SELF, 1);
+    let is_other = is_guard(&atoms, a, 1) || is_guard(&atoms, AtomId(70_000), 1);
+    assert!(rt; are_no_natives(&atoms, a) && is_self && !is_other);
     Ok(())
 }

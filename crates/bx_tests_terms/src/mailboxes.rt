@@ -6,8 +6,7 @@ mod plain;
 use bx_mail::Mailbox;
 use bx_terms::{AtomId, Term, View};
 use plain::Plain;
-use std::alloc::Global;
-use std::process::Abort;
+use std::alloc::{AllocError, Global};
 use std::test::Fail;
 
 /// Stands for the atom among the messages.
@@ -39,14 +38,18 @@ enum Step {
     Len(usize),
 }
 
-fn check(rt: &impl Abort, mailbox: &mut Mailbox, step: Step) {
+/// Whether the mailbox answers the step as it says.
+fn answers(mailbox: &mut Mailbox, step: Step) -> bool {
     match step {
-        Step::Add(number) => assert!(rt; mailbox.add(message(number)).is_ok()),
-        Step::Current(number) => assert_eq!(rt; number_of(mailbox.current()), number),
-        Step::Pass(told) => assert_eq!(rt; mailbox.pass(), told),
-        Step::Take(number) => assert_eq!(rt; number_of(mailbox.take().as_ref()), number),
-        Step::Reset => mailbox.reset(),
-        Step::Len(len) => assert_eq!(rt; mailbox.len(), len),
+        Step::Add(number) => mailbox.add(message(number)).is_ok(),
+        Step::Current(number) => number_of(mailbox.current()) == number,
+        Step::Pass(told) => mailbox.pass() == told,
+        Step::Take(number) => number_of(mailbox.take().as_ref()) == number,
+        Step::Reset => {
+            mailbox.reset();
+            true
+        }
+        Step::Len(len) => mailbox.len() == len,
     }
 }
 
@@ -76,23 +79,27 @@ fn messages_are_received_out_of_order(rt: HostRuntime) {
         Step::Add(4),
         Step::Current(Some(4)),
     ] {
-        check(&rt, &mut mailbox, step);
+        assert!(rt; answers(&mut mailbox, step), "{step:?}");
     }
+}
+
+/// Whether a mailbox and its copy are the same: at once, after a pass in one, and after it in both.
+fn sameness(alloc: Global) -> Result<[bool; 3], Fail> {
+    let mut mailbox = Mailbox::new(alloc);
+    for number in 0..5 {
+        mailbox.add(message(number)).map_err(|_| AllocError)?;
+    }
+    let mut copy = mailbox.copy(alloc)?;
+    let new = copy.same(&mailbox);
+    mailbox.pass();
+    let passed = copy.same(&mailbox);
+    copy.pass();
+    Ok([new, passed, copy.same(&mailbox)])
 }
 
 #[test]
 fn a_copy_is_the_same_until_either_changes(rt: HostRuntime) -> Result<(), Fail> {
-    let alloc = rt.alloc();
-    let mut mailbox = Mailbox::new(alloc);
-    for number in 0..5 {
-        check(&rt, &mut mailbox, Step::Add(number));
-    }
-    let mut copy = mailbox.copy(alloc)?;
-    assert!(rt; copy.same(&mailbox));
-    assert!(rt; mailbox.pass());
-    assert!(rt; !copy.same(&mailbox));
-    assert!(rt; copy.pass());
-    assert!(rt; copy.same(&mailbox));
+    assert_eq!(rt; sameness(rt.alloc())?, [true, false, true]);
     Ok(())
 }
 
@@ -102,48 +109,50 @@ fn next(seed: u64) -> u64 {
         .wrapping_add(1_442_695_040_888_963_407)
 }
 
-/// Does the same to both, as `seed` says, and compares what they answer.
-fn do_both(rt: &impl Abort, slots: &mut Mailbox, plain: &mut Plain, seed: u64, number: i64) {
-    match (seed >> 33) % 9 {
-        0..=2 => {
-            assert!(rt; slots.add(message(number)).is_ok());
-            assert!(rt; plain.add(message(number)).is_ok());
-        }
-        3..=5 => assert_eq!(rt; slots.pass(), plain.pass()),
-        6 | 7 => assert_eq!(rt;
-            number_of(slots.take().as_ref()),
-            number_of(plain.take().as_ref())
-        ),
+/// Does the same to both, as `seed` says: whether they answer the same.
+fn do_both(slots: &mut Mailbox, plain: &mut Plain, seed: u64, number: i64) -> bool {
+    let is_same = match (seed >> 33) % 9 {
+        0..=2 => slots.add(message(number)).is_ok() && plain.add(message(number)).is_ok(),
+        3..=5 => slots.pass() == plain.pass(),
+        6 | 7 => number_of(slots.take().as_ref()) == number_of(plain.take().as_ref()),
         _ => {
             slots.reset();
             plain.reset();
+            true
         }
-    }
-    assert_eq!(rt; number_of(slots.current()), number_of(plain.current()));
-    assert_eq!(rt; slots.len(), plain.len());
+    };
+    let is_current = number_of(slots.current()) == number_of(plain.current());
+    is_same && is_current && slots.len() == plain.len()
 }
 
-fn compare(rt: &impl Abort, alloc: Global, mut seed: u64) {
+/// Whether both give the same messages, one after another, till none is left in either.
+fn drain_alike(slots: &mut Mailbox, plain: &mut Plain) -> bool {
+    slots.reset();
+    plain.reset();
+    for _ in 0..plain.len() {
+        if number_of(slots.take().as_ref()) != number_of(plain.take().as_ref()) {
+            return false;
+        }
+    }
+    slots.len() == 0
+}
+
+/// Whether both answer alike over 200 steps.
+fn are_alike(alloc: Global, mut seed: u64) -> bool {
     let mut slots = Mailbox::new(alloc);
     let mut plain = Plain::new(alloc);
     for number in 0..200 {
         seed = next(seed);
-        do_both(rt, &mut slots, &mut plain, seed, number);
+        if !do_both(&mut slots, &mut plain, seed, number) {
+            return false;
+        }
     }
-    slots.reset();
-    plain.reset();
-    for _ in 0..plain.len() {
-        assert_eq!(rt;
-            number_of(slots.take().as_ref()),
-            number_of(plain.take().as_ref())
-        );
-    }
-    assert_eq!(rt; slots.len(), 0);
+    drain_alike(&mut slots, &mut plain)
 }
 
 #[test]
 fn slots_answer_as_the_plain_mailbox(rt: HostRuntime) {
     for seed in 1..500 {
-        compare(&rt, rt.alloc(), seed);
+        assert!(rt; are_alike(rt.alloc(), seed), "{seed}");
     }
 }
