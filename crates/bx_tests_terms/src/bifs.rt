@@ -429,6 +429,37 @@ fn every_guard_bif_on_terms(rt: HostRuntime) -> Result<(), Fail> {
     Ok(())
 }
 
+/// {{},[],b}.
+fn three(alloc: Global, b: AtomId) -> Result<Term, Fail> {
+    let mut elements = Vec::new(alloc);
+    elements.push(tuple(alloc, Vec::new(alloc))?)?;
+    elements.push(Term::nil())?;
+    elements.push(Term::atom(b))?;
+    Ok(tuple(alloc, elements)?)
+}
+
+/// What `element` gives at a place of the four terms.
+fn elements_at(
+    alloc: Global,
+    atoms: &Atoms,
+    a: AtomId,
+    b: AtomId,
+    place: i64,
+) -> Result<String, Fail> {
+    let mut answers = String::new(alloc);
+    for number in 0..4u8 {
+        let term = match number {
+            0 => term_at(alloc, a, 8)?,
+            1 => term_at(alloc, a, 9)?,
+            2 => three(alloc, b)?,
+            _ => term_at(alloc, a, 6)?,
+        };
+        let arguments = [Term::int(place), term];
+        push_call(alloc, &mut answers, atoms, "element", &arguments)?;
+    }
+    Ok(answers)
+}
+
 #[test]
 fn elements_by_place(rt: HostRuntime) -> Result<(), Fail> {
     let alloc = rt.alloc();
@@ -436,18 +467,7 @@ fn elements_by_place(rt: HostRuntime) -> Result<(), Fail> {
     let a = atoms.name(alloc, "a")?;
     let b = atoms.name(alloc, "b")?;
     for (place, want) in &ELEMENTS {
-        let mut answers = String::new(alloc);
-        let three = vec![in alloc; term_at(alloc, a, 8)?, Term::nil(), Term::atom(b)]?;
-        let tuples = vec![in alloc;
-            term_at(alloc, a, 8)?,
-            term_at(alloc, a, 9)?,
-            tuple(alloc, three)?,
-            term_at(alloc, a, 6)?,
-        ]?;
-        for term in tuples {
-            let arguments = [Term::int(*place), term];
-            push_call(alloc, &mut answers, &atoms, "element", &arguments)?;
-        }
+        let answers = elements_at(alloc, &atoms, a, b, *place)?;
         assert_eq!(rt; answers.as_str(), *want, "at {place}");
     }
     Ok(())
