@@ -1,4 +1,5 @@
 pub mod Bodies
+pub mod Commas
 pub mod Complete
 pub mod Contents
 pub mod Decimals

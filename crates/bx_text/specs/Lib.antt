@@ -4,6 +4,7 @@ pub mod Escapes
 pub mod Falls
 pub mod Form
 pub mod Forms
+pub mod Holding
 pub mod Letters
 pub mod Lexing
 pub mod Named

@@ -7,9 +7,11 @@ ghost use Rattle.bx_text.specs.Terms as terms;
 
 use crate::lexemes::{Lexeme, is_comma};
 use crate::lexing::advance;
+use crate::moves::ahead;
 use bx_terms::Fault;
 
 /// Whether another element follows the token held: then its first token is held.
+#[inline(always)]
 pub(crate) fn behind_token<'a>(l: &mut Lexeme<'a>) -> Result<bool, Fault>
     ensures { Gives ⊥ (λ more. terms.follow_by more (lexeme_of l.new)) result (terms.behind_token (lexeme_of l.old)) }
 {
@@ -22,9 +24,20 @@ pub(crate) fn behind_token<'a>(l: &mut Lexeme<'a>) -> Result<bool, Fault>
 }
 
 /// Whether another element follows: then its first token is held, else the token that is no comma.
+#[inline(always)]
+#[tactic(auto, using(crate::proofs::Commas::comma_follows))]
 pub(crate) fn follow<'a>(l: &mut Lexeme<'a>) -> Result<bool, Fault>
     ensures { Gives ⊥ (λ more. terms.follow_by more (lexeme_of l.new)) result (terms.follow_at (place l.old.after)) }
 {
-    advance(l)?;
-    behind_token(l)
+    match l.after.rest {
+        [b',', ..] => {
+            l.after = ahead(l.after, 1);
+            advance(l)?;
+            Ok(true)
+        }
+        _ => {
+            advance(l)?;
+            behind_token(l)
+        }
+    }
 }

@@ -13,7 +13,7 @@ use crate::bytes::feeds;
 use crate::escapes::decode;
 use crate::kinds::{Kind, kind_of};
 use crate::lexemes::{Lexeme, is_stop};
-use crate::lexing::{advance, lexeme_from};
+use crate::lexing::{advance, take};
 use crate::node::Node;
 use crate::quotes::quoted;
 use crate::reader::Reader;
@@ -55,7 +55,8 @@ fn form<'a>(
     if here.rest.is_empty() {
         return Ok(None);
     }
-    let mut first = lexeme_from(here)?;
+    let mut first = Lexeme::before(here);
+    take(&mut first, here)?;
     form_by(alloc, &mut first, depth)
 }
 

@@ -20,6 +20,19 @@ pub(crate) struct Lexeme<'a> {
     pub(crate) after: Reader<'a>,
 }
 
+impl<'a> Lexeme<'a> {
+    /// What is held before the first token at `r` is.
+    pub(crate) fn before(r: Reader<'a>) -> Lexeme<'a> {
+        Lexeme {
+            token: Token::Mark(Mark::Other),
+            from: r.at,
+            line: r.line,
+            begin: r.rest,
+            after: r,
+        }
+    }
+}
+
 /// The part of the text from the first byte of a token to a place.
 pub(crate) fn span(l: Lexeme<'_>, end: Reader<'_>) -> Span
     ensures { result ≡ terms.span (lexeme_of l.entry) (place end.entry) }

@@ -5,7 +5,8 @@ ghost use Rattle.bx_text.specs.Number.{IsSign};
 ghost use Rattle.bx_terms.specs.Outcomes.{Gives};
 ghost use Rattle.bx_text.specs.Place.{place};
 ghost use Rattle.bx_text.specs.Token.{token_of, lexeme_of};
-ghost use Rattle.bx_text.specs.Lexing.{ends, stop_at, pair_at, token_by, token_at, lexeme_from, lexeme_at};
+ghost use Rattle.bx_text.specs.Lexing.{ends, stop_at, pair_at, number_at, token_by, lexeme_from, lexeme_at};
+ghost use Rattle.bx_text.specs.Holding.{held, holding};
 
 use crate::blanks::skip;
 use crate::bytes::is_space;
@@ -58,6 +59,7 @@ fn pair<'a>(r: Reader<'a>, second: u8, token: Token<'a>) -> Result<(Token<'a>, R
 }
 
 /// The token at `r` that begins as `kind` says.
+#[inline(always)]
 fn token_by<'a>(kind: Kind, r: Reader<'a>) -> Result<(Token<'a>, Reader<'a>), Fault>
     requires signed { kind ≡ Kind.Minus → IsSign (take 1 r.rest.now) }
     requires some { 1 ≤ length r.rest.now }
@@ -89,42 +91,89 @@ fn token_by<'a>(kind: Kind, r: Reader<'a>) -> Result<(Token<'a>, Reader<'a>), Fa
     }
 }
 
-/// The token at `r`.
-#[tactic(auto, using(crate::proofs::Digits::minus_sign))]
-fn token<'a>(r: Reader<'a>) -> Result<(Token<'a>, Reader<'a>), Fault>
-    ensures { Gives ⊥ (λ x. (token_of x.0, place x.1)) result (token_at (place r.entry)) }
+/// Holds a token that was read at `r`, and the place behind it.
+#[inline(always)]
+fn hold<'a>(l: &mut Lexeme<'a>, r: Reader<'a>, token: Token<'a>, after: Reader<'a>)
+    ensures { lexeme_of l.new ≡ held (place r.entry) (token_of token.entry, place after.entry) }
 {
-    if r.rest.is_empty() {
-        return Err(Fault::Truncated { line: r.line });
-    }
-    token_by(kind_of(r.rest[0]), r)
-}
-
-/// The token at `r`, where it stands.
-pub(crate) fn lexeme_from<'a>(r: Reader<'a>) -> Result<Lexeme<'a>, Fault>
-    ensures { Gives ⊥ lexeme_of result (lexeme_from (place r.entry)) }
-{
-    let (token, after) = token(r)?;
-    Ok(Lexeme {
+    *l = Lexeme {
         token,
         from: r.at,
         line: r.line,
         begin: r.rest,
         after,
-    })
+    };
 }
 
-/// The first token from `r` on, behind spaces and comments.
-pub(crate) fn lexeme<'a>(r: Reader<'a>) -> Result<Lexeme<'a>, Fault>
-    ensures { Gives ⊥ lexeme_of result (lexeme_at (place r.entry)) }
+/// Holds the token at `r` that begins as `kind` says, which is any.
+#[inline(never)]
+fn take_any<'a>(l: &mut Lexeme<'a>, kind: Kind, r: Reader<'a>) -> Result<(), Fault>
+    requires signed { kind ≡ Kind.Minus → IsSign (take 1 r.rest.now) }
+    requires some { 1 ≤ length r.rest.now }
+    ensures { Gives ⊥ (λ _. lexeme_of l.new) result (holding (place r.entry) (token_by kind (place r.entry))) }
 {
-    lexeme_from(skip(r)?)
+    let (token, after) = token_by(kind, r)?;
+    hold(l, r, token, after);
+    Ok(())
+}
+
+/// Holds the number at `r`, which begins with a digit.
+#[inline(never)]
+fn take_number<'a>(l: &mut Lexeme<'a>, r: Reader<'a>) -> Result<(), Fault>
+    ensures { Gives ⊥ (λ _. lexeme_of l.new) result (holding (place r.entry) (number_at (place r.entry) 0)) }
+{
+    let (token, after) = number(r, 0)?;
+    hold(l, r, token, after);
+    Ok(())
+}
+
+/// Holds the token at `r` that begins as `kind` says: those that stand in a text most are read on the spot.
+#[inline(always)]
+fn take_by<'a>(l: &mut Lexeme<'a>, kind: Kind, r: Reader<'a>) -> Result<(), Fault>
+    requires signed { kind ≡ Kind.Minus → IsSign (take 1 r.rest.now) }
+    requires some { 1 ≤ length r.rest.now }
+    ensures { Gives ⊥ (λ _. lexeme_of l.new) result (holding (place r.entry) (token_by kind (place r.entry))) }
+{
+    match kind {
+        Kind::Letter => {
+            let (token, after) = word(r);
+            hold(l, r, token, after);
+            Ok(())
+        }
+        Kind::Digit => take_number(l, r),
+        Kind::OpenTuple => {
+            hold(l, r, Token::OpenTuple, ahead(r, 1));
+            Ok(())
+        }
+        Kind::OpenList => {
+            hold(l, r, Token::OpenList, ahead(r, 1));
+            Ok(())
+        }
+        Kind::Mark(mark) => {
+            hold(l, r, Token::Mark(mark), ahead(r, 1));
+            Ok(())
+        }
+        _ => take_any(l, kind, r),
+    }
+}
+
+/// Holds the token at `r`.
+#[inline(always)]
+#[tactic(auto, using(crate::proofs::Digits::minus_sign))]
+pub(crate) fn take<'a>(l: &mut Lexeme<'a>, r: Reader<'a>) -> Result<(), Fault>
+    ensures { Gives ⊥ (λ _. lexeme_of l.new) result (lexeme_from (place r.entry)) }
+{
+    if r.rest.is_empty() {
+        return Err(Fault::Truncated { line: r.line });
+    }
+    take_by(l, kind_of(r.rest[0]), r)
 }
 
 /// Goes on to the next token.
+#[inline(never)]
 pub(crate) fn advance<'a>(l: &mut Lexeme<'a>) -> Result<(), Fault>
     ensures { Gives ⊥ (λ _. lexeme_of l.new) result (lexeme_at (place l.old.after)) }
 {
-    *l = lexeme(l.after)?;
-    Ok(())
+    let here = skip(l.after)?;
+    take(l, here)
 }

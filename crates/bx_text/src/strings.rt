@@ -10,7 +10,7 @@ ghost use Rattle.bx_text.specs.Rows.{prefixed};
 use crate::blanks::skip;
 use crate::escapes::decode;
 use crate::lexemes::{Lexeme, span};
-use crate::lexing::lexeme_from;
+use crate::lexing::take;
 use crate::moves::truncated;
 use crate::node::{Node, Span};
 use crate::tokens::{Body, Token};
@@ -57,7 +57,7 @@ fn text_next<'a>(l: &mut Lexeme<'a>) -> Result<bool, Fault>
     let here = skip(l.after)?;
     match here.rest {
         [b'"', ..] => {
-            *l = lexeme_from(here)?;
+            take(l, here)?;
             Ok(true)
         }
         _ => Ok(false),

@@ -153,8 +153,16 @@ fn element<'a>(
 ) -> Result<bool, Fault>
     ensures { Gives (terms.kept depth (lexeme_of l.old)) (λ more. (found.new.items, terms.follow_by more (lexeme_of l.new))) result (joined found.old.items (terms.element_at (terms.term_at depth) (lexeme_of l.old))) }
 {
-    let node = term(alloc, l, depth)?;
-    found.push(node)?;
+    match l.token {
+        Token::Integer(n) => found.push(Node::integer(span(*l, l.after), n))?,
+        Token::Atom(Body::Plain(text)) => {
+            found.push(Node::atom(span(*l, l.after), Word::borrowed(text)))?
+        }
+        _ => {
+            let node = term(alloc, l, depth)?;
+            found.push(node)?
+        }
+    }
     follow(l)
 }
 
