@@ -1,6 +1,6 @@
 //! What may stand between tokens: spaces and comments.
 
-ghost use Rattle.std.specs.Prelude.{true, IfOk, Err, ◌≡◌, ◌<◌, ◌≤◌, length, MatchResult};
+ghost use Rattle.std.specs.Prelude.{true, IfOk, IfSome, Ok, Err, ◌≡◌, ◌<◌, ◌≤◌, length, MatchResult};
 ghost use Rattle.std.specs.List.{prefix_len};
 ghost use Rattle.std.specs.Str.Lossy.{utf8_valid_len};
 ghost use Rattle.bx_terms.specs.Outcomes.{Gives};
@@ -50,6 +50,31 @@ fn comment<'a>(r: Reader<'a>) -> Result<Reader<'a>, Fault>
     ensures shorter { IfOk result (λ q. length q.rest.now < length r.entry.rest.now) }
 {
     line_end(ahead(r, 1))
+}
+
+/// The first place from `r` on where neither a space nor a comment stands, if only spaces come before it and something stands there.
+#[inline(always)]
+pub(crate) fn spaces<'a>(r: Reader<'a>) -> Option<Reader<'a>>
+    ensures skips { IfSome result (λ q. skip (place r.entry) ≡ Ok (place q)) }
+    ensures some { IfSome result (λ q. 1 ≤ length q.rest.now) }
+{
+    let mut rest = r.rest;
+    let mut at = r.at;
+    let mut line = r.line;
+    'spaces: while !rest.is_empty() {
+        let b = rest[0];
+        if b == b'%' {
+            return None;
+        }
+        if b == b'\n' {
+            line += 1;
+        } else if !is_space(b) {
+            return Some(Reader { rest, at, line });
+        }
+        rest = &rest[1..];
+        at += 1;
+    }
+    None
 }
 
 /// The first place from `r` on where neither a space nor a comment stands.

@@ -40,6 +40,7 @@ pub(crate) enum Kind {
     Nothing,
 }
 
+#[inline(always)]
 fn punctuation(b: u8) -> Kind
     ensures { result ≡ punctuation_of b }
 {
@@ -66,6 +67,7 @@ fn punctuation(b: u8) -> Kind
 }
 
 /// What a token that begins with this byte can be.
+#[inline(always)]
 pub(crate) fn kind_of(b: u8) -> Kind
     ensures { result ≡ kind_of b }
 {

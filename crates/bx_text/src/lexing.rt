@@ -1,6 +1,6 @@
 //! Which token comes next.
 
-ghost use Rattle.std.specs.Prelude.{◌≡◌, ◌≤◌, Err, length, take};
+ghost use Rattle.std.specs.Prelude.{◌≡◌, ◌≤◌, Ok, Err, true, false, length, take};
 ghost use Rattle.bx_text.specs.Number.{IsSign};
 ghost use Rattle.bx_terms.specs.Outcomes.{Gives};
 ghost use Rattle.bx_text.specs.Place.{place};
@@ -8,7 +8,7 @@ ghost use Rattle.bx_text.specs.Token.{token_of, lexeme_of};
 ghost use Rattle.bx_text.specs.Lexing.{ends, stop_at, pair_at, number_at, token_by, lexeme_from, lexeme_at};
 ghost use Rattle.bx_text.specs.Holding.{held, holding};
 
-use crate::blanks::skip;
+use crate::blanks::{skip, spaces};
 use crate::bytes::is_space;
 use crate::kinds::{Kind, kind_of};
 use crate::lexemes::Lexeme;
@@ -117,48 +117,7 @@ fn take_any<'a>(l: &mut Lexeme<'a>, kind: Kind, r: Reader<'a>) -> Result<(), Fau
     Ok(())
 }
 
-/// Holds the number at `r`, which begins with a digit.
-#[inline(never)]
-fn take_number<'a>(l: &mut Lexeme<'a>, r: Reader<'a>) -> Result<(), Fault>
-    ensures { Gives ⊥ (λ _. lexeme_of l.new) result (holding (place r.entry) (number_at (place r.entry) 0)) }
-{
-    let (token, after) = number(r, 0)?;
-    hold(l, r, token, after);
-    Ok(())
-}
-
-/// Holds the token at `r` that begins as `kind` says: those that stand in a text most are read on the spot.
-#[inline(always)]
-fn take_by<'a>(l: &mut Lexeme<'a>, kind: Kind, r: Reader<'a>) -> Result<(), Fault>
-    requires signed { kind ≡ Kind.Minus → IsSign (take 1 r.rest.now) }
-    requires some { 1 ≤ length r.rest.now }
-    ensures { Gives ⊥ (λ _. lexeme_of l.new) result (holding (place r.entry) (token_by kind (place r.entry))) }
-{
-    match kind {
-        Kind::Letter => {
-            let (token, after) = word(r);
-            hold(l, r, token, after);
-            Ok(())
-        }
-        Kind::Digit => take_number(l, r),
-        Kind::OpenTuple => {
-            hold(l, r, Token::OpenTuple, ahead(r, 1));
-            Ok(())
-        }
-        Kind::OpenList => {
-            hold(l, r, Token::OpenList, ahead(r, 1));
-            Ok(())
-        }
-        Kind::Mark(mark) => {
-            hold(l, r, Token::Mark(mark), ahead(r, 1));
-            Ok(())
-        }
-        _ => take_any(l, kind, r),
-    }
-}
-
 /// Holds the token at `r`.
-#[inline(always)]
 #[tactic(auto, using(crate::proofs::Digits::minus_sign))]
 pub(crate) fn take<'a>(l: &mut Lexeme<'a>, r: Reader<'a>) -> Result<(), Fault>
     ensures { Gives ⊥ (λ _. lexeme_of l.new) result (lexeme_from (place r.entry)) }
@@ -166,14 +125,94 @@ pub(crate) fn take<'a>(l: &mut Lexeme<'a>, r: Reader<'a>) -> Result<(), Fault>
     if r.rest.is_empty() {
         return Err(Fault::Truncated { line: r.line });
     }
-    take_by(l, kind_of(r.rest[0]), r)
+    take_any(l, kind_of(r.rest[0]), r)
 }
 
-/// Goes on to the next token.
+/// Goes on to the next token, which is any.
 #[inline(never)]
-pub(crate) fn advance<'a>(l: &mut Lexeme<'a>) -> Result<(), Fault>
+fn advance_any<'a>(l: &mut Lexeme<'a>) -> Result<(), Fault>
     ensures { Gives ⊥ (λ _. lexeme_of l.new) result (lexeme_at (place l.old.after)) }
 {
     let here = skip(l.after)?;
     take(l, here)
+}
+
+/// Holds the number at `r`, which begins with a digit; or says that none is there, and changes nothing.
+#[inline(always)]
+fn take_number<'a>(l: &mut Lexeme<'a>, r: Reader<'a>) -> bool
+    ensures taken { result ≡ true → number_at (place r.entry) 0 ≡ Ok (token_of l.new.token, place l.new.after) }
+    ensures held { result ≡ true → lexeme_of l.new ≡ held (place r.entry) (token_of l.new.token, place l.new.after) }
+    ensures stays { result ≡ false → place l.new.after ≡ place l.old.after }
+{
+    match number(r, 0) {
+        Ok((token, after)) => {
+            hold(l, r, token, after);
+            true
+        }
+        Err(_) => false,
+    }
+}
+
+/// Holds the token at `r`, where it is one of those that stand in a text most; or says that it is none, and stays.
+#[inline(always)]
+fn take_common<'a>(l: &mut Lexeme<'a>, r: Reader<'a>) -> bool
+    requires { 1 ≤ length r.rest.now }
+    ensures taken { result ≡ true → lexeme_from (place r.entry) ≡ Ok (lexeme_of l.new) }
+    ensures stays { result ≡ false → place l.new.after ≡ place l.old.after }
+{
+    match kind_of(r.rest[0]) {
+        Kind::Letter => {
+            let (token, after) = word(r);
+            hold(l, r, token, after);
+            true
+        }
+        Kind::Digit => take_number(l, r),
+        Kind::OpenTuple => {
+            hold(l, r, Token::OpenTuple, ahead(r, 1));
+            true
+        }
+        Kind::OpenList => {
+            hold(l, r, Token::OpenList, ahead(r, 1));
+            true
+        }
+        Kind::Mark(mark) => {
+            hold(l, r, Token::Mark(mark), ahead(r, 1));
+            true
+        }
+        Kind::Dot => {
+            if ends(&r.rest[1..]) {
+                hold(l, r, Token::Mark(Mark::Stop), ahead(r, 1));
+                true
+            } else {
+                false
+            }
+        }
+        _ => false,
+    }
+}
+
+/// Goes on to the next token, where it is one of those that stand in a text most, and no comment comes before it; or stays.
+///
+/// Its answer fits in a register, and a fault does not.
+#[inline(never)]
+fn advance_common<'a>(l: &mut Lexeme<'a>) -> bool
+    ensures taken { result ≡ true → lexeme_at (place l.old.after) ≡ Ok (lexeme_of l.new) }
+    ensures stays { result ≡ false → place l.new.after ≡ place l.old.after }
+{
+    match spaces(l.after) {
+        Some(here) => take_common(l, here),
+        None => false,
+    }
+}
+
+/// Goes on to the next token.
+#[inline(always)]
+pub(crate) fn advance<'a>(l: &mut Lexeme<'a>) -> Result<(), Fault>
+    ensures { Gives ⊥ (λ _. lexeme_of l.new) result (lexeme_at (place l.old.after)) }
+{
+    if advance_common(l) {
+        Ok(())
+    } else {
+        advance_any(l)
+    }
 }

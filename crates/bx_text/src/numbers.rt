@@ -156,6 +156,7 @@ fn value(spelling: &[u8]) -> Option<i64>
 
 /// The number at `r`, of which `sign` bytes are its sign.
 #[tactic(auto, using(crate::proofs::Digits::number_spelled))]
+#[inline(always)]
 pub(crate) fn number<'a>(r: Reader<'a>, sign: usize) -> Result<(Token<'a>, Reader<'a>), Fault>
     requires within { sign ≤ length r.rest.now }
     requires signed { IsSign (take sign r.rest.now) }

@@ -144,6 +144,7 @@ fn tuple<'a>(alloc: Global, l: &mut Lexeme<'a>, depth: u32) -> Result<Node<'a>, 
 }
 
 /// Puts the element that begins with the token held behind what was found: whether another follows, which is then held.
+#[inline(always)]
 #[cycle(term)]
 fn element<'a>(
     alloc: Global,
@@ -167,6 +168,7 @@ fn element<'a>(
 }
 
 /// Puts the elements from the token held on behind what was found; held then is the first token that is no comma.
+#[inline(always)]
 #[cycle(term)]
 fn elements<'a>(
     alloc: Global,

@@ -44,6 +44,7 @@ fn name_len(bytes: &[u8]) -> usize
 }
 
 /// The text of the bare atom at `r`, and the place behind it.
+#[inline(always)]
 pub(crate) fn bare<'a>(r: Reader<'a>) -> (&'a str, Reader<'a>)
     ensures { (result.0.now, place result.1) ≡ bare_at (place r.entry) }
 {
@@ -52,6 +53,7 @@ pub(crate) fn bare<'a>(r: Reader<'a>) -> (&'a str, Reader<'a>)
 }
 
 /// The bare atom at `r`, or the word `fun`.
+#[inline(always)]
 pub(crate) fn word<'a>(r: Reader<'a>) -> (Token<'a>, Reader<'a>)
     ensures { word_at (place r.entry) ≡ Ok (token_of result.0, place result.1) }
 {
