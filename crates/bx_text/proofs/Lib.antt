@@ -16,6 +16,7 @@ pub mod Shown
 pub mod Quoting
 pub mod Rows
 pub mod Shorter
+pub mod Short
 pub mod Skipping
 pub mod Slices
 pub mod Sound

@@ -11,6 +11,7 @@ pub mod Named
 pub mod Number
 pub mod Place
 pub mod Rows
+pub mod Short
 pub mod Terms
 pub mod Token
 pub mod Tree

@@ -1,15 +1,16 @@
 //! Which token comes next.
 
-ghost use Rattle.std.specs.Prelude.{◌≡◌, ◌≤◌, Ok, Err, true, false, length, take};
+ghost use Rattle.std.specs.Prelude.{◌≡◌, ◌≤◌, ◌-◌, pos, Ok, Err, true, false, length, take};
 ghost use Rattle.bx_text.specs.Number.{IsSign};
 ghost use Rattle.bx_terms.specs.Outcomes.{Gives};
 ghost use Rattle.bx_text.specs.Place.{place};
-ghost use Rattle.bx_text.specs.Token.{token_of, lexeme_of};
+ghost use Rattle.bx_text.specs.Token.{token_of, lexeme_of, integer};
 ghost use Rattle.bx_text.specs.Lexing.{ends, stop_at, pair_at, number_at, token_by, lexeme_from, lexeme_at};
 ghost use Rattle.bx_text.specs.Holding.{held, holding};
+ghost use Rattle.bx_text.specs.Short.{is_short};
 
 use crate::blanks::{skip, spaces};
-use crate::bytes::is_space;
+use crate::bytes::{is_digit, is_space};
 use crate::kinds::{Kind, kind_of};
 use crate::lexemes::Lexeme;
 use crate::moves::ahead;
@@ -117,28 +118,8 @@ fn take_any<'a>(l: &mut Lexeme<'a>, kind: Kind, r: Reader<'a>) -> Result<(), Fau
     Ok(())
 }
 
-/// Holds the token at `r`.
-#[tactic(auto, using(crate::proofs::Digits::minus_sign))]
-pub(crate) fn take<'a>(l: &mut Lexeme<'a>, r: Reader<'a>) -> Result<(), Fault>
-    ensures { Gives ⊥ (λ _. lexeme_of l.new) result (lexeme_from (place r.entry)) }
-{
-    if r.rest.is_empty() {
-        return Err(Fault::Truncated { line: r.line });
-    }
-    take_any(l, kind_of(r.rest[0]), r)
-}
-
-/// Goes on to the next token, which is any.
-#[inline(never)]
-fn advance_any<'a>(l: &mut Lexeme<'a>) -> Result<(), Fault>
-    ensures { Gives ⊥ (λ _. lexeme_of l.new) result (lexeme_at (place l.old.after)) }
-{
-    let here = skip(l.after)?;
-    take(l, here)
-}
-
 /// Holds the number at `r`, which begins with a digit; or says that none is there, and changes nothing.
-#[inline(always)]
+#[inline(never)]
 fn take_number<'a>(l: &mut Lexeme<'a>, r: Reader<'a>) -> bool
     ensures taken { result ≡ true → number_at (place r.entry) 0 ≡ Ok (token_of l.new.token, place l.new.after) }
     ensures held { result ≡ true → lexeme_of l.new ≡ held (place r.entry) (token_of l.new.token, place l.new.after) }
@@ -150,6 +131,42 @@ fn take_number<'a>(l: &mut Lexeme<'a>, r: Reader<'a>) -> bool
             true
         }
         Err(_) => false,
+    }
+}
+
+/// Whether a number of one digit stands at the front.
+#[inline(always)]
+fn is_short(bytes: &[u8]) -> bool
+    ensures { result ≡ is_short bytes.now }
+{
+    match bytes {
+        [digit, next, ..] => is_digit(*digit) && !is_digit(*next) && !(*next == b'.'),
+        _ => false,
+    }
+}
+
+/// The number of one digit.
+#[inline(always)]
+fn digit_token<'a>(digit: u8) -> Token<'a>
+    ensures { token_of result ≡ integer (pos (digit - 48)) }
+{
+    Token::Integer(i64::from(digit.saturating_sub(b'0')))
+}
+
+/// Holds the number at `r`, of which most have one digit; or says that none is there, and changes nothing.
+#[inline(always)]
+#[tactic(auto, using(crate::proofs::Short::one_digit))]
+fn take_digits<'a>(l: &mut Lexeme<'a>, r: Reader<'a>) -> bool
+    requires { 1 ≤ length r.rest.now }
+    ensures taken { result ≡ true → number_at (place r.entry) 0 ≡ Ok (token_of l.new.token, place l.new.after) }
+    ensures held { result ≡ true → lexeme_of l.new ≡ held (place r.entry) (token_of l.new.token, place l.new.after) }
+    ensures stays { result ≡ false → place l.new.after ≡ place l.old.after }
+{
+    if is_short(r.rest) {
+        hold(l, r, digit_token(r.rest[0]), ahead(r, 1));
+        true
+    } else {
+        take_number(l, r)
     }
 }
 
@@ -166,7 +183,7 @@ fn take_common<'a>(l: &mut Lexeme<'a>, r: Reader<'a>) -> bool
             hold(l, r, token, after);
             true
         }
-        Kind::Digit => take_number(l, r),
+        Kind::Digit => take_digits(l, r),
         Kind::OpenTuple => {
             hold(l, r, Token::OpenTuple, ahead(r, 1));
             true
@@ -191,6 +208,30 @@ fn take_common<'a>(l: &mut Lexeme<'a>, r: Reader<'a>) -> bool
     }
 }
 
+/// Holds the token at `r`.
+#[tactic(auto, using(crate::proofs::Digits::minus_sign))]
+pub(crate) fn take<'a>(l: &mut Lexeme<'a>, r: Reader<'a>) -> Result<(), Fault>
+    ensures { Gives ⊥ (λ _. lexeme_of l.new) result (lexeme_from (place r.entry)) }
+{
+    if r.rest.is_empty() {
+        return Err(Fault::Truncated { line: r.line });
+    }
+    if take_common(l, r) {
+        Ok(())
+    } else {
+        take_any(l, kind_of(r.rest[0]), r)
+    }
+}
+
+/// Goes on to the next token, which is any.
+#[inline(never)]
+fn advance_any<'a>(l: &mut Lexeme<'a>) -> Result<(), Fault>
+    ensures { Gives ⊥ (λ _. lexeme_of l.new) result (lexeme_at (place l.old.after)) }
+{
+    let here = skip(l.after)?;
+    take(l, here)
+}
+
 /// Goes on to the next token, where it is one of those that stand in a text most, and no comment comes before it; or stays.
 ///
 /// Its answer fits in a register, and a fault does not.
@@ -205,6 +246,15 @@ fn advance_common<'a>(l: &mut Lexeme<'a>) -> bool
     }
 }
 
+/// Goes on to the next token, which is any: so its answer takes room only where it is wanted.
+#[inline(always)]
+fn advance_other<'a>(l: &mut Lexeme<'a>) -> Result<(), Fault>
+    ensures { Gives ⊥ (λ _. lexeme_of l.new) result (lexeme_at (place l.old.after)) }
+{
+    advance_any(l)?;
+    Ok(())
+}
+
 /// Goes on to the next token.
 #[inline(always)]
 pub(crate) fn advance<'a>(l: &mut Lexeme<'a>) -> Result<(), Fault>
@@ -213,6 +263,6 @@ pub(crate) fn advance<'a>(l: &mut Lexeme<'a>) -> Result<(), Fault>
     if advance_common(l) {
         Ok(())
     } else {
-        advance_any(l)
+        advance_other(l)
     }
 }

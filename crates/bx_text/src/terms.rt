@@ -1,11 +1,11 @@
 //! Terms: which one begins at a token.
 
-ghost use Rattle.std.specs.Prelude.{◌≡◌, ◌⊎◌, OnOk, IsOk, IsOkAnd, suc, true, false};
+ghost use Rattle.std.specs.Prelude.{◌≡◌, ◌⊎◌, ◌++◌, ◌∷◌, [], IfOk, OnOk, IsOk, IsOkAnd, suc, true, false};
 ghost use Rattle.bx_terms.specs.Outcomes.{Gives};
 ghost use Rattle.bx_text.specs.Place.{place};
 ghost use Rattle.bx_text.specs.Token.{lexeme_of, token_of, body_of, IsEscaped};
 ghost use Rattle.bx_text.specs.Form.{tail_tree};
-ghost use Rattle.bx_text.specs.Tree.{chain};
+ghost use Rattle.bx_text.specs.Tree.{integer, atom, chain};
 ghost use Rattle.bx_text.specs.Lexing as lexing;
 ghost use Rattle.bx_text.specs.Terms as terms;
 ghost use Rattle.bx_text.specs.Rows.{prefixed, chained, joined, closing, splicing, ending};
@@ -21,7 +21,7 @@ use crate::tokens::{Body, Mark, Token};
 use crate::wanted::{Wanted, want};
 use crate::word::Word;
 use bx_terms::Fault;
-use std::alloc::Global;
+use std::alloc::{AllocError, Global};
 
 /// The fault of a token that may not stand here.
 fn misplaced(l: &Lexeme<'_>) -> Fault
@@ -143,6 +143,24 @@ fn tuple<'a>(alloc: Global, l: &mut Lexeme<'a>, depth: u32) -> Result<Node<'a>, 
     Ok(Node::tuple(span(first, l.after), found))
 }
 
+/// Puts the integer that the token held spells behind what was found.
+#[inline(never)]
+fn put_integer<'a>(found: &mut Vec<Node<'a>>, l: &Lexeme<'a>, n: i64) -> Result<(), AllocError>
+    ensures { IfOk result (λ _. found.new.items ≡ found.old.items ++ integer (terms.span (lexeme_of l.now) (place l.now.after)) n ∷ []) }
+{
+    found.push(Node::integer(span(*l, l.after), n))?;
+    Ok(())
+}
+
+/// Puts the atom of this text, which the token held spells, behind what was found.
+#[inline(never)]
+fn put_atom<'a>(found: &mut Vec<Node<'a>>, l: &Lexeme<'a>, text: &'a str) -> Result<(), AllocError>
+    ensures { IfOk result (λ _. found.new.items ≡ found.old.items ++ atom (terms.span (lexeme_of l.now) (place l.now.after)) text.entry.now ∷ []) }
+{
+    found.push(Node::atom(span(*l, l.after), Word::borrowed(text)))?;
+    Ok(())
+}
+
 /// Puts the element that begins with the token held behind what was found: whether another follows, which is then held.
 #[inline(always)]
 #[cycle(term)]
@@ -155,10 +173,8 @@ fn element<'a>(
     ensures { Gives (terms.kept depth (lexeme_of l.old)) (λ more. (found.new.items, terms.follow_by more (lexeme_of l.new))) result (joined found.old.items (terms.element_at (terms.term_at depth) (lexeme_of l.old))) }
 {
     match l.token {
-        Token::Integer(n) => found.push(Node::integer(span(*l, l.after), n))?,
-        Token::Atom(Body::Plain(text)) => {
-            found.push(Node::atom(span(*l, l.after), Word::borrowed(text)))?
-        }
+        Token::Integer(n) => put_integer(found, l, n)?,
+        Token::Atom(Body::Plain(text)) => put_atom(found, l, text)?,
         _ => {
             let node = term(alloc, l, depth)?;
             found.push(node)?

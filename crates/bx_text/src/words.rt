@@ -2,13 +2,14 @@
 
 ghost use Rattle.std.specs.Prelude.{◌≡◌, ◌≤◌, drop, length, Ok, Err};
 ghost use Rattle.bx_terms.specs.Outcomes.{Gives};
-ghost use Rattle.bx_text.specs.Bytes.{begins, is_accented_lower};
+ghost use Rattle.std.specs.List.{prefix_len};
+ghost use Rattle.bx_text.specs.Bytes.{begins, is_accented_lower, is_lower};
 ghost use Rattle.bx_text.specs.Place.{place};
 ghost use Rattle.bx_text.specs.Token.{token_of};
 ghost use Rattle.bx_text.specs.Lexing.{name_len, bare_at, letter_width, word_at, foreign_at, accent_at};
 
 use crate::blanks::text_of;
-use crate::bytes::{as_text, is_accented, is_accented_lower, is_name};
+use crate::bytes::{as_text, is_accented, is_accented_lower, is_lower, is_name};
 use crate::moves::ahead;
 use crate::reader::Reader;
 use crate::tokens::{Body, Mark, Token};
@@ -26,13 +27,23 @@ fn letter_width(bytes: &[u8]) -> usize
     }
 }
 
+/// How many lower-case letters of ASCII stand at the front: most names have no others.
+#[inline(always)]
+fn lower_len(bytes: &[u8]) -> usize
+    ensures exact { result ≡ prefix_len is_lower bytes.now }
+    ensures bounded { result ≤ length bytes.now }
+{
+    bytes.iter().take_while(|b| is_lower(**b)).count()
+}
+
 /// How many bytes the longest run of an atom's letters at the front has.
-#[tactic(auto, using(crate::proofs::Names::name_step, crate::proofs::Names::name_end))]
+#[inline(always)]
+#[tactic(auto, using(crate::proofs::Names::name_step, crate::proofs::Names::name_end, crate::proofs::Short::lower_begins))]
 fn name_len(bytes: &[u8]) -> usize
     ensures exact { result ≡ name_len bytes.now }
     ensures bounded { result ≤ length bytes.now }
 {
-    let mut n = 0;
+    let mut n = lower_len(bytes);
     while n < bytes.len() {
         let width = letter_width(&bytes[n..]);
         if width == 0 {
