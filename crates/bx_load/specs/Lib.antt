@@ -6,4 +6,5 @@ pub mod Exports
 pub mod Linking
 pub mod Loading
 pub mod Names
+pub mod Numbering
 pub mod Standing

@@ -1,5 +1,6 @@
 pub mod AtOnce
 pub mod Attempts
+pub mod Dispatching
 pub mod Elements
 pub mod Linking
 pub mod Living

@@ -4,6 +4,7 @@ pub mod Building
 pub mod Calls
 pub mod Catching
 pub mod Choosing
+pub mod Dispatch
 pub mod Faults
 pub mod Looking
 pub mod Moving

@@ -7,6 +7,7 @@ mod building;
 mod calls;
 mod catching;
 mod choosing;
+mod dispatch;
 mod faults;
 pub mod laws;
 mod moving;
