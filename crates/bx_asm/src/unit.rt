@@ -115,6 +115,7 @@ impl Unit {
     }
 
     /// How many items its functions have, at most 1,000,000.
+    #[inline(always)]
     #[tactic(auto, using(crate::proofs::Units::length_of_items))]
     pub fn item_count(&self) -> usize
         ensures count { result ≡ length (items self.now) }

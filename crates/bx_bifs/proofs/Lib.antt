@@ -9,3 +9,4 @@ pub mod TermLaws
 pub mod NameLaws
 pub mod Arities
 pub mod Building
+pub mod Fitting

@@ -2,10 +2,12 @@
 //!
 //! Source: Erlang Reference Manual, "Expressions"; module `erlang` of the ERTS Reference Manual.
 
-ghost use Rattle.std.specs.Prelude.{◌≡◌, not, neg_ℤ, option_map, MatchResult, Ok, if◌then◌else◌};
+ghost use Rattle.std.specs.Prelude.{◌≡◌, IfSome, not, neg_ℤ, option_map, MatchResult, Ok, if◌then◌else◌};
 ghost use Rattle.std.specs.Ordering.{is_lt, is_gt};
 ghost use Rattle.bx_terms.specs.Outcomes.{Gives};
 ghost use Rattle.bx_terms.specs.Order.{order_of};
+ghost use Rattle.bx_terms.specs.Tree.{int};
+ghost use Rattle.bx_bifs.specs.declared.given.Given.TheVariants.{Value};
 ghost use Rattle.bx_bifs.specs.Given.{TakesMemory, term_or_badarg};
 ghost use Rattle.bx_bifs.specs.Bits.{bits_not};
 ghost use Rattle.bx_bifs.specs.Kinds.{truth as truth_of};
@@ -120,6 +122,26 @@ pub fn guard_of_two(
         Bif::And | Bif::Or | Bif::Xor => Ok(connected(bif, first, second)),
         Bif::Element => shared(alloc, element(first, second)),
         _ => Ok(undef()),
+    }
+}
+
+/// The integer that the guard BIF gives on two integers, where it is `+` or `-` and gives one. What else a guard BIF of two
+/// arguments gives, `guard_of_two` tells.
+#[inline(always)]
+#[tactic(auto, unfolding(crate::specs::Guards::guard_two), using(crate::proofs::Fitting::given_some))]
+pub fn guard_of_integers(_atoms: &Atoms, bif: Bif, m: i64, n: i64) -> Option<i64>
+    ensures { IfSome result (λ k. guard_two _atoms.now bif (int m) (int n) ≡ Value (int k)) }
+{
+    match bif {
+        Bif::Add => {
+            let sum = m.checked_add(n)?;
+            Some(sum)
+        }
+        Bif::Subtract => {
+            let difference = m.checked_sub(n)?;
+            Some(difference)
+        }
+        _ => None,
     }
 }
 

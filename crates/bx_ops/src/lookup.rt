@@ -6,6 +6,7 @@ ghost use Rattle.bx_ops.specs.OpsByLength.{ops_with_length, named_among};
 use crate::opcode::{Op, shape};
 
 /// The opcode with the number; `None` where no opcode of the subset has it.
+#[inline(always)]
 #[tactic(auto, unfolding(crate::specs::Opcodes::with_number))]
 pub fn op_by_number(number: u32) -> Option<Op>
     ensures { result ≡ with_number number }

@@ -28,7 +28,7 @@ impl Proc {
     }
 
     /// `call`, `call_last`, `call_only`.
-    #[inline(never)]
+    #[inline(always)]
     pub(crate) fn call(
         &mut self,
         image: &Image,
@@ -74,7 +74,7 @@ impl Proc {
     }
 
     /// `deallocate`.
-    #[inline(never)]
+    #[inline(always)]
     pub(crate) fn deallocate(&mut self, size: u32) -> Result<(), Stop>
         ensures { Turns ⊥ self.old self.new result (deallocated size self.old) }
     {

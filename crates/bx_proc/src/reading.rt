@@ -1,6 +1,7 @@
 //! What an instruction reads and writes.
 
-ghost use Rattle.std.specs.Prelude.{◌≡◌, Ok, Err, MatchResult, option_map};
+ghost use Rattle.std.specs.Prelude.{◌≡◌, Ok, Err, IfSome, MatchResult, option_map};
+ghost use Rattle.bx_terms.specs.Tree.{int};
 ghost use Rattle.bx_asm.specs.Instructed.{source_of};
 ghost use Rattle.bx_asm.specs.declared.instruction.Register.TheVariants.{X, Y};
 ghost use Rattle.bx_cells.specs.TopFrame.{y_cell};
@@ -12,7 +13,7 @@ use crate::process::Proc;
 use crate::stops::Stop;
 use bx_asm::{Register, Source};
 use bx_cells::Value;
-use bx_terms::{Term, Trap};
+use bx_terms::{Term, Trap, View};
 use std::alloc::Global;
 
 /// A term that is looked at: where it lies, or as an instruction spells it.
@@ -83,6 +84,29 @@ impl Proc {
         }
     }
 
+    /// The integer that a source gives, where it gives one.
+    #[inline(always)]
+    pub(crate) fn integer(&self, source: Source<'_>) -> Option<i64>
+        ensures { IfSome result (λ n. term_at (source_of source.entry) self.now ≡ Ok (int n)) }
+    {
+        match source {
+            Source::Integer(value) => Some(value),
+            Source::Register(register) => self.integer_in(register),
+            _ => None,
+        }
+    }
+
+    /// The integer that a register holds, where it holds one.
+    #[inline(always)]
+    fn integer_in(&self, register: Register) -> Option<i64>
+        ensures { IfSome result (λ n. term_in register self.now ≡ Ok (int n)) }
+    {
+        match self.term(register) {
+            Ok(term) => integer_of(term),
+            Err(_) => None,
+        }
+    }
+
     /// The term that a source gives, to be looked at.
     #[inline(always)]
     pub(crate) fn seen<'a>(&'a self, source: Source<'a>) -> Result<Seen<'a>, Trap>
@@ -137,6 +161,7 @@ impl Proc {
     }
 
     /// Puts `value` into a y register, which takes no memory.
+    #[inline(always)]
     fn write_y(&mut self, number: u16, value: Value) -> Result<(), Stop>
         ensures { Turns ⊥ self.old self.new result (written (Y number) value self.old) }
     {
@@ -147,6 +172,7 @@ impl Proc {
     }
 
     /// Puts values into two registers, one after the other, or into none. Memory is taken only for x registers.
+    #[inline(always)]
     #[tactic(auto, using(crate::proofs::Writing::y_and_x))]
     pub(crate) fn write_both(
         &mut self,
@@ -177,6 +203,7 @@ impl Proc {
     }
 
     /// Puts values into an x and a y register, or into none.
+    #[inline(always)]
     fn write_x_and_y(&mut self, x: u16, value: Value, y: u16, more: Value) -> Result<(), Stop>
         ensures { Turns (Unit {0}) self.old self.new result (both_written (X x) value (Y y) more self.old) }
     {
@@ -193,6 +220,16 @@ impl Proc {
         self.y_cell(second)?;
         self.write_y(first, value)?;
         self.write_y(second, more)
+    }
+}
+
+#[inline(always)]
+fn integer_of(term: &Term) -> Option<i64>
+    ensures { IfSome result (λ n. term.now ≡ int n) }
+{
+    match term.view() {
+        View::Int(value) => Some(value),
+        _ => None,
     }
 }
 

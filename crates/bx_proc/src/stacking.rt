@@ -13,7 +13,7 @@ use bx_terms::{Term, Trap};
 
 impl Proc {
     /// `allocate` and `allocate_heap`.
-    #[inline(never)]
+    #[inline(always)]
     pub(crate) fn allocate(&mut self, size: u32) -> Result<(), Stop>
         ensures { Turns (Unit {0}) self.old self.new result (Ok (allocate_row size self.old)) }
     {
@@ -22,6 +22,7 @@ impl Proc {
     }
 
     /// `trim`.
+    #[inline(always)]
     pub(crate) fn trim(&mut self, count: u32, left: u32) -> Result<(), Stop>
         ensures { Turns ⊥ self.old self.new result (trim_row count left self.old) }
     {
