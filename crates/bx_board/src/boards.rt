@@ -13,11 +13,17 @@ use std::sync::{Condvar, Mutex, Wait};
 
 /// What is called as workers go on, never while the book's lock is held.
 pub trait Gate: Sync {
+    /// Called once by a campaign before its first lease, with how many chains there are to be run.
+    fn begun(&self, _chains: usize) {}
+
     /// Called after a lease.
     fn leased(&self, worker: usize);
 
     /// Called between the work of a lease and its submit.
     fn worked(&self, worker: usize, piece: &Piece<'_>);
+
+    /// Called once by a campaign, when its workers have ended.
+    fn ended(&self) {}
 }
 
 /// A gate that does nothing.

@@ -102,7 +102,10 @@ pub fn campaign<R: Threads + Wait + Sync, G: Gate + Sync>(
         return Err(Fault::Workers);
     }
     let book = Book::new(alloc, image, module, function, plan)?;
+    let counts = book.counts();
+    gate.begun(counts.unborn.saturating_add(counts.free));
     let (well, book) = served::<Brand, R, G>(rt, alloc, book, workers as usize, gate);
+    gate.ended();
     if !well && !book.is_done() {
         return Err(Fault::Memory);
     }

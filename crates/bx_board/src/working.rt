@@ -127,6 +127,13 @@ impl<'a> Piece<'a> {
         self.plan.path(alloc, self.span.last)
     }
 
+    /// How many of those choices are the chain's own, the last ones.
+    pub fn choices(&self) -> usize
+        ensures { 0 < result }
+    {
+        self.span.last - self.span.first + 1
+    }
+
     /// Where those choices lead.
     pub fn end(&self) -> &ArcEnd
         ensures { result.now ≡ end_of self.now }
