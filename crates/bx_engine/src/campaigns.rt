@@ -13,7 +13,7 @@ use crate::failures::Failure;
 use crate::loads::{image_of, plan_in};
 use crate::runs::entry_in;
 use crate::starts::{Start, start_of};
-use bx_board::{FreeGate, campaign, report_text};
+use bx_board::{FreeGate, Gate, campaign, report_text};
 use bx_load::Image;
 use bx_plan::Plan;
 use bx_terms::Fault;
@@ -23,13 +23,14 @@ use std::sync::Wait;
 use std::thread::Threads;
 
 /// The text of the report of the plan's schedules, by so many workers.
-fn report_of<T: Threads + Wait + Sync>(
+fn report_of<T: Threads + Wait + Sync, G: Gate>(
     rt: &T,
     alloc: Global,
     image: &Image,
     start: &Start,
     plan: &Plan,
     workers: u32,
+    gate: &G,
 ) -> Result<String, Fault>
     ensures { Gives ⊤ (λ text. string_bytes text) result (campaign_in workers image.now start.now (schedules plan.now)) }
 {
@@ -39,18 +40,19 @@ fn report_of<T: Threads + Wait + Sync>(
     let Some((module, function)) = entry_in(image, start) else {
         return Err(Fault::NoEntry);
     };
-    let report = campaign(rt, alloc, image, module, function, plan, workers, &FreeGate)?;
+    let report = campaign(rt, alloc, image, module, function, plan, workers, gate)?;
     report_text(alloc, image.atoms(), &report)
 }
 
 /// The text that a campaign from that start writes, or the first fault of the files.
-fn text_of<T: Threads + Wait + Sync, R: Read>(
+fn text_of<T: Threads + Wait + Sync, R: Read, G: Gate>(
     rt: &T,
     alloc: Global,
     listings: &mut [R],
     start: &Start,
     plan: &mut R,
     workers: u32,
+    gate: &G,
 ) -> Result<String, Failure>
     ensures { (given : List (List ℕ)) → (planned : List ℕ) → map R.remaining listings.old ≡ map (λ text. Some text) given → R.remaining plan.old ≡ Some planned
         → FilesGive (λ text. string_bytes text) result (ClearUpTo given) (campaign_behind workers start.now given planned) }
@@ -64,7 +66,7 @@ fn text_of<T: Threads + Wait + Sync, R: Read>(
         Ok(plan) => plan,
         Err(failure) => return Err(failure),
     };
-    match report_of(rt, alloc, &image, start, &plan, workers) {
+    match report_of(rt, alloc, &image, start, &plan, workers, gate) {
         Ok(text) => Ok(text),
         Err(fault) => Err(Failure::Refused(fault, None)),
     }
@@ -91,11 +93,29 @@ pub fn campaign_text<T: Threads + Wait + Sync, R: Read, W: Write>(
         → Writes (TakesMemory start.now) (W.contents writer.old) (W.contents writer.new) result (ClearStart start.now given) (campaign_of workers start.now given planned) }
     ensures unwritten { IfErr result (λ failure. (failure ≡ Failure.Write) ⊎ Keeps (W.contents writer.old) (W.contents writer.new)) }
 {
+    watched_campaign_text(rt, alloc, listings, start, plan, workers, writer, &FreeGate)
+}
+
+/// The same with a gate that is called as the workers go on. It is told of the end of their work before anything is written.
+pub fn watched_campaign_text<T: Threads + Wait + Sync, R: Read, W: Write, G: Gate>(
+    rt: &T,
+    alloc: Global,
+    listings: &mut [R],
+    start: &str,
+    plan: &mut R,
+    workers: u32,
+    writer: &mut W,
+    gate: &G,
+) -> Result<(), Failure>
+    ensures written { (given : List (List ℕ)) → (planned : List ℕ) → map R.remaining listings.old ≡ map (λ text. Some text) given → R.remaining plan.old ≡ Some planned
+        → Writes (TakesMemory start.now) (W.contents writer.old) (W.contents writer.new) result (ClearStart start.now given) (campaign_of workers start.now given planned) }
+    ensures unwritten { IfErr result (λ failure. (failure ≡ Failure.Write) ⊎ Keeps (W.contents writer.old) (W.contents writer.new)) }
+{
     let start = match start_of(alloc, start) {
         Ok(start) => start,
         Err(failure) => return Err(failure),
     };
-    let text = match text_of(rt, alloc, listings, &start, plan, workers) {
+    let text = match text_of(rt, alloc, listings, &start, plan, workers, gate) {
         Ok(text) => text,
         Err(failure) => return Err(failure),
     };

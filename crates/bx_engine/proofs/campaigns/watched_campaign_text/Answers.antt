@@ -1,7 +1,7 @@
 use Rattle.std.proofs.Common.{List, ℕ}
 use Rattle.bx_engine.specs.Campaigns.{campaign_behind}
 use Rattle.bx_engine.proofs.Failing.{nothing_written}
-use Rattle.bx_engine.proofs.campaigns.campaign_text.Goals as goal
+use Rattle.bx_engine.proofs.campaigns.watched_campaign_text.Goals as goal
 
 pub returns-in-Err-text_of-clause-written : goal.returns-in-Err-text_of-clause-written
 returns-in-Err-text_of-clause-written g c given planned known there =
