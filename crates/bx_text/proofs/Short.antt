@@ -1,8 +1,8 @@
 -- The tokens that stand in a text most: names of lower-case letters, and numbers of one digit.
-use Rattle.std.proofs.Common.{◌≡◌, ℕ, zero, suc, ◌+◌, ◌*◌, ◌-◌, Bool, true, false, cond, ◌||◌, ◌&&◌, not, eqb, slice_index_or, List, [], ◌∷◌, drop, pos, Ok, refl, sym, ap, ◌∙◌, subst, arith}
+use Rattle.std.proofs.Common.{◌≡◌, ℕ, suc, ◌+◌, ◌-◌, Bool, true, false, cond, ◌&&◌, not, eqb, slice_index_or, List, [], ◌∷◌, drop, pos, Ok, refl, sym, ap, ◌∙◌, subst, arith}
 use Rattle.std.specs.List.{prefix_len}
 use Rattle.std.proofs.lemmas.Bool.Decides.{nat_tests}
-use Rattle.bx_text.specs.Bytes.{is_lower, is_upper, is_digit, is_name}
+use Rattle.bx_text.specs.Bytes.{is_lower, is_digit, is_name}
 use Rattle.bx_text.specs.Number.{with_digit, decimal, signed, number}
 use Rattle.bx_text.specs.Place.{Place, after}
 use Rattle.bx_text.specs.Short.{is_short}

@@ -94,7 +94,7 @@ fn token_by<'a>(kind: Kind, r: Reader<'a>) -> Result<(Token<'a>, Reader<'a>), Fa
 
 /// Holds a token that was read at `r`, and the place behind it.
 #[inline(always)]
-fn hold<'a>(l: &mut Lexeme<'a>, r: Reader<'a>, token: Token<'a>, after: Reader<'a>)
+pub(crate) fn hold<'a>(l: &mut Lexeme<'a>, r: Reader<'a>, token: Token<'a>, after: Reader<'a>)
     ensures { lexeme_of l.new ≡ held (place r.entry) (token_of token.entry, place after.entry) }
 {
     *l = Lexeme {
@@ -209,6 +209,7 @@ fn take_common<'a>(l: &mut Lexeme<'a>, r: Reader<'a>) -> bool
 }
 
 /// Holds the token at `r`.
+#[inline(always)]
 #[tactic(auto, using(crate::proofs::Digits::minus_sign))]
 pub(crate) fn take<'a>(l: &mut Lexeme<'a>, r: Reader<'a>) -> Result<(), Fault>
     ensures { Gives ⊥ (λ _. lexeme_of l.new) result (lexeme_from (place r.entry)) }
