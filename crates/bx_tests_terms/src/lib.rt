@@ -21,3 +21,5 @@ mod orders;
 mod printing;
 #[cfg(test)]
 mod refusals;
+#[cfg(test)]
+mod sums;
