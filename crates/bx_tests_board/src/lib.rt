@@ -9,3 +9,5 @@ mod books;
 mod campaigns;
 #[cfg(test)]
 mod samples;
+#[cfg(test)]
+mod watching;
