@@ -42,7 +42,7 @@ pub fn measure(rt: &HostRuntime, rounds: u32) -> Result<(), Trouble> {
 }
 
 /// Runs process 0 so often, and says how many choices were applied.
-fn run(alloc: Global, image: &Image, rounds: u32) -> Result<u64, Fault> {
+pub fn run(alloc: Global, image: &Image, rounds: u32) -> Result<u64, Fault> {
     let (Some(m), Some(f)) = (image.atoms().find("m"), image.atoms().find("f")) else {
         return Err(Fault::NoEntry);
     };

@@ -1,17 +1,23 @@
 //! Measures of `bxemu`, on standard error. Without arguments it does nothing.
 //!
-//! `bench listing ITEMS`, `bench choices ROUNDS`, `bench mailbox ROUNDS`, `bench fuzz ROUNDS`,
-//! `bench walk CHOICES`, `bench worlds ROUNDS`, `bench program CHOICES LISTING`, `bench forms ROUNDS LISTING`, `bench texts ROUNDS LISTING`.
+//! `bench listing ITEMS`, `bench choices ROUNDS`, `bench mailbox ROUNDS`, `bench worlds ROUNDS`, `bench ring ROUNDS`,
+//! `bench senders TURNS`, `bench session CHOICES`, `bench campaign SCHEDULES`, `bench units SCHEDULES`; over a listing in a file
+//! `bench program CHOICES FILE` and `bench forms ROUNDS FILE`; at random `bench fuzz ROUNDS`, `bench walk CHOICES`,
+//! `bench texts ROUNDS FILE`.
 #![tactic(auto)]
 
+mod campaigns;
 mod choices;
+mod crowds;
 mod fuzz;
 mod generated;
 mod listings;
 mod mailboxes;
 mod programs;
+mod sessions;
 mod texts;
 mod trouble;
+mod units;
 mod walks;
 mod worlds;
 
@@ -19,8 +25,21 @@ use crate::trouble::Trouble;
 use std::env;
 use std::process::ExitCode;
 
+/// A measure that starts threads, with how many schedules it runs.
+#[derive(Clone, Copy)]
+enum Threaded {
+    Campaign(u32),
+    Units(u32),
+}
+
 fn main(rt: HostRuntime) -> ExitCode {
-    match take(&rt) {
+    let taken = match by_threads(&rt) {
+        Ok(Some(Threaded::Campaign(schedules))) => campaigns::measure(&rt, schedules),
+        Ok(Some(Threaded::Units(schedules))) => units::measure(&rt, schedules),
+        Ok(None) => take(&rt),
+        Err(trouble) => Err(trouble),
+    };
+    match taken {
         Ok(()) => ExitCode::SUCCESS,
         Err(trouble) => {
             let _ = eprintln!(rt; "bench: {trouble}");
@@ -29,7 +48,20 @@ fn main(rt: HostRuntime) -> ExitCode {
     }
 }
 
-/// Takes the measure that the arguments ask for: a word, a number and, for some, a file.
+/// The measure that the arguments ask for, where it is one that starts threads.
+fn by_threads(rt: &HostRuntime) -> Result<Option<Threaded>, Trouble> {
+    let words: Vec<String> = env::args(rt)?.collect(rt.alloc())?;
+    let [_, word, number] = words.as_slice() else {
+        return Ok(None);
+    };
+    match word.as_str() {
+        "campaign" => Ok(Some(Threaded::Campaign(parsed(number.as_str())?))),
+        "units" => Ok(Some(Threaded::Units(parsed(number.as_str())?))),
+        _ => Ok(None),
+    }
+}
+
+/// Takes the measure that the arguments ask for, which starts no thread: a word, a number and, for some, a file.
 fn take(rt: &HostRuntime) -> Result<(), Trouble> {
     let words: Vec<String> = env::args(rt)?.collect(rt.alloc())?;
     match words.as_slice() {
@@ -59,6 +91,9 @@ fn by_number(rt: &HostRuntime, word: &str, number: u32) -> Result<(), Trouble> {
         "choices" => choices::measure(rt, number),
         "mailbox" => mailboxes::measure(rt, number),
         "fuzz" => fuzz::measure(rt, number),
+        "ring" => crowds::ring(rt, number),
+        "senders" => crowds::senders(rt, number),
+        "session" => sessions::measure(rt, number),
         "walk" => walks::measure(rt, number),
         "worlds" => worlds::measure(rt, number),
         _ => Err(Trouble::Usage),

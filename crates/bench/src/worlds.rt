@@ -96,7 +96,7 @@ fn snapshots(rt: &HostRuntime, rounds: u32) -> Result<(), Trouble> {
 }
 
 /// Tells what one of so many took.
-fn told(rt: &HostRuntime, name: &str, nanos: u128, rounds: u32) -> Result<(), Trouble> {
+pub fn told<R: Eprint>(rt: &R, name: &str, nanos: u128, rounds: u32) -> Result<(), Trouble> {
     if rounds > 0 {
         let tenths = nanos.saturating_mul(10) / u128::from(rounds);
         let whole = tenths / 10;
