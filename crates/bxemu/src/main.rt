@@ -4,6 +4,7 @@
 mod commands;
 mod laws;
 mod program;
+mod progress;
 mod syntax;
 
 use std::process::ExitCode;

@@ -9,26 +9,30 @@ ghost use Rattle.bxemu.specs.CommandLines.{NamesSession, TellsByLine, program};
 ghost use Rattle.bxemu.specs.Statuses.{status_after};
 
 use crate::commands::{Order, command_of};
+use crate::progress::Progress;
 use bx_debugger::debug_text;
-use bx_engine::{Failure, campaign_text, dis_text, fault_line, run_text, start_of};
+use bx_engine::{
+    Failure, campaign_text, dis_text, fault_line, run_text, start_of, watched_campaign_text,
+};
 use bx_terms::Fault;
 use clap::Error;
 use clap::error::ErrorKind;
 use std::alloc::{AllocError, Global};
-use std::io::{Read, Write};
+use std::io::{IsTerminal, Read, Write};
 use std::rt::{Env, Files};
 use std::sync::Wait;
 use std::thread::Threads;
+use std::time::Clock;
 use std::{env, fs, io};
 
 /// Does what the command line orders, with its text on `output` and lines on `errors`, and gives the status to end with,
 /// 0 to 4. `input` is read for a session alone.
 pub fn status_of_program<R, I, O, W>(rt: &R, input: &mut I, output: &mut O, errors: &mut W) -> u8
 where
-    R: Files + Env + Print + Eprint + AllocGlobal + Threads + Wait + Sync,
+    R: Files + Env + Print + Eprint + Clock + AllocGlobal + Threads + Wait + Sync,
     I: Read,
     O: Write,
-    W: Write,
+    W: Write + IsTerminal,
     ensures { result ≤ 4 }
 {
     let words = words_of(rt);
@@ -45,10 +49,10 @@ fn status_of_words<R, I, O, W>(
     errors: &mut W,
 ) -> u8
 where
-    R: Files + Print + Eprint + AllocGlobal + Threads + Wait + Sync,
+    R: Files + Print + Eprint + Clock + AllocGlobal + Threads + Wait + Sync,
     I: Read,
     O: Write,
-    W: Write,
+    W: Write + IsTerminal,
     ensures few { result ≤ 4 }
     ensures unwritten { (result ≡ 0) ⊎ (result ≡ 4)
         ⊎ IsOkAnd words.now (λ words. NamesSession (subcommand_of program (map string_bytes words.items)))
@@ -74,10 +78,10 @@ fn status_of_order<R, I, O, W>(
     errors: &mut W,
 ) -> u8
 where
-    R: Files + AllocGlobal + Threads + Wait + Sync,
+    R: Files + Eprint + Clock + AllocGlobal + Threads + Wait + Sync,
     I: Read,
     O: Write,
-    W: Write,
+    W: Write + IsTerminal,
     ensures few { result ≤ 4 }
     ensures unwritten { (result ≡ 0) ⊎ (result ≡ 4) ⊎ TellsByLine order.now ⊎ Keeps (O.contents output.old) (O.contents output.new) }
 {
@@ -122,7 +126,7 @@ where
     told(&ended, names.as_slice(), errors)
 }
 
-/// Does what `campaign` orders, and gives the status to end with.
+/// Does what `campaign` orders, and gives the status to end with. Where `errors` is a terminal, it is watched there.
 fn status_of_campaign<R, O, W>(
     rt: &R,
     start: &str,
@@ -133,9 +137,9 @@ fn status_of_campaign<R, O, W>(
     errors: &mut W,
 ) -> u8
 where
-    R: Files + AllocGlobal + Threads + Wait + Sync,
+    R: Files + Eprint + Clock + AllocGlobal + Threads + Wait + Sync,
     O: Write,
-    W: Write,
+    W: Write + IsTerminal,
     ensures few { result ≤ 4 }
     ensures unwritten { (result ≡ 0) ⊎ (result ≡ 4) ⊎ Keeps (O.contents output.old) (O.contents output.new) }
 {
@@ -143,7 +147,8 @@ where
         Ok(names) => names,
         Err(_) => return fault_line(&memory(), &[], errors),
     };
-    let ended = campaign(rt, start, names.as_slice(), workers, output);
+    let watched = errors.is_terminal();
+    let ended = campaign(rt, start, names.as_slice(), workers, watched, output);
     told(&ended, names.as_slice(), errors)
 }
 
@@ -276,22 +281,34 @@ where
     }
 }
 
-/// Looks at the start, opens all the files, the plan last, and then writes the report of the campaign.
+/// Looks at the start, opens all the files, the plan last, and then writes the report of the campaign. Where it is watched, a line
+/// on standard error tells how far it is, until the report is written.
 fn campaign<R, W>(
     rt: &R,
     start: &str,
     names: &[String],
     workers: u32,
+    watched: bool,
     writer: &mut W,
 ) -> Result<(), Failure>
 where
-    R: Files + AllocGlobal + Threads + Wait + Sync,
+    R: Files + Eprint + Clock + AllocGlobal + Threads + Wait + Sync,
     W: Write,
     ensures { IfErr result (λ failure. (failure ≡ Failure.Write) ⊎ Keeps (W.contents writer.old) (W.contents writer.new)) }
 {
     let _ = start_of(rt.alloc(), start)?;
     let mut inputs = open_all(rt, names)?;
     match inputs.split_last_mut() {
+        Some((plan, listings)) if watched => watched_campaign_text(
+            rt,
+            rt.alloc(),
+            listings,
+            start,
+            plan,
+            workers,
+            writer,
+            &Progress::new(rt),
+        ),
         Some((plan, listings)) => {
             campaign_text(rt, rt.alloc(), listings, start, plan, workers, writer)
         }
