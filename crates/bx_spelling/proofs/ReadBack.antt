@@ -23,7 +23,7 @@ use Rattle.bx_spelling.proofs.Finding.{standing}
 use Rattle.bx_spelling.proofs.Printing.{Delimits, Starts, integer_exact, atom_exact, integer_starts, atom_starts}
 
 -- the next token, where no blank stands before it
-next_by : (b : ℕ) (bs : List ℕ) (at line : ℕ) (u : Token) (q : Place) → is_space b ≡ false → eqb b 37 ≡ false → token_at (on (b ∷ bs) at line) ≡ Ok (u, q)
+pub next_by : (b : ℕ) (bs : List ℕ) (at line : ℕ) (u : Token) (q : Place) → is_space b ≡ false → eqb b 37 ≡ false → token_at (on (b ∷ bs) at line) ≡ Ok (u, q)
     → lexeme_at (on (b ∷ bs) at line) ≡ Ok (standing (on (b ∷ bs) at line) (u, q))
 next_by b bs at line u q s c h =
     ap (λ r. r >>= lexeme_from) (tests_by b bs at line false false c (not_line b s) s)
@@ -36,14 +36,14 @@ next_is bytes rest at line u q s h =
     (next_by s.first (s.more ++ rest) at line u q s.space s.percent) h
 
 -- a term is read from p on, up to this rest
-record Read (d : ℕ) (p : Place) (rest : List ℕ) (t : Tree) : Type 0 where
-  first : Lexeme
-  tree : Tree
-  end : Place
-  next : lexeme_at p ≡ Ok first
-  spells : Spells d first tree end
-  left : end.rest ≡ rest
-  same : unplaced tree ≡ unplaced t
+pub record Read (d : ℕ) (p : Place) (rest : List ℕ) (t : Tree) : Type 0 where
+  pub first : Lexeme
+  pub tree : Tree
+  pub end : Place
+  pub next : lexeme_at p ≡ Ok first
+  pub spells : Spells d first tree end
+  pub left : end.rest ≡ rest
+  pub same : unplaced tree ≡ unplaced t
 
 integer_meant : (u : Token) (n : ℤ) → meant u ≡ token.integer n → u ≡ token.integer n
 integer_meant (token.integer m) n e = e
@@ -71,7 +71,7 @@ atom_meant token.open_binary w e = cc
 atom_meant (token.mark m) w e = cc
 
 -- from each place
-abbrev Reads : ℕ → List ℕ → List ℕ → Tree → Type 0
+abbrev pub Reads : ℕ → List ℕ → List ℕ → Tree → Type 0
 Reads d bytes rest t = (at line : ℕ) → Read d (on (bytes ++ rest) at line) rest t
 
 integer_read : (d : ℕ) (n : ℤ) (t : Tree) (rest : List ℕ) → unplaced t ≡ integer nowhere n → Delimits rest → Reads d (integer_text n) rest t
@@ -102,7 +102,7 @@ delimits nil X d = d
 delimits (cons t u) X d = record { digits = refl; fraction = refl; name = refl }
 
 -- at the place where a term ended
-ended : {d : ℕ} {p : Place} {rest : List ℕ} {t : Tree} → (r : Read d p rest t) → Spells d r.first r.tree (on rest r.end.at r.end.line)
+pub ended : {d : ℕ} {p : Place} {rest : List ℕ} {t : Tree} → (r : Read d p rest t) → Spells d r.first r.tree (on rest r.end.at r.end.line)
 ended {d = d} {rest = rest} r = subst (Spells d r.first r.tree) (same_place r.end (on rest r.end.at r.end.line) r.left refl refl) r.spells
 
 -- the elements that follow one, up to a mark, which are those of u up to its tail
@@ -422,6 +422,10 @@ facts (cons a u) =
       listed = λ d rest h. bracketed_some d rest a u (f.node d (rest_text u ++ 93 ∷ rest) h.0 (delimits u (93 ∷ rest) (list_end rest))) (g.tails d rest h.1);
       tails = λ d rest h. listed_more d rest a u (f.node d (rest_text u ++ 93 ∷ rest) h.0 (delimits u (93 ∷ rest) (list_end rest))) (g.tails d rest h.1);
     }
+
+-- what is printed is read, where a delimiter follows
+pub printed_read : (t : Tree) (d : ℕ) (rest : List ℕ) → Shown d t → Delimits rest → Reads d (node_text t) rest t
+printed_read t = (facts t).node
 
 pub read_back : (t : Tree) → Shown 256 t → IsReadBack t
 read_back t h = by_read ((facts t).node 256 (46 ∷ []) h (record { digits = refl; fraction = refl; name = refl }) 0 1)
