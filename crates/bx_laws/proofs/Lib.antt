@@ -1,3 +1,9 @@
 pub mod Operands
 pub mod Forms
 pub mod Rows
+pub mod Trees
+pub mod WrittenTerms
+pub mod WrittenOperands
+pub mod WrittenSlots
+pub mod WrittenBifs
+pub mod WrittenItems
