@@ -7,3 +7,5 @@ pub mod WrittenOperands
 pub mod WrittenSlots
 pub mod WrittenBifs
 pub mod WrittenItems
+pub mod WrittenForms
+pub mod WrittenCode

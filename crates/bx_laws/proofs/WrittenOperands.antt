@@ -91,7 +91,7 @@ nil_printed d names = word_printed d (codes "nil") (plain_utf8 (codes "nil") ref
 
 -- functions, amounts, BIFs
 
-three_joined : (a b c : List ℕ) → ((((a ++ 44 ∷ []) ++ b) ++ 44 ∷ []) ++ c) ++ 125 ∷ [] ≡ a ++ 44 ∷ (b ++ 44 ∷ (c ++ 125 ∷ []))
+pub three_joined : (a b c : List ℕ) → ((((a ++ 44 ∷ []) ++ b) ++ 44 ∷ []) ++ c) ++ 125 ∷ [] ≡ a ++ 44 ∷ (b ++ 44 ∷ (c ++ 125 ∷ []))
 three_joined a b c = simp append_assoc
 
 two_joined : (a b : List ℕ) → ((a ++ 44 ∷ []) ++ b) ++ 125 ∷ [] ≡ a ++ 44 ∷ (b ++ 125 ∷ [])

@@ -1,3 +1,4 @@
 pub mod Marks
 pub mod Values
 pub mod Writable
+pub mod ReadBack

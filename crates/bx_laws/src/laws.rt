@@ -7,8 +7,18 @@ ghost use Rattle.bx_listing.specs.Items.{Item};
 ghost use Rattle.bx_listing.specs.ListedItems.{IsItem};
 ghost use Rattle.bx_asm.specs.Decoding.{instruction_of};
 ghost use Rattle.bx_laws.specs.Marks.{is_mark};
+ghost use Rattle.bx_laws.specs.ReadBack.{IsReadBack};
+ghost use Rattle.bx_laws.specs.Writable.{IsWritable};
+ghost use Rattle.bx_listing.specs.Code.{Code};
+ghost use Rattle.bx_terms.specs.AtomTable.{IsAtomTable};
 
 /// What is listed as an item is an instruction, unless it is a label or a line, which are none.
 pub fn a_listed_item_is_an_instruction_or_a_mark()
     ensures { (before behind : Table) (t : Tree) (i : Item) → IsItem before t i behind → is_some (instruction_of i) ≡ not (is_mark i.op) }
+{}
+
+/// What is written of a code form is read as a listing with that code form, and names no atom that the table lacks, where the
+/// code form is one that a listing can say: its operands are those of the table of opcodes, and each can be spelled and read.
+pub fn a_written_code_is_read_back()
+    ensures { (names : Table) (c : Code) → IsAtomTable names → IsWritable names c → IsReadBack names c }
 {}
