@@ -1,10 +1,9 @@
 -- Rows of operands that fit are instructions, form by form.
 use Rattle.std.proofs.Common.{◌≡◌, ℕ, true, List, [], ◌∷◌, Option, refl}
 use Rattle.std.specs.Prelude.{is_some, option_map}
-use Rattle.bx_ops.specs.declared.sorts.Sort.{Sort}
 use Rattle.bx_ops.specs.declared.sorts.Sort.TheVariants as sorts
 use Rattle.bx_ops.specs.declared.sorts.Slot.{Slot}
-use Rattle.bx_ops.specs.declared.sorts.Slot.TheVariants.{One, Many, Pairs, NoLabel, ToX0, Heap}
+use Rattle.bx_ops.specs.declared.sorts.Slot.TheVariants.{One, Many, Pairs, NoLabel, ToX0}
 use Rattle.bx_listing.specs.declared.items.Operand.{Operand}
 use Rattle.bx_listing.specs.Fits.{is_row}
 use Rattle.bx_asm.specs.declared.instruction.CallKind.{CallKind}

@@ -1,5 +1,5 @@
 -- Texts that are printed terms, and what is known of every term that such a text is read as, wherever its parts stand.
-use Rattle.std.proofs.Common.{◌≡◌, ℕ, zero, suc, ◌+◌, ◌≤◌, ◌<◌, ◌^◌, Bool, true, false, ◌&&◌, List, [], ◌∷◌, ◌++◌, length, map, Option, Some, None, ℤ, pos, negsuc, refl, sym, ap, ◌∙◌, subst, arith, if◌then◌else◌, append_assoc, append-nil, decimal, IsUtf8, codes}
+use Rattle.std.proofs.Common.{◌≡◌, ℕ, suc, ◌≤◌, ◌<◌, ◌^◌, Bool, true, false, List, [], ◌∷◌, ◌++◌, map, Some, None, ℤ, pos, negsuc, refl, sym, ap, ◌∙◌, subst, arith, if◌then◌else◌, append_assoc, decimal, IsUtf8, codes}
 use Rattle.std.specs.Prelude.{nat_le, nat_lt, option_map}
 use Rattle.std.specs.List.{AllByRecursion, list_all}
 use Rattle.std.specs.Fmt.{signed_decimal}
@@ -13,11 +13,11 @@ use lib.Signed.{mag}
 use Rattle.bx_terms.specs.AtomText.{printed_atom}
 use Rattle.bx_text.specs.declared.node.Span.{Span}
 use Rattle.bx_text.specs.Number.{is_large}
-use Rattle.bx_text.specs.Printed.{integer_text, node_text, row_text, rest_text}
+use Rattle.bx_text.specs.Printed.{integer_text, node_text, rest_text}
 use Rattle.bx_text.specs.Tree.{Tree, integer, atom, tuple, list, other, nil, cons, chain}
 use Rattle.bx_text.proofs.Shown.{small_text}
 use Rattle.bx_spelling.specs.Shown.{Shown, ShownRow, ShownList, ShownRest, nowhere, unplaced}
-use Rattle.bx_listing.specs.Shape.{Shape, bare, tagged, shape, elements, number, in_range, word, proper, list_elements}
+use Rattle.bx_listing.specs.Shape.{tagged, shape, elements, number, in_range, word, proper, list_elements}
 
 -- a text that a term is printed as, and what every term is that differs from it only in its spans
 pub record Printed (d : ℕ) (text : List ℕ) (Is : Tree → Type 0) : Type 0 where

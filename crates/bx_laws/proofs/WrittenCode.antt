@@ -1,24 +1,23 @@
 -- What is written of a code form is read as the same code form.
-use Rattle.std.proofs.Common.{◌≡◌, ℕ, List, [], ◌∷◌, ◌++◌, map, refl, sym, ap, ◌∙◌, subst, codes, decimal, append_assoc}
+use Rattle.std.proofs.Common.{◌≡◌, ℕ, List, [], ◌∷◌, ◌++◌, map, sym, ap, ◌∙◌, subst, codes, decimal, append_assoc}
 use Rattle.std.specs.List.{flat_map}
 use Rattle.bx_terms.specs.AtomTable.{IsAtomTable}
 use Rattle.bx_text.specs.Place.{place_in}
 use Rattle.bx_text.specs.Tree.{Tree}
 use Rattle.bx_spelling.proofs.Frame.{on}
-use Rattle.bx_listing.specs.Reading.{Table, read}
-use Rattle.bx_listing.specs.Forms.{Forms, form, forms, last_line}
+use Rattle.bx_listing.specs.Reading.{Table}
+use Rattle.bx_listing.specs.Forms.{Forms, form, forms}
 use Rattle.bx_listing.specs.FormsOf.{AreForms}
 use Rattle.bx_listing.specs.Listed.{IsModule, IsExports, IsAttributes, IsListing, with_attributes}
 use Rattle.bx_listing.specs.ListedCode.{ListedModule}
-use Rattle.bx_listing.specs.Listing.{listing}
 use Rattle.bx_listing.specs.Code.{Code, code}
-use Rattle.bx_listing.specs.Writing.{name_text, function_text, offer_text, greatest_label, label_count, module_text, exports_text, labels_text, code_text}
+use Rattle.bx_listing.specs.Writing.{name_text, function_text, offer_text, greatest_label, label_count, module_text, exports_text, code_text}
 use Rattle.bx_listing.proofs.FormsOf.{forms_are_those}
 use Rattle.bx_listing.proofs.Listed.{listings_are}
 use Rattle.bx_laws.specs.Writable.{IsWritable}
 use Rattle.bx_laws.specs.ReadBack.{IsReadBack}
 use Rattle.bx_laws.proofs.Trees.{between}
-use Rattle.bx_laws.proofs.WrittenForms.{Below, form_ahead, form_first, Functions, functions_below, module_printed, module_text_is, exports_printed, exports_text_is, attributes_printed, labels_printed, labels_text_is, count_low}
+use Rattle.bx_laws.proofs.WrittenForms.{Below, form_ahead, form_first, functions_below, module_printed, module_text_is, exports_printed, exports_text_is, attributes_printed, labels_printed, labels_text_is, count_low}
 
 -- forms that are a listing with this code form
 abbrev IsCode : Table → Code → Forms → Type 0

@@ -1,17 +1,14 @@
 -- Texts of forms, a line each, are read as those forms.
-use Rattle.std.proofs.Common.{◌≡◌, ℕ, zero, suc, ◌+◌, ◌≤◌, ◌<◌, max, Bool, true, false, List, [], ◌∷◌, ◌++◌, map, fold, Option, Some, None, Ok, refl, sym, ap, ◌∙◌, subst, arith, codes, decimal, append_assoc, if◌then◌else◌}
+use Rattle.std.proofs.Common.{◌≡◌, ℕ, suc, ◌+◌, ◌≤◌, ◌<◌, Bool, true, false, List, [], ◌∷◌, ◌++◌, map, fold, Some, refl, sym, ap, ◌∙◌, subst, arith, codes, decimal, append_assoc, if◌then◌else◌}
 use Rattle.std.specs.Prelude.{nat_lt}
 use Rattle.std.specs.List.{AllByRecursion, flat_map}
 use Rattle.std.proofs.lemmas.Bool.Decides.{nat_tests}
 use Rattle.bx_terms.specs.declared.atom_table.AtomId.{AtomId}
 use Rattle.bx_terms.specs.AtomTable.{IsAtomTable}
-use Rattle.bx_text.specs.Place.{Place}
 use Rattle.bx_text.specs.Tree.{Tree, span_of}
-use Rattle.bx_text.specs.Grammar.{Form}
 use Rattle.bx_text.specs.Printed.{node_text}
 use Rattle.bx_spelling.proofs.Frame.{on}
-use Rattle.bx_spelling.proofs.FormsBack.{FormRead, form_here, form_below}
-use Rattle.bx_ops.specs.Opcodes.{opcode}
+use Rattle.bx_spelling.proofs.FormsBack.{form_here, form_below}
 use Rattle.bx_ops.specs.Table.{slots, way}
 use Rattle.bx_listing.specs.declared.code_form.Export.{Export}
 use Rattle.bx_listing.specs.declared.items.Operand.{Operand}
@@ -21,7 +18,6 @@ use Rattle.bx_listing.specs.Shape.{tagged, list_elements}
 use Rattle.bx_listing.specs.Items.{Item, PlacedItem}
 use Rattle.bx_listing.specs.Forms.{Forms, ends, form}
 use Rattle.bx_listing.specs.FormsOf.{AreForms, none_follows, one_follows}
-use Rattle.bx_listing.specs.ListedItems.{Tuple, Number, Atom, IsItem}
 use Rattle.bx_listing.specs.Listed.{IsFunction, AreItems, no_more, an_item, AreFunctions, no_function, a_function, IsModule, IsExport, AreExports, no_export, an_export, IsExports, IsAttributes, IsLabels}
 use Rattle.bx_listing.specs.ListedCode.{ListedFunction}
 use Rattle.bx_listing.specs.Code.{CodeFunction, items_of, function_code_of}
@@ -102,9 +98,11 @@ functions_below names (f ∷ fs) table a =
     (line_joined (codes "{function," ++ name_text names f.name ++ codes "," ++ decimal f.arity ++ codes "," ++ decimal f.entry ++ codes "}") (flat_map (item_text names) f.items) (flat_map (function_text names) fs)
     ∙ ap (λ w. (w ++ flat_map (item_text names) f.items) ++ flat_map (function_text names) fs) (head_text_is names f))
     (form_ahead (head_printed names f table a.0) (items_below names f.items table a.0.3 (functions_below names fs table a.1)) (λ line u forms head x.
-    let (placed, left, are, same, (listed, others, rest)) = x in
-    (record { name = f.name; arity = f.arity; entry = f.entry; items = placed } ∷ listed, a_function head are others,
-    ap (λ is. record { name = f.name; arity = f.arity; entry = f.entry; items = is } ∷ map function_code_of listed) same ∙ ap (λ fs. f ∷ fs) rest)))
+    let (placed, left, are, same, (listed, others, rest)) = x in (
+      record { name = f.name; arity = f.arity; entry = f.entry; items = placed } ∷ listed,
+      a_function head are others,
+      ap (λ is. record { name = f.name; arity = f.arity; entry = f.entry; items = is } ∷ map function_code_of listed) same ∙ ap (λ fs. f ∷ fs) rest,
+    )))
 
 -- the head of a listing
 

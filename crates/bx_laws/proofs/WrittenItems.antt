@@ -1,11 +1,10 @@
 -- The text of an instruction, a label or a line mark is read as the same item.
-use Rattle.std.proofs.Common.{◌≡◌, ◌≢◌, ℕ, zero, suc, ◌+◌, ◌-◌, ◌≤◌, ◌<◌, Bool, true, false, ◌&&◌, List, [], ◌∷◌, ◌++◌, map, length, take, drop, Option, Some, None, refl, sym, ap, ◌∙◌, subst, arith, codes, append_assoc}
+use Rattle.std.proofs.Common.{◌≡◌, ℕ, suc, Bool, true, ◌&&◌, List, [], ◌∷◌, ◌++◌, map, length, take, drop, Some, refl, sym, ap, ◌∙◌, subst, codes, append_assoc}
 use Rattle.std.specs.Prelude.{nat_lt}
 use Rattle.std.specs.List.{AllByRecursion, list_all}
 use Rattle.bx_terms.specs.AtomTable.{IsAtomTable}
 use Rattle.bx_terms.specs.AtomText.{printed_atom}
 use Rattle.bx_text.specs.Tree.{Tree}
-use Rattle.bx_ops.specs.declared.guard_bif.Bif.{Bif}
 use Rattle.bx_ops.specs.declared.opcode.Op.{Op}
 use Rattle.bx_ops.specs.declared.opcode.Op.TheVariants as ops
 use Rattle.bx_ops.specs.Opcodes.{opcode}
@@ -17,19 +16,18 @@ use Rattle.bx_ops.specs.declared.sorts.Way.{Way}
 use Rattle.bx_ops.specs.declared.sorts.Way.TheVariants as ways
 use Rattle.bx_ops.specs.Table.{slots, way}
 use Rattle.bx_listing.specs.declared.items.Operand.{Operand}
-use Rattle.bx_listing.specs.declared.items.Operand.TheVariants as operands
 use Rattle.bx_listing.specs.Reading.{Table}
 use Rattle.bx_listing.specs.Shape.{tagged, word, list_elements}
 use Rattle.bx_listing.specs.Items.{Item}
 use Rattle.bx_listing.specs.Rows.{agrees}
-use Rattle.bx_listing.specs.ListedItems.{IsOperand, IsRegister, Target, AreSlots, no_slot, a_slot, an_operand, no_label, to_x0, IsWritten, bare, plain, test, bif, gc_bif, raise, IsItem}
-use Rattle.bx_listing.specs.Writing.{operand_text, added_text, list_text, grouped_text, bif_text, way_text, item_text}
+use Rattle.bx_listing.specs.ListedItems.{AreSlots, no_slot, a_slot, an_operand, bare, plain, test, IsItem}
+use Rattle.bx_listing.specs.Writing.{operand_text, list_text, grouped_text, way_text}
 use Rattle.bx_listing.specs.Fits.{is_one, is_row}
 use Rattle.bx_listing.proofs.ListedItems.{no_slots}
 use Rattle.bx_laws.specs.Writable.{IsWritableOperand, FaultIsSaid, depth_left, IsWritableItem}
 use Rattle.bx_laws.proofs.Operands.{both, one, end, row1, row4}
-use Rattle.bx_laws.proofs.Trees.{Printed, PrintedAll, reworded, behind, plain_utf8, word_printed, none_printed, more_printed, tagged_printed, list_printed}
-use Rattle.bx_laws.proofs.WrittenOperands.{one_part, part, suits, operand_printed, fail_printed, no_label_printed, to_x0_printed}
+use Rattle.bx_laws.proofs.Trees.{Printed, PrintedAll, reworded, plain_utf8, word_printed, none_printed, more_printed, tagged_printed, list_printed}
+use Rattle.bx_laws.proofs.WrittenOperands.{one_part, part, suits, operand_printed}
 use Rattle.bx_laws.proofs.WrittenSlots.{list_text_is, suit_all, row_printed}
 use Rattle.bx_laws.proofs.WrittenBifs.{IsOf, grouped_is, bif0_item, bif1_item, bif2_item, gc_bif1_item, gc_bif2_item, raise_item}
 

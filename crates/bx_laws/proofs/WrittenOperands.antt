@@ -1,5 +1,5 @@
 -- The text of an operand is read as the same operand.
-use Rattle.std.proofs.Common.{◌≡◌, ◌≢◌, ℕ, ℤ, zero, suc, ◌+◌, ◌≤◌, ◌<◌, Bool, true, false, List, [], ◌∷◌, ◌++◌, map, length, Option, Some, None, Ok, refl, sym, ap, ◌∙◌, subst, arith, IsUtf8, codes, slice_get, decimal, append_assoc, nat_eq, eqb, if◌then◌else◌}
+use Rattle.std.proofs.Common.{◌≡◌, ◌≢◌, ℕ, ℤ, suc, ◌≤◌, Bool, true, false, List, [], ◌∷◌, ◌++◌, Some, refl, sym, ap, ◌∙◌, subst, arith, codes, decimal, append_assoc, nat_eq, if◌then◌else◌}
 use Rattle.std.specs.Prelude.{nat_le, nat_lt, ◌==◌}
 use Rattle.std.specs.List.{list_all}
 use Rattle.std.proofs.lemmas.Fmt.{decimal_digit}
@@ -11,7 +11,7 @@ use Rattle.bx_terms.specs.Printed.{printed_name}
 use Rattle.bx_terms.specs.Tree as term
 use Rattle.bx_text.specs.declared.node.Span.{Span}
 use Rattle.bx_text.specs.Number.{is_large}
-use Rattle.bx_text.specs.Tree.{Tree, integer, atom}
+use Rattle.bx_text.specs.Tree.{Tree, integer}
 use Rattle.bx_ops.specs.declared.guard_bif.Bif.{Bif}
 use Rattle.bx_ops.specs.declared.guard_bif.Bif.TheVariants as bifs
 use Rattle.bx_ops.specs.GuardBifs.{guard_bif, guard_bif_with}
@@ -23,15 +23,15 @@ use Rattle.bx_listing.specs.declared.items.Amount.{Amount}
 use Rattle.bx_listing.specs.declared.items.Operand.{Operand}
 use Rattle.bx_listing.specs.declared.items.Operand.TheVariants as operands
 use Rattle.bx_listing.specs.Reading.{Table}
-use Rattle.bx_listing.specs.Shape.{shape, tagged, word, number}
+use Rattle.bx_listing.specs.Shape.{tagged, word}
 use Rattle.bx_listing.specs.Operands.{fail_label}
-use Rattle.bx_listing.specs.ListedTerms.{Names, IsTerm}
-use Rattle.bx_listing.specs.ListedItems.{Tuple, Number, Atom, AtomOperand, IntegerOperand, Target, IsRegister, in_x, in_y, IsValue, an_integer, an_atom, IsSource, a_register, a_value, a_nil, a_literal, IsCallee, IsAmount, IsBif, IsPlain, IsOperand}
+use Rattle.bx_listing.specs.ListedTerms.{Names}
+use Rattle.bx_listing.specs.ListedItems.{Tuple, Number, Atom, AtomOperand, IntegerOperand, Target, IsRegister, in_x, in_y, IsValue, an_integer, an_atom, IsSource, a_register, a_value, a_nil, a_literal, IsCallee, IsAmount, IsBif, IsOperand}
 use Rattle.bx_listing.specs.Writing.{name_text, operand_text}
 use Rattle.bx_listing.specs.Fits.{is_one}
 use Rattle.bx_laws.specs.Values.{IsLiteral}
 use Rattle.bx_laws.specs.Writable.{IsHeld, InRange, IsWritableOperand}
-use Rattle.bx_laws.proofs.Trees.{Printed, PrintedAll, weaker, reworded, behind, plain_utf8, word_printed, integer_printed, number_printed, none_printed, more_printed, tagged_printed}
+use Rattle.bx_laws.proofs.Trees.{Printed, PrintedAll, weaker, reworded, plain_utf8, word_printed, integer_printed, number_printed, none_printed, more_printed, tagged_printed}
 use Rattle.bx_laws.proofs.WrittenTerms.{known, name_printed, term_printed}
 
 -- parts of tuples

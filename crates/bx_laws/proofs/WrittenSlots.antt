@@ -1,7 +1,7 @@
 -- The text of operands in their places is read as the same operands.
-use Rattle.std.proofs.Common.{◌≡◌, ℕ, zero, suc, ◌+◌, ◌≤◌, ◌<◌, ◌%◌, Bool, true, false, ◌&&◌, List, [], ◌∷◌, ◌++◌, map, length, take, drop, Option, Some, None, refl, sym, ap, ◌∙◌, subst, arith, codes, append_assoc, append-nil, take-append-drop, length-take, eqb}
+use Rattle.std.proofs.Common.{◌≡◌, ℕ, zero, suc, ◌+◌, ◌≤◌, ◌%◌, Bool, true, false, ◌&&◌, List, [], ◌∷◌, ◌++◌, map, length, take, drop, Some, refl, sym, ap, ◌∙◌, subst, arith, codes, append_assoc, take-append-drop, length-take}
 use Rattle.std.specs.Prelude.{nat_le, ◌==◌}
-use Rattle.std.specs.List.{AllByRecursion, flat_map}
+use Rattle.std.specs.List.{AllByRecursion}
 use Rattle.std.proofs.lemmas.Bool.Decides.{nat_tests}
 use Rattle.bx_terms.specs.AtomTable.{IsAtomTable}
 use Rattle.bx_text.specs.Tree.{Tree}
@@ -13,9 +13,8 @@ use Rattle.bx_listing.specs.declared.items.Operand.{Operand}
 use Rattle.bx_listing.specs.declared.items.Operand.TheVariants as operands
 use Rattle.bx_listing.specs.Reading.{Table}
 use Rattle.bx_listing.specs.Shape.{list_elements}
-use Rattle.bx_listing.specs.Rows.{is_even}
-use Rattle.bx_listing.specs.ListedItems.{Tuple, AreMembers, no_member, a_member, IsList, AreAmounts, IsOperand, IsSlot, an_operand, a_list, pairs, a_size, amounts, AreSlots, no_slot, a_slot}
-use Rattle.bx_listing.specs.Writing.{operand_text, added_text, joined_text, list_text, slot_text, operand_span, slot_span, slots_text}
+use Rattle.bx_listing.specs.ListedItems.{AreMembers, no_member, a_member, IsSlot, an_operand, a_list, pairs, a_size, amounts, AreSlots, no_slot, a_slot}
+use Rattle.bx_listing.specs.Writing.{operand_text, added_text, list_text, slot_text, operand_span, slot_span, slots_text}
 use Rattle.bx_listing.specs.Fits.{is_one, are_members, begin_members, is_row}
 use Rattle.bx_laws.specs.Writable.{IsWritableOperand}
 use Rattle.bx_laws.proofs.Operands.{both}

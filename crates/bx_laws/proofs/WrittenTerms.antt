@@ -1,12 +1,9 @@
 -- The text of an atom and of a literal's term is read as the same one.
-use Rattle.std.proofs.Common.{◌≡◌, ℕ, ℤ, zero, suc, ◌+◌, ◌≤◌, ◌<◌, Bool, true, false, List, [], ◌∷◌, ◌++◌, length, get_or, Option, Some, None, Ok, max, refl, sym, ap, ◌∙◌, subst, arith, IsUtf8, codes, slice_get}
+use Rattle.std.proofs.Common.{◌≡◌, ℕ, ℤ, zero, suc, ◌+◌, ◌≤◌, ◌<◌, false, List, [], ◌∷◌, ◌++◌, length, get_or, Some, max, refl, sym, ap, ◌∙◌, subst, arith, IsUtf8, codes, slice_get}
 use Rattle.std.specs.Fmt.{signed_decimal}
 use Rattle.std.proofs.lemmas.Option.{slice_get-get_or}
 use Rattle.std.proofs.lemmas.Str.{IsUtf8-from_is_utf8}
-use Rattle.bx_terms.specs.declared.atom_table.AtomId.{AtomId}
 use Rattle.bx_terms.specs.AtomTable.{IsAtomTable}
-use Rattle.bx_terms.specs.AtomText.{printed_atom}
-use Rattle.bx_terms.specs.Naming.{naming}
 use Rattle.bx_terms.specs.Printed.{printed, printed_name, printed_tail, printed_elements}
 use Rattle.bx_terms.specs.Tree as term
 use Rattle.bx_terms.proofs.AtomLaws.{number_at}
@@ -15,12 +12,11 @@ use Rattle.bx_text.specs.declared.node.Span.{Span}
 use Rattle.bx_text.specs.Number.{is_large}
 use Rattle.bx_text.specs.Printed.{node_text, row_text, rest_text}
 use Rattle.bx_text.specs.Tree.{Tree, integer, atom, tuple, list, nil, cons}
-use Rattle.bx_spelling.specs.Shown.{Shown, ShownRow, ShownList, ShownRest, nowhere, unplaced}
+use Rattle.bx_spelling.specs.Shown.{ShownRow, ShownRest, nowhere, unplaced}
 use Rattle.bx_listing.specs.Reading.{Table}
-use Rattle.bx_listing.specs.Shape.{word}
 use Rattle.bx_listing.specs.ListedTerms.{Names, IsTerm, an_int, a_name, a_tuple, a_list, AreElements, no_element, an_element, IsRow, an_end, a_tail, a_cell}
 use Rattle.bx_laws.specs.Values.{IsValue, AreValues, nesting, inner_nesting}
-use Rattle.bx_laws.proofs.Trees.{Printed, weaker, word_printed, integer_printed, integer_shown, integer_is, tuple_is, list_is, nil_is, cons_is, atom_is}
+use Rattle.bx_laws.proofs.Trees.{Printed, integer_printed, integer_shown, integer_is, tuple_is, list_is, nil_is, cons_is, atom_is}
 
 -- an atom of the table, its text, and that the text names it
 pub record Known (names : Table) (a : ℕ) : Type 0 where

@@ -1,5 +1,5 @@
 -- Which terms a listing can write as literals: those that it can spell, nested and built as high as is read.
-use Rattle.std.specs.Prelude.{◌≡◌, ◌≤◌, ◌<◌, ℕ, ◌+◌, max, false, List, length}
+use Rattle.std.specs.Prelude.{◌≡◌, ◌≤◌, ◌<◌, ℕ, ◌+◌, max, false, length}
 use Rattle.bx_terms.specs.Tree.{Tree, int, atom, pid, tuple, nil, cons, height}
 use Rattle.bx_text.specs.Number.{is_large}
 use Rattle.bx_listing.specs.Reading.{Table}
