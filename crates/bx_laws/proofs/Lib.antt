@@ -9,3 +9,7 @@ pub mod WrittenBifs
 pub mod WrittenItems
 pub mod WrittenForms
 pub mod WrittenCode
+pub mod Depths
+pub mod ReadOperands
+pub mod ReadItems
+pub mod ReadCode
