@@ -1,5 +1,5 @@
 -- How deep the brackets of a term that was read nest, and those of its parts.
-use Rattle.std.proofs.Common.{◌≡◌, ℕ, zero, suc, ◌+◌, ◌≤◌, max, List, [], ◌∷◌, ◌++◌, map, Option, Some, None, pos, refl, sym, ap, ◌∙◌, subst, arith}
+use Rattle.std.proofs.Common.{◌≡◌, ℕ, suc, ◌+◌, ◌≤◌, max, List, [], ◌∷◌, ◌++◌, map, Option, Some, None, pos, refl, subst, arith}
 use Rattle.std.specs.Prelude.{option_map, chars}
 use Rattle.std.specs.List.{AllByRecursion}
 use Rattle.bx_text.specs.declared.node.Span.{Span}

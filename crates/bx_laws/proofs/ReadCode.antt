@@ -1,5 +1,5 @@
 -- Code that was read is code that can be written.
-use Rattle.std.proofs.Common.{◌≡◌, ℕ, ◌≤◌, List, [], ◌∷◌, length, map, refl, arith}
+use Rattle.std.proofs.Common.{◌≡◌, ℕ, ◌≤◌, List, length, map, refl, arith}
 use Rattle.std.specs.List.{AllByRecursion}
 use Rattle.bx_terms.specs.AtomTable.{IsAtomTable}
 use Rattle.bx_text.specs.Place.{place_in}
@@ -8,14 +8,14 @@ use Rattle.bx_listing.specs.declared.code_form.Export.{Export}
 use Rattle.bx_listing.specs.Reading.{Table, read}
 use Rattle.bx_listing.specs.Items.{PlacedItem}
 use Rattle.bx_listing.specs.Forms.{Forms, forms, last_line}
-use Rattle.bx_listing.specs.Listed.{AreItems, no_more, an_annotation, an_item, AreFunctions, no_function, a_function, IsModule, AreExports, no_export, an_export, IsExports, IsListing, plain, with_attributes}
+use Rattle.bx_listing.specs.Listed.{AreItems, no_more, an_annotation, an_item, AreFunctions, no_function, a_function, AreExports, no_export, an_export, IsListing, plain, with_attributes}
 use Rattle.bx_listing.specs.ListedCode.{ListedFunction, ListedModule}
 use Rattle.bx_listing.specs.Listing.{listing}
 use Rattle.bx_listing.specs.Code.{items_of, function_code_of, code}
 use Rattle.bx_listing.proofs.FormsOf.{forms_are_those}
 use Rattle.bx_listing.proofs.Listed.{listings_are}
 use Rattle.bx_laws.specs.ReadBack.{IsReadBack}
-use Rattle.bx_laws.specs.Writable.{IsHeld, IsWritableItem, IsWritableFunction, IsWritableExport, IsWritable}
+use Rattle.bx_laws.specs.Writable.{IsWritableItem, IsWritableFunction, IsWritableExport, IsWritable}
 use Rattle.bx_laws.proofs.Depths.{FormsLow, forms_low}
 use Rattle.bx_laws.proofs.ReadOperands.{Within, named_within, number_low}
 use Rattle.bx_laws.proofs.ReadItems.{item_writable}

@@ -1,6 +1,6 @@
 -- An item that was read is one that can be written.
-use Rattle.std.proofs.Common.{◌≡◌, ◌≢◌, ℕ, zero, suc, ◌+◌, ◌≤◌, Bool, true, false, ◌&&◌, List, [], ◌∷◌, ◌++◌, length, drop, Option, Some, None, refl, sym, ap, ◌∙◌, subst, arith, codes, nat_eq, if◌then◌else◌}
-use Rattle.std.specs.Prelude.{nat_le, ◌==◌}
+use Rattle.std.proofs.Common.{◌≡◌, ◌≢◌, ℕ, suc, ◌≤◌, Bool, true, false, ◌&&◌, List, [], ◌∷◌, ◌++◌, length, drop, Some, None, refl, sym, ◌∙◌, subst, arith, codes, nat_eq, if◌then◌else◌}
+use Rattle.std.specs.Prelude.{nat_le}
 use Rattle.std.specs.List.{AllByRecursion}
 use Rattle.std.proofs.lemmas.Bool.Decides.{nat_tests, Decides-eqb}
 use Rattle.bx_text.specs.Tree.{Tree}
@@ -12,7 +12,6 @@ use Rattle.bx_ops.specs.declared.sorts.Sort.{Sort}
 use Rattle.bx_ops.specs.declared.sorts.Sort.TheVariants as sorts
 use Rattle.bx_ops.specs.declared.sorts.Slot.{Slot}
 use Rattle.bx_ops.specs.declared.sorts.Slot.TheVariants as slot_kinds
-use Rattle.bx_ops.specs.declared.sorts.Way.{Way}
 use Rattle.bx_ops.specs.declared.sorts.Way.TheVariants as ways
 use Rattle.bx_ops.specs.Table.{slots, way}
 use Rattle.bx_listing.specs.declared.items.Operand.{Operand}
@@ -21,7 +20,7 @@ use Rattle.bx_listing.specs.Reading.{Table}
 use Rattle.bx_listing.specs.Items.{Item}
 use Rattle.bx_listing.specs.Operands.{fail_label}
 use Rattle.bx_listing.specs.Ways.{bif_op, gc_bif_op}
-use Rattle.bx_listing.specs.ListedItems.{IsOperand, AreMembers, IsSlot, an_operand, a_list, pairs, no_label, a_size, amounts, to_x0, AreSlots, no_slot, a_slot, IsWritten, bare, plain, test, bif, gc_bif, raise, raise_bif, IsItem}
+use Rattle.bx_listing.specs.ListedItems.{IsSlot, an_operand, a_list, pairs, no_label, a_size, amounts, to_x0, AreSlots, no_slot, a_slot, IsWritten, bare, plain, test, bif, gc_bif, raise, raise_bif, IsItem}
 use Rattle.bx_listing.specs.Fits.{is_one, is_row}
 use Rattle.bx_listing.specs.Rows.{agrees}
 use Rattle.bx_listing.proofs.ListedItems.{no_slots}

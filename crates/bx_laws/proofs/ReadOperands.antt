@@ -1,27 +1,24 @@
 -- An operand that was read is one that can be written.
-use Rattle.std.proofs.Common.{◌≡◌, ◌≢◌, ℕ, zero, suc, ◌+◌, ◌≤◌, ◌<◌, max, Bool, true, false, ◌&&◌, List, [], ◌∷◌, ◌++◌, length, Option, Some, None, Ok, ℤ, pos, negsuc, refl, sym, ap, ◌∙◌, subst, arith, codes, nat_eq, if◌then◌else◌, ⊎_elim, length-append, position}
+use Rattle.std.proofs.Common.{◌≡◌, ℕ, suc, ◌+◌, ◌≤◌, Bool, true, false, List, [], ◌∷◌, length, Some, None, pos, refl, sym, ap, subst, arith, codes, nat_eq, if◌then◌else◌, ⊎_elim, length-append}
 use Rattle.std.specs.Prelude.{nat_le, bytes_eq}
 use Rattle.std.specs.List.{AllByRecursion}
 use Rattle.std.proofs.lemmas.Bool.Decides.{nat_tests}
 use Rattle.std.proofs.lemmas.List.Quantifiers.{position-Some}
 use Rattle.bx_terms.specs.declared.atom_table.AtomId.{AtomId}
-use Rattle.bx_terms.specs.AtomTable.{number_of}
 use Rattle.bx_terms.specs.Tree as term
 use Rattle.bx_terms.proofs.AtomLaws.{named_cases}
-use Rattle.bx_text.specs.Number.{is_large}
-use Rattle.bx_text.specs.Tree.{Tree, integer, atom, tuple, list, other, nil, cons}
+use Rattle.bx_text.specs.Tree.{Tree, integer}
 use Rattle.bx_ops.specs.declared.sorts.Sort.{Sort}
 use Rattle.bx_ops.specs.declared.sorts.Sort.TheVariants as sorts
 use Rattle.bx_listing.specs.declared.items.Operand.{Operand}
 use Rattle.bx_listing.specs.declared.items.Operand.TheVariants as operands
 use Rattle.bx_listing.specs.Reading.{Table}
-use Rattle.bx_listing.specs.Shape.{number, in_range, shape, tagged}
 use Rattle.bx_listing.specs.Operands.{fail_label}
 use Rattle.bx_listing.specs.ListedTerms.{Names, IsTerm, an_int, a_name, a_tuple, a_list, AreElements, no_element, an_element, IsRow, an_end, a_tail, a_cell}
-use Rattle.bx_listing.specs.ListedItems.{Number, Atom, AtomOperand, IntegerOperand, IsRegister, in_x, in_y, in_typed, IsValue as IsListedValue, an_integer, an_atom, IsSource, a_register, a_value, a_nil, a_literal, IsPlain, IsOperand, AreMembers, no_member, a_member}
+use Rattle.bx_listing.specs.ListedItems.{Number, AtomOperand, IntegerOperand, IsRegister, in_x, in_y, in_typed, IsValue as IsListedValue, an_integer, an_atom, IsSource, a_register, a_value, a_nil, a_literal, IsPlain, IsOperand, AreMembers, no_member, a_member}
 use Rattle.bx_laws.specs.Values.{IsValue, AreValues, nesting, inner_nesting}
 use Rattle.bx_laws.specs.Writable.{IsHeld, InRange, IsWritableOperand}
-use Rattle.bx_laws.proofs.Depths.{depth, row_depth, AreLow, parts_low}
+use Rattle.bx_laws.proofs.Depths.{depth, row_depth, parts_low}
 
 -- a table that is no longer than the last one, and what was read with it
 abbrev pub Within : Table → Table → Type 0 → Type 0
