@@ -1,5 +1,5 @@
 -- Code that was read is code that can be written.
-use Rattle.std.proofs.Common.{◌≡◌, ℕ, ◌≤◌, List, length, map, refl, arith}
+use Rattle.std.proofs.Common.{◌≡◌, ℕ, ◌≤◌, List, length, map, refl, arith, subst, ◌↔◌}
 use Rattle.std.specs.List.{AllByRecursion}
 use Rattle.bx_terms.specs.AtomTable.{IsAtomTable}
 use Rattle.bx_text.specs.Place.{place_in}
@@ -11,10 +11,11 @@ use Rattle.bx_listing.specs.Forms.{Forms, forms, last_line}
 use Rattle.bx_listing.specs.Listed.{AreItems, no_more, an_annotation, an_item, AreFunctions, no_function, a_function, AreExports, no_export, an_export, IsListing, plain, with_attributes}
 use Rattle.bx_listing.specs.ListedCode.{ListedFunction, ListedModule}
 use Rattle.bx_listing.specs.Listing.{listing}
-use Rattle.bx_listing.specs.Code.{items_of, function_code_of, code}
+use Rattle.bx_listing.specs.Code.{Code, items_of, function_code_of, code}
+use Rattle.bx_listing.specs.Writing.{code_text}
 use Rattle.bx_listing.proofs.FormsOf.{forms_are_those}
 use Rattle.bx_listing.proofs.Listed.{listings_are}
-use Rattle.bx_laws.specs.ReadBack.{IsReadBack}
+use Rattle.bx_laws.specs.ReadBack.{IsReadBack, IsRead}
 use Rattle.bx_laws.specs.Writable.{IsWritableItem, IsWritableFunction, IsWritableExport, IsWritable}
 use Rattle.bx_laws.proofs.Depths.{FormsLow, forms_low}
 use Rattle.bx_laws.proofs.ReadOperands.{Within, named_within, number_low}
@@ -67,3 +68,9 @@ read_is_writable text m before behind h =
 
 pub read_and_back : (text : List ℕ) (m : ListedModule) (before behind : Table) → IsAtomTable behind → (listing (last_line text) (forms (place_in text 0))).run before ≡ read behind m → IsReadBack behind (code m)
 read_and_back text m before behind table h = written_is_read_back behind (code m) table (read_is_writable text m before behind h)
+
+pub writable_is_read : (names : Table) (c : Code) → IsAtomTable names → IsWritable names c ↔ IsRead names c
+writable_is_read names c table = (
+  λ h. let (m, is, same) = written_is_read_back names c table h in (code_text names c, names, m, is, same),
+  λ x. let (text, before, m, is, same) = x in subst (IsWritable names) same (read_is_writable text m before names is),
+)

@@ -15,8 +15,8 @@ use Rattle.bx_listing.specs.declared.items.Operand.TheVariants as operands
 use Rattle.bx_listing.specs.Reading.{Table}
 use Rattle.bx_listing.specs.Operands.{fail_label}
 use Rattle.bx_listing.specs.ListedTerms.{Names, IsTerm, an_int, a_name, a_tuple, a_list, AreElements, no_element, an_element, IsRow, an_end, a_tail, a_cell}
-use Rattle.bx_listing.specs.ListedItems.{Number, AtomOperand, IntegerOperand, IsRegister, in_x, in_y, in_typed, IsValue as IsListedValue, an_integer, an_atom, IsSource, a_register, a_value, a_nil, a_literal, IsPlain, IsOperand, AreMembers, no_member, a_member}
-use Rattle.bx_laws.specs.Values.{IsValue, AreValues, nesting, inner_nesting}
+use Rattle.bx_listing.specs.ListedItems.{Number, AtomOperand, IntegerOperand, IsRegister, in_x, in_y, in_typed, IsValue, an_integer, an_atom, IsSource, a_register, a_value, a_nil, a_literal, IsPlain, IsOperand, AreMembers, no_member, a_member}
+use Rattle.bx_laws.specs.Spellable.{IsSpellable, AreSpellable, nesting, inner_nesting}
 use Rattle.bx_laws.specs.Writable.{IsHeld, InRange, IsWritableOperand}
 use Rattle.bx_laws.proofs.Depths.{depth, row_depth, parts_low}
 
@@ -63,20 +63,20 @@ alone_depth (a_list h) = refl
 
 module _ (last : Table) where
   mutual
-    term_writable : {b c : Table} {t : Tree} {x : term.Tree} → IsTerm b t x c → length c ≤ length last → Within b last (IsValue last x × (nesting x ≤ depth t))
+    term_writable : {b c : Table} {t : Tree} {x : term.Tree} → IsTerm b t x c → length c ≤ length last → Within b last (IsSpellable last x × (nesting x ≤ depth t))
     term_writable (an_int h) l = (l, (h, omega arith))
     term_writable (a_name {before = b} {behind = c} {text = text} {a = a} h) l = let n = named_within last b c text a h l in (n.0, (n.1, omega arith))
     term_writable (a_tuple h) l = let e = elements_writable h l in (e.0, (e.1.0, omega (arith, e.1.1)))
     term_writable (a_list h) l = let e = row_writable h l in (e.0, (e.1.0, e.1.1.1))
 
-    elements_writable : {b c : Table} {t : Tree} {x : term.Tree} → AreElements b t x c → length c ≤ length last → Within b last (AreValues last x × (inner_nesting x ≤ row_depth t))
+    elements_writable : {b c : Table} {t : Tree} {x : term.Tree} → AreElements b t x c → length c ≤ length last → Within b last (AreSpellable last x × (inner_nesting x ≤ row_depth t))
     elements_writable no_element l = (l, (tt, omega arith))
     elements_writable (an_element h hs) l =
         let more = elements_writable hs l in
         let first = term_writable h more.0 in
         (first.0, ((first.1.0, more.1.0), omega (arith, first.1.1, more.1.1)))
 
-    row_writable : {b c : Table} {t : Tree} {x : term.Tree} → IsRow b t x c → length c ≤ length last → Within b last (IsValue last x × ((inner_nesting x ≤ row_depth t) × (nesting x ≤ 1 + row_depth t)))
+    row_writable : {b c : Table} {t : Tree} {x : term.Tree} → IsRow b t x c → length c ≤ length last → Within b last (IsSpellable last x × ((inner_nesting x ≤ row_depth t) × (nesting x ≤ 1 + row_depth t)))
     row_writable an_end l = (l, (tt, (omega arith, omega arith)))
     row_writable (a_tail {x = x} h) l =
         let only = term_writable h l in
@@ -102,7 +102,7 @@ atom_writable last k b c t o (u, a, e, (text, w, h), same) l = let n = named_wit
 integer_writable : (last : Table) (k : ℕ) (t : Tree) (o : Operand) → IntegerOperand t o → IsWritableOperand last k o
 integer_writable last k t o (s, n, e, h, same) = subst (IsWritableOperand last k) (sym same) h
 
-value_writable : (last : Table) (k : ℕ) {b c : Table} {t : Tree} {o : Operand} → IsListedValue b t o c → length c ≤ length last → CanBe last k b o
+value_writable : (last : Table) (k : ℕ) {b c : Table} {t : Tree} {o : Operand} → IsValue b t o c → length c ≤ length last → CanBe last k b o
 value_writable last k {b = b} (an_integer {t = t} {o = o} i) l = (l, integer_writable last k t o i)
 value_writable last k {b = b} (an_atom {t = t} {o = o} {behind = c} a) l = atom_writable last k b c t o a l
 

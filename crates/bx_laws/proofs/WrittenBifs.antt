@@ -48,19 +48,19 @@ grouped_is names from to os front mid back end e f g =
 
 -- a list of one or two sources
 
-abbrev Sources1 : Table → Operand → Tree → Type 0
-Sources1 names a u = (v : Tree) × (list_elements u ≡ Some (v ∷ [])) × IsOperand names sorts.Source v a names
+abbrev OneSource : Table → Operand → Tree → Type 0
+OneSource names a u = (v : Tree) × (list_elements u ≡ Some (v ∷ [])) × IsOperand names sorts.Source v a names
 
-abbrev Sources2 : Table → Operand → Operand → Tree → Type 0
-Sources2 names a b u = (v : Tree) × (w : Tree) × (list_elements u ≡ Some (v ∷ w ∷ [])) × IsOperand names sorts.Source v a names × IsOperand names sorts.Source w b names
+abbrev TwoSources : Table → Operand → Operand → Tree → Type 0
+TwoSources names a b u = (v : Tree) × (w : Tree) × (list_elements u ≡ Some (v ∷ w ∷ [])) × IsOperand names sorts.Source v a names × IsOperand names sorts.Source w b names
 
-one_source : (names : Table) (a : Operand) → IsAtomTable names → is_one sorts.Source a ≡ true → IsWritableOperand names 253 a → Printed 255 (list_text names (a ∷ [])) (Sources1 names a)
+one_source : (names : Table) (a : Operand) → IsAtomTable names → is_one sorts.Source a ≡ true → IsWritableOperand names 253 a → Printed 255 (list_text names (a ∷ [])) (OneSource names a)
 one_source names a table e h =
     reworded (sym (list_text_is names (a ∷ [])))
     (list_printed 254 (one_part (operand_printed 253 253 names sorts.Source a table e h refl)) (λ u us is x. (x.0, is ∙ ap Some x.1, x.2)))
 
 two_sources : (names : Table) (a b : Operand) → IsAtomTable names → is_one sorts.Source a ≡ true → is_one sorts.Source b ≡ true → IsWritableOperand names 253 a → IsWritableOperand names 253 b
-    → Printed 255 (list_text names (a ∷ b ∷ [])) (Sources2 names a b)
+    → Printed 255 (list_text names (a ∷ b ∷ [])) (TwoSources names a b)
 two_sources names a b table e f h g =
     reworded (sym (list_text_is names (a ∷ b ∷ [])))
     (list_printed 254 (part (operand_printed 253 253 names sorts.Source a table e h refl) (one_part (operand_printed 253 253 names sorts.Source b table f g refl)))

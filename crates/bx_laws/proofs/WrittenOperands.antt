@@ -29,7 +29,7 @@ use Rattle.bx_listing.specs.ListedTerms.{Names}
 use Rattle.bx_listing.specs.ListedItems.{Tuple, Number, Atom, AtomOperand, IntegerOperand, Target, IsRegister, in_x, in_y, IsValue, an_integer, an_atom, IsSource, a_register, a_value, a_nil, a_literal, IsCallee, IsAmount, IsBif, IsOperand}
 use Rattle.bx_listing.specs.Writing.{name_text, operand_text}
 use Rattle.bx_listing.specs.Fits.{is_one}
-use Rattle.bx_laws.specs.Values.{IsLiteral}
+use Rattle.bx_laws.specs.Spellable.{IsLiteral}
 use Rattle.bx_laws.specs.Writable.{IsHeld, InRange, IsWritableOperand}
 use Rattle.bx_laws.proofs.Trees.{Printed, PrintedAll, weaker, reworded, plain_utf8, word_printed, integer_printed, number_printed, none_printed, more_printed, tagged_printed}
 use Rattle.bx_laws.proofs.WrittenTerms.{known, name_printed, term_printed}

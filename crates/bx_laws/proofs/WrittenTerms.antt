@@ -15,7 +15,7 @@ use Rattle.bx_text.specs.Tree.{Tree, integer, atom, tuple, list, nil, cons}
 use Rattle.bx_spelling.specs.Shown.{ShownRow, ShownRest, nowhere, unplaced}
 use Rattle.bx_listing.specs.Reading.{Table}
 use Rattle.bx_listing.specs.ListedTerms.{Names, IsTerm, an_int, a_name, a_tuple, a_list, AreElements, no_element, an_element, IsRow, an_end, a_tail, a_cell}
-use Rattle.bx_laws.specs.Values.{IsValue, AreValues, nesting, inner_nesting}
+use Rattle.bx_laws.specs.Spellable.{IsSpellable, AreSpellable, nesting, inner_nesting}
 use Rattle.bx_laws.proofs.Trees.{Printed, integer_printed, integer_shown, integer_is, tuple_is, list_is, nil_is, cons_is, atom_is}
 
 -- an atom of the table, its text, and that the text names it
@@ -60,9 +60,9 @@ record Behind (d : ℕ) (text : List ℕ) (Are : Tree → Type 0) : Type 0 where
 
 -- what is written of a literal's term, alone and between brackets
 record Texts (names : Table) (t : term.Tree) : Type 0 where
-  alone : (d : ℕ) → IsValue names t → nesting t ≤ d → Printed d (printed names t) (λ u. IsTerm names u t names)
-  elements : (d : ℕ) → AreValues names t → inner_nesting t ≤ d → Inside d (printed_elements names t) (printed_tail names t) (λ u. AreElements names u t names)
-  tail : (d : ℕ) → IsValue names t → inner_nesting t ≤ d → Behind d (printed_tail names t) (λ u. IsRow names u t names)
+  alone : (d : ℕ) → IsSpellable names t → nesting t ≤ d → Printed d (printed names t) (λ u. IsTerm names u t names)
+  elements : (d : ℕ) → AreSpellable names t → inner_nesting t ≤ d → Inside d (printed_elements names t) (printed_tail names t) (λ u. AreElements names u t names)
+  tail : (d : ℕ) → IsSpellable names t → inner_nesting t ≤ d → Behind d (printed_tail names t) (λ u. IsRow names u t names)
 
 -- a tail that is no list, behind its bar
 tail_by : {names : Table} {d : ℕ} {t : term.Tree} {text : List ℕ} (p : Printed d text (λ u. IsTerm names u t names)) → ShownRest d p.tree → rest_text p.tree ≡ 124 ∷ node_text p.tree
@@ -138,16 +138,16 @@ element_inside names x y d p b = record {
   means = λ u e. let (a, v, is, one, more) = cons_is u p.tree b.row e in subst (λ u. AreElements names u (term.cons x y) names) (sym is) (an_element (p.means a one) (b.means v more));
 }
 
-tuple_deep : (names : Table) (t : term.Tree) → Texts names t → (d : ℕ) → AreValues names t → 1 + inner_nesting t ≤ d → Printed d (printed names (term.tuple t)) (λ u. IsTerm names u (term.tuple t) names)
+tuple_deep : (names : Table) (t : term.Tree) → Texts names t → (d : ℕ) → AreSpellable names t → 1 + inner_nesting t ≤ d → Printed d (printed names (term.tuple t)) (λ u. IsTerm names u (term.tuple t) names)
 tuple_deep names t f zero v h = absurd (omega arith)
 tuple_deep names t f (suc d) v h = tuple_alone names t d (f.elements d v (omega arith))
 
-tuple_behind : (names : Table) (t : term.Tree) → Texts names t → (d : ℕ) → AreValues names t → 1 + inner_nesting t ≤ d → Behind d (printed_tail names (term.tuple t)) (λ u. IsRow names u (term.tuple t) names)
+tuple_behind : (names : Table) (t : term.Tree) → Texts names t → (d : ℕ) → AreSpellable names t → 1 + inner_nesting t ≤ d → Behind d (printed_tail names (term.tuple t)) (λ u. IsRow names u (term.tuple t) names)
 unfolding tuple_alone
 tuple_behind names t f zero v h = absurd (omega arith)
 tuple_behind names t f (suc d) v h = let i = f.elements d v (omega arith) in tail_by (tuple_alone names t d i) i.shown refl
 
-list_deep : (names : Table) (x y : term.Tree) → Texts names x → Texts names y → (d : ℕ) → IsValue names x × IsValue names y → 1 + max (nesting x) (inner_nesting y) ≤ d
+list_deep : (names : Table) (x y : term.Tree) → Texts names x → Texts names y → (d : ℕ) → IsSpellable names x × IsSpellable names y → 1 + max (nesting x) (inner_nesting y) ≤ d
     → Printed d (printed names (term.cons x y)) (λ u. IsTerm names u (term.cons x y) names)
 list_deep names x y f g zero v h = absurd (omega arith)
 list_deep names x y f g (suc d) v h = list_alone names x y d (f.alone d v.0 (omega arith)) (g.tail d v.1 (omega arith))
@@ -190,5 +190,5 @@ texts names table (term.cons x y) =
     }
 
 -- a literal's term, where its brackets may nest d deep
-pub term_printed : (d : ℕ) (names : Table) (t : term.Tree) → IsAtomTable names → IsValue names t → nesting t ≤ d → Printed d (printed names t) (λ u. IsTerm names u t names)
+pub term_printed : (d : ℕ) (names : Table) (t : term.Tree) → IsAtomTable names → IsSpellable names t → nesting t ≤ d → Printed d (printed names t) (λ u. IsTerm names u t names)
 term_printed d names t table v h = (texts names table t).alone d v h

@@ -1,4 +1,4 @@
 pub mod Marks
-pub mod Values
+pub mod Spellable
 pub mod Writable
 pub mod ReadBack

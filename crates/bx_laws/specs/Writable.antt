@@ -15,7 +15,7 @@ use Rattle.bx_listing.specs.Reading.{Table}
 use Rattle.bx_listing.specs.Items.{Item}
 use Rattle.bx_listing.specs.Fits.{fits}
 use Rattle.bx_listing.specs.Code.{CodeFunction, Code}
-use Rattle.bx_laws.specs.Values.{IsLiteral}
+use Rattle.bx_laws.specs.Spellable.{IsLiteral}
 
 -- an atom of the table
 abbrev pub IsHeld : Table → AtomId → Type 0
@@ -49,7 +49,8 @@ abbrev pub brackets_of : Way → ℕ
 brackets_of ways.Plain = 2
 brackets_of _ = 3
 
--- how many brackets stand around a literal's term: those of the item, of `{literal,T}`, and of a list
+-- how many brackets stand around a literal's term: those of the item, of `{literal,T}`, and those of a list, as in
+-- `{test,NAME,LABEL,[{literal,T},..]}` and `{put_tuple2,R,{list,[{literal,T},..]}}`
 abbrev pub brackets : Op → ℕ
 brackets ops.PutTuple2 = 4
 brackets op = brackets_of (way op)
@@ -58,7 +59,7 @@ brackets op = brackets_of (way op)
 abbrev pub depth_left : Op → ℕ
 depth_left op = 256 - brackets op
 
--- the operands are those that the opcode's row wants
+-- the operands are those that the opcode's row wants, and each can be written
 abbrev pub IsWritableItem : Table → Item → Type 0
 IsWritableItem names i = (fits i ≡ true) × AllByRecursion (IsWritableOperand names (depth_left i.op)) i.operands × FaultIsSaid i.operands
 

@@ -1,6 +1,6 @@
 //! Laws over the definitions of the crates below: each function's clause is one, and its body is empty.
 
-ghost use Rattle.std.specs.Prelude.{◌≡◌, ℕ, List, is_some, not};
+ghost use Rattle.std.specs.Prelude.{◌≡◌, ◌↔◌, ℕ, List, is_some, not};
 ghost use Rattle.bx_terms.specs.AtomTable.{IsAtomTable};
 ghost use Rattle.bx_text.specs.Place.{place_in};
 ghost use Rattle.bx_text.specs.Tree.{Tree};
@@ -13,7 +13,7 @@ ghost use Rattle.bx_listing.specs.ListedItems.{IsItem};
 ghost use Rattle.bx_listing.specs.Code.{Code, code};
 ghost use Rattle.bx_asm.specs.Decoding.{instruction_of};
 ghost use Rattle.bx_laws.specs.Marks.{is_mark};
-ghost use Rattle.bx_laws.specs.ReadBack.{IsReadBack};
+ghost use Rattle.bx_laws.specs.ReadBack.{IsRead, IsReadBack};
 ghost use Rattle.bx_laws.specs.Writable.{IsWritable};
 
 /// What is listed as an item is an instruction, unless it is a label or a line, which are none.
@@ -27,7 +27,12 @@ pub fn a_written_code_is_read_back()
     ensures { (names : Table) (c : Code) → IsAtomTable names → IsWritable names c → IsReadBack names c }
 {}
 
-/// A code form that was read is one that a listing can say: so it is written, and read back as the same code form.
+/// A listing can say just the code forms that are read from some text: the condition leaves none of them out.
+pub fn a_listing_can_say_what_is_read()
+    ensures { (names : Table) (c : Code) → IsAtomTable names → IsWritable names c ↔ IsRead names c }
+{}
+
+/// A code form that was read is written and read back as the same code form.
 pub fn a_read_code_is_written_and_read_back()
     ensures { (text : List ℕ) (m : ListedModule) (before behind : Table) → IsAtomTable behind
         → (listing (last_line text) (forms (place_in text 0))).run before ≡ read behind m → IsReadBack behind (code m) }

@@ -5,20 +5,20 @@ use Rattle.bx_text.specs.Number.{is_large}
 use Rattle.bx_listing.specs.Reading.{Table}
 
 abbrev mutual
-  -- an integer of 64 bits, an atom of the table, or a tuple or a list of such terms, with or without such a tail
-  pub IsValue : Table → Tree → Type 0
-  IsValue names (int n) = is_large n ≡ false
-  IsValue names (atom a) = a < length names
-  IsValue names (pid p) = ⊥
-  IsValue names (tuple t) = AreValues names t
-  IsValue names nil = Unit {0}
-  IsValue names (cons t u) = IsValue names t × IsValue names u
+  -- an integer of 64 bits, an atom of the table, or a tuple or a list, proper or not, of such terms
+  pub IsSpellable : Table → Tree → Type 0
+  IsSpellable names (int n) = is_large n ≡ false
+  IsSpellable names (atom a) = a < length names
+  IsSpellable names (pid p) = ⊥
+  IsSpellable names (tuple t) = AreSpellable names t
+  IsSpellable names nil = Unit {0}
+  IsSpellable names (cons t u) = IsSpellable names t × IsSpellable names u
 
   -- a tuple's elements
-  pub AreValues : Table → Tree → Type 0
-  AreValues names nil = Unit {0}
-  AreValues names (cons t u) = IsValue names t × AreValues names u
-  AreValues names t = ⊥
+  pub AreSpellable : Table → Tree → Type 0
+  AreSpellable names nil = Unit {0}
+  AreSpellable names (cons t u) = IsSpellable names t × AreSpellable names u
+  AreSpellable names t = ⊥
 
 abbrev mutual
   -- how deep the brackets of a term's text nest
@@ -36,4 +36,4 @@ abbrev mutual
 
 -- a literal, where its brackets may nest so deep
 abbrev pub IsLiteral : Table → ℕ → Tree → Type 0
-IsLiteral names depth t = IsValue names t × (nesting t ≤ depth) × (height t ≤ 10000)
+IsLiteral names depth t = IsSpellable names t × (nesting t ≤ depth) × (height t ≤ 10000)
