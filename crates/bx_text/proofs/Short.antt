@@ -1,6 +1,7 @@
 -- The tokens that stand in a text most: names of lower-case letters, and numbers of one digit.
 use Rattle.std.proofs.Common.{◌≡◌, ℕ, suc, ◌+◌, ◌-◌, Bool, true, false, cond, ◌&&◌, not, eqb, slice_index_or, List, [], ◌∷◌, drop, pos, Ok, refl, sym, ap, ◌∙◌, subst, arith}
 use Rattle.std.specs.List.{prefix_len}
+use Rattle.std.proofs.lemmas.List.{drop-drop}
 use Rattle.std.proofs.lemmas.Bool.Decides.{nat_tests}
 use Rattle.bx_text.specs.Bytes.{is_lower, is_digit, is_name}
 use Rattle.bx_text.specs.Number.{with_digit, decimal, signed, number}
@@ -28,6 +29,10 @@ lower_front (b ∷ bs) = by (is_lower b) refl (lower_front bs)
 
 pub lower_begins : (bs : List ℕ) (n : ℕ) → n ≡ prefix_len is_lower bs → n + name_len (drop n bs) ≡ name_len bs
 lower_begins bs n e = subst (λ n. n + name_len (drop n bs) ≡ name_len bs) (sym e) (lower_front bs)
+
+-- the same behind n bytes
+pub lower_on : (bs : List ℕ) (n k m : ℕ) → k ≡ prefix_len is_lower (drop n bs) → n + name_len (drop n bs) ≡ m → (n + k) + name_len (drop (n + k) bs) ≡ m
+lower_on bs n k m e h = omega (arith, h, lower_begins (drop n bs) k e, ap name_len (drop-drop k n bs))
 
 -- one digit that neither another one nor a point follows
 prefix_one : (d c : ℕ) (bs : List ℕ) → is_digit d ≡ true → is_digit c ≡ false → prefix_len is_digit (d ∷ c ∷ bs) ≡ 1

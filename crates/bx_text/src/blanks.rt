@@ -63,13 +63,14 @@ pub(crate) fn spaces<'a>(r: Reader<'a>) -> Option<Reader<'a>>
     let mut line = r.line;
     'spaces: while !rest.is_empty() {
         let b = rest[0];
-        if b == b'%' {
-            return None;
+        if !is_space(b) {
+            if b == b'%' {
+                return None;
+            }
+            return Some(Reader { rest, at, line });
         }
         if b == b'\n' {
             line += 1;
-        } else if !is_space(b) {
-            return Some(Reader { rest, at, line });
         }
         rest = &rest[1..];
         at += 1;
@@ -93,10 +94,11 @@ pub(crate) fn skip<'a>(r: Reader<'a>) -> Result<Reader<'a>, Fault>
             line = end.line;
             continue;
         }
+        if !is_space(b) {
+            break;
+        }
         if b == b'\n' {
             line += 1;
-        } else if !is_space(b) {
-            break;
         }
         rest = &rest[1..];
         at += 1;

@@ -22,11 +22,18 @@ pub(crate) fn is_lower(b: u8) -> bool
     b'a' <= b && b <= b'z'
 }
 
+fn is_word(b: u8) -> bool
+    ensures { result ≡ is_name b }
+{
+    is_lower(b) || b'A' <= b && b <= b'Z' || is_digit(b) || b == b'_' || b == b'@'
+}
+
 /// Whether the byte may follow in a bare atom.
 pub(crate) fn is_name(b: u8) -> bool
     ensures { result ≡ is_name b }
 {
-    is_lower(b) || b'A' <= b && b <= b'Z' || is_digit(b) || b == b'_' || b == b'@'
+    // Most words end before a mark, which the first two tests tell.
+    b'0' <= b && b <= b'z' && is_word(b)
 }
 
 /// Whether the byte, behind 0xC3, is a letter's.

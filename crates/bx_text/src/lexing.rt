@@ -97,13 +97,11 @@ fn token_by<'a>(kind: Kind, r: Reader<'a>) -> Result<(Token<'a>, Reader<'a>), Fa
 pub(crate) fn hold<'a>(l: &mut Lexeme<'a>, r: Reader<'a>, token: Token<'a>, after: Reader<'a>)
     ensures { lexeme_of l.new ≡ held (place r.entry) (token_of token.entry, place after.entry) }
 {
-    *l = Lexeme {
-        token,
-        from: r.at,
-        line: r.line,
-        begin: r.rest,
-        after,
-    };
+    l.token = token;
+    l.from = r.at;
+    l.line = r.line;
+    l.begin = r.rest;
+    l.after = after;
 }
 
 /// Holds the token at `r` that begins as `kind` says, which is any.

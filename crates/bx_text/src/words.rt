@@ -50,6 +50,7 @@ fn name_len(bytes: &[u8]) -> usize
             break;
         }
         n += width;
+        n += lower_len(&bytes[n..]);
     }
     n
 }
