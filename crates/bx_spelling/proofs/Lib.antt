@@ -1,12 +1,17 @@
 pub mod Blanking
 pub mod Escapes
+pub mod Exact
 pub mod Finding
 pub mod FormsBack
 pub mod Frame
 pub mod Free
+pub mod Kept
 pub mod Longest
 pub mod Marks
 pub mod Means
+pub mod Meant
+pub mod Moved
+pub mod Moving
 pub mod Numbers
 pub mod NumbersFound
 pub mod Printing

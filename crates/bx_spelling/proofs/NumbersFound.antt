@@ -27,7 +27,7 @@ first_number m [] X at line a l = absurd (omega arith)
 first_number no_minus (d ∷ ds) X at line a l = digit_first d (on (d ∷ (ds ++ X)) at line) (and_parts (is_digit d) (list_all is_digit ds) a).0
 first_number a_minus (d ∷ ds) X at line a l = refl
 
-some_digits : (n : ℕ) → 0 < n → eqb n 0 ≡ false
+pub some_digits : (n : ℕ) → 0 < n → eqb n 0 ≡ false
 some_digits n h = grind (arith, nat_tests)
 
 pub digits_on : (front X : List ℕ) (at line n : ℕ) → n ≡ prefix_len is_digit X → 0 < n
@@ -101,16 +101,16 @@ integer_found {front} mi ds rest at line a l =
     (omega (arith, length-append front (ds ++ rest), length-append ds rest, prefix_le is_digit rest)))
 
 -- floats
-not_e : (e : ℕ) → (e ≡ 101) ⊎ (e ≡ 69) → is_digit e ≡ false
+pub not_e : (e : ℕ) → (e ≡ 101) ⊎ (e ≡ 69) → is_digit e ≡ false
 not_e e h = grind (arith, nat_tests)
 
-is_e : (e : ℕ) → (e ≡ 101) ⊎ (e ≡ 69) → (eqb e 101 || eqb e 69) ≡ true
+pub is_e : (e : ℕ) → (e ≡ 101) ⊎ (e ≡ 69) → (eqb e 101 || eqb e 69) ≡ true
 is_e e h = grind (arith, nat_tests)
 
-no_sign_digit : (d : ℕ) → is_digit d ≡ true → (eqb d 43 || eqb d 45) ≡ false
+pub no_sign_digit : (d : ℕ) → is_digit d ≡ true → (eqb d 43 || eqb d 45) ≡ false
 no_sign_digit d h = grind (arith, nat_tests)
 
-power_some : (s n : ℕ) → 0 < n → power_len s n ≡ 1 + s + n
+pub power_some : (s n : ℕ) → 0 < n → power_len s n ≡ 1 + s + n
 power_some s n h = grind (arith, nat_tests)
 
 -- a sign and digits, and what they count
@@ -143,7 +143,7 @@ exponent_enough (an_exponent {e = e} {s = s} {ds = ds} is sg (n, k)) rest =
 point_some : (n : ℕ) → 0 < n → point_len n ≡ 1 + n
 point_some n h = grind (arith, nat_tests)
 
-point_found : (fs X : List ℕ) → list_all is_digit fs ≡ true → 0 < length fs → fraction_len (46 ∷ (fs ++ X)) ≡ suc (length fs) + prefix_len is_digit X
+pub point_found : (fs X : List ℕ) → list_all is_digit fs ≡ true → 0 < length fs → fraction_len (46 ∷ (fs ++ X)) ≡ suc (length fs) + prefix_len is_digit X
 point_found fs X a l = point_some (prefix_len is_digit (fs ++ X)) (omega (arith, run_append is_digit fs X a)) ∙ omega (arith, run_append is_digit fs X a)
 
 float_by : (p : Place) (rest : List ℕ) (m : ℕ) (f : ℕ) → token_at p ≡ number_by p m f → 0 < f → length (drop (m + f + exponent_len (drop (m + f) p.rest)) p.rest) ≤ length rest → Found p token.float rest
@@ -155,7 +155,7 @@ float_by p rest m f h some short = (
 )
 
 -- behind m bytes and a point
-further : (m k : ℕ) (fs Z : List ℕ) (front : List ℕ) → length front ≡ m → drop (m + (suc (length fs) + k)) (front ++ (46 ∷ (fs ++ Z))) ≡ drop k Z
+pub further : (m k : ℕ) (fs Z : List ℕ) (front : List ℕ) → length front ≡ m → drop (m + (suc (length fs) + k)) (front ++ (46 ∷ (fs ++ Z))) ≡ drop k Z
 further m k fs Z front e =
     ap (λ n. drop n (front ++ (46 ∷ (fs ++ Z)))) (sum m (length fs) k (length (front ++ 46 ∷ fs)) (omega (arith, e, length-append front (46 ∷ fs))))
     ∙ sym (drop-drop k (length (front ++ 46 ∷ fs)) (front ++ (46 ∷ (fs ++ Z))))

@@ -75,7 +75,7 @@ decimal_is (suc k) n h = by (nat_lt n 10) refl (λ low. decimal_is k (n / 10) lo
         shorter : (n k : ℕ) → nat_lt n 10 ≡ false → n < suc k → n / 10 < k
         shorter n k e h = let long : 10 ≤ n = large n e in omega arith
 
-numeral_exact : {front : List ℕ} → Minus front → (ds rest : List ℕ) → list_all is_digit ds ≡ true → 0 < length ds → Delimits rest → Exactly (front ++ ds) (token.integer (number (front ++ ds))) rest
+pub numeral_exact : {front : List ℕ} → Minus front → (ds rest : List ℕ) → list_all is_digit ds ≡ true → 0 < length ds → Delimits rest → Exactly (front ++ ds) (token.integer (number (front ++ ds))) rest
 numeral_exact {front} mi ds rest a l d at line =
     (token.integer (number (take (length front + length ds) text)), after p (length front + length ds), here, left, ap (λ w. token.integer (number w)) front_is)
   where
@@ -105,7 +105,7 @@ numeral_exact {front} mi ds rest a l d at line =
     here : token_at p ≡ Ok (token.integer (number (take (length front + length ds) text)), after p (length front + length ds))
     here = begun ∙ ap (λ f. number_by p (length front + length ds) f) (ap fraction_len left ∙ d.fraction)
 
-exactly_is : (bytes rest : List ℕ) (t u : Token) → t ≡ u → Exactly bytes t rest → Exactly bytes u rest
+pub exactly_is : (bytes rest : List ℕ) (t u : Token) → t ≡ u → Exactly bytes t rest → Exactly bytes u rest
 exactly_is bytes rest t u e x = subst (λ t. Exactly bytes t rest) e x
 
 pub integer_exact : (n : ℤ) (rest : List ℕ) → Delimits rest → Exactly (integer_text n) (token.integer n) rest
@@ -120,7 +120,7 @@ integer_exact (negsuc n) rest d =
     (ap (λ n. token.integer (neg_ℤ (pos n))) k.1) (numeral_exact a_minus (digits_within (suc (suc n)) (suc n)) rest k.0 k.2 d)
 
 -- bare atoms
-word_exact : (c : ℕ) (cs bytes rest : List ℕ) → IsSmall c → AllByRecursion IsNameCharacter cs → InUtf8 (c ∷ cs) bytes → bytes ≢ codes "fun" → Delimits rest → Exactly bytes (token.atom (token.plain bytes)) rest
+pub word_exact : (c : ℕ) (cs bytes rest : List ℕ) → IsSmall c → AllByRecursion IsNameCharacter cs → InUtf8 (c ∷ cs) bytes → bytes ≢ codes "fun" → Delimits rest → Exactly bytes (token.atom (token.plain bytes)) rest
 word_exact c cs bytes rest small a (s, e) other d at line = (
   word (take n text),
   after p n,
@@ -184,7 +184,7 @@ abbrev Written : ℕ → List ℕ → Type 0
 Written c bytes =
     (src : List ℕ) × InUtf8 src bytes × ((cs vs : List ℕ) → Quoted 39 cs vs → Quoted 39 (src ++ cs) (c ∷ vs)) × ((cs : List ℕ) → free 39 cs ≡ true → free 39 (src ++ cs) ≡ true)
 
-ascii_utf8 : (bs : List ℕ) → AllByRecursion (λ b. b < 128) bs → InUtf8 bs bs
+pub ascii_utf8 : (bs : List ℕ) → AllByRecursion (λ b. b < 128) bs → InUtf8 bs bs
 ascii_utf8 [] a = (refl, refl)
 ascii_utf8 (b ∷ bs) (low, a) =
     let more = ascii_utf8 bs a in
@@ -299,7 +299,7 @@ written c s = by (eqb c 39) (eqb c 92) (eqb c 10) (eqb c 13) (eqb c 9) (nat_lt c
 abbrev AllWritten : List ℕ → List ℕ → Type 0
 AllWritten cs bytes = (src : List ℕ) × InUtf8 src bytes × Quoted 39 src cs × (free 39 src ≡ true)
 
-scalars_append : (xs ys : List ℕ) → all_scalars xs ≡ true → all_scalars ys ≡ true → all_scalars (xs ++ ys) ≡ true
+pub scalars_append : (xs ys : List ℕ) → all_scalars xs ≡ true → all_scalars ys ≡ true → all_scalars (xs ++ ys) ≡ true
 scalars_append [] ys a b = b
 scalars_append (x ∷ xs) ys a b = let both = and_parts _ (all_scalars xs) a in and_from _ (all_scalars (xs ++ ys)) both.0 (scalars_append xs ys both.1 b)
 

@@ -1,5 +1,5 @@
 -- What is printed is read as the same term.
-use Rattle.std.proofs.Common.{◌≡◌, ℕ, zero, suc, ◌+◌, false, eqb, ℤ, List, [], ◌∷◌, ◌++◌, Ok, refl, sym, ap, ◌∙◌, subst, codes, append_assoc, ◌⊎◌, inl, inr, IsUtf8}
+use Rattle.std.proofs.Common.{◌≡◌, ◌<◌, arith, ℕ, zero, suc, ◌+◌, false, eqb, ℤ, List, [], ◌∷◌, ◌++◌, Ok, refl, sym, ap, ◌∙◌, subst, codes, append_assoc, ◌⊎◌, inl, inr, IsUtf8}
 use Rattle.bx_terms.specs.Outcomes.{◌>>=◌}
 use Rattle.bx_terms.specs.AtomText.{printed_atom}
 use Rattle.bx_text.specs.declared.node.Span.{Span}
@@ -14,12 +14,18 @@ use Rattle.bx_text.specs.Grammar.{Spells, an_integer, an_atom, empty_tuple, a_tu
 use Rattle.bx_text.specs.Printed.{integer_text, node_text, row_text, rest_text}
 use Rattle.bx_text.specs.Tree.{Tree, integer, atom, tuple, list, other, nil, cons, chain}
 use Rattle.bx_text.proofs.Grammatical.{forms_are}
-use Rattle.bx_spelling.specs.Shown.{IsReadBack, Shown, ShownRow, ShownList, ShownRest, nowhere, unplaced}
+use Rattle.bx_text.specs.declared.node.Sort.{Sort}
+use Rattle.bx_spelling.specs.Shown.{IsReadBack, StandsAs, Shown, ShownRow, ShownList, ShownRest, nowhere, unplaced}
+use Rattle.bx_spelling.specs.Terms.{Stood, Term}
 use Rattle.bx_spelling.specs.Tokens.{meant}
 use Rattle.bx_spelling.proofs.Frame.{on}
 use Rattle.bx_spelling.proofs.Longest.{same_place}
 use Rattle.bx_spelling.proofs.Blanking.{tests_by, not_line}
 use Rattle.bx_spelling.proofs.Finding.{standing}
+use Rattle.bx_spelling.proofs.Meant.{atom_meant}
+use Rattle.bx_spelling.proofs.Sentences.{back, term_back}
+use Rattle.bx_spelling.proofs.Moving.{Closes, closes_by}
+use Rattle.bx_spelling.proofs.Kept.{kept_moves}
 use Rattle.bx_spelling.proofs.Printing.{Delimits, Starts, integer_exact, atom_exact, integer_starts, atom_starts}
 
 -- the next token, where no blank stands before it
@@ -56,34 +62,20 @@ integer_meant token.open_map n e = cc
 integer_meant token.open_binary n e = cc
 integer_meant (token.mark m) n e = cc
 
-pub atom_meant : (u : Token) (w : List ℕ) → meant u ≡ token.atom (token.plain w) → (b : Body) × (u ≡ token.atom b) × (spelled b ≡ w)
-atom_meant (token.integer m) w e = cc
-atom_meant token.float w e = cc
-atom_meant (token.atom b) w e = (b, refl, text)
-  where
-    text : spelled b ≡ w
-    text = cc
-atom_meant (token.text b) w e = cc
-atom_meant token.open_tuple w e = cc
-atom_meant token.open_list w e = cc
-atom_meant token.open_map w e = cc
-atom_meant token.open_binary w e = cc
-atom_meant (token.mark m) w e = cc
-
 -- from each place
 abbrev pub Reads : ℕ → List ℕ → List ℕ → Tree → Type 0
 Reads d bytes rest t = (at line : ℕ) → Read d (on (bytes ++ rest) at line) rest t
 
-integer_read : (d : ℕ) (n : ℤ) (t : Tree) (rest : List ℕ) → unplaced t ≡ integer nowhere n → Delimits rest → Reads d (integer_text n) rest t
-integer_read d n t rest e k at line = by_token (integer_exact n rest k at line)
+integer_read : (d : ℕ) (n : ℤ) (t : Tree) (rest : List ℕ) → unplaced t ≡ integer nowhere n → Closes rest → Reads d (integer_text n) rest t
+integer_read d n t rest e k at line = by_token (integer_exact n rest k.delimits at line)
   where
     by_token : ((u : Token) × (q : Place) × (token_at (on (integer_text n ++ rest) at line) ≡ Ok (u, q)) × (q.rest ≡ rest) × (meant u ≡ token.integer n)) → Read d (on (integer_text n ++ rest) at line) rest t
     by_token (u, q, h, r, m) =
         let l : Lexeme = standing (on (integer_text n ++ rest) at line) (u, q) in
         record { first = l; tree = integer (span l q) n; end = q; next = next_is (integer_text n) rest at line u q (integer_starts n) h; spells = an_integer (integer_meant u n m); left = r; same = sym e }
 
-atom_read : (d : ℕ) (w : List ℕ) (t : Tree) (rest : List ℕ) → unplaced t ≡ atom nowhere w → IsUtf8 w → Delimits rest → Reads d (printed_atom w) rest t
-atom_read d w t rest e utf8 k at line = by_token (atom_exact w rest utf8 k at line)
+atom_read : (d : ℕ) (w : List ℕ) (t : Tree) (rest : List ℕ) → unplaced t ≡ atom nowhere w → IsUtf8 w → Closes rest → Reads d (printed_atom w) rest t
+atom_read d w t rest e utf8 k at line = by_token (atom_exact w rest utf8 k.delimits at line)
   where
     by_token : ((u : Token) × (q : Place) × (token_at (on (printed_atom w ++ rest) at line) ≡ Ok (u, q)) × (q.rest ≡ rest) × (meant u ≡ token.atom (token.plain w))) → Read d (on (printed_atom w ++ rest) at line) rest t
     by_token (u, q, h, r, m) =
@@ -91,15 +83,35 @@ atom_read d w t rest e utf8 k at line = by_token (atom_exact w rest utf8 k at li
         let a = atom_meant u w m in
         record { first = l; tree = atom (span l q) (spelled a.0); end = q; next = next_is (printed_atom w) rest at line u q (atom_starts w) h; spells = an_atom a.1; left = r; same = ap (λ w. atom nowhere w) a.2 ∙ sym e }
 
+other_read : (d : ℕ) (k : Sort) (w : List ℕ) (t : Tree) (rest : List ℕ) → unplaced t ≡ other nowhere k w → StandsAs d k w → Closes rest → Reads d w rest t
+other_read d k w t rest e h c at line = by_term (kept_moves d k w h rest c at line)
+  where
+    p : Place
+    p = on (w ++ rest) at line
+
+    by_term : ((m : Lexeme) × (s : Span) × (q : Place) × Stood p m × Term d m (other s k w) q × (q.rest ≡ rest)) → Read d p rest t
+    by_term (m, s, q, stood, term, r) =
+        let b = back p m stood in
+        record { first = b.lexeme; tree = other s k w; end = q; next = b.next; spells = term_back term b.lexeme b.plain; left = r; same = sym e }
+
 -- what follows an element never goes on in it
-delimits : (u : Tree) (X : List ℕ) → Delimits X → Delimits (rest_text u ++ X)
-delimits (integer s n) X d = record { digits = refl; fraction = refl; name = refl }
-delimits (atom s w) X d = record { digits = refl; fraction = refl; name = refl }
-delimits (tuple s t) X d = record { digits = refl; fraction = refl; name = refl }
-delimits (list s t) X d = record { digits = refl; fraction = refl; name = refl }
-delimits (other s k w) X d = record { digits = refl; fraction = refl; name = refl }
+mark_closes : (b : ℕ) (Y : List ℕ) → Delimits (b ∷ Y) → 37 < b → Closes (b ∷ Y)
+mark_closes b Y d l = closes_by b Y d (λ s. omega (arith, l, s)) (λ e. omega (arith, l, e)) (λ e. omega (arith, l, e))
+
+bar_at : (X : List ℕ) → Closes (124 ∷ X)
+bar_at X = mark_closes 124 X (record { digits = refl; fraction = refl; name = refl }) (omega arith)
+
+comma_at : (X : List ℕ) → Closes (44 ∷ X)
+comma_at X = mark_closes 44 X (record { digits = refl; fraction = refl; name = refl }) (omega arith)
+
+delimits : (u : Tree) (X : List ℕ) → Closes X → Closes (rest_text u ++ X)
+delimits (integer s n) X d = bar_at _
+delimits (atom s w) X d = bar_at _
+delimits (tuple s t) X d = bar_at _
+delimits (list s t) X d = bar_at _
+delimits (other s k w) X d = bar_at _
 delimits nil X d = d
-delimits (cons t u) X d = record { digits = refl; fraction = refl; name = refl }
+delimits (cons t u) X d = comma_at _
 
 -- at the place where a term ended
 pub ended : {d : ℕ} {p : Place} {rest : List ℕ} {t : Tree} → (r : Read d p rest t) → Spells d r.first r.tree (on rest r.end.at r.end.line)
@@ -341,17 +353,17 @@ list_read d s t rest e bracketed at line =
 
 -- all of it, by the term
 record Facts (t : Tree) : Type 0 where
-  node : (d : ℕ) (rest : List ℕ) → Shown d t → Delimits rest → Reads d (node_text t) rest t
+  node : (d : ℕ) (rest : List ℕ) → Shown d t → Closes rest → Reads d (node_text t) rest t
   inside : (d : ℕ) (rest : List ℕ) → ShownRow d t → Tupled d rest t
   ends : (d : ℕ) (rest : List ℕ) → ShownRow d t → Ends d rest t
   listed : (d : ℕ) (rest : List ℕ) → ShownList d t → Bracketed d rest t
   tails : (d : ℕ) (rest : List ℕ) → ShownRest d t → Tails d rest t
 
-tuple_end : (X : List ℕ) → Delimits (125 ∷ X)
-tuple_end X = record { digits = refl; fraction = refl; name = refl }
+tuple_end : (X : List ℕ) → Closes (125 ∷ X)
+tuple_end X = mark_closes 125 X (record { digits = refl; fraction = refl; name = refl }) (omega arith)
 
-list_end : (X : List ℕ) → Delimits (93 ∷ X)
-list_end X = record { digits = refl; fraction = refl; name = refl }
+list_end : (X : List ℕ) → Closes (93 ∷ X)
+list_end X = mark_closes 93 X (record { digits = refl; fraction = refl; name = refl }) (omega arith)
 
 tuple_node : (s : Span) (t : Tree) → Facts t → (d : ℕ) (rest : List ℕ) → Shown d (tuple s t) → Reads d (node_text (tuple s t)) rest (tuple s t)
 tuple_node s t f zero rest h = absurd h
@@ -399,11 +411,11 @@ facts (list s t) =
       tails = λ d rest h. absurd h;
     }
 facts (other s k w) = record {
-  node = λ d rest h k. absurd h;
+  node = λ d rest h c. other_read d k w (other s k w) rest refl h c;
   inside = λ d rest h. absurd h;
   ends = λ d rest h. absurd h;
   listed = λ d rest h. absurd h;
-  tails = λ d rest h. absurd h;
+  tails = λ d rest h. listed_tail d rest (other s k w) tt refl (other_read d k w (other s k w) (93 ∷ rest) refl h (list_end rest));
 }
 facts nil = record {
   node = λ d rest h k. absurd h;
@@ -428,7 +440,7 @@ pub printed_read : (t : Tree) (d : ℕ) (rest : List ℕ) → Shown d t → Deli
 printed_read t = (facts t).node
 
 pub read_back : (t : Tree) → Shown 256 t → IsReadBack t
-read_back t h = by_read ((facts t).node 256 (46 ∷ []) h (record { digits = refl; fraction = refl; name = refl }) 0 1)
+read_back t h = by_read ((facts t).node 256 (46 ∷ []) h (mark_closes 46 [] (record { digits = refl; fraction = refl; name = refl }) (omega arith)) 0 1)
   where
     by_read : Read 256 (on (node_text t ++ 46 ∷ []) 0 1) (46 ∷ []) t → IsReadBack t
     by_read r =

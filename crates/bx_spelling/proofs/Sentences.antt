@@ -24,7 +24,7 @@ use Rattle.bx_spelling.specs.Terms.{Stood, NoQuote, NoText, Texts, Written, Held
 use Rattle.bx_spelling.proofs.Blanking.{skipped_is_blank}
 use Rattle.bx_spelling.proofs.Finding.{next_is_longest, parts, standing}
 use Rattle.bx_spelling.proofs.Quotes.{valid_is}
-use Rattle.bx_spelling.proofs.ReadBack.{atom_meant}
+use Rattle.bx_spelling.proofs.Meant.{atom_meant}
 
 -- the lexeme with the text that is meant
 abbrev pub plainly : Lexeme → Lexeme
@@ -267,12 +267,12 @@ text_meant token.open_binary w e = cc
 text_meant (token.mark m) w e = cc
 
 -- the reader's lexeme behind one by bytes
-record Behind (p : Place) (l : Lexeme) : Type 0 where
-  lexeme : Lexeme
-  next : Next p lexeme
-  plain : plainly lexeme ≡ l
+pub record Behind (p : Place) (l : Lexeme) : Type 0 where
+  pub lexeme : Lexeme
+  pub next : Next p lexeme
+  pub plain : plainly lexeme ≡ l
 
-back : (p : Place) (l : Lexeme) → Stood p l → Behind p l
+pub back : (p : Place) (l : Lexeme) → Stood p l → Behind p l
 back p l (q, passed, longest, from_is, line_is, begin_is) = by_found ((next_is_longest p q l.token l.after).1 (passed, longest))
   where
     by_found : Finds p q l.token l.after → Behind p l
@@ -381,7 +381,7 @@ kept_here : (l k : Lexeme) → plainly l ≡ k → Written k k.after → Kept l 
 kept_here l k e w = kept_two l k l k e e w
 
 mutual
-  term_back : {d : ℕ} {k : Lexeme} {t : Tree} {q : Place} → Term d k t q → (l : Lexeme) → plainly l ≡ k → Spells d l t q
+  pub term_back : {d : ℕ} {k : Lexeme} {t : Tree} {q : Place} → Term d k t q → (l : Lexeme) → plainly l ≡ k → Spells d l t q
   term_back (terms.an_integer {d = d} {l = k} {n = n} t) l e =
       subst (λ (k : Lexeme). Spells d l (integer (span k k.after) n) k.after) e (grammar.an_integer (token_back l k (token.integer n) e tt t))
   term_back (terms.an_atom {d = d} {l = k} {w = w} t) l e =

@@ -1,4 +1,4 @@
--- What was read, and holds values alone, is printed and read back.
+-- What was read is printed and read back.
 use Rattle.std.proofs.Common.{◌≡◌, ℕ, zero, suc, ◌%◌, ◌≤◌, ◌<◌, true, ◌&&◌, pos, List, [], ◌∷◌, ◌++◌, map, length, Some, Ok, refl, subst, arith, IsUtf8, chars, encode_utf8_all}
 use Rattle.std.specs.List.{AllByRecursion}
 use Rattle.std.specs.Str.{all_scalars}
@@ -14,11 +14,12 @@ use Rattle.bx_text.specs.Terms.{span, letters, tail_of}
 use Rattle.bx_text.specs.Tree.{Tree, integer, atom, tuple, list, other, nil, cons, chain}
 use Rattle.bx_spelling.specs.Quoted as quoted
 use Rattle.bx_spelling.specs.Quoted.{Quoted, Named, backspace, delete, escape, form_feed, line_feed, carriage_return, space, tab, vertical_tab}
-use Rattle.bx_spelling.specs.Shown.{Shown, ShownRow, ShownList, ShownRest, IsValued, IsReadBack}
+use Rattle.bx_spelling.specs.Shown.{StandsAs, Shown, ShownRow, ShownList, ShownRest, IsReadBack}
 use Rattle.bx_spelling.specs.Spelling as spelling
 use Rattle.bx_spelling.specs.Spelling.{Spelling}
 use Rattle.bx_spelling.specs.Terms as terms
-use Rattle.bx_spelling.specs.Terms.{Stood, Texts, Term, Elements, Sentence}
+use Rattle.bx_text.specs.declared.node.Sort.{Sort}
+use Rattle.bx_spelling.specs.Terms.{Stood, Texts, Held, Part, Parts, Term, Elements, Pairs, Sentence}
 use Rattle.bx_spelling.proofs.Escapes.{is_base, Value, numeral_value, below}
 use Rattle.bx_spelling.proofs.ReadBack.{read_back}
 use Rattle.bx_spelling.proofs.Sentences.{read_is_sentence}
@@ -109,11 +110,51 @@ atom_utf8 (spelling.bare_atom c cs {bytes = bytes} h a u o) w e = let is : bytes
 atom_utf8 (spelling.quoted_atom {vs = vs} r u) w e = let is : encode_utf8_all vs ≡ w = cc in subst IsUtf8 is (vs, (quoted_scalars r u.0, refl))
 atom_utf8 (spelling.string r u) w e = cc
 
-abbrev Spoken : Lexeme → Type 0
-Spoken l = (bytes : List ℕ) × Spelling bytes l.token
+abbrev Somewhere : Lexeme → Type 0
+Somewhere l = (p : Place) × Stood p l
 
-spoken : (p : Place) (l : Lexeme) → Stood p l → Spoken l
-spoken p l (q, passed, (bytes, b, more, st), f, n, e) = (bytes, b.1)
+spoken : (l : Lexeme) → Somewhere l → (bytes : List ℕ) × Spelling bytes l.token
+spoken l (p, (q, passed, (bytes, b, more, st), f, n, e)) = (bytes, b.1)
+
+-- deeper is no harm to what is kept
+held_up : {d : ℕ} {l : Lexeme} {q : Place} → Held d l q → Held (suc d) l q
+held_up (terms.a_number t) = terms.a_number t
+held_up (terms.some_texts t s) = terms.some_texts t s
+
+part_up : {d : ℕ} {l e : Lexeme} → Part d l e → Part (suc d) l e
+part_up (terms.a_part h a s k) = terms.a_part (held_up h) a s k
+
+parts_up : {d : ℕ} {l m : Lexeme} → Parts d l m → Parts (suc d) l m
+parts_up (terms.one_part x) = terms.one_part (part_up x)
+parts_up (terms.more_parts x t a r) = terms.more_parts (part_up x) t a (parts_up r)
+
+mutual
+  term_up : {d : ℕ} {l : Lexeme} {t : Tree} {q : Place} → Term d l t q → Term (suc d) l t q
+  term_up (terms.an_integer t) = terms.an_integer t
+  term_up (terms.an_atom t) = terms.an_atom t
+  term_up (terms.texts t s) = terms.texts t s
+  term_up (terms.empty_tuple t a z) = terms.empty_tuple t a z
+  term_up (terms.a_tuple t a w z) = terms.a_tuple t a (elements_up w) z
+  term_up (terms.empty_list t a z) = terms.empty_list t a z
+  term_up (terms.a_list t a w z) = terms.a_list t a (elements_up w) z
+  term_up (terms.a_list_with_tail t a w b c u y z) = terms.a_list_with_tail t a (elements_up w) b c (term_up u) y z
+  term_up (terms.a_float t w) = terms.a_float t w
+  term_up (terms.an_empty_map t a z w) = terms.an_empty_map t a z w
+  term_up (terms.a_map t a r z w) = terms.a_map t a (pairs_up r) z w
+  term_up (terms.an_empty_binary t a z w) = terms.an_empty_binary t a z w
+  term_up (terms.a_binary t a r z w) = terms.a_binary t a (parts_up r) z w
+  term_up (terms.a_fun t a x b y c z e o h j r) = terms.a_fun t a x b y c z e o h j r
+
+  elements_up : {d : ℕ} {l m : Lexeme} {ts : List Tree} → Elements d l ts m → Elements (suc d) l ts m
+  elements_up (terms.one t st) = terms.one (term_up t) st
+  elements_up (terms.more t st k n r) = terms.more (term_up t) st k n (elements_up r)
+
+  pairs_up : {d : ℕ} {l m : Lexeme} → Pairs d l m → Pairs (suc d) l m
+  pairs_up (terms.one_pair t a k b u z) = terms.one_pair (term_up t) a k b (term_up u) z
+  pairs_up (terms.more_pairs t a k b u z j e w) = terms.more_pairs (term_up t) a k b (term_up u) z j e (pairs_up w)
+
+stands_up : (d : ℕ) (k : Sort) (w : List ℕ) → StandsAs d k w → StandsAs (suc d) k w
+stands_up d k w (p, l, s, q, st, t) = (p, l, s, q, st, term_up t)
 
 -- deeper is no harm
 record Up (t : Tree) : Type 0 where
@@ -139,7 +180,7 @@ up (integer s n) = record { node = λ d h. tt; row = λ d h. absurd h; listed = 
 up (atom s w) = record { node = λ d h. h; row = λ d h. absurd h; listed = λ d h. absurd h; rest = λ d h. h }
 up (tuple s t) = let u = up t in record { node = λ d h. tuple_up s t u d h; row = λ d h. absurd h; listed = λ d h. absurd h; rest = λ d h. tail_up s t u d h }
 up (list s t) = let u = up t in record { node = λ d h. list_up s t u d h; row = λ d h. absurd h; listed = λ d h. absurd h; rest = λ d h. absurd h }
-up (other s k w) = record { node = λ d h. absurd h; row = λ d h. absurd h; listed = λ d h. absurd h; rest = λ d h. absurd h }
+up (other s k w) = record { node = λ d h. stands_up d k w h; row = λ d h. absurd h; listed = λ d h. absurd h; rest = λ d h. stands_up d k w h }
 up nil = record { node = λ d h. absurd h; row = λ d h. tt; listed = λ d h. tt; rest = λ d h. tt }
 up (cons t v) =
     let u = up t in
@@ -179,7 +220,7 @@ tail_shown zero (tuple s t) h = absurd h
 tail_shown (suc d) (tuple s t) h = h
 tail_shown zero (list s t) h = absurd h
 tail_shown (suc d) (list s t) h = tail_list d t h
-tail_shown d (other s k w) h = absurd h
+tail_shown d (other s k w) h = h
 tail_shown d nil h = absurd h
 tail_shown d (cons t u) h = absurd h
 
@@ -192,49 +233,34 @@ texts_shown : {p q : Place} {ts : List Tree} → Texts p ts q → (d : ℕ) → 
 texts_shown (terms.no_text n) d = tt
 texts_shown (terms.a_text {l = l} {w = w} {ts = ts} st t s) d = letters_shown d (span l l.after) (chars w) ts (texts_shown s d)
 
--- values alone
-valued_rest : (ts : List Tree) (u : Tree) → IsValued (chain ts u) → AllByRecursion IsValued ts × IsValued u
-valued_rest [] u v = (tt, v)
-valued_rest (t ∷ ts) u (h, v) = let more = valued_rest ts u v in ((h, more.0), more.1)
-
-valued_tail : (t : Tree) → IsValued (tail_of t) → IsValued t
-valued_tail (integer s n) v = v
-valued_tail (atom s w) v = v
-valued_tail (tuple s t) v = v
-valued_tail (list s t) v = v
-valued_tail (other s k w) v = v
-valued_tail nil v = v
-valued_tail (cons t u) v = v
-
 some_elements : {d : ℕ} {l m : Lexeme} {ts : List Tree} → Elements d l ts m → 0 < length ts
 some_elements (terms.one t st) = omega arith
 some_elements (terms.more t st k n r) = omega arith
 
 mutual
-  term_shown : {d : ℕ} {l : Lexeme} {t : Tree} {q : Place} → Term d l t q → Spoken l → IsValued t → Shown d t
-  term_shown (terms.an_integer t) s v = tt
-  term_shown (terms.an_atom {w = w} t) s v = atom_utf8 s.1 w t
-  term_shown (terms.texts {d = d} {l = l} {w = w} {ts = ts} t r) s v = proper_of d (letters (span l l.after) w ++ ts) (letters_shown d (span l l.after) (chars w) ts (texts_shown r d))
-  term_shown (terms.empty_tuple t a z) s v = tt
-  term_shown (terms.a_tuple {d = d} {l = l} {first = f} {ts = ts} t a w z) s v = row_of d ts (elements_shown w (spoken l.after f a) (valued_rest ts nil v).0)
-  term_shown (terms.empty_list t a z) s v = tt
-  term_shown (terms.a_list {d = d} {l = l} {first = f} {ts = ts} t a w z) s v = proper_of d ts (elements_shown w (spoken l.after f a) (valued_rest ts nil v).0)
-  term_shown (terms.a_list_with_tail {d = d} {l = l} {first = f} {bar = bar} {start = start} {ts = ts} {t = tail} t a w b c u y z) s v =
-      let parts = valued_rest ts (tail_of tail) v in
-      list_of d ts (tail_of tail) (some_elements w) (elements_shown w (spoken l.after f a) parts.0) (tail_shown d tail (term_shown u (spoken bar.after start c) (valued_tail tail parts.1)))
-  term_shown (terms.a_float t w) s v = absurd v
-  term_shown (terms.an_empty_map t a z w) s v = absurd v
-  term_shown (terms.a_map t a r z w) s v = absurd v
-  term_shown (terms.an_empty_binary t a z w) s v = absurd v
-  term_shown (terms.a_binary t a r z w) s v = absurd v
-  term_shown (terms.a_fun t a x b y c z e u h i j) s v = absurd v
+  term_shown : {d : ℕ} {l : Lexeme} {t : Tree} {q : Place} → Term d l t q → Somewhere l → Shown d t
+  term_shown (terms.an_integer t) s = tt
+  term_shown (terms.an_atom {l = l} {w = w} t) s = atom_utf8 (spoken l s).1 w t
+  term_shown (terms.texts {d = d} {l = l} {w = w} {ts = ts} t r) s = proper_of d (letters (span l l.after) w ++ ts) (letters_shown d (span l l.after) (chars w) ts (texts_shown r d))
+  term_shown (terms.empty_tuple t a z) s = tt
+  term_shown (terms.a_tuple {d = d} {l = l} {first = f} {ts = ts} t a w z) s = row_of d ts (elements_shown w (l.after, a))
+  term_shown (terms.empty_list t a z) s = tt
+  term_shown (terms.a_list {d = d} {l = l} {first = f} {ts = ts} t a w z) s = proper_of d ts (elements_shown w (l.after, a))
+  term_shown (terms.a_list_with_tail {d = d} {l = l} {first = f} {bar = bar} {start = start} {ts = ts} {t = tail} t a w b c u y z) s =
+      list_of d ts (tail_of tail) (some_elements w) (elements_shown w (l.after, a)) (tail_shown d tail (term_shown u (bar.after, c)))
+  term_shown (terms.a_float {l = l} t w) (p, st) = (p, l, span l l.after, l.after, st, terms.a_float t w)
+  term_shown (terms.an_empty_map {l = l} {m = m} t a z w) (p, st) = (p, l, span l m.after, m.after, st, terms.an_empty_map t a z w)
+  term_shown (terms.a_map {l = l} {m = m} t a r z w) (p, st) = (p, l, span l m.after, m.after, st, terms.a_map t a r z w)
+  term_shown (terms.an_empty_binary {l = l} {m = m} t a z w) (p, st) = (p, l, span l m.after, m.after, st, terms.an_empty_binary t a z w)
+  term_shown (terms.a_binary {l = l} {m = m} t a r z w) (p, st) = (p, l, span l m.after, m.after, st, terms.a_binary t a r z w)
+  term_shown (terms.a_fun {l = l} {n = n} t a x b y c z e o h j r) (p, st) = (p, l, span l n.after, n.after, st, terms.a_fun t a x b y c z e o h j r)
 
-  elements_shown : {d : ℕ} {l m : Lexeme} {ts : List Tree} → Elements d l ts m → Spoken l → AllByRecursion IsValued ts → AllByRecursion (Shown d) ts
-  elements_shown (terms.one t st) s (v, none) = (term_shown t s v, tt)
-  elements_shown (terms.more {comma = comma} {next = next} t st k n r) s (v, vs) = (term_shown t s v, elements_shown r (spoken comma.after next n) vs)
+  elements_shown : {d : ℕ} {l m : Lexeme} {ts : List Tree} → Elements d l ts m → Somewhere l → AllByRecursion (Shown d) ts
+  elements_shown (terms.one t st) s = (term_shown t s, tt)
+  elements_shown (terms.more {comma = comma} {next = next} t st k n r) s = (term_shown t s, elements_shown r (comma.after, n))
 
-sentence_shown : {d : ℕ} {p q : Place} {t : Tree} → Sentence d p t q → IsValued t → Shown d t
-sentence_shown (terms.a_sentence {p = p} {l = l} st t a z) v = term_shown t (spoken p l st) v
+sentence_shown : {d : ℕ} {p q : Place} {t : Tree} → Sentence d p t q → Shown d t
+sentence_shown (terms.a_sentence {p = p} {l = l} st t a z) = term_shown t (p, st)
 
-pub read_and_back : (p : Place) (t : Tree) (q : Place) → form_at p ≡ Ok (Some (t, q)) → IsValued t → IsReadBack t
-read_and_back p t q h v = read_back t (sentence_shown (read_is_sentence p t q h) v)
+pub read_and_back : (p : Place) (t : Tree) (q : Place) → form_at p ≡ Ok (Some (t, q)) → IsReadBack t
+read_and_back p t q h = read_back t (sentence_shown (read_is_sentence p t q h))

@@ -1,13 +1,20 @@
 -- Terms whose printed text is read back as the same term, spans aside.
-use Rattle.std.specs.Prelude.{◌≡◌, ℕ, zero, suc, [], ◌++◌, Some, Ok, codes, IsUtf8}
+use Rattle.std.specs.Prelude.{◌≡◌, ℕ, zero, suc, List, [], ◌++◌, Some, Ok, codes, IsUtf8}
 use Rattle.bx_text.specs.Place.{Place, place_in}
 use Rattle.bx_text.specs.Printed.{node_text}
 use Rattle.bx_text.specs.Forms.{form_at}
 use Rattle.bx_text.specs.declared.node.Span.{Span}
+use Rattle.bx_text.specs.declared.node.Sort.{Sort}
+use Rattle.bx_text.specs.Token.{Lexeme}
 use Rattle.bx_text.specs.Tree.{Tree, integer, atom, tuple, list, other, nil, cons}
+use Rattle.bx_spelling.specs.Terms.{Stood, Term}
+
+-- the bytes stand in some text as a term that is kept as it is written, in which brackets nest at most so many deep
+abbrev pub StandsAs : ℕ → Sort → List ℕ → Type 0
+StandsAs d k w = (p : Place) × (l : Lexeme) × (s : Span) × (q : Place) × Stood p l × Term d l (other s k w) q
 
 abbrev mutual
-  -- integers of any size, atoms, and tuples and lists of such terms, nested at most so many deep
+  -- integers of any size, atoms, what is kept as it is written, and tuples and lists of such terms, nested at most so many deep
   pub Shown : ℕ → Tree → Type 0
   Shown d (integer s n) = Unit {0}
   Shown d (atom s w) = IsUtf8 w
@@ -15,6 +22,7 @@ abbrev mutual
   Shown (suc d) (tuple s t) = ShownRow d t
   Shown zero (list s t) = ⊥
   Shown (suc d) (list s t) = ShownList d t
+  Shown d (other s k w) = StandsAs d k w
   Shown d t = ⊥
 
   -- a tuple's elements
@@ -37,6 +45,7 @@ abbrev mutual
   ShownRest d (atom s w) = IsUtf8 w
   ShownRest zero (tuple s t) = ⊥
   ShownRest (suc d) (tuple s t) = ShownRow d t
+  ShownRest d (other s k w) = StandsAs d k w
   ShownRest d t = ⊥
 
 abbrev pub nowhere : Span
@@ -55,11 +64,3 @@ unplaced (cons t u) = cons (unplaced t) (unplaced u)
 -- the term's text and a full stop are read as the same term, up to the end
 abbrev pub IsReadBack : Tree → Type 0
 IsReadBack t = (u : Tree) × (q : Place) × (form_at (place_in (node_text t ++ codes ".") 0) ≡ Ok (Some (u, q))) × (q.rest ≡ []) × (unplaced u ≡ unplaced t)
-
--- no float, map, binary or fun is in the term
-abbrev pub IsValued : Tree → Type 0
-IsValued (other s k w) = ⊥
-IsValued (tuple s t) = IsValued t
-IsValued (list s t) = IsValued t
-IsValued (cons t u) = IsValued t × IsValued u
-IsValued t = Unit {0}

@@ -8,7 +8,7 @@ ghost use Rattle.bx_text.specs.Token.{Token};
 ghost use Rattle.bx_spelling.specs.Blanks.{Passes};
 ghost use Rattle.bx_spelling.specs.Lexemes.{Finds};
 ghost use Rattle.bx_text.specs.Tree.{Tree};
-ghost use Rattle.bx_spelling.specs.Shown.{Shown, IsReadBack, IsValued};
+ghost use Rattle.bx_spelling.specs.Shown.{Shown, IsReadBack};
 ghost use Rattle.bx_spelling.specs.Terms.{Sentence, OnlyBlanks};
 ghost use Rattle.bx_spelling.specs.Tokens.{Takes, Longest};
 
@@ -40,12 +40,12 @@ pub fn none_is_blank_by_its_bytes()
 {}
 
 /// What is printed of a term, and a full stop behind it, is read as the same term, spans aside: integers of any size,
-/// atoms, tuples, and lists with and without tails, nested at most as deep as is read.
+/// atoms, floats, maps, binaries and funs, tuples, and lists with and without tails, nested at most as deep as is read.
 pub fn what_is_printed_is_read_back()
     ensures { (t : Tree) → Shown 256 t → IsReadBack t }
 {}
 
-/// What was read, and holds no float, map, binary or fun, is printed and read back as the same term, spans aside.
+/// What was read is printed and read back as the same term, spans aside.
 pub fn what_was_read_is_printed_and_read_back()
-    ensures { (p : Place) (t : Tree) (q : Place) → form_at p ≡ Ok (Some (t, q)) → IsValued t → IsReadBack t }
+    ensures { (p : Place) (t : Tree) (q : Place) → form_at p ≡ Ok (Some (t, q)) → IsReadBack t }
 {}
