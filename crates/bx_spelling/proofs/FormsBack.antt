@@ -10,7 +10,7 @@ use Rattle.bx_text.specs.Tree.{Tree}
 use Rattle.bx_spelling.specs.Shown.{Shown, unplaced}
 use Rattle.bx_spelling.proofs.Frame.{on}
 use Rattle.bx_spelling.proofs.Finding.{standing}
-use Rattle.bx_spelling.proofs.ReadBack.{Read, ended, next_by, printed_read}
+use Rattle.bx_spelling.proofs.ReadBack.{Read, ended, next_by, printed_read, stop_at}
 
 -- a form is read from p on, up to the end of a line, behind which this rest stands
 pub record FormRead (p : Place) (rest : List ℕ) (t : Tree) : Type 0 where
@@ -37,11 +37,11 @@ ended_by rest t p q same r =
 pub form_here : (t : Tree) (rest : List ℕ) (at line : ℕ) → Shown 256 t → FormRead (on (node_text t ++ 46 ∷ 10 ∷ rest) at line) rest t
 form_here t rest at line h =
     let p : Place = on (node_text t ++ 46 ∷ 10 ∷ rest) at line in
-    ended_by rest t p p refl (printed_read t 256 (46 ∷ 10 ∷ rest) h (record { digits = refl; fraction = refl; name = refl }) at line)
+    ended_by rest t p p refl (printed_read t 256 (46 ∷ 10 ∷ rest) h (stop_at rest) at line)
 
 -- where it begins on the next line
 pub form_below : (t : Tree) (rest : List ℕ) (at line : ℕ) → Shown 256 t → FormRead (on (10 ∷ (node_text t ++ 46 ∷ 10 ∷ rest)) at line) rest t
 form_below t rest at line h =
     let text : List ℕ = node_text t ++ 46 ∷ 10 ∷ rest in
     ended_by rest t (on (10 ∷ text) at line) (on text (at + 1) (line + 1)) refl
-    (printed_read t 256 (46 ∷ 10 ∷ rest) h (record { digits = refl; fraction = refl; name = refl }) (at + 1) (line + 1))
+    (printed_read t 256 (46 ∷ 10 ∷ rest) h (stop_at rest) (at + 1) (line + 1))

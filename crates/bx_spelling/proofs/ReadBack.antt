@@ -436,8 +436,12 @@ facts (cons a u) =
     }
 
 -- what is printed is read, where a delimiter follows
-pub printed_read : (t : Tree) (d : ℕ) (rest : List ℕ) → Shown d t → Delimits rest → Reads d (node_text t) rest t
+pub printed_read : (t : Tree) (d : ℕ) (rest : List ℕ) → Shown d t → Closes rest → Reads d (node_text t) rest t
 printed_read t = (facts t).node
+
+-- a full stop that ends its line
+pub stop_at : (X : List ℕ) → Closes (46 ∷ 10 ∷ X)
+stop_at X = mark_closes 46 (10 ∷ X) (record { digits = refl; fraction = refl; name = refl }) (omega arith)
 
 pub read_back : (t : Tree) → Shown 256 t → IsReadBack t
 read_back t h = by_read ((facts t).node 256 (46 ∷ []) h (mark_closes 46 [] (record { digits = refl; fraction = refl; name = refl }) (omega arith)) 0 1)
