@@ -19,7 +19,8 @@ LineEnds (b ∷ bs) = b ≡ 10
 pub data Blank : List ℕ → List ℕ → Type 0 where
   nothing : {rest : List ℕ} → Blank [] rest
   space : {b : ℕ} {bytes rest : List ℕ} → IsSpace b → Blank bytes rest → Blank (b ∷ bytes) rest
-  comment : (text : List ℕ) {bytes rest : List ℕ} → OnLine text → LineEnds (bytes ++ rest) → Blank bytes rest → Blank (37 ∷ (text ++ bytes)) rest
+  comment : (text : List ℕ) {bytes rest : List ℕ} → OnLine text → LineEnds (bytes ++ rest)
+      → Blank bytes rest → Blank (37 ∷ (text ++ bytes)) rest
 
 -- neither a space nor a comment begins
 abbrev pub NoBlank : List ℕ → Type 0
@@ -28,4 +29,5 @@ NoBlank (b ∷ bs) = (IsSpace b → ⊥) × (b ≢ 37)
 
 -- behind all spaces and comments that stand at p, q is the place
 abbrev pub Passes : Place → Place → Type 0
-Passes p q = (bytes : List ℕ) × (p.rest ≡ bytes ++ q.rest) × Blank bytes q.rest × NoBlank q.rest × Stands p bytes q
+Passes p q = (bytes : List ℕ) × (p.rest ≡ bytes ++ q.rest) × Blank bytes q.rest × NoBlank q.rest
+    × Stands p bytes q

@@ -8,4 +8,5 @@ use Rattle.bx_spelling.specs.Tokens.{meant}
 -- the reader finds t as the next token from p on, at the place q, and goes on at r
 abbrev pub Finds : Place → Place → Token → Place → Type 0
 Finds p q t r =
-    (l : Lexeme) × (lexeme_at p ≡ Ok l) × (meant l.token ≡ t) × (l.after ≡ r) × (l.from ≡ q.at) × (l.line ≡ q.line) × (l.begin ≡ q.rest)
+    (l : Lexeme) × (lexeme_at p ≡ Ok l) × (meant l.token ≡ t) × (l.after ≡ r) × (l.from ≡ q.at)
+    × (l.line ≡ q.line) × (l.begin ≡ q.rest)

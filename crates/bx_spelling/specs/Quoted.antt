@@ -38,14 +38,19 @@ IsOther c = (IsNamed c → ⊥) × (IsOctal c → ⊥) × (c ≢ 120) × (c ≢ 
 pub data Quoted : ℕ → List ℕ → List ℕ → Type 0 where
   none : {q : ℕ} → Quoted q [] []
   itself : {q c : ℕ} {cs vs : List ℕ} → c ≢ q → c ≢ 92 → Quoted q cs vs → Quoted q (c ∷ cs) (c ∷ vs)
-  named : {q c v : ℕ} {cs vs : List ℕ} → Named c v → Quoted q cs vs → Quoted q (92 ∷ c ∷ cs) (v ∷ vs)
+  named : {q c v : ℕ} {cs vs : List ℕ} → Named c v → Quoted q cs vs
+      → Quoted q (92 ∷ c ∷ cs) (v ∷ vs)
   -- one to three octal digits, of which there are as many as follow
-  octal : {q v : ℕ} {ds cs vs : List ℕ} → Numeral 8 ds v → length ds ≤ 3 → (length ds ≡ 3) ⊎ NoOctal cs → Quoted q cs vs → Quoted q (92 ∷ (ds ++ cs)) (v ∷ vs)
+  octal : {q v : ℕ} {ds cs vs : List ℕ} → Numeral 8 ds v → length ds ≤ 3
+      → (length ds ≡ 3) ⊎ NoOctal cs → Quoted q cs vs → Quoted q (92 ∷ (ds ++ cs)) (v ∷ vs)
   -- `x` and two digits of base 16
-  hex : {q v : ℕ} {ds cs vs : List ℕ} → Numeral 16 ds v → length ds ≡ 2 → Quoted q cs vs → Quoted q (92 ∷ 120 ∷ (ds ++ cs)) (v ∷ vs)
+  hex : {q v : ℕ} {ds cs vs : List ℕ} → Numeral 16 ds v → length ds ≡ 2 → Quoted q cs vs
+      → Quoted q (92 ∷ 120 ∷ (ds ++ cs)) (v ∷ vs)
   -- `x{`, digits of base 16 and `}`, where they are the code of a character
-  braced : {q v : ℕ} {ds cs vs : List ℕ} → Numeral 16 ds v → IsScalar v → Quoted q cs vs → Quoted q (92 ∷ 120 ∷ 123 ∷ (ds ++ 125 ∷ cs)) (v ∷ vs)
+  braced : {q v : ℕ} {ds cs vs : List ℕ} → Numeral 16 ds v → IsScalar v → Quoted q cs vs
+      → Quoted q (92 ∷ 120 ∷ 123 ∷ (ds ++ 125 ∷ cs)) (v ∷ vs)
   -- `^` and a character, of whose code the low five bits are taken
-  control : {q c : ℕ} {cs vs : List ℕ} → IsControl c → Quoted q cs vs → Quoted q (92 ∷ 94 ∷ c ∷ cs) (c % 32 ∷ vs)
+  control : {q c : ℕ} {cs vs : List ℕ} → IsControl c → Quoted q cs vs
+      → Quoted q (92 ∷ 94 ∷ c ∷ cs) (c % 32 ∷ vs)
   -- any other character stands for itself behind a backslash
   other : {q c : ℕ} {cs vs : List ℕ} → IsOther c → Quoted q cs vs → Quoted q (92 ∷ c ∷ cs) (c ∷ vs)

@@ -11,7 +11,8 @@ use Rattle.bx_spelling.specs.Terms.{Stood, Term}
 
 -- the bytes stand in some text as a term that is kept as it is written, in which brackets nest at most so many deep
 abbrev pub StandsAs : ℕ → Sort → List ℕ → Type 0
-StandsAs d k w = (p : Place) × (l : Lexeme) × (s : Span) × (q : Place) × Stood p l × Term d l (other s k w) q
+StandsAs d k w = (p : Place) × (l : Lexeme) × (s : Span) × (q : Place) × Stood p l
+    × Term d l (other s k w) q
 
 abbrev mutual
   -- integers of any size, atoms, what is kept as it is written, and tuples and lists of such terms, nested at most so many deep
@@ -63,4 +64,6 @@ unplaced (cons t u) = cons (unplaced t) (unplaced u)
 
 -- the term's text and a full stop are read as the same term, up to the end
 abbrev pub IsReadBack : Tree → Type 0
-IsReadBack t = (u : Tree) × (q : Place) × (form_at (place_in (node_text t ++ codes ".") 0) ≡ Ok (Some (u, q))) × (q.rest ≡ []) × (unplaced u ≡ unplaced t)
+IsReadBack t = (u : Tree) × (q : Place)
+    × (form_at (place_in (node_text t ++ codes ".") 0) ≡ Ok (Some (u, q))) × (q.rest ≡ [])
+    × (unplaced u ≡ unplaced t)

@@ -32,7 +32,8 @@ pub data Sign : List ℕ → Type 0 where
 -- nothing, or `e` or `E`, an optional sign and digits
 pub data Exponent : List ℕ → Type 0 where
   no_exponent : Exponent []
-  an_exponent : {e : ℕ} {s ds : List ℕ} → (e ≡ 101) ⊎ (e ≡ 69) → Sign s → Digits ds → Exponent (e ∷ (s ++ ds))
+  an_exponent : {e : ℕ} {s ds : List ℕ} → (e ≡ 101) ⊎ (e ≡ 69) → Sign s → Digits ds
+      → Exponent (e ∷ (s ++ ds))
 
 pub data Spelling : List ℕ → Token → Type 0 where
   open_tuple : Spelling (codes "{") token.open_tuple
@@ -54,12 +55,18 @@ pub data Spelling : List ℕ → Token → Type 0 where
   full_stop : Spelling (codes ".") named.full_stop
   the_word_fun : Spelling (codes "fun") named.the_word_fun
   integer : {ds : List ℕ} {n : ℕ} → Numeral 10 ds n → Spelling ds (token.integer (pos n))
-  negative : {ds : List ℕ} {n : ℕ} → Numeral 10 ds n → Spelling (codes "-" ++ ds) (token.integer (neg_ℤ (pos n)))
-  float : {m ds fs es : List ℕ} → Minus m → Digits ds → Digits fs → Exponent es → Spelling (m ++ (ds ++ (46 ∷ (fs ++ es)))) token.float
+  negative : {ds : List ℕ} {n : ℕ} → Numeral 10 ds n
+      → Spelling (codes "-" ++ ds) (token.integer (neg_ℤ (pos n)))
+  float : {m ds fs es : List ℕ} → Minus m → Digits ds → Digits fs → Exponent es
+      → Spelling (m ++ (ds ++ (46 ∷ (fs ++ es)))) token.float
   -- a reserved word but `fun` is an atom too
-  bare_atom : (c : ℕ) (cs : List ℕ) {bytes : List ℕ} → IsSmall c → AllByRecursion IsNameCharacter cs → InUtf8 (c ∷ cs) bytes → bytes ≢ codes "fun" → Spelling bytes (token.atom (token.plain bytes))
-  quoted_atom : {cs vs bytes : List ℕ} → Quoted 39 cs vs → InUtf8 cs bytes → Spelling (39 ∷ (bytes ++ 39 ∷ [])) (token.atom (token.plain (encode_utf8_all vs)))
-  string : {cs vs bytes : List ℕ} → Quoted 34 cs vs → InUtf8 cs bytes → Spelling (34 ∷ (bytes ++ 34 ∷ [])) (token.text (token.plain (encode_utf8_all vs)))
+  bare_atom : (c : ℕ) (cs : List ℕ) {bytes : List ℕ} → IsSmall c → AllByRecursion IsNameCharacter cs
+      → InUtf8 (c ∷ cs) bytes → bytes ≢ codes "fun"
+      → Spelling bytes (token.atom (token.plain bytes))
+  quoted_atom : {cs vs bytes : List ℕ} → Quoted 39 cs vs → InUtf8 cs bytes
+      → Spelling (39 ∷ (bytes ++ 39 ∷ [])) (token.atom (token.plain (encode_utf8_all vs)))
+  string : {cs vs bytes : List ℕ} → Quoted 34 cs vs → InUtf8 cs bytes
+      → Spelling (34 ∷ (bytes ++ 34 ∷ [])) (token.text (token.plain (encode_utf8_all vs)))
 
 -- a full stop is followed by a space, a comment or the end of the text
 abbrev pub StopsAt : List ℕ → Type 0

@@ -23,11 +23,13 @@ meant t = t
 
 -- no longer spelling of any token begins the text
 abbrev pub NoLonger : List ℕ → List ℕ → Type 0
-NoLonger text bytes = (others : List ℕ) (u : Token) (rest : List ℕ) → Begins text others u rest → length others ≤ length bytes
+NoLonger text bytes = (others : List ℕ) (u : Token) (rest : List ℕ) → Begins text others u rest
+    → length others ≤ length bytes
 
 -- the longest spelling that begins at p is one of t, and q is the place behind it
 abbrev pub Longest : Place → Token → Place → Type 0
-Longest p t q = (bytes : List ℕ) × Begins p.rest bytes t q.rest × NoLonger p.rest bytes × Stands p bytes q
+Longest p t q = (bytes : List ℕ) × Begins p.rest bytes t q.rest × NoLonger p.rest bytes
+    × Stands p bytes q
 
 -- the reader takes t at p, and goes on at q
 abbrev pub Takes : Place → Token → Place → Type 0

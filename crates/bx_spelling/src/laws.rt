@@ -31,7 +31,8 @@ pub fn the_next_token_is_the_longest()
 
 /// What is read as a form is a term and its full stop, by the bytes of their tokens: all of it and nothing else.
 pub fn forms_are_terms_by_their_bytes()
-    ensures { (p : Place) (t : Tree) (q : Place) → (form_at p ≡ Ok (Some (t, q))) ↔ Sentence 256 p t q }
+    ensures { (p : Place) (t : Tree) (q : Place) → (form_at p ≡ Ok (Some (t, q)))
+        ↔ Sentence 256 p t q }
 {}
 
 /// No form is read exactly where only spaces and comments follow.
