@@ -1,5 +1,5 @@
 -- The worlds that are kept behind each 64th choice.
-use Rattle.std.proofs.Common.{◌≡◌, ℕ, zero, suc, ◌+◌, ◌-◌, ◌*◌, ◌<◌, ◌≤◌, ◌⊎◌, inl, inr, List, [], ◌∷◌, ◌++◌, length, take, true, refl, sym, ap, ◌∙◌, arith, length-append}
+use Rattle.std.proofs.Common.{◌≡◌, ℕ, zero, suc, ◌+◌, ◌-◌, ◌*◌, ◌<◌, ◌≤◌, ◌⊎◌, inl, inr, List, [], ◌∷◌, ◌++◌, length, take, drop, true, refl, sym, ap, ◌∙◌, arith, length-append}
 use Rattle.std.specs.Prelude.{Bool, false, nat_lt, slice_index_or}
 use Rattle.std.proofs.lemmas.Bool.{ltb-true, ltb-false}
 use Rattle.std.proofs.lemmas.List.{take-take, take-append-le, take_all, length-take-le, get_or-take, get_or-append_right, get_or_append_left}
@@ -20,6 +20,20 @@ take_past : {A : Type 0} (n : ℕ) (xs ys : List A) → length xs ≤ n → take
 take_past n [] ys h = let none : n ≡ n - 0 = omega arith in ap (λ m. take m ys) none
 take_past zero (x ∷ xs) ys h = absurd (omega arith)
 take_past (suc n) (x ∷ xs) ys h = let less : suc n - suc (length xs) ≡ n - length xs = omega arith in ap (λ zs. x ∷ zs) (take_past n xs ys (omega arith)) ∙ ap (λ m. x ∷ (xs ++ take m ys)) (sym less)
+
+take_nothing : {A : Type 0} (n : ℕ) → ◌≡◌ {A = List A} (take n []) []
+take_nothing zero = refl
+take_nothing (suc n) = refl
+
+none_taken : {A : Type 0} (n m : ℕ) → suc n ≤ m → ◌≡◌ {A = List A} (take (m - suc n) []) (take m [])
+none_taken n m h = take_nothing (m - suc n) ∙ sym (take_nothing m)
+
+-- what stands between two places of a row
+pub between : {A : Type 0} (xs : List A) (n m : ℕ) → n ≤ m → take n xs ++ take (m - n) (drop n xs) ≡ take m xs
+between xs zero m h = let whole : m - 0 ≡ m = omega arith in ap (λ k. take k xs) whole
+between [] (suc n) m h = none_taken n m h
+between (x ∷ xs) (suc n) zero h = absurd (omega arith)
+between (x ∷ xs) (suc n) (suc m) h = let less : suc m - suc n ≡ m - n = omega arith in ap (λ k. x ∷ (take n xs ++ take k (drop n xs))) less ∙ ap (λ ys. x ∷ ys) (between xs n m (omega arith))
 
 -- behind no choice nothing is kept
 pub none_kept : (image : Loaded) (from : State) (since : ℕ) → since < 64 → AreKept image from since [] []

@@ -1,5 +1,5 @@
 -- Sessions whose position moves, and to which choices are added.
-use Rattle.std.proofs.Common.{◌≡◌, ℕ, zero, suc, ◌+◌, ◌-◌, ◌*◌, ◌/◌, ◌%◌, ◌<◌, ◌≤◌, List, [], ◌∷◌, ◌++◌, length, take, drop, true, Option, None, refl, sym, ap, ◌∙◌, subst, arith, inl, inr, Some, Result, Ok, Err}
+use Rattle.std.proofs.Common.{◌≡◌, ℕ, ◌+◌, ◌-◌, ◌*◌, ◌/◌, ◌%◌, ◌<◌, ◌≤◌, List, [], ◌++◌, length, take, drop, true, Option, None, refl, sym, ap, ◌∙◌, subst, arith, inl, inr, Some, Result, Ok, Err}
 use Rattle.std.specs.Prelude.{slice_index_or, IfOk}
 use Rattle.std.proofs.lemmas.List.{take_all, length-take-le}
 use Rattle.bx_load.specs.Image.{Loaded}
@@ -13,11 +13,7 @@ use Rattle.bx_debug.specs.Going.{stop_at_once, walked}
 use Rattle.bx_debug.specs.declared.stops.Stop.{Stop}
 use Rattle.bx_debug.proofs.Walking.{walked_none, walked_some}
 use Rattle.bx_debug.proofs.Leads.{led-append, enabled_both, enabled_more, enabled_take, ran_all}
-use Rattle.bx_debug.proofs.Keeping.{below, none_kept, kept_joined}
-
-take_nothing : {A : Type 0} (n : ℕ) → ◌≡◌ {A = List A} (take n []) []
-take_nothing zero = refl
-take_nothing (suc n) = refl
+use Rattle.bx_debug.proofs.Keeping.{below, between, none_kept, kept_joined}
 
 -- the world at a position is the run of the choices before it
 pub run_shown : (image : Loaded) (start : State) (choices : List Choice) (at : ℕ) (here : State) (kept : List State) → IsSession image start choices at here kept
@@ -51,16 +47,6 @@ session_joined image start choices at rounds since here kept made there tail s i
       shown = f.shown ∙ ap (led image made) s.shown ∙ sym (led-append image (take at choices) made start) ∙ ap (λ (cs : List Choice). led image cs start) (sym all);
       snapshots = kept_joined image start here choices made kept tail at rounds since s.snapshots s.within is few s.shown f.snapshots;
     }
-
-none_taken : {A : Type 0} (n m : ℕ) → suc n ≤ m → ◌≡◌ {A = List A} (take (m - suc n) []) (take m [])
-none_taken n m h = take_nothing (m - suc n) ∙ sym (take_nothing m)
-
--- the choices between the nearest world that is kept and a position
-pub between : {A : Type 0} (xs : List A) (n m : ℕ) → n ≤ m → take n xs ++ take (m - n) (drop n xs) ≡ take m xs
-between xs zero m h = let whole : m - 0 ≡ m = omega arith in ap (λ k. take k xs) whole
-between [] (suc n) m h = none_taken n m h
-between (x ∷ xs) (suc n) zero h = absurd (omega arith)
-between (x ∷ xs) (suc n) (suc m) h = let less : suc m - suc n ≡ m - n = omega arith in ap (λ k. x ∷ (take n xs ++ take k (drop n xs))) less ∙ ap (λ ys. x ∷ ys) (between xs n m (omega arith))
 
 -- the nearest world that is kept
 pub nearest_is : (image : Loaded) (start : State) (choices : List Choice) (kept : List State) (rounds : ℕ) (found : State) → AreKept image start 0 choices kept → rounds ≤ length kept

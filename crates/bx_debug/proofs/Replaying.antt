@@ -1,5 +1,5 @@
 -- A choice more of those that are all enabled.
-use Rattle.std.proofs.Common.{◌≡◌, ℕ, ◌+◌, ◌<◌, List, [], ◌∷◌, length, get_or, drop, Bool, true, false, Option, Some, None, refl, sym, ap, subst, ◌∙◌}
+use Rattle.std.proofs.Common.{◌≡◌, ℕ, ◌+◌, ◌<◌, List, ◌∷◌, length, get_or, drop, Bool, true, false, Option, Some, None, refl, sym, ap, ◌∙◌}
 use Rattle.std.specs.Prelude.{◌&&◌, if◌then◌else◌, is_some}
 use Rattle.std.proofs.lemmas.List.{drop_more}
 use Rattle.bx_terms.specs.declared.kinds.Trap.{Trap}
@@ -8,7 +8,7 @@ use Rattle.bx_world.specs.declared.choices.Choice.{Choice}
 use Rattle.bx_world.specs.World.{State}
 use Rattle.bx_world.specs.Enabled.{can}
 use Rattle.bx_world.specs.Choosing.{chosen}
-use Rattle.bx_debug.specs.Going.{halted, else_stop, stop_before}
+use Rattle.bx_debug.specs.Going.{halted, else_stop}
 use Rattle.bx_debug.specs.Leading.{led, all_enabled, Chooses}
 use Rattle.bx_debug.specs.declared.stops.Stop.{Stop}
 use Rattle.bx_debug.specs.declared.stops.Stop.TheVariants.{NotEnabled}

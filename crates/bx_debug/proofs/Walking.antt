@@ -1,25 +1,25 @@
 -- Walks, choice by choice.
-use Rattle.std.proofs.Common.{◌≡◌, ◌≢◌, ℕ, zero, suc, ◌+◌, ◌<◌, inl, inr, List, [], ◌∷◌, ◌++◌, length, take, drop, get_or, Bool, true, false, Option, Some, None, refl, sym, ap, ◌∙◌, subst, append_assoc, arith, length-append}
+use Rattle.std.proofs.Common.{◌≡◌, ◌≢◌, ℕ, zero, suc, ◌+◌, ◌-◌, ◌<◌, ◌≤◌, inl, inr, List, [], ◌∷◌, ◌++◌, length, take, drop, get_or, Bool, true, false, Option, Some, None, refl, sym, ap, ◌∙◌, subst, append_assoc, arith, length-append}
 use Rattle.std.specs.Prelude.{◌&&◌, if◌then◌else◌, is_some}
 use Rattle.bx_terms.specs.declared.faults.Fault.TheVariants as faults
-use Rattle.std.proofs.lemmas.List.{take_more, drop_more, length-take-le}
+use Rattle.std.proofs.lemmas.List.{append-nil, drop_all, take_more, drop_more, length-take-le}
 use Rattle.bx_terms.specs.declared.kinds.Trap.{Trap}
 use Rattle.bx_load.specs.Image.{Loaded}
 use Rattle.bx_world.specs.declared.choices.Choice.{Choice}
 use Rattle.bx_world.specs.World.{State}
 use Rattle.bx_world.specs.Enabled.{can}
 use Rattle.bx_world.specs.Choosing.{chosen, refusal}
-use Rattle.bx_debug.specs.Places.{PlaceSet}
-use Rattle.bx_debug.specs.Going.{halted, else_stop, stop_at_once, stop_before, stop_behind, unless_stopped, behind_choice, walked}
-use Rattle.bx_debug.specs.Leading.{led, all_enabled, AreKept, Chooses, Walks}
+use Rattle.std.specs.FinSet as set
+use Rattle.bx_terms.specs.declared.places.Place.{Place}
+use Rattle.bx_world.specs.declared.choices.Choice.TheVariants.{Run}
+use Rattle.bx_world.specs.Seen.{place_in}
+use Rattle.bx_debug.specs.Places.{PlaceSet, is_set, numbers, pair_cmp}
+use Rattle.bx_debug.specs.Going.{break_at, break_behind, halted, else_stop, stop_at_once, stop_before, stop_behind, unless_stopped, resumed, behind_choice, walked}
+use Rattle.bx_debug.specs.Leading.{led, all_enabled, AreKept, Chooses, Leads, Walks}
 use Rattle.bx_debug.specs.declared.stops.Stop.{Stop}
-use Rattle.bx_debug.specs.declared.stops.Stop.TheVariants.{Done, NotEnabled}
+use Rattle.bx_debug.specs.declared.stops.Stop.TheVariants.{Break, Done, NotEnabled}
 use Rattle.bx_debug.proofs.Leads.{led-append, enabled_both}
-use Rattle.bx_debug.proofs.Keeping.{below, none_kept, kept_on, kept_here}
-
--- a walk that goes on behind choices that were applied
-abbrev pub resumed : List Choice → List Choice × Stop → List Choice × Stop
-resumed before more = (before ++ more.0, more.1)
+use Rattle.bx_debug.proofs.Keeping.{below, between, none_kept, kept_on, kept_here}
 
 able_of : (choice : Choice) (trap : Option (Trap × ℕ)) (able : Bool) → else_stop (halted trap) (if able then None else Some (NotEnabled choice)) ≡ None → able ≡ true
 able_of choice None true is = refl
@@ -94,16 +94,16 @@ record Further (image : Loaded) (choices : List Choice) (from : State) (applied 
   pub made : all_enabled image (take (applied + 1) choices) from ≡ true
   pub shown : next ≡ led image (take (applied + 1) choices) from
 
-further : (image : Loaded) (choices : List Choice) (from : State) (since applied : ℕ) (here : State) (now : ℕ) (kept : List State) (choice : Choice) (next : State)
-    → Walks image choices from since applied here now kept → applied < length choices → choice ≡ get_or choices applied choice → stop_before choice here ≡ None → next ≡ chosen image choice here
+further : (image : Loaded) (places : PlaceSet) (choices : List Choice) (from : State) (applied : ℕ) (here : State) (choice : Choice) (next : State)
+    → Leads image places choices from applied here None → applied < length choices → choice ≡ get_or choices applied choice → stop_before choice here ≡ None → next ≡ chosen image choice here
     → Further image choices from applied choice next
-further image choices from since applied here now kept choice next walk short is free done =
+further image places choices from applied here choice next walk short is free done =
     let taken = taken_next choices applied choice short is in
     let able : can here choice ≡ true = enabled_unless choice here free in
-    let able_there : all_enabled image (choice ∷ []) (led image (take applied choices) from) ≡ true = subst (λ (w : State). (can w choice && true) ≡ true) walk.follows.shown (and_one (can here choice) able) in
+    let able_there : all_enabled image (choice ∷ []) (led image (take applied choices) from) ≡ true = subst (λ (w : State). (can w choice && true) ≡ true) walk.shown (and_one (can here choice) able) in
     record {
-      made = subst (λ (cs : List Choice). all_enabled image cs from ≡ true) (sym taken) (enabled_both image (take applied choices) (choice ∷ []) from walk.follows.made able_there);
-      shown = done ∙ ap (chosen image choice) walk.follows.shown ∙ sym (led-append image (take applied choices) (choice ∷ []) from) ∙ ap (λ (cs : List Choice). led image cs from) (sym taken);
+      made = subst (λ (cs : List Choice). all_enabled image cs from ≡ true) (sym taken) (enabled_both image (take applied choices) (choice ∷ []) from walk.made able_there);
+      shown = done ∙ ap (chosen image choice) walk.shown ∙ sym (led-append image (take applied choices) (choice ∷ []) from) ∙ ap (λ (cs : List Choice). led image cs from) (sym taken);
     }
 
 pub now_few : (image : Loaded) (choices : List Choice) (from : State) (since applied : ℕ) (here : State) (now : ℕ) (kept : List State) → Walks image choices from since applied here now kept → now < 64
@@ -113,45 +113,38 @@ now_few image choices from since applied here now kept walk =
     let count = walk.count in
     omega arith
 
-pub walks_more : (image : Loaded) (choices : List Choice) (from : State) (since applied : ℕ) (here : State) (now : ℕ) (kept : List State) (choice : Choice) (next : State) (now' : ℕ) (kept' : List State)
-    → Walks image choices from since applied here now kept → applied < length choices → choice ≡ get_or choices applied choice → stop_before choice here ≡ None → next ≡ chosen image choice here
-    → (now + 1 < 64 → (now' ≡ now + 1) × (kept' ≡ kept)) → (now + 1 ≡ 64 → (now' ≡ 0) × (kept' ≡ kept ++ next ∷ []))
-    → Walks image choices from since (applied + 1) next now' kept'
-walks_more image choices from since applied here now kept choice next now' kept' walk short is free done between full =
-    let more = further image choices from since applied here now kept choice next walk short is free done in
-    let taken = taken_next choices applied choice short is in
+-- choices more were applied and counted
+pub walks_further : (image : Loaded) (choices : List Choice) (from : State) (since applied : ℕ) (here : State) (now : ℕ) (kept : List State) (reached : ℕ) (next : State) (now' : ℕ) (kept' : List State)
+    → Walks image choices from since applied here now kept → applied ≤ reached → reached ≤ length choices → all_enabled image (take reached choices) from ≡ true → next ≡ led image (take reached choices) from
+    → now + (reached - applied) ≤ 64
+    → (now + (reached - applied) < 64 → (now' ≡ now + (reached - applied)) × (kept' ≡ kept)) → (now + (reached - applied) ≡ 64 → (now' ≡ 0) × (kept' ≡ kept ++ next ∷ []))
+    → Walks image choices from since reached next now' kept'
+walks_further image choices from since applied here now kept reached next now' kept' walk more within made shown few between_kept full =
+    let next_ones : List Choice = take (reached - applied) (drop applied choices) in
+    let taken : take reached choices ≡ take applied choices ++ next_ones = sym (between choices applied reached more) in
     let cut : length (take applied choices) ≡ applied = length-take-le applied choices walk.within in
+    let cut_there : length (take reached choices) ≡ reached = length-take-le reached choices within in
+    let long_there : length (take reached choices) ≡ length (take applied choices ++ next_ones) = ap length taken in
+    let long : applied + length next_ones ≡ reached = omega (arith, length-append (take applied choices) next_ones) in
     let count = walk.count in
-    let few = now_few image choices from since applied here now kept walk in
-    elim (below (now + 1) 64) [
+    elim (below (now + (reached - applied)) 64) [
       | inl less ↦
-          let step = between less in
-          let snapshots = kept_on image from since (take applied choices) (choice ∷ []) kept walk.follows.snapshots (omega arith) in
-          let on : AreKept image from since (take (applied + 1) choices) kept' = subst (λ (cs : List Choice). AreKept image from since cs kept') (sym taken) (subst (λ (ks : List State). AreKept image from since (take applied choices ++ choice ∷ []) ks) (sym step.1) snapshots) in
-          let long : length kept' ≡ length kept = ap length step.1 in
+          let step = between_kept less in
+          let snapshots = kept_on image from since (take applied choices) next_ones kept walk.follows.snapshots (omega arith) in
+          let on : AreKept image from since (take reached choices) kept' = subst (λ (cs : List Choice). AreKept image from since cs kept') (sym taken) (subst (λ (ks : List State). AreKept image from since (take applied choices ++ next_ones) ks) (sym step.1) snapshots) in
+          let same : length kept' ≡ length kept = ap length step.1 in
           let now_is = step.0 in
-          record { within = omega arith; follows = record { made = more.made; shown = more.shown; snapshots = on }; count = omega arith }
+          record { within = within; follows = record { made = made; shown = shown; snapshots = on }; count = omega arith }
       | inr least ↦
-          let last : now + 1 ≡ 64 = omega arith in
+          let last : now + (reached - applied) ≡ 64 = omega arith in
           let step = full last in
-          let here_is : next ≡ led image (take applied choices ++ choice ∷ []) from = more.shown ∙ ap (λ (cs : List Choice). led image cs from) taken in
-          let snapshots = kept_here image from since (take applied choices) (choice ∷ []) kept next walk.follows.snapshots (omega arith) here_is in
-          let on : AreKept image from since (take (applied + 1) choices) kept' = subst (λ (cs : List Choice). AreKept image from since cs kept') (sym taken) (subst (λ (ks : List State). AreKept image from since (take applied choices ++ choice ∷ []) ks) (sym step.1) snapshots) in
-          let long : length kept' ≡ length kept + 1 = ap length step.1 ∙ length-append kept (next ∷ []) in
+          let here_is : next ≡ led image (take applied choices ++ next_ones) from = shown ∙ ap (λ (cs : List Choice). led image cs from) taken in
+          let snapshots = kept_here image from since (take applied choices) next_ones kept next walk.follows.snapshots (omega arith) here_is in
+          let on : AreKept image from since (take reached choices) kept' = subst (λ (cs : List Choice). AreKept image from since cs kept') (sym taken) (subst (λ (ks : List State). AreKept image from since (take applied choices ++ next_ones) ks) (sym step.1) snapshots) in
+          let one_more : length kept' ≡ length kept + 1 = ap length step.1 ∙ length-append kept (next ∷ []) in
           let now_is = step.0 in
-          record { within = omega arith; follows = record { made = more.made; shown = more.shown; snapshots = on }; count = omega arith }
+          record { within = within; follows = record { made = made; shown = shown; snapshots = on }; count = omega arith }
     ]
-
--- a choice was applied and counted
-pub walks_counted : (image : Loaded) (choices : List Choice) (from : State) (since applied i : ℕ) (here : State) (now : ℕ) (kept : List State) (choice : Choice) (next next' : State) (applied' now' : ℕ) (kept' : List State)
-    → Walks image choices from since applied here now kept → applied ≡ i → i < length choices → choice ≡ get_or choices i choice → Chooses image choice here next None → next' ≡ next → applied' ≡ applied + 1
-    → (now + 1 < 64 → (now' ≡ now + 1) × (kept' ≡ kept)) → (now + 1 ≡ 64 → (now' ≡ 0) × (kept' ≡ kept ++ next ∷ []))
-    → Walks image choices from since applied' next' now' kept'
-walks_counted image choices from since applied i here now kept choice next next' applied' now' kept' walk at short is done same count between full =
-    let short_there : applied < length choices = omega arith in
-    let is_there : choice ≡ get_or choices applied choice = is ∙ ap (λ n. get_or choices n choice) (sym at) in
-    let more = walks_more image choices from since applied here now kept choice next now' kept' walk short_there is_there done.0 done.1 between full in
-    subst (λ n. Walks image choices from since n next' now' kept') (sym count) (subst (λ (w : State). Walks image choices from since (applied + 1) w now' kept') (sym same) more)
 
 -- the walk goes on behind a choice that was applied
 pub told_on : (image : Loaded) (places : PlaceSet) (choices : List Choice) (from : State) (i : ℕ) (here : State) (choice : Choice) (next next' : State)
@@ -166,6 +159,83 @@ told_on image places choices from i here choice next next' short is done same un
     ∙ ap (resumed (take i choices)) (walked_next image places choices i choice here short is ∙ walked_on image places choice (drop (i + 1) choices) here done.0 unstopped_there)
     ∙ (λ j. (sym (append_assoc (take i choices) (choice ∷ []) more.0) j, more.1))
     ∙ (λ j. resumed (sym (taken_next choices i choice short is) j) (walked image places (drop (i + 1) choices) (sym made j)))
+
+-- no choice is applied yet
+pub leads_none : (image : Loaded) (places : PlaceSet) (choices : List Choice) (from : State) → Leads image places choices from 0 from None
+leads_none image places choices from = record { within = omega arith; made = refl; shown = refl; told = refl }
+
+-- the next choice is applied, and nothing stops it there
+pub leads_on : (image : Loaded) (places : PlaceSet) (choices : List Choice) (from : State) (i : ℕ) (here : State) (choice : Choice) (next : State)
+    → i < length choices → choice ≡ get_or choices i choice → Chooses image choice here next None → stop_behind places choice next ≡ None → Leads image places choices from i here None
+    → Leads image places choices from (i + 1) next None
+leads_on image places choices from i here choice next short is done unstopped lead =
+    let more = further image places choices from i here choice next lead short is done.0 done.1 in
+    record {
+      within = omega arith;
+      made = more.made;
+      shown = more.shown;
+      told = told_on image places choices from i here choice next next short is done refl unstopped lead.told;
+    }
+
+-- the next choice is not applied
+pub leads_before : (image : Loaded) (places : PlaceSet) (choices : List Choice) (from : State) (i : ℕ) (here : State) (choice : Choice) (next : State) (stop : Stop)
+    → i < length choices → choice ≡ get_or choices i choice → Chooses image choice here next (Some stop) → Leads image places choices from i here None
+    → Leads image places choices from i next (Some stop)
+leads_before image places choices from i here choice next stop short is done lead = record {
+  within = lead.within;
+  made = lead.made;
+  shown = done.1 ∙ lead.shown;
+  told = lead.told ∙ ap (resumed (take i choices)) (walked_next image places choices i choice here short is ∙ walked_before image places choice (drop (i + 1) choices) here stop done.0);
+}
+
+-- the next choice is applied, and stops it
+pub leads_behind : (image : Loaded) (places : PlaceSet) (choices : List Choice) (from : State) (i : ℕ) (here : State) (choice : Choice) (next : State) (stop : Stop)
+    → i < length choices → choice ≡ get_or choices i choice → Chooses image choice here next None → stop_behind places choice next ≡ Some stop → Leads image places choices from i here None
+    → Leads image places choices from (i + 1) next (Some stop)
+leads_behind image places choices from i here choice next stop short is done stopped lead =
+    let more = further image places choices from i here choice next lead short is done.0 done.1 in
+    let stopped_there : stop_behind places choice (chosen image choice here) ≡ Some stop = subst (λ (w : State). stop_behind places choice w ≡ Some stop) done.1 stopped in
+    let taken : take i choices ++ choice ∷ [] ≡ take (i + 1) choices ++ [] = sym (taken_next choices i choice short is) ∙ sym (append-nil (take (i + 1) choices)) in
+    record {
+      within = omega arith;
+      made = more.made;
+      shown = more.shown;
+      told = lead.told
+          ∙ ap (resumed (take i choices)) (walked_next image places choices i choice here short is ∙ walked_behind image places choice (drop (i + 1) choices) here stop done.0 stopped_there)
+          ∙ (λ j. (taken j, stop));
+    }
+
+-- it is stopped there
+pub told_stopped : (image : Loaded) (places : PlaceSet) (choices : List Choice) (from : State) (applied : ℕ) (here : State) (stop : Stop)
+    → Leads image places choices from applied here (Some stop) → walked image places choices from ≡ (take applied choices, stop)
+told_stopped image places choices from applied here stop lead = lead.told ∙ (λ j. (append-nil (take applied choices) j, stop))
+
+-- all are applied
+pub told_whole : (image : Loaded) (places : PlaceSet) (choices : List Choice) (from : State) (applied : ℕ) (here : State)
+    → length choices ≤ applied → Leads image places choices from applied here None → walked image places choices from ≡ (take applied choices, Done)
+told_whole image places choices from applied here whole lead =
+    lead.told
+    ∙ ap (λ (cs : List Choice). resumed (take applied choices) (walked image places cs here)) (drop_all applied choices whole)
+    ∙ (λ j. (append-nil (take applied choices) j, Done))
+
+-- where no place is set nothing breaks
+set_nowhere : (place : Place) → is_set set.empty place ≡ false
+set_nowhere place = set.contains-empty pair_cmp (numbers place)
+
+if_false : {A : Type 0} (b : Bool) (x y : A) → b ≡ false → (if b then x else y) ≡ y
+if_false true x y e = cc
+if_false false x y e = refl
+
+breaks_at_none : (p : ℕ) (place : Option Place) → break_at set.empty p place ≡ None
+breaks_at_none p None = refl
+breaks_at_none p (Some place) = if_false (is_set set.empty place) (Some (Break p place)) None (set_nowhere place)
+
+breaks_none : (choice : Choice) (w : State) → break_behind set.empty choice w ≡ None
+breaks_none (Run p) w = breaks_at_none p (place_in p w)
+breaks_none other w = refl
+
+pub breaks_nowhere : (places : PlaceSet) (choice : Choice) (w : State) → places ≡ set.empty → None ≡ break_behind places choice w
+breaks_nowhere places choice w none = sym (ap (λ (ps : PlaceSet). break_behind ps choice w) none ∙ breaks_none choice w)
 
 -- a choice that is not refused is applied
 open_to : (choice : Choice) (trap : Option (Trap × ℕ)) (able : Bool) → (if is_some trap then Some faults.Halted else if able then None else Some faults.NotEnabled) ≡ None
@@ -193,3 +263,13 @@ same_element (x ∷ xs) (suc i) d e h = same_element xs i d e (omega arith)
 
 pub applied_here : (image : Loaded) (choice : Choice) (here next : State) (stop : Option Stop) → stop ≡ None → Chooses image choice here next stop → Chooses image choice here next None
 applied_here image choice here next stop none done = subst (λ (s : Option Stop). Chooses image choice here next s) none done
+
+pub stopped_as_found : (image : Loaded) (choice : Choice) (here next : State) (stop : Option Stop) (found : Stop) → stop ≡ Some found → Chooses image choice here next stop → Chooses image choice here next (Some found)
+stopped_as_found image choice here next stop found is done = subst (λ (s : Option Stop). Chooses image choice here next s) is done
+
+-- what is counted behind the last world that was kept
+pub few_counted : {A B : Type 0} (now more now' : ℕ) → now + more ≤ 64 → (now + more < 64 → (now' ≡ now + more) × A) → (now + more ≡ 64 → (now' ≡ 0) × B) → now' < 64
+few_counted now more now' few less full = elim (below (now + more) 64) [
+  | inl h ↦ let is = (less h).0 in omega arith
+  | inr h ↦ let is = (full (omega arith)).0 in omega arith
+]

@@ -1,5 +1,5 @@
 -- How far choices are applied in order: up to the first that stops it.
-use Rattle.std.specs.Prelude.{ℕ, List, [], ◌∷◌, Option, Some, None, if◌then◌else◌}
+use Rattle.std.specs.Prelude.{ℕ, List, [], ◌∷◌, ◌++◌, Option, Some, None, if◌then◌else◌}
 use Rattle.bx_terms.specs.declared.kinds.Trap.{Trap}
 use Rattle.bx_terms.specs.declared.places.Place.{Place}
 use Rattle.bx_load.specs.Image.{Loaded}
@@ -49,6 +49,10 @@ stop_behind places choice w = else_stop (halted w.trap) (break_behind places cho
 abbrev pub unless_stopped : Option Stop → List Choice × Stop → List Choice × Stop
 unless_stopped (Some stop) more = ([], stop)
 unless_stopped None more = more
+
+-- choices that were applied before those of a walk
+abbrev pub resumed : List Choice → List Choice × Stop → List Choice × Stop
+resumed before more = (before ++ more.0, more.1)
 
 abbrev pub behind_choice : Choice → List Choice × Stop → List Choice × Stop
 behind_choice choice more = (choice ∷ more.0, more.1)

@@ -1,11 +1,12 @@
 -- Where choices lead that are enabled, each where it is applied; and the worlds that are kept on the way.
-use Rattle.std.specs.Prelude.{◌≡◌, ℕ, ◌+◌, ◌-◌, ◌*◌, ◌<◌, ◌≤◌, Bool, true, ◌&&◌, List, [], ◌∷◌, length, take, slice_index_or, Option, None, Some}
+use Rattle.std.specs.Prelude.{◌≡◌, ℕ, ◌+◌, ◌-◌, ◌*◌, ◌<◌, ◌≤◌, Bool, true, ◌&&◌, List, [], ◌∷◌, length, take, drop, slice_index_or, Option, None, Some}
 use Rattle.bx_load.specs.Image.{Loaded}
 use Rattle.bx_world.specs.declared.choices.Choice.{Choice}
 use Rattle.bx_world.specs.World.{State}
 use Rattle.bx_world.specs.Enabled.{can}
 use Rattle.bx_world.specs.Choosing.{chosen}
-use Rattle.bx_debug.specs.Going.{stop_before}
+use Rattle.bx_debug.specs.Going.{stop_before, walked, resumed, unless_stopped}
+use Rattle.bx_debug.specs.Places.{PlaceSet}
 use Rattle.bx_debug.specs.declared.stops.Stop.{Stop}
 use Rattle.bx_debug.specs.declared.stops.Stop.TheVariants.{Done}
 
@@ -41,6 +42,20 @@ pub record Walks (image : Loaded) (choices : List Choice) (from : State) (since 
   pub within : applied ≤ length choices
   pub follows : Follows image from since (take applied choices) here kept
   pub count : 64 * length kept + now ≡ since + applied
+
+-- so many choices are applied, and lead here; the walk of all of them goes on from here, unless it is stopped
+pub record Leads (image : Loaded) (places : PlaceSet) (choices : List Choice) (from : State) (applied : ℕ) (here : State) (stop : Option Stop) : Type 0 where
+  pub within : applied ≤ length choices
+  pub made : all_enabled image (take applied choices) from ≡ true
+  pub shown : here ≡ led image (take applied choices) from
+  pub told : walked image places choices from ≡ resumed (take applied choices) (unless_stopped stop (walked image places (drop applied choices) here))
+
+-- the same of choices from one number up to another, all of them where nothing stops it
+pub record Reaches (image : Loaded) (places : PlaceSet) (choices : List Choice) (from : State) (first past reached : ℕ) (here : State) (stop : Option Stop) : Type 0 where
+  pub further : first ≤ reached
+  pub before : reached ≤ past
+  pub whole : stop ≡ None → reached ≡ past
+  pub leads : Leads image places choices from reached here stop
 
 -- a walk of no choice
 pub record Begins (from : State) (since : ℕ) (here : State) (applied now : ℕ) (kept : List State) (stop : Stop) : Type 0 where

@@ -37,6 +37,14 @@ impl Places {
         }
     }
 
+    /// Whether no place is in the set.
+    #[inline(always)]
+    pub(crate) fn is_empty(&self) -> bool
+        ensures { IsTrue result → self.now ≡ set.empty }
+    {
+        self.numbers.is_empty()
+    }
+
     /// Whether the place is in the set.
     #[inline(always)]
     pub(crate) fn contains(&self, place: Place) -> bool

@@ -128,6 +128,9 @@ pub(crate) fn stop_behind(places: &Places, choice: Choice, world: &RcWorld) -> O
 fn break_behind(places: &Places, choice: Choice, world: &RcWorld) -> Option<Stop>
     ensures { result ≡ break_behind places.now choice world.now }
 {
+    if places.is_empty() {
+        return None;
+    }
     let Choice::Run(pid) = choice else {
         return None;
     };

@@ -1,8 +1,9 @@
 //! Choices applied one after another, in a world that is shared with others until it changes.
 
-ghost use Rattle.std.specs.Prelude.{◌≡◌, ◌+◌, ◌∷◌, ◌++◌, ◌<◌, [], true, take, IfOk, OnOk};
+ghost use Rattle.std.specs.Prelude.{◌≡◌, ℕ, ◌+◌, ◌-◌, ◌∷◌, ◌++◌, ◌<◌, ◌≤◌, [], true, length, take, None, IfOk, OnOk};
+ghost use Rattle.bx_world.specs.World.{State};
 ghost use Rattle.bx_debug.specs.Going.{walked};
-ghost use Rattle.bx_debug.specs.Leading.{all_enabled, led, Begins, Walks};
+ghost use Rattle.bx_debug.specs.Leading.{all_enabled, led, Begins, Leads, Reaches, Walks};
 
 use crate::places::Places;
 use crate::stops::{Stop, choose, stop_behind};
@@ -40,6 +41,36 @@ pub(crate) fn replay(
     Ok(world)
 }
 
+/// Applies the choices of a row from one number up to another, in order, as far as nothing stops them: before which number
+/// it stopped, and why, if not all were applied or one of them stops those behind it.
+fn stretch(
+    alloc: Global,
+    image: &Image,
+    places: &Places,
+    world: &mut RcWorld,
+    choices: &[Choice],
+    first: usize,
+    past: usize,
+) -> Result<(usize, Option<Stop>), AllocError>
+    requires ordered { first ≤ past }
+    requires within { past ≤ length choices.now }
+    ensures between { IfOk result (λ reached. (first ≤ reached.0) × (reached.0 ≤ past)) }
+    ensures whole { IfOk result (λ reached. reached.1 ≡ None → reached.0 ≡ past) }
+    ensures way { IfOk result (λ reached. (from : State) → Leads image.now places.now choices.now from first world.old None
+        → Reaches image.now places.now choices.now from first past reached.0 world.new reached.1) }
+{
+    for at in first..past {
+        let choice = choices[at];
+        if let Some(stop) = choose(alloc, image, choice, world)? {
+            return Ok((at, Some(stop)));
+        }
+        if let Some(stop) = stop_behind(places, choice, world) {
+            return Ok((at + 1, Some(stop)));
+        }
+    }
+    Ok((past, None))
+}
+
 /// What came of choices that were applied in order.
 #[derive(Drop)]
 pub(crate) struct Walk {
@@ -54,32 +85,71 @@ pub(crate) struct Walk {
 }
 
 impl Walk {
-    fn begun(alloc: Global, world: &RcWorld, since: usize) -> Result<Walk, AllocError>
+    /// No choice is applied yet. There is room for the worlds that so many choices may pass.
+    fn begun(alloc: Global, world: &RcWorld, since: usize, count: usize) -> Result<Walk, AllocError>
+        requires { since < KEPT_EACH }
         ensures { IfOk result (λ walk. Begins world.now since walk.world walk.applied walk.since walk.kept.items walk.stop) }
     {
         let world = shared(alloc, world)?;
+        let kept = Vec::with_capacity(alloc, count / KEPT_EACH)?;
         Ok(Walk {
             world,
             applied: 0,
             since,
-            kept: Vec::new(alloc),
+            kept,
             stop: Stop::Done,
         })
     }
 
-    /// Counts a choice that was applied, and keeps the world behind each 64th.
-    #[inline(always)]
-    fn count(&mut self, alloc: Global) -> Result<(), AllocError>
-        requires applied { self.old.applied < usize.MAX }
+    /// Applies choices up to where the next world is kept, or up to the last one, as far as nothing stops them: why it
+    /// stopped, if it did.
+    fn turn(
+        &mut self,
+        alloc: Global,
+        image: &Image,
+        places: &Places,
+        choices: &[Choice],
+    ) -> Result<Option<Stop>, AllocError>
+        requires open { self.old.applied < length choices.now }
         requires since { self.old.since < KEPT_EACH }
+        ensures way { IfOk result (λ stop. (from : State) (since : ℕ)
+            → Walks image.now choices.now from since self.old.applied self.old.world self.old.since self.old.kept.items
+            → Leads image.now places.now choices.now from self.old.applied self.old.world None
+            → Walks image.now choices.now from since self.new.applied self.new.world self.new.since self.new.kept.items
+            × Leads image.now places.now choices.now from self.new.applied self.new.world stop) }
+        ensures further { IfOk result (λ stop. stop ≡ None → self.old.applied < self.new.applied) }
+        ensures since { OnOk result (self.new.since < KEPT_EACH) }
+        ensures stop { self.new.stop ≡ self.old.stop }
+    {
+        let left = (choices.len() - self.applied).min(KEPT_EACH - self.since);
+        let past = self.applied + left;
+        let (reached, stop) = stretch(
+            alloc,
+            image,
+            places,
+            &mut self.world,
+            choices,
+            self.applied,
+            past,
+        )?;
+        self.count(alloc, reached)?;
+        Ok(stop)
+    }
+
+    /// Counts the choices that were applied up to that number, and keeps the world behind each 64th.
+    fn count(&mut self, alloc: Global, reached: usize) -> Result<(), AllocError>
+        requires applied { self.old.applied ≤ reached }
+        requires since { self.old.since + (reached - self.old.applied) ≤ KEPT_EACH }
         ensures world { self.new.world ≡ self.old.world }
         ensures stop { self.new.stop ≡ self.old.stop }
-        ensures applied { OnOk result (self.new.applied ≡ self.old.applied + 1) }
-        ensures between { OnOk result (self.old.since + 1 < KEPT_EACH → (self.new.since ≡ self.old.since + 1) × (self.new.kept.items ≡ self.old.kept.items)) }
-        ensures kept { OnOk result (self.old.since + 1 ≡ KEPT_EACH → (self.new.since ≡ 0) × (self.new.kept.items ≡ self.old.kept.items ++ self.old.world ∷ [])) }
+        ensures applied { OnOk result (self.new.applied ≡ reached) }
+        ensures between { OnOk result (self.old.since + (reached - self.old.applied) < KEPT_EACH
+            → (self.new.since ≡ self.old.since + (reached - self.old.applied)) × (self.new.kept.items ≡ self.old.kept.items)) }
+        ensures kept { OnOk result (self.old.since + (reached - self.old.applied) ≡ KEPT_EACH
+            → (self.new.since ≡ 0) × (self.new.kept.items ≡ self.old.kept.items ++ self.old.world ∷ [])) }
     {
-        self.applied += 1;
-        self.since += 1;
+        self.since += reached - self.applied;
+        self.applied = reached;
         if self.since == KEPT_EACH {
             self.kept.push(shared(alloc, &self.world)?)?;
             self.since = 0;
@@ -102,14 +172,9 @@ pub(crate) fn follow(
     ensures told { IfOk result (λ walk. walked image.now places.now choices.now world.now ≡ (take walk.applied choices.now, walk.stop)) }
     ensures way { IfOk result (λ walk. Walks image.now choices.now world.now since walk.applied walk.world walk.since walk.kept.items) }
 {
-    let mut walk = Walk::begun(alloc, world, since)?;
-    for choice in choices {
-        if let Some(stop) = choose(alloc, image, *choice, &mut walk.world)? {
-            walk.stop = stop;
-            return Ok(walk);
-        }
-        walk.count(alloc)?;
-        if let Some(stop) = stop_behind(places, *choice, &walk.world) {
+    let mut walk = Walk::begun(alloc, world, since, choices.len())?;
+    while walk.applied < choices.len() {
+        if let Some(stop) = walk.turn(alloc, image, places, choices)? {
             walk.stop = stop;
             return Ok(walk);
         }
