@@ -13,6 +13,8 @@ use std::marker::Model;
 #[derive(Debug, Drop)]
 pub(crate) struct Row {
     lines: Vec<(u32, Queue)>,
+    /// Where a queue was last written to: another is looked for there, and beside it, before all are searched.
+    near: usize,
 }
 
 impl Model for Row {
@@ -38,6 +40,7 @@ impl Clone for Row {
     fn clone(&self) -> Result<Row, AllocError> {
         Ok(Row {
             lines: self.lines.clone()?,
+            near: self.near,
         })
     }
 }
@@ -50,6 +53,7 @@ impl Row {
     {
         Row {
             lines: Vec::new(alloc),
+            near: 0,
         }
     }
 
@@ -60,7 +64,7 @@ impl Row {
         ensures ok { OnOk result (Replaced self.old self.new to (queue_in self.old to ++ signal ∷ [])) }
         ensures err { IfErr result (λ s. (s ≡ signal) × SameRow self.old self.new) }
     {
-        let at = match place_of(&self.lines, to) {
+        let at = match place_near(&self.lines, self.near, to) {
             Ok(at) => at,
             Err(at) => {
                 if let Err(_refused) = open_at(alloc, &mut self.lines, at, to) {
@@ -69,6 +73,7 @@ impl Row {
                 at
             }
         };
+        self.near = at;
         put_at(&mut self.lines, at, to, signal)
     }
 
@@ -77,7 +82,7 @@ impl Row {
     pub(crate) fn first(&self, to: u32) -> Option<&Signal>
         ensures { option_map (λ s. s.now) result ≡ first (queue_in self.now to) }
     {
-        match place_of(&self.lines, to) {
+        match place_near(&self.lines, self.near, to) {
             Ok(at) => self.lines[at].1.first(),
             Err(_) => None,
         }
@@ -90,8 +95,11 @@ impl Row {
         ensures given { result ≡ first (queue_in self.old to) }
         ensures left { Replaced self.old self.new to (rest (queue_in self.old to)) }
     {
-        match place_of(&self.lines, to) {
-            Ok(at) => take_at(&mut self.lines, at, to),
+        match place_near(&self.lines, self.near, to) {
+            Ok(at) => {
+                self.near = at;
+                take_at(&mut self.lines, at, to)
+            }
             Err(_) => None,
         }
     }
@@ -101,7 +109,7 @@ impl Row {
         ensures rising { IsRising self.new }
         ensures left { Replaced self.old self.new to (front (queue_in self.old to)) }
     {
-        match place_of(&self.lines, to) {
+        match place_near(&self.lines, self.near, to) {
             Ok(at) => take_back_at(&mut self.lines, at, to),
             Err(_) => {}
         }
@@ -182,8 +190,49 @@ fn holds(lines: &[(u32, Queue)], to: u32, queue: &Queue) -> bool
     }
 }
 
-/// The place of the queue of a receiver, or the one at which it would lie.
+/// The place of the queue of a receiver, or the one at which it would lie; `near` is looked at first, then the places beside it.
 #[inline(always)]
+fn place_near(lines: &[(u32, Queue)], near: usize, to: u32) -> Result<usize, usize>
+    requires { IsRising lines.now }
+    ensures found { IfOk result (λ at. IsPlaceOf lines.now to at) }
+    ensures missed { IfErr result (λ at. IsGapOf lines.now to at) }
+{
+    if is_at(lines, near, to) {
+        return Ok(near);
+    }
+    place_beside(lines, near, to)
+}
+
+/// The same by the places beside `near`, and then among all.
+#[inline(never)]
+fn place_beside(lines: &[(u32, Queue)], near: usize, to: u32) -> Result<usize, usize>
+    requires { IsRising lines.now }
+    ensures found { IfOk result (λ at. IsPlaceOf lines.now to at) }
+    ensures missed { IfErr result (λ at. IsGapOf lines.now to at) }
+{
+    let next = near.wrapping_add(1);
+    if is_at(lines, next, to) {
+        return Ok(next);
+    }
+    let before = near.wrapping_sub(1);
+    if is_at(lines, before, to) {
+        return Ok(before);
+    }
+    place_of(lines, to)
+}
+
+/// Whether the queue of that receiver lies at that place.
+#[inline(always)]
+fn is_at(lines: &[(u32, Queue)], at: usize, to: u32) -> bool
+    ensures { IsTrue result → IsPlaceOf lines.now to at }
+{
+    match lines.get(at) {
+        Some(line) => line.0 == to,
+        None => false,
+    }
+}
+
+/// The place of the queue of a receiver, or the one at which it would lie.
 fn place_of(lines: &[(u32, Queue)], to: u32) -> Result<usize, usize>
     requires { IsRising lines.now }
     ensures found { IfOk result (λ at. IsPlaceOf lines.now to at) }
