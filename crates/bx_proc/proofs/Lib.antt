@@ -11,3 +11,5 @@ pub mod Tabling
 pub mod Writing
 pub mod Keeping
 pub mod KeptRows
+pub mod Awake
+pub mod OnItsWay

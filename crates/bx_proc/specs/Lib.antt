@@ -11,6 +11,7 @@ pub mod Moving
 pub mod Process
 pub mod Reading
 pub mod Receiving
+pub mod Sending
 pub mod Signals
 pub mod Stacking
 pub mod Stepping

@@ -15,12 +15,16 @@ mod parts;
 mod process;
 mod reading;
 mod receiving;
+mod receiving_at_once;
 mod running;
+mod sending;
 mod settling;
 mod signals;
 mod stacking;
 mod stops;
 mod table;
+mod waking;
 
 pub use parts::{Answer, Arguments, Effect, Pending, Status};
 pub use process::Proc;
+pub use sending::Sending;

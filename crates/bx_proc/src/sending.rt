@@ -1,0 +1,84 @@
+//! A `send` that is looked at where it stands, and done once its message is on its way.
+
+ghost use Rattle.std.specs.Prelude.{◌≡◌, IfSome, Ok};
+ghost use Rattle.bx_terms.specs.Tree.{pid};
+ghost use Rattle.bx_asm.specs.declared.instruction.Register.TheVariants.{X};
+ghost use Rattle.bx_proc.specs.declared.parts.Answer.TheVariants as answers;
+ghost use Rattle.bx_proc.specs.declared.parts.Effect.TheVariants as effects;
+ghost use Rattle.bx_proc.specs.Reading.{term_in};
+ghost use Rattle.bx_proc.specs.Sending.{Sends, StandsAtSend};
+ghost use Rattle.bx_proc.specs.Stepping.{settled};
+
+use crate::process::Proc;
+use bx_asm::Register;
+use bx_cells::Value;
+use bx_load::Image;
+use bx_ops::Op;
+use bx_terms::{Place, Term, View};
+
+/// A message that a process is about to send.
+#[derive(Clone, Copy, Debug)]
+pub struct Sending<'a> {
+    /// Where its `send` stands.
+    pub here: Place,
+    /// The pid of the receiver.
+    pub to: u32,
+    pub message: &'a Term,
+}
+
+impl Proc {
+    /// What the process sends where it is ready and stands at a `send` to a pid.
+    #[inline(always)]
+    pub fn sending(&self, image: &Image) -> Option<Sending<'_>>
+        ensures { IfSome result (λ s. Sends image.now s.here s.to s.message.now self.now) }
+    {
+        if !self.is_free() {
+            return None;
+        }
+        let here = self.place?;
+        let item = image.item(here)?;
+        let Op::Send = item.op() else {
+            return None;
+        };
+        let to = self.pid_held()?;
+        match self.term(Register::X(1)) {
+            Ok(message) => Some(Sending { here, to, message }),
+            Err(_) => None,
+        }
+    }
+
+    /// The pid in x0, where it holds one.
+    #[inline(always)]
+    fn pid_held(&self) -> Option<u32>
+        ensures { IfSome result (λ to. term_in (X 0) self.now ≡ Ok (pid to)) }
+    {
+        match self.term(Register::X(0)) {
+            Ok(term) => pid_of(term),
+            Err(_) => None,
+        }
+    }
+
+    /// Goes on behind the `send` at which the process stands, with the message in x0.
+    #[inline(always)]
+    #[tactic(auto, using(crate::proofs::OnItsWay::settled_sent))]
+    pub fn sent(&mut self, image: &Image, here: Place, message: Term)
+        requires { StandsAtSend image.now here self.old }
+        ensures { settled image.now (answers.Value message) self.old ≡ (self.new, effects.Ran) }
+    {
+        if let Err(_value) = self.x.set(0, Value::Term(message)) {
+            return; // not reached: x0 holds something
+        }
+        self.place = Some(image.after(here));
+        self.expires = None;
+    }
+}
+
+#[inline(always)]
+fn pid_of(term: &Term) -> Option<u32>
+    ensures { IfSome result (λ n. term.now ≡ pid n) }
+{
+    match term.view() {
+        View::Pid(number) => Some(number),
+        _ => None,
+    }
+}
