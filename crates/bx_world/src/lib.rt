@@ -2,6 +2,7 @@
 #![tactic(auto)]
 
 mod asking;
+mod at_once;
 mod choices;
 mod choosing;
 mod delivering;

@@ -2,7 +2,7 @@
 
 ghost use Rattle.std.specs.Prelude.{◌≡◌, ◌≢◌, ◌↔◌, [], IsTrue, IsSome, IfOk, OnErr, Ok};
 ghost use Rattle.bx_terms.specs.Outcomes.{Does, Gives};
-ghost use Rattle.bx_load.specs.Image.{export};
+ghost use Rattle.bx_load.specs.Image.{export, Loaded};
 ghost use Rattle.bx_world.specs.World.{started};
 ghost use Rattle.bx_world.specs.AtOnce.{Hurries};
 ghost use Rattle.bx_world.specs.Enabled.{enabled, open_choices, can};
@@ -127,23 +127,42 @@ impl<P: Hold<Proc>, C: Hold<Lanes>> World<P, C> {
     pub fn apply(&mut self, alloc: Global, image: &Image, choice: Choice) -> Result<(), Fault>
         ensures { Does (IsTrue (can self.old choice)) self.old self.new result (applied image.now choice self.old) }
     {
-        if let Choice::Run(pid) = choice {
-            if self.hurry(alloc, image, pid)? {
-                return Ok(());
-            }
+        if self.hurry(alloc, image, choice)? {
+            return Ok(());
         }
         self.apply_whole(alloc, image, choice)
     }
 
-    /// Makes a run of that process where it is done at once: whether it was. Where not, nothing has changed.
+    /// Makes a choice where that is done at once: whether it was. Where not, nothing has changed.
     #[inline(always)]
-    fn hurry(&mut self, alloc: Global, image: &Image, pid: u32) -> Result<bool, AllocError>
+    fn hurry(&mut self, alloc: Global, image: &Image, choice: Choice) -> Result<bool, AllocError>
+        ensures { Hurries (IsTrue (can self.old choice)) self.old self.new result (applied image.now choice self.old) }
+    {
+        match choice {
+            Choice::Run(pid) => self.hurry_run(alloc, image, pid),
+            Choice::Deliver(from, to) => self.hurry_delivery(alloc, from, to),
+            Choice::Expire(_) => Ok(false),
+        }
+    }
+
+    #[inline(always)]
+    fn hurry_run(&mut self, alloc: Global, image: &Image, pid: u32) -> Result<bool, AllocError>
         ensures { Hurries (IsTrue (can self.old (Choice.Run pid))) self.old self.new result (applied image.now (Choice.Run pid) self.old) }
     {
         if self.trap.is_some() {
             return Ok(false);
         }
-        self.procs.hurry(alloc, image, pid)
+        self.procs.hurry(alloc, image, &mut self.lanes, pid)
+    }
+
+    #[inline(always)]
+    fn hurry_delivery(&mut self, alloc: Global, from: u32, to: u32) -> Result<bool, AllocError>
+        ensures { (image : Loaded) → Hurries (IsTrue (can self.old (Choice.Deliver from to))) self.old self.new result (applied image (Choice.Deliver from to) self.old) }
+    {
+        if self.trap.is_some() {
+            return Ok(false);
+        }
+        self.procs.hand(alloc, &mut self.lanes, from, to)
     }
 
     /// Applies a choice, whatever it takes.
