@@ -10,7 +10,7 @@ use rand_pcg::Pcg32;
 use std::alloc::Global;
 
 /// The most choices in one world.
-const LONGEST: u32 = 1000;
+const LONGEST: u32 = 200;
 
 /// What became of choices.
 #[derive(Clone, Copy, Drop)]
