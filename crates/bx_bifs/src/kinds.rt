@@ -6,6 +6,7 @@ ghost use Rattle.bx_bifs.specs.Kinds.{is_atom as atom_kind, is_integer as intege
 use bx_terms::{Term, View, fixed};
 
 /// Whether a term is an atom.
+#[inline(always)]
 pub fn is_atom(term: &Term) -> bool
     ensures { result ≡ atom_kind term.now }
 {
@@ -13,6 +14,7 @@ pub fn is_atom(term: &Term) -> bool
 }
 
 /// Whether a term is an integer.
+#[inline(always)]
 pub fn is_integer(term: &Term) -> bool
     ensures { result ≡ integer_kind term.now }
 {
@@ -20,6 +22,7 @@ pub fn is_integer(term: &Term) -> bool
 }
 
 /// Whether a term is a list, also an improper one, whose last tail is no list.
+#[inline(always)]
 pub fn is_list(term: &Term) -> bool
     ensures { result ≡ list_kind term.now }
 {
@@ -27,6 +30,7 @@ pub fn is_list(term: &Term) -> bool
 }
 
 /// Whether a term is a pid.
+#[inline(always)]
 pub fn is_pid(term: &Term) -> bool
     ensures { result ≡ pid_kind term.now }
 {
@@ -34,6 +38,7 @@ pub fn is_pid(term: &Term) -> bool
 }
 
 /// Whether a term is a tuple.
+#[inline(always)]
 pub fn is_tuple(term: &Term) -> bool
     ensures { result ≡ tuple_kind term.now }
 {
@@ -41,6 +46,7 @@ pub fn is_tuple(term: &Term) -> bool
 }
 
 /// What the atoms `true` and `false` stand for, and `None` for any other term.
+#[inline(always)]
 pub fn truth(term: &Term) -> Option<bool>
     ensures { result ≡ truth_of term.now }
 {

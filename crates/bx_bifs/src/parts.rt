@@ -9,6 +9,7 @@ ghost use Rattle.bx_terms.specs.Tree.{listed};
 use bx_terms::{Term, View};
 
 /// The head of a list cell, and `None` for any other term.
+#[inline(always)]
 pub fn head(list: &Term) -> Option<&Term>
     ensures { option_map (λ term. term.now) result ≡ head_of list.now }
 {
@@ -19,6 +20,7 @@ pub fn head(list: &Term) -> Option<&Term>
 }
 
 /// The tail of a list cell, and `None` for any other term.
+#[inline(always)]
 pub fn tail(list: &Term) -> Option<&Term>
     ensures { option_map (λ term. term.now) result ≡ tail_of list.now }
 {
@@ -47,6 +49,7 @@ pub fn length(list: &Term) -> Option<u32>
 }
 
 /// The number of elements of a tuple, and `None` for any other term.
+#[inline(always)]
 #[tactic(auto, using(crate::proofs::Lists::size_listed))]
 pub fn size(tuple: &Term) -> Option<usize>
     ensures { result ≡ size_of tuple.now }
@@ -58,6 +61,7 @@ pub fn size(tuple: &Term) -> Option<usize>
 }
 
 /// The element of a tuple at a place from 0, and `None` where there is none.
+#[inline(always)]
 #[tactic(auto, using(crate::proofs::Lists::part_here, crate::proofs::Lists::part_past))]
 pub fn element_from_zero(tuple: &Term, place: usize) -> Option<&Term>
     ensures { option_map (λ term. term.now) result ≡ element_from_zero place tuple.now }

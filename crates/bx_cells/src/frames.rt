@@ -64,7 +64,7 @@ impl Frames {
     }
 
     /// Puts a frame of `size` y registers that hold nothing on top. Where memory ran out nothing has changed.
-    #[inline]
+    #[inline(always)]
     #[tactic(auto, using(crate::proofs::StackRows::pushed))]
     pub fn push(&mut self, size: usize, return_to: Option<Place>) -> Result<(), AllocError>
         ensures ok { OnOk result (self.new ≡ empty_frame size return_to ∷ self.old) }
@@ -220,7 +220,7 @@ fn index_in(heads: &[Head], cells: usize, number: u16) -> Result<usize, Trap>
 }
 
 /// Adds registers that hold nothing. Where memory ran out nothing has changed.
-#[inline]
+#[inline(always)]
 #[tactic(auto, using(std::proofs::lemmas::Grind::replicate_next))]
 fn lengthen(cells: &mut Vec<Option<Value>>, count: usize) -> Result<(), AllocError>
     ensures ok { OnOk result (cells.new.items ≡ cells.old.items ++ replicate count None) }

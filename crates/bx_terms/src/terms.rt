@@ -99,6 +99,7 @@ pub enum View<'a> {
 
 impl Term {
     /// The integer `value`.
+    #[inline(always)]
     pub fn int(value: i64) -> Term
         ensures { result ≡ int value }
     {
@@ -108,6 +109,7 @@ impl Term {
     }
 
     /// The atom of number `id`.
+    #[inline(always)]
     pub fn atom(id: AtomId) -> Term
         ensures { result ≡ atom id.0 }
     {
@@ -117,6 +119,7 @@ impl Term {
     }
 
     /// The pid of number `number`.
+    #[inline(always)]
     pub fn pid(number: u32) -> Term
         ensures { result ≡ pid number }
     {
@@ -126,6 +129,7 @@ impl Term {
     }
 
     /// The empty list.
+    #[inline(always)]
     pub fn nil() -> Term
         ensures { result ≡ nil }
     {
@@ -177,6 +181,7 @@ impl Term {
     }
 
     /// What this term is, and what it holds.
+    #[inline(always)]
     pub fn view(&self) -> View<'_>
         ensures seen { seen result ≡ self.now }
         ensures within { IsWithinHeight self.now }
@@ -192,6 +197,7 @@ impl Term {
     }
 
     /// This term's height, which is at most 10,000; it is kept with the term, not computed.
+    #[inline(always)]
     pub fn height(&self) -> u32
         ensures height { result ≡ height self.now }
         ensures within { result ≤ 10000 }
@@ -207,6 +213,7 @@ impl Term {
     ///
     /// It takes time and memory in no proportion to the term's size. Want of memory is also the answer where the count of
     /// sharers is full; a term of height 0 is always copied.
+    #[inline(always)]
     pub fn copy(&self, _alloc: Global) -> Result<Term, AllocError>
         ensures ok { IfOk result (λ t. t ≡ self.now) }
         ensures succeeds { height self.now ≡ 0 → IsOk result }
@@ -249,6 +256,7 @@ impl Clone for Term {
 
     ghost is_infallible = { λ t. height t ≡ 0 };
 
+    #[inline(always)]
     fn clone(&self) -> Result<Term, AllocError> {
         let form = match &self.form {
             Form::Int(value) => Form::Int(*value),
