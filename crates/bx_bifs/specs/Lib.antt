@@ -1,3 +1,4 @@
+pub mod Additive
 pub mod Names
 pub mod Natives
 pub mod Asks

@@ -8,7 +8,8 @@ ghost use Rattle.bx_terms.specs.Outcomes.{Gives};
 ghost use Rattle.bx_terms.specs.Order.{order_of};
 ghost use Rattle.bx_terms.specs.Tree.{int};
 ghost use Rattle.bx_bifs.specs.declared.given.Given.TheVariants.{Value};
-ghost use Rattle.bx_bifs.specs.Given.{TakesMemory, term_or_badarg};
+ghost use Rattle.bx_bifs.specs.Additive.{IsAdditive};
+ghost use Rattle.bx_bifs.specs.Given.{TakesMemory, term_or_badarg, computed as computed_given};
 ghost use Rattle.bx_bifs.specs.Bits.{bits_not};
 ghost use Rattle.bx_bifs.specs.Kinds.{truth as truth_of};
 ghost use Rattle.bx_bifs.specs.Guards.{guard_gives, guard_one, guard_two, named_gives, magnitude as magnitude_given, number_or_badarg, on_integer, on_integers, on_truth, on_truths, operator, connective};
@@ -125,22 +126,17 @@ pub fn guard_of_two(
     }
 }
 
-/// The integer that the guard BIF gives on two integers, where it is `+` or `-` and gives one. What else a guard BIF of two
-/// arguments gives, `guard_of_two` tells.
+/// The integer that the guard BIF gives on two integers, where it is `+` or `-` and gives one; of these two it gives none
+/// only where the integer leaves 64 bits. What else a guard BIF of two arguments gives, `guard_of_two` tells.
 #[inline(always)]
-#[tactic(auto, unfolding(crate::specs::Guards::guard_two), using(crate::proofs::Fitting::given_some))]
+#[tactic(auto, unfolding(crate::specs::Guards::guard_two), using(crate::proofs::Integers::checked, crate::proofs::Fitting::given_some))]
 pub fn guard_of_integers(_atoms: &Atoms, bif: Bif, m: i64, n: i64) -> Option<i64>
-    ensures { IfSome result (λ k. guard_two _atoms.now bif (int m) (int n) ≡ Value (int k)) }
+    ensures value { IfSome result (λ k. guard_two _atoms.now bif (int m) (int n) ≡ Value (int k)) }
+    ensures none { IsAdditive bif → guard_two _atoms.now bif (int m) (int n) ≡ computed_given result }
 {
     match bif {
-        Bif::Add => {
-            let sum = m.checked_add(n)?;
-            Some(sum)
-        }
-        Bif::Subtract => {
-            let difference = m.checked_sub(n)?;
-            Some(difference)
-        }
+        Bif::Add => m.checked_add(n),
+        Bif::Subtract => m.checked_sub(n),
         _ => None,
     }
 }
