@@ -56,7 +56,20 @@ pub(crate) fn at(unit: &Unit, from: u32) -> u32
 
 /// The number of the item at which it goes on behind that one.
 #[inline(always)]
+#[tactic(auto, using(crate::proofs::BehindMarks::at_here))]
 pub(crate) fn after_in(unit: &Unit, number: u32) -> u32
+    ensures { result ≡ after_in (items unit.now) number }
+{
+    let next = number as usize + 1;
+    if next < unit.item_count() && !is_mark_at(unit, next as u32) {
+        return next as u32;
+    }
+    after_marks(unit, number)
+}
+
+/// The same where a mark stands right behind, or nothing.
+#[inline(never)]
+fn after_marks(unit: &Unit, number: u32) -> u32
     ensures { result ≡ after_in (items unit.now) number }
 {
     if (number as usize) < unit.item_count() {
