@@ -13,6 +13,7 @@ pub mod Reading
 pub mod Receiving
 pub mod Sending
 pub mod Signals
+pub mod Spelled
 pub mod Stacking
 pub mod Stepping
 pub mod Stops

@@ -4,6 +4,7 @@ ghost use Rattle.std.specs.Prelude.{◌≡◌, Ok, Err, IfSome, MatchResult, opt
 ghost use Rattle.bx_terms.specs.Tree.{int};
 ghost use Rattle.bx_asm.specs.Instructed.{source_of};
 ghost use Rattle.bx_asm.specs.declared.instruction.Register.TheVariants.{X, Y};
+ghost use Rattle.bx_proc.specs.Spelled.{spelled_source};
 ghost use Rattle.bx_cells.specs.TopFrame.{y_cell};
 ghost use Rattle.bx_proc.specs.Looking.{tree_of};
 ghost use Rattle.bx_proc.specs.Reading.{value_at, held_in, written, both_written, carried, carried_in, term_in, term_at};
@@ -11,7 +12,7 @@ ghost use Rattle.bx_proc.specs.Stops.{Reads, Turns};
 
 use crate::process::Proc;
 use crate::stops::Stop;
-use bx_asm::{Register, Source};
+use bx_asm::{Lookup, Operand, Register, Source};
 use bx_cells::Value;
 use bx_terms::{Term, Trap, View};
 use std::alloc::Global;
@@ -84,14 +85,49 @@ impl Proc {
         }
     }
 
-    /// The integer that a source gives, where it gives one.
+    /// What an operand gives, to be kept.
     #[inline(always)]
-    pub(crate) fn integer(&self, source: Source<'_>) -> Option<i64>
-        ensures { IfSome result (λ n. term_at (source_of source.entry) self.now ≡ Ok (int n)) }
+    pub(crate) fn value_by(
+        &self,
+        alloc: Global,
+        tables: &Lookup<'_>,
+        operand: Operand,
+    ) -> Result<Value, Stop>
+        ensures { Reads (Unit {0}) (λ v. v) result (value_at (spelled_source tables.now operand) self.now) }
     {
-        match source {
-            Source::Integer(value) => Some(value),
-            Source::Register(register) => self.integer_in(register),
+        match operand {
+            Operand::X(number) => self.carried(alloc, Register::X(number)),
+            Operand::Y(number) => self.carried(alloc, Register::Y(number)),
+            _ => self.value_of(alloc, tables.source(operand)),
+        }
+    }
+
+    /// The term that an operand gives, to be kept.
+    #[inline(always)]
+    pub(crate) fn term_by(
+        &self,
+        alloc: Global,
+        tables: &Lookup<'_>,
+        operand: Operand,
+    ) -> Result<Term, Stop>
+        ensures { Reads (Unit {0}) (λ t. t) result (term_at (spelled_source tables.now operand) self.now) }
+    {
+        match operand {
+            Operand::X(number) => Ok(self.term(Register::X(number))?.copy(alloc)?),
+            Operand::Y(number) => Ok(self.term(Register::Y(number))?.copy(alloc)?),
+            _ => self.term_of(alloc, tables.source(operand)),
+        }
+    }
+
+    /// The integer that an operand gives, where it gives one.
+    #[inline(always)]
+    pub(crate) fn integer(&self, _tables: &Lookup<'_>, operand: &Operand) -> Option<i64>
+        ensures { IfSome result (λ n. term_at (spelled_source _tables.now operand.now) self.now ≡ Ok (int n)) }
+    {
+        match *operand {
+            Operand::X(number) => self.integer_in(Register::X(number)),
+            Operand::Y(number) => self.integer_in(Register::Y(number)),
+            Operand::Integer(value) => Some(value),
             _ => None,
         }
     }

@@ -12,6 +12,54 @@ pub(crate) enum Stop {
     Memory,
 }
 
+/// Why an instruction was not done at once. Nothing has changed then.
+#[derive(Clone, Copy, Debug)]
+pub(crate) enum Undone {
+    /// It is left to the table of all instructions.
+    Left,
+    /// Memory ran out.
+    Memory,
+}
+
+impl From<Stop> for Undone {
+    ghost use Rattle.std.specs.Prelude.{◌≡◌};
+    ghost use Rattle.bx_proc.specs.AtOnce.{undone_by};
+
+    ghost from_gives = { λ stop undone. undone ≡ undone_by stop };
+
+    #[inline(always)]
+    fn from(stop: Stop) -> Undone {
+        match stop {
+            Stop::Trapped(_) => Undone::Left,
+            Stop::Memory => Undone::Memory,
+        }
+    }
+}
+
+impl From<Trap> for Undone {
+    ghost use Rattle.std.specs.Prelude.{◌≡◌};
+    ghost use Rattle.bx_proc.specs.declared.stops.Undone.TheVariants.{Left};
+
+    ghost from_gives = { λ _ undone. undone ≡ Left };
+
+    #[inline(always)]
+    fn from(_: Trap) -> Undone {
+        Undone::Left
+    }
+}
+
+impl From<AllocError> for Undone {
+    ghost use Rattle.std.specs.Prelude.{◌≡◌};
+    ghost use Rattle.bx_proc.specs.declared.stops.Undone.TheVariants.{Memory};
+
+    ghost from_gives = { λ _ undone. undone ≡ Memory };
+
+    #[inline(always)]
+    fn from(_: AllocError) -> Undone {
+        Undone::Memory
+    }
+}
+
 impl From<AllocError> for Stop {
     ghost use Rattle.std.specs.Prelude.{◌≡◌};
     ghost use Rattle.bx_proc.specs.declared.stops.Stop.TheVariants.{Memory};
