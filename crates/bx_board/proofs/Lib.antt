@@ -10,6 +10,7 @@ pub mod Keeping
 pub mod Beginning
 pub mod Idle
 pub mod Found
+pub mod Runs
 pub mod TermsCross
 pub mod CodeCrosses
 pub mod ProcessesCross

@@ -1,7 +1,7 @@
 -- What a campaign runs: loaded code from its start, along the chains of a plan's tree.
-use Rattle.std.specs.Prelude.{ℕ, List, [], None, Result, Ok, Err, refl}
+use Rattle.std.specs.Prelude.{◌≡◌, ℕ, ◌+◌, ◌-◌, List, [], None, Result, Ok, Err, refl}
 use Rattle.std.specs.FinMap as map
-use Rattle.std.specs.Coded.{Coded, code_by, coded×, coded_list}
+use Rattle.std.specs.Coded.{Coded, code_by, coded×, coded_ℕ, coded_list}
 use Rattle.bx_terms.specs.declared.atom_table.AtomId.{AtomId}
 use Rattle.bx_terms.specs.declared.faults.Fault.{Fault}
 use Rattle.bx_load.specs.Image.{Loaded}
@@ -9,7 +9,7 @@ use Rattle.bx_world.specs.declared.choices.Choice.{Choice}
 use Rattle.bx_world.specs.World.{State, started}
 use Rattle.bx_world.specs.Running.{Ended, ran, unchosen}
 use Rattle.bx_plan.specs.Planned.{Planned}
-use Rattle.bx_chains.specs.Chains.{Chained, chain_path}
+use Rattle.bx_chains.specs.Chains.{Chained, chain_path, first, last}
 
 -- the names of the module and of the function of no arguments that the first process begins with
 abbrev pub Entry : Type 0
@@ -49,17 +49,29 @@ pub record Work : Type 0 where
   pub image : Loaded
   pub start : Entry
   pub path : List Choice
+  -- how many of those choices are the chain's own, the last ones
+  pub own : ℕ
+
+-- the same choices lead from the same start, however they are cut into chains
+pub record IsSameRun (work other : Work) : Type 0 where
+  pub image : work.image ≡ other.image
+  pub start : work.start ≡ other.start
+  pub path : work.path ≡ other.path
 
 abbrev pub end_of : Work → Ended
 end_of work = run_alone work.image work.start work.path
 
+-- how many nodes a chain below the root has
+abbrev pub chain_length : Chained → ℕ → ℕ
+chain_length all c = last all c - first all c + 1
+
 abbrev pub work_of : Job → ℕ → Work
-work_of job n = record { image = job.image; start = job.start; path = chain_path job.plan job.chains n }
+work_of job n = record { image = job.image; start = job.start; path = chain_path job.plan job.chains n; own = chain_length job.chains n }
 
 -- what a proof tells two of them apart by
 abbrev pub work_code : Coded Loaded → Coded AtomId → Coded Choice → Coded Work
 work_code image atom choice =
-    code_by (Loaded × (Entry × List Choice)) (coded× image (coded× (coded× atom atom) (coded_list choice)))
-    (λ w. (w.image, (w.start, w.path)))
-    (λ t. record { image = t.0; start = t.1.0; path = t.1.1 })
+    code_by (Loaded × (Entry × (List Choice × ℕ))) (coded× image (coded× (coded× atom atom) (coded× (coded_list choice) coded_ℕ)))
+    (λ w. (w.image, (w.start, (w.path, w.own))))
+    (λ t. record { image = t.0; start = t.1.0; path = t.1.1.0; own = t.1.1.1 })
     (λ _. refl)

@@ -14,7 +14,7 @@ use Rattle.bx_board.specs.declared.slots.Slot.{Slot}
 use Rattle.bx_board.specs.declared.slots.Slot.TheVariants.{Leased, Done}
 use Rattle.bx_board.specs.declared.slots.Event.{Event}
 use Rattle.bx_board.specs.declared.slots.Event.TheVariants.{Lease, Submit, GiveBack}
-use Rattle.bx_board.specs.Jobs.{Entry, Job, Work, end_of, work_of}
+use Rattle.bx_board.specs.Jobs.{Entry, IsSameRun, Job, Work, end_of, work_of}
 use Rattle.bx_board.specs.Machine.{Frontier, standing, is_waiting, is_done, May, after, initial, replay, IsLegal}
 
 -- the campaign, how it stands, and the events that led there
@@ -80,14 +80,14 @@ abbrev pub Leases : Kept → ℕ → Option Work → Kept → Type 0
 Leases old k None new = (new ≡ old) × ((n : ℕ) → May old.job old.state (Lease k n) → ⊥)
 Leases old k (Some work) new = (n : ℕ) × Happens old (Lease k n) new × (work ≡ work_of old.job n)
 
--- the work is that of a chain of the campaign
+-- the work is the run of a chain of the campaign
 abbrev pub IsOf : Job → Work → ℕ → Type 0
-IsOf job work n = (n < chain_count job.chains) × (work ≡ work_of job n)
+IsOf job work n = (n < chain_count job.chains) × IsSameRun work (work_of job n)
 
 -- a lease, with the chain that was leased
 abbrev pub Takes : Kept → ℕ → Option (ℕ × Work) → Kept → Type 0
 Takes old k None new = (new ≡ old) × ((n : ℕ) → May old.job old.state (Lease k n) → ⊥)
-Takes old k (Some task) new = Happens old (Lease k task.0) new × IsOf old.job task.1 task.0
+Takes old k (Some task) new = Happens old (Lease k task.0) new × IsOf old.job task.1 task.0 × (task.1 ≡ work_of old.job task.0)
 
 abbrev pub Submits : Kept → ℕ → Work → Kept → Type 0
 Submits old k work new = (n : ℕ) × IsOf old.job work n × Happens old (Submit k n) new

@@ -1,5 +1,5 @@
 -- What a lease and a piece hold: a chain of a plan's tree, and an end.
-use Rattle.std.specs.Prelude.{◌≡◌, ℕ, ◌+◌, ◌<◌, ◌≤◌, length}
+use Rattle.std.specs.Prelude.{◌≡◌, ℕ, ◌+◌, ◌-◌, ◌<◌, ◌≤◌, length}
 use Rattle.bx_load.specs.Image.{Loaded}
 use Rattle.bx_plan.specs.Planned.{Planned}
 use Rattle.bx_plan.specs.Trees.{Tree, parent, path}
@@ -17,5 +17,6 @@ pub record IsSpan (tree : Tree) (first last : ℕ) : Type 0 where
 abbrev pub run_up_to : Loaded → Entry → Tree → ℕ → Ended
 run_up_to image start tree node = run_alone image start (path tree node)
 
-abbrev pub work_at : Loaded → Entry → Planned → ℕ → Work
-work_at image start plan node = record { image = image; start = start; path = path plan.tree node }
+-- the run up to a chain's last node, of which the chain's nodes are the last
+abbrev pub work_at : Loaded → Entry → Planned → ℕ → ℕ → Work
+work_at image start plan first last = record { image = image; start = start; path = path plan.tree last; own = last - first + 1 }

@@ -48,7 +48,7 @@ impl<'a> Model for Lease<'a> {
 
     ghost use Rattle.bx_board.specs.Working.{run_up_to, work_at, IsSpan};
 
-    ghost view = { λ l. work_at l.image.now l.start l.plan.now l.span.last };
+    ghost view = { λ l. work_at l.image.now l.start l.plan.now l.span.first l.span.last };
 
     ghost invariant = { λ l. IsSpan l.plan.now.tree l.span.first l.span.last × (l.from ≡ run_up_to l.image.now l.start l.plan.now.tree (parent l.plan.now.tree l.span.first)) };
 }
@@ -77,7 +77,7 @@ impl<'a> Model for Piece<'a> {
 
     ghost use Rattle.bx_board.specs.Working.{run_up_to, work_at, IsSpan};
 
-    ghost view = { λ p. work_at p.image.now p.start p.plan.now p.span.last };
+    ghost view = { λ p. work_at p.image.now p.start p.plan.now p.span.first p.span.last };
 
     ghost invariant = { λ p. IsSpan p.plan.now.tree p.span.first p.span.last × (p.end ≡ run_up_to p.image.now p.start p.plan.now.tree p.span.last) };
 }
@@ -129,7 +129,8 @@ impl<'a> Piece<'a> {
 
     /// How many of those choices are the chain's own, the last ones.
     pub fn choices(&self) -> usize
-        ensures { 0 < result }
+        ensures own { result ≡ self.now.own }
+        ensures some { 0 < result }
     {
         self.span.last - self.span.first + 1
     }

@@ -9,4 +9,4 @@ returns-in_default-clause-ok c = subst (λ (o : Option (ℕ × Work)). Takes c.a
 pub returns-clause-ok : goal.returns-clause-ok
 returns-clause-ok c =
     let got = subst (λ (o : Option (ℕ × Work)). Takes c.args.self.now c.args.worker o c.take.new.self) c.in-Some.is c.in_ok-taken.ensures.ok in
-    (_, got.0, got.1.1)
+    (_, got.0, got.2)

@@ -11,6 +11,7 @@ use Rattle.bx_board.specs.declared.slots.Event.TheVariants.{Lease}
 use Rattle.bx_board.specs.Jobs.{work_of}
 use Rattle.bx_board.specs.Tended.{IsTended, kept_view}
 use Rattle.bx_board.proofs.Found.{none_is, some_is}
+use Rattle.bx_board.proofs.Runs.{same_run}
 use Rattle.bx_board.proofs.Keeping.{none_left, same_holders, stops_left_low, top_free, top_is, view_lease}
 use Rattle.bx_board.proofs.Steps.{free_is, is_true, true_is}
 use Rattle.bx_board.proofs.Tending.{holds_none}
@@ -91,5 +92,6 @@ returns-clause-ok c =
         ap (kept_view i.image.now i.start i.plan.now i.chains (set i.slots.items c.in-Some.chain (Leased c.args.worker)) i.stopped)
             (c.push_reserved.ensures.items ∙ ap (λ es. es ++ Lease c.args.worker c.in-Some.chain ∷ []) c.reserve.ensures.items),
       ),
-      (omega (arith, within, c.self.invariant.0.kept.count), of),
+      (omega (arith, within, c.self.invariant.0.kept.count), same_run of),
+      of,
     )
