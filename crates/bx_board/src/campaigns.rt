@@ -55,14 +55,15 @@ fn served<'a, J: Campaign + Send + Sync, R: Threads + Wait + Sync, G: Gate + Syn
     gate: &G,
 ) -> (bool, Book<'a>)
     requires { book.job ≡ J.job }
+    ensures { result.1.job ≡ J.job }
 {
     let board = Board::<J>::new(book);
     let well = serve_all(rt, alloc, &board, workers, gate);
     (well, board.close())
 }
 
-/// The report of a campaign whose threads have ended: the chains that are left are run on the book, where it is still this
-/// campaign's, and otherwise all of them on a new one.
+/// The report of a campaign whose threads have ended: the chains that are left are run on the book, or all of them on a new
+/// one where it was stopped.
 fn settle(
     alloc: Global,
     mut book: Book<'_>,
@@ -70,10 +71,13 @@ fn settle(
     start: (AtomId, AtomId),
     plan: &Plan,
 ) -> Result<Report, Fault>
-    requires { IsOk (started image.now start.0 start.1) }
+    requires exported { IsOk (started image.now start.0 start.1) }
+    requires image { book.job.image ≡ image.now }
+    requires start { book.job.start ≡ start }
+    requires plan { book.job.plan ≡ plan.now }
     ensures { Gives ⊤ (λ report. report) result (report_from image.now start (schedules plan.now)) }
 {
-    if book.is_stopped() || !book.is_of(image, start, plan) {
+    if book.is_stopped() {
         return report_alone(alloc, image, start.0, start.1, plan);
     }
     book.take_back_all();

@@ -7,10 +7,8 @@ ghost use Rattle.bx_board.specs.Kept.{IsOf};
 
 use crate::books::Book;
 use crate::working::Piece;
-use bx_load::Image;
 use bx_plan::Plan;
 use bx_share::Same;
-use bx_terms::AtomId;
 
 /// Whether the same choices lead to both nodes. It takes time in proportion to how many they are.
 fn same_path(plan: &Plan, node: usize, other: &Plan, at: usize) -> bool
@@ -47,13 +45,6 @@ impl<'a> Book<'a> {
         ensures { IsTrue result ↔ ((self.now.job.image ≡ piece.now.image) × (self.now.job.start ≡ piece.now.start)) }
     {
         self.start == piece.start && self.image.same(piece.image)
-    }
-
-    /// Whether this is the campaign of that plan over that code, from that start.
-    pub(crate) fn is_of(&self, image: &Image, start: (AtomId, AtomId), plan: &Plan) -> bool
-        ensures { IsTrue result ↔ ((self.now.job.start ≡ start) × (self.now.job.image ≡ image.now) × (self.now.job.plan ≡ plan.now)) }
-    {
-        self.start == start && self.image.same(image) && self.plan.same(plan)
     }
 
     /// The chain of that path: first the one of the piece's own number is looked at, so that the others are only for a
