@@ -5,7 +5,7 @@ use std::alloc::Global;
 use std::test::Fail;
 
 /// Items, how many runs, and the trap that the last of them is.
-const RUNS: [(&str, u32, &str); 35] = [
+const RUNS: [(&str, u32, &str); 42] = [
     ("", 1, "BadPlace"),
     ("int_code_end.", 1, "BadPlace"),
     ("{jump,{f,3}}. {label,3}.", 2, "BadPlace"),
@@ -28,6 +28,41 @@ const RUNS: [(&str, u32, &str); 35] = [
         "NoFrame",
     ),
     ("{call_ext_last,1,{extfunc,erlang,exit,1},0}.", 1, "Unset"),
+    (
+        "{move,{integer,-9223372036854775808},{x,0}}. {call_ext,1,{extfunc,erlang,abs,1}}.",
+        2,
+        "IntegerRange",
+    ),
+    (
+        "{move,{integer,-9223372036854775808},{x,0}}. {call_ext_only,1,{extfunc,erlang,abs,1}}.",
+        2,
+        "IntegerRange",
+    ),
+    (
+        "{move,{integer,-9223372036854775808},{x,0}}. {call_ext_last,1,{extfunc,erlang,abs,1},0}.",
+        2,
+        "NoFrame",
+    ),
+    (
+        "{allocate,0,0}. {move,{integer,-9223372036854775808},{x,0}}. {call_ext_last,1,{extfunc,erlang,abs,1},1}.",
+        3,
+        "FrameSize",
+    ),
+    (
+        "{allocate,0,0}. {move,{integer,-9223372036854775808},{x,0}}. {call_ext_last,1,{extfunc,erlang,abs,1},0}.",
+        3,
+        "IntegerRange",
+    ),
+    (
+        "{move,{integer,1},{x,0}}. {move,{integer,64},{x,1}}. {call_ext_last,2,{extfunc,erlang,'bsl',2},0}.",
+        3,
+        "NoFrame",
+    ),
+    (
+        "{allocate,2,0}. {move,{integer,1},{x,0}}. {move,{integer,64},{x,1}}. {call_ext_last,2,{extfunc,erlang,'bsl',2},1}.",
+        4,
+        "FrameSize",
+    ),
     ("remove_message.", 1, "NoMessage"),
     ("{label,3}. {loop_rec_end,{f,3}}.", 1, "NoMessage"),
     ("{allocate,1,0}. {catch_end,{y,0}}.", 2, "NoTag"),
