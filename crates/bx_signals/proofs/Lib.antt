@@ -1,3 +1,4 @@
+pub mod Turned
 pub mod Lines
 pub mod Maps
 pub mod Listed

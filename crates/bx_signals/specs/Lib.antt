@@ -1,3 +1,4 @@
 pub mod Waiting
+pub mod Turns
 pub mod Channels
 pub mod Rows

@@ -117,6 +117,7 @@ impl Channels {
     }
 
     /// Puts an exit signal by link with this reason to each of these receivers; where memory runs out, nothing has changed.
+    /// Memory is taken only where there is one.
     pub fn put_exits(
         &mut self,
         alloc: Global,
@@ -126,6 +127,7 @@ impl Channels {
     ) -> Result<(), AllocError>
         ensures ok { OnOk result (self.new ≡ put_to_all from links.now (Signal.LinkExit reason.now) self.old) }
         ensures err { OnErr result (self.new ≡ self.old) }
+        ensures memory { OnErr result (links.now ≢ []) }
     {
         for at in 0..links.len() {
             if let Err(refused) = self.put_exit(alloc, from, links[at], reason) {

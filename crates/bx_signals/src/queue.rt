@@ -1,6 +1,6 @@
 //! The signals of one channel.
 
-ghost use Rattle.std.specs.Prelude.{◌≡◌, ◌↔◌, ◌++◌, ◌∷◌, [], IfErr, IsTrue, OnOk, option_map};
+ghost use Rattle.std.specs.Prelude.{◌≡◌, ◌↔◌, ◌++◌, ◌∷◌, ◌≤◌, [], length, IfErr, IsTrue, OnErr, OnOk, option_map};
 ghost use Rattle.bx_signals.specs.Waiting.{first, rest, front};
 
 use crate::signal::Signal;
@@ -8,11 +8,16 @@ use bx_share::Same;
 use std::alloc::{AllocError, Global};
 use std::collections::VecDeque;
 use std::marker::Model;
+use std::mem;
 
-/// Signals in the order in which they were put.
+/// Signals in the order in which they were put. The first two lie in the queue itself, so that one which gets empty over and
+/// over takes memory but once.
 #[derive(Debug, Drop)]
 pub(crate) struct Queue {
-    signals: VecDeque<Signal>,
+    first: Option<Signal>,
+    second: Option<Signal>,
+    /// Those behind the first two.
+    more: VecDeque<Signal>,
 }
 
 impl Model for Queue {
@@ -25,7 +30,11 @@ impl Model for Queue {
 
     ghost coded = { coded_list signal.the_row.coded };
 
-    ghost view = { λ a. a.signals.items };
+    ghost use Rattle.bx_signals.specs.Turns.{in_turn, IsInTurn};
+
+    ghost view = { λ a. in_turn a.first a.second a.more.items };
+
+    ghost invariant = { λ a. IsInTurn a.first a.second a.more.items };
 }
 
 impl Clone for Queue {
@@ -34,8 +43,13 @@ impl Clone for Queue {
     ghost is_clone = { λ s t. t ≡ s };
 
     fn clone(&self) -> Result<Queue, AllocError> {
+        let first = self.first.clone()?;
+        let second = self.second.clone()?;
+        let more = self.more.clone()?;
         Ok(Queue {
-            signals: self.signals.clone()?,
+            first,
+            second,
+            more,
         })
     }
 }
@@ -46,20 +60,29 @@ impl Queue {
         ensures { result ≡ [] }
     {
         Queue {
-            signals: VecDeque::new(alloc),
+            first: None,
+            second: None,
+            more: VecDeque::new(alloc),
         }
     }
 
-    /// Puts a signal last, or hands it back where memory ran out, and then nothing has changed.
+    /// Puts a signal last, or hands it back where memory ran out, and then nothing has changed. No memory is taken for the
+    /// first two.
     #[inline(always)]
     pub(crate) fn put(&mut self, signal: Signal) -> Result<(), Signal>
         ensures ok { OnOk result (self.new ≡ self.old ++ signal ∷ []) }
         ensures err { IfErr result (λ s. (s ≡ signal) × (self.new ≡ self.old)) }
+        ensures memory { OnErr result (2 ≤ length self.old) }
     {
-        match self.signals.push_back(signal) {
-            Ok(()) => Ok(()),
-            Err(failed) => Err(failed.value),
+        if self.first.is_none() {
+            self.first = Some(signal);
+            return Ok(());
         }
+        if self.second.is_none() {
+            self.second = Some(signal);
+            return Ok(());
+        }
+        put_behind(&mut self.more, signal)
     }
 
     /// The signal that was put first.
@@ -67,7 +90,7 @@ impl Queue {
     pub(crate) fn first(&self) -> Option<&Signal>
         ensures { option_map (λ s. s.now) result ≡ first self.now }
     {
-        self.signals.front()
+        self.first.as_ref()
     }
 
     /// Takes the first signal out.
@@ -76,14 +99,28 @@ impl Queue {
         ensures given { result ≡ first self.old }
         ensures left { self.new ≡ rest self.old }
     {
-        self.signals.pop_front()
+        let second = self.second.take();
+        let first = mem::replace(&mut self.first, second);
+        if !self.more.is_empty() {
+            self.second = self.more.pop_front();
+        }
+        first
     }
 
     /// Takes the last signal out.
+    #[tactic(auto, using(crate::proofs::Turned::front_behind))]
     pub(crate) fn take_back(&mut self)
         ensures { self.new ≡ front self.old }
     {
-        let _ = self.signals.pop_back();
+        if !self.more.is_empty() {
+            let _ = self.more.pop_back();
+            return;
+        }
+        if self.second.is_some() {
+            self.second = None;
+            return;
+        }
+        self.first = None;
     }
 
     /// Whether no signal waits.
@@ -91,14 +128,29 @@ impl Queue {
     pub(crate) fn is_empty(&self) -> bool
         ensures { IsTrue result ↔ (self.now ≡ []) }
     {
-        self.signals.is_empty()
+        self.first.is_none()
     }
 
     /// Whether both hold the same signals in the same order.
     pub(crate) fn same(&self, other: &Queue) -> bool
         ensures { IsTrue result ↔ (self.now ≡ other.now) }
     {
-        same_signals(&self.signals, &other.signals)
+        self.first.same(&other.first)
+            && self.second.same(&other.second)
+            && same_signals(&self.more, &other.more)
+    }
+}
+
+/// Puts a signal last, or hands it back where memory ran out.
+#[cold]
+#[inline(never)]
+fn put_behind(more: &mut VecDeque<Signal>, signal: Signal) -> Result<(), Signal>
+    ensures ok { OnOk result (more.new.items ≡ more.old.items ++ signal ∷ []) }
+    ensures err { IfErr result (λ s. (s ≡ signal) × (more.new.items ≡ more.old.items)) }
+{
+    match more.push_back(signal) {
+        Ok(()) => Ok(()),
+        Err(failed) => Err(failed.value),
     }
 }
 

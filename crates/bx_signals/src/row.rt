@@ -224,7 +224,7 @@ fn place_beside(lines: &[(u32, Queue)], near: usize, to: u32) -> Result<usize, u
 /// Whether the queue of that receiver lies at that place.
 #[inline(always)]
 fn is_at(lines: &[(u32, Queue)], at: usize, to: u32) -> bool
-    ensures { IsTrue result → IsPlaceOf lines.now to at }
+    ensures { IsTrue result ↔ IsPlaceOf lines.now to at }
 {
     match lines.get(at) {
         Some(line) => line.0 == to,
