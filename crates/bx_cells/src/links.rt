@@ -77,10 +77,14 @@ impl Links {
         there
     }
 
-    /// The pids but that one.
-    pub fn but(&self, _alloc: Global, pid: u32) -> Result<Vec<u32>, AllocError>
-        ensures { IfOk result (λ v. v.items ≡ unlinked pid self.now) }
+    /// The pids but that one. Memory is taken only where there is one.
+    pub fn but(&self, alloc: Global, pid: u32) -> Result<Vec<u32>, AllocError>
+        ensures left { IfOk result (λ v. v.items ≡ unlinked pid self.now) }
+        ensures memory { OnErr result (self.now ≢ []) }
     {
+        if self.pids.is_empty() {
+            return Ok(Vec::new(alloc));
+        }
         let mut others = self.pids.clone()?;
         drop_in(&mut others, pid);
         Ok(others)

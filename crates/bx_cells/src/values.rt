@@ -58,6 +58,10 @@ impl Clone for Value {
 
     ghost is_clone = { λ v w. w ≡ v };
 
+    ghost use Rattle.bx_cells.specs.Held.{value_height};
+
+    ghost is_infallible = { λ v. value_height v ≡ 0 };
+
     fn clone(&self) -> Result<Value, AllocError> {
         Ok(match self {
             Value::Term(term) => Value::Term(term.clone()?),
