@@ -13,3 +13,4 @@ pub mod Keeping
 pub mod KeptRows
 pub mod Awake
 pub mod OnItsWay
+pub mod Unsent

@@ -1,12 +1,12 @@
 //! A `send` that is looked at where it stands, and done once its message is on its way.
 
-ghost use Rattle.std.specs.Prelude.{◌≡◌, IfSome, Ok};
+ghost use Rattle.std.specs.Prelude.{◌≡◌, ℕ, MatchOption, Ok};
 ghost use Rattle.bx_terms.specs.Tree.{pid};
 ghost use Rattle.bx_asm.specs.declared.instruction.Register.TheVariants.{X};
 ghost use Rattle.bx_proc.specs.declared.parts.Answer.TheVariants as answers;
 ghost use Rattle.bx_proc.specs.declared.parts.Effect.TheVariants as effects;
 ghost use Rattle.bx_proc.specs.Reading.{term_in};
-ghost use Rattle.bx_proc.specs.Sending.{Sends, StandsAtSend};
+ghost use Rattle.bx_proc.specs.Sending.{Sends, SendsNothing, StandsAtSend};
 ghost use Rattle.bx_proc.specs.Stepping.{settled};
 
 use crate::process::Proc;
@@ -27,10 +27,12 @@ pub struct Sending<'a> {
 }
 
 impl Proc {
-    /// What the process sends where it is ready and stands at a `send` to a pid.
+    /// What the process sends where it is ready, without a fault pending, and stands at a `send` of a term to a pid; `None`
+    /// exactly where it does not.
     #[inline(always)]
+    #[tactic(auto, using(crate::proofs::Unsent::is_not_free, crate::proofs::Unsent::stands_nowhere, crate::proofs::Unsent::nothing_there, crate::proofs::Unsent::other_there, crate::proofs::Unsent::no_receiver, crate::proofs::Unsent::no_message))]
     pub fn sending(&self, image: &Image) -> Option<Sending<'_>>
-        ensures { IfSome result (λ s. Sends image.now s.here s.to s.message.now self.now) }
+        ensures { MatchOption result (SendsNothing image.now self.now) (λ s. Sends image.now s.here s.to s.message.now self.now) }
     {
         if !self.is_free() {
             return None;
@@ -50,7 +52,7 @@ impl Proc {
     /// The pid in x0, where it holds one.
     #[inline(always)]
     fn pid_held(&self) -> Option<u32>
-        ensures { IfSome result (λ to. term_in (X 0) self.now ≡ Ok (pid to)) }
+        ensures { MatchOption result ((to : ℕ) → term_in (X 0) self.now ≡ Ok (pid to) → ⊥) (λ to. term_in (X 0) self.now ≡ Ok (pid to)) }
     {
         match self.term(Register::X(0)) {
             Ok(term) => pid_of(term),
@@ -75,7 +77,7 @@ impl Proc {
 
 #[inline(always)]
 fn pid_of(term: &Term) -> Option<u32>
-    ensures { IfSome result (λ n. term.now ≡ pid n) }
+    ensures { MatchOption result ((n : ℕ) → term.now ≡ pid n → ⊥) (λ n. term.now ≡ pid n) }
 {
     match term.view() {
         View::Pid(number) => Some(number),

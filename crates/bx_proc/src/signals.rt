@@ -1,6 +1,6 @@
 //! What signals ask of a process, and what they see of it.
 
-ghost use Rattle.std.specs.Prelude.{◌≡◌, false, Ok, OnOk, IfErr};
+ghost use Rattle.std.specs.Prelude.{◌≡◌, ◌≢◌, [], false, Ok, OnOk, IfErr};
 ghost use Rattle.bx_terms.specs.Outcomes.{Does, Gives};
 ghost use Rattle.bx_cells.specs.Links.{IsRising, among, unlinked};
 ghost use Rattle.bx_proc.specs.Process.{can_expire};
@@ -40,9 +40,9 @@ impl Proc {
 
     /// The pids of the processes that it is linked to, but that one.
     ///
-    /// Memory is all that it may lack.
+    /// Memory is all that it may lack, and only where there is a link.
     pub fn links_but(&self, alloc: Global, pid: u32) -> Result<Vec<u32>, Fault>
-        ensures { Gives (Unit {0}) (λ v. v.items) result (Ok (unlinked pid self.now.links)) }
+        ensures { Gives (self.now.links ≢ []) (λ v. v.items) result (Ok (unlinked pid self.now.links)) }
     {
         Ok(self.links.but(alloc, pid)?)
     }

@@ -1,6 +1,5 @@
-use Rattle.std.proofs.Common.{rules, ◌≡◌, sym, ap, subst, ◌∙◌}
-use Rattle.std.specs.Prelude.{Option, Some, None, Ok}
-use Rattle.bx_terms.specs.Tree.{pid}
+use Rattle.std.proofs.Common.{rules, ◌≡◌}
+use Rattle.std.specs.Prelude.{Some, None}
 use Rattle.bx_asm.specs.Numbered.{item_of}
 use Rattle.bx_load.specs.Numbering.{numbered_at}
 use Rattle.bx_ops.specs.declared.opcode.Op.TheVariants.{Send}
