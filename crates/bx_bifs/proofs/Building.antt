@@ -37,11 +37,6 @@ pub one_ahead : (ts : List Tree) (t rest : Tree) → ahead (ts ++ t ∷ []) rest
 one_ahead [] t rest = refl
 one_ahead (u ∷ ts) t rest = ap (cons u) (one_ahead ts t rest)
 
--- a list is as high as its rest at least
-ahead_high : (ts : List Tree) (rest : Tree) → height rest ≤ height (ahead ts rest)
-ahead_high [] rest = omega arith
-ahead_high (t ∷ ts) rest = omega (arith, ahead_high ts rest)
-
 high : (t : Tree) (b : Bool) → nat_le (height t) 10000 ≡ b → 10000 < height t → (if b then Value t else Trap TermHeight) ≡ Trap TermHeight
 high t true e h = absurd (grind (arith, nat_tests))
 high t false e h = refl
@@ -50,12 +45,9 @@ low : (t : Tree) (b : Bool) → nat_le (height t) 10000 ≡ b → height t ≤ 1
 low t true e h = refl
 low t false e h = absurd (grind (arith, nat_tests))
 
-pub too_high : (ts : List Tree) (t rest : Tree) → 10000 < height (cons t rest) → Trap TermHeight ≡ built (ahead (ts ++ t ∷ []) rest)
-too_high ts t rest h =
-    let all = ahead (ts ++ t ∷ []) rest in
-    let more : height (cons t rest) ≤ height (ahead ts (cons t rest)) = ahead_high ts (cons t rest) in
-    let same : height (ahead ts (cons t rest)) ≡ height all = ap height (sym (one_ahead ts t rest)) in
-    sym (high all (nat_le (height all) 10000) refl (omega arith))
+-- a term that would be too high is not built
+pub all_high : (t : Tree) → 10000 < height t → Trap TermHeight ≡ built t
+all_high t h = sym (high t (nat_le (height t) 10000) refl h)
 
 pub none_ahead : (t : Tree) → height t ≤ 10000 → Value t ≡ built t
 none_ahead t h = sym (low t (nat_le (height t) 10000) refl h)

@@ -10,3 +10,4 @@ pub mod NameLaws
 pub mod Arities
 pub mod Building
 pub mod Fitting
+pub mod Joining

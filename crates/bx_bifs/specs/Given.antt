@@ -47,7 +47,12 @@ abbrev pub computed : Option ℤ → Given
 computed (Some n) = Value (int n)
 computed None = Trap IntegerRange
 
--- a value that is a tuple or a list cell is shared with the argument that held it, which may want memory
+-- the integer that is given, where an integer is
+abbrev pub integer_of : Given → Option ℤ
+integer_of (Value (int n)) = Some n
+integer_of given = None
+
+-- a value that is a tuple or a list cell is built, or shared with the argument that held it, which may want memory
 abbrev pub TakesMemory : Given → Type 0
 TakesMemory (Value t) = 0 < height t
 TakesMemory (Fault class t) = ⊥

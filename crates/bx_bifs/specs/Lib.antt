@@ -1,4 +1,3 @@
-pub mod Additive
 pub mod Names
 pub mod Natives
 pub mod Asks

@@ -8,8 +8,7 @@ ghost use Rattle.bx_terms.specs.Outcomes.{Gives};
 ghost use Rattle.bx_terms.specs.Order.{order_of};
 ghost use Rattle.bx_terms.specs.Tree.{int};
 ghost use Rattle.bx_bifs.specs.declared.given.Given.TheVariants.{Value};
-ghost use Rattle.bx_bifs.specs.Additive.{IsAdditive};
-ghost use Rattle.bx_bifs.specs.Given.{TakesMemory, term_or_badarg, computed as computed_given};
+ghost use Rattle.bx_bifs.specs.Given.{TakesMemory, term_or_badarg, integer_of};
 ghost use Rattle.bx_bifs.specs.Bits.{bits_not};
 ghost use Rattle.bx_bifs.specs.Kinds.{truth as truth_of};
 ghost use Rattle.bx_bifs.specs.Guards.{guard_gives, guard_one, guard_two, named_gives, magnitude as magnitude_given, number_or_badarg, on_integer, on_integers, on_truth, on_truths, operator, connective};
@@ -126,17 +125,31 @@ pub fn guard_of_two(
     }
 }
 
-/// The integer that the guard BIF gives on two integers, where it is `+` or `-` and gives one; of these two it gives none
-/// only where the integer leaves 64 bits. What else a guard BIF of two arguments gives, `guard_of_two` tells.
+/// The integer that the guard BIF gives on two integers, where it gives one.
 #[inline(always)]
-#[tactic(auto, unfolding(crate::specs::Guards::guard_two), using(crate::proofs::Integers::checked, crate::proofs::Fitting::given_some))]
+#[tactic(auto, unfolding(crate::specs::Guards::guard_two), using(crate::proofs::Integers::checked, crate::proofs::Fitting::given_some, crate::proofs::Fitting::given_all))]
 pub fn guard_of_integers(_atoms: &Atoms, bif: Bif, m: i64, n: i64) -> Option<i64>
     ensures value { IfSome result (λ k. guard_two _atoms.now bif (int m) (int n) ≡ Value (int k)) }
-    ensures none { IsAdditive bif → guard_two _atoms.now bif (int m) (int n) ≡ computed_given result }
+    ensures all { integer_of (guard_two _atoms.now bif (int m) (int n)) ≡ result }
 {
     match bif {
         Bif::Add => m.checked_add(n),
         Bif::Subtract => m.checked_sub(n),
+        Bif::Min => Some(if n < m { n } else { m }),
+        Bif::Max => Some(if m < n { n } else { m }),
+        _ => integer_of(operated(bif, m, n)),
+    }
+}
+
+/// The integer that is given, where an integer is.
+fn integer_of(given: Given) -> Option<i64>
+    ensures { result ≡ integer_of given }
+{
+    match given {
+        Given::Value(value) => match value.view() {
+            View::Int(k) => Some(k),
+            _ => None,
+        },
         _ => None,
     }
 }
