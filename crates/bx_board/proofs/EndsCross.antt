@@ -11,10 +11,10 @@ use Rattle.bx_board.proofs.TermsCross.{term_send, term_sync}
 use Rattle.bx_board.proofs.ProcessesCross.{process_send, process_sync}
 
 channels_send : IsSend channels.the_row
-channels_send = search (term_send, sendable, owned.crosses) depth 30
+channels_send = search (term_send, sendable, owned.crosses) depth 60
 
 channels_sync : IsSync channels.the_row
-channels_sync = search (term_sync, sendable, owned.crosses) depth 30
+channels_sync = search (term_sync, sendable, owned.crosses) depth 60
 
 lanes_send : IsSend lanes.the_row
 lanes_send = let a = channels_send in search (term_send, sendable, owned.crosses) depth 30
