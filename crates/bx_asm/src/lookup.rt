@@ -14,11 +14,17 @@ use bx_ops::Bif;
 use bx_terms::{AtomId, Term};
 use indexmap::IndexSet;
 
-/// The tables that operands name.
+/// What operands name by a number.
+#[derive(Debug, Drop)]
+pub(crate) struct Named {
+    pub literals: Vec<Term>,
+    pub imports: IndexSet<Import>,
+}
+
+/// The tables that operands name: one reference, since each instruction hands it on.
 #[derive(Clone, Copy)]
 pub struct Lookup<'a> {
-    pub(crate) literals: &'a [Term],
-    pub(crate) imports: &'a IndexSet<Import>,
+    pub(crate) named: &'a Named,
 }
 
 impl<'a> Lookup<'a> {
@@ -27,7 +33,7 @@ impl<'a> Lookup<'a> {
     pub fn source(self, operand: Operand) -> Source<'a>
         ensures { source_of result ≡ as_source (operand_of (tables self.entry) operand) }
     {
-        source(self.literals, operand)
+        source(&self.named.literals, operand)
     }
 
     #[inline(always)]
@@ -125,7 +131,7 @@ impl<'a> Lookup<'a> {
         ensures { result ≡ as_import (operand_of (tables self.entry) operand) }
     {
         match operand {
-            Operand::Import(number) => self.imports.get_index(number).copied(),
+            Operand::Import(number) => self.named.imports.get_index(number).copied(),
             _ => None,
         }
     }
@@ -149,7 +155,7 @@ impl<'a> Lookup<'a> {
         ensures { option_map sources_of result ≡ sources_behind (row_of (tables self.entry) row.now) }
     {
         let operands = self.members(row)?;
-        let literals = self.literals;
+        let literals = self.named.literals.as_slice();
         Some(Sources { operands, literals })
     }
 

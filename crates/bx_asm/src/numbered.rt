@@ -101,8 +101,9 @@ impl<'a> Lookup<'a> {
     fn literal(self, number: usize) -> Spelt<'a>
         ensures { spelt_of result ≡ operand_of (tables self.entry) (Operand.Literal number) }
     {
-        if number < self.literals.len() {
-            Spelt::Literal(&self.literals[number])
+        let literals = self.named.literals.as_slice();
+        if number < literals.len() {
+            Spelt::Literal(&literals[number])
         } else {
             Spelt::Nil
         }
@@ -112,7 +113,7 @@ impl<'a> Lookup<'a> {
     fn callee(self, number: usize) -> Spelt<'a>
         ensures { spelt_of result ≡ operand_of (tables self.entry) (Operand.Import number) }
     {
-        match self.imports.get_index(number) {
+        match self.named.imports.get_index(number) {
             Some(import) => Spelt::Import(*import),
             None => Spelt::Nil,
         }

@@ -6,12 +6,12 @@ ghost use Rattle.bx_asm.specs.Drafts.{Grows, all_items, head_of, at_number};
 ghost use Rattle.bx_asm.specs.Limits.{first, register_fault, register_faults, count};
 ghost use Rattle.bx_asm.specs.Numbered.{item_of};
 
-use crate::lookup::Lookup;
+use crate::lookup::{Lookup, Named};
 use crate::numbered::Numbered;
 use crate::numbering::Draft;
 use crate::operands::NumberedItem;
 use bx_listing::{Export, Function, Import, Listing};
-use bx_terms::{AtomId, Term};
+use bx_terms::AtomId;
 use indexmap::IndexSet;
 use std::alloc::{AllocError, Global};
 use std::marker::Model;
@@ -34,8 +34,7 @@ pub struct Unit {
     exports: Vec<Export>,
     heads: Vec<Head>,
     items: Vec<NumberedItem>,
-    literals: Vec<Term>,
-    imports: IndexSet<Import>,
+    named: Named,
 }
 
 impl Model for Unit {
@@ -54,7 +53,7 @@ impl Model for Unit {
     ghost use Rattle.bx_asm.specs.Spelling.{spelled_item};
     ghost use Rattle.bx_asm.specs.Unit.{functions, IsUnit};
 
-    ghost view = { λ u. record { name = u.name; exports = u.exports.items; functions = functions u.heads.items (map (spelled_item (record { literals = u.literals.items; imports = u.imports.keys })) u.items.items) } };
+    ghost view = { λ u. record { name = u.name; exports = u.exports.items; functions = functions u.heads.items (map (spelled_item (record { literals = u.named.literals.items; imports = u.named.imports.keys })) u.items.items) } };
 
     ghost invariant = { λ u. IsUnit u.heads.items u.items.items };
 }
@@ -86,8 +85,7 @@ impl Unit {
             exports,
             heads,
             items,
-            literals,
-            imports,
+            named: Named { literals, imports },
         })
     }
 
@@ -137,10 +135,7 @@ impl Unit {
         Some(Numbered {
             number: item.number,
             operands: item.operands.as_slice(),
-            tables: Lookup {
-                literals: &self.literals,
-                imports: &self.imports,
-            },
+            tables: Lookup { named: &self.named },
         })
     }
 }
