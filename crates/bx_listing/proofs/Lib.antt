@@ -26,3 +26,4 @@ pub mod OnLines
 pub mod FirstFaults
 pub mod Fitting
 pub mod Left
+pub mod FormRefusals

@@ -23,3 +23,4 @@ pub mod Listed
 pub mod Refused
 pub mod Fits
 pub mod Writing
+pub mod Wanting

@@ -1,6 +1,6 @@
 //! The code form of a listing: a module's exports and functions, with the items of each.
 
-ghost use Rattle.std.specs.Prelude.{◌≡◌, ◌↔◌, ◌++◌, ◌∷◌, [], OnOk, OnErr, IfOk, IsTrue, length, slice_get, option_map};
+ghost use Rattle.std.specs.Prelude.{◌≡◌, ◌<◌, ◌↔◌, ◌++◌, ◌∷◌, [], OnOk, OnErr, IfOk, IsTrue, length, slice_get, option_map};
 ghost use Rattle.bx_listing.specs.Items.{seen_item};
 ghost use Rattle.bx_listing.specs.Stored.{operands_in};
 
@@ -112,10 +112,14 @@ impl CodeFunction {
         self.entry
     }
 
-    /// The same function once more.
+    /// The same function once more. Memory is wanting only where it has items.
     pub fn copy(&self, alloc: Global) -> Result<CodeFunction, AllocError>
-        ensures { IfOk result (λ copy. copy ≡ self.now) }
+        ensures copied { IfOk result (λ copy. copy ≡ self.now) }
+        ensures memory { OnErr result (0 < length self.now.items) }
     {
+        if self.stored.is_empty() {
+            return Ok(CodeFunction::new(alloc, self.name, self.arity, self.entry));
+        }
         let stored = Vec::from_slice(alloc, self.stored.as_slice())?;
         let operands = copy_operands(alloc, self.operands.as_slice())?;
         Ok(CodeFunction {

@@ -2,8 +2,9 @@
 //!
 //! Every number is kept as it was read, from 0 to 4294967295; which of them are in range is asked when code is assembled.
 
-ghost use Rattle.std.specs.Prelude.{◌≡◌, ◌↔◌, IsTrue, IfOk};
+ghost use Rattle.std.specs.Prelude.{◌≡◌, ◌↔◌, IsTrue, MatchResult};
 ghost use Rattle.bx_listing.specs.Items.{seen_item};
+ghost use Rattle.bx_listing.specs.Wanting.{SharesTerm};
 
 use bx_ops::{Bif, Op};
 use bx_share::{Same, same_rows};
@@ -82,9 +83,9 @@ impl Same for Operand {
 }
 
 impl Operand {
-    /// The same operand once more; a literal's term is shared.
+    /// The same operand once more; a literal's term is shared. Memory is wanting only where that is a tuple or a list cell.
     pub fn copy(&self, alloc: Global) -> Result<Operand, AllocError>
-        ensures { IfOk result (λ operand. operand ≡ self.now) }
+        ensures { MatchResult result (λ operand. operand ≡ self.now) (λ _. SharesTerm self.now) }
     {
         Ok(match self {
             Operand::X(number) => Operand::X(*number),

@@ -1,8 +1,9 @@
 //! A listing that was read: a module's code as it was written, with the line of each item.
 
-ghost use Rattle.std.specs.Prelude.{◌≡◌, ◌↔◌, ◌++◌, ◌∷◌, [], Ok, IfOk, OnOk, OnErr, IsTrue, length, map, slice_get, option_map};
+ghost use Rattle.std.specs.Prelude.{◌≡◌, ◌<◌, ◌↔◌, ◌++◌, ◌∷◌, [], Ok, IfOk, OnOk, OnErr, IsTrue, length, map, slice_get, option_map};
 ghost use Rattle.bx_listing.specs.Items.{seen_item};
 ghost use Rattle.bx_listing.specs.Code.{function_code_of, items_of, code};
+ghost use Rattle.bx_listing.specs.Wanting.{CopiesParts};
 ghost use Rattle.bx_listing.specs.Stored.{operands_in};
 ghost use Rattle.bx_terms.specs.Outcomes.{Gives};
 
@@ -202,19 +203,31 @@ impl Same for Listing {
 }
 
 /// The code form of a listing: what it holds without the lines.
+///
+/// Memory is wanting only where it exports or has a function.
 pub fn code_of(alloc: Global, listing: &Listing) -> Result<Code, Fault>
-    ensures { Gives (Unit {0}) (λ code. code) result (Ok (code listing.now)) }
+    ensures { Gives (CopiesParts listing.now) (λ code. code) result (Ok (code listing.now)) }
 {
-    let exports = Vec::from_slice(alloc, listing.exports())?;
+    let exports = copies(alloc, listing.exports())?;
     let functions = function_codes(alloc, listing.functions())?;
     Ok(Code::new(listing.module(), exports, functions))
 }
 
+fn copies(alloc: Global, exports: &[Export]) -> Result<Vec<Export>, AllocError>
+    ensures ok { IfOk result (λ copies. copies.items ≡ exports.now) }
+    ensures err { OnErr result (0 < length exports.now) }
+{
+    let mut copies = Vec::new(alloc);
+    copies.extend_from_slice(exports)?;
+    Ok(copies)
+}
+
 #[tactic(auto, using(crate::proofs::Placed::codes_more))]
 fn function_codes(alloc: Global, functions: &[Function]) -> Result<Vec<CodeFunction>, AllocError>
-    ensures { IfOk result (λ codes. codes.items ≡ map function_code_of functions.now) }
+    ensures ok { IfOk result (λ codes. codes.items ≡ map function_code_of functions.now) }
+    ensures err { OnErr result (0 < length functions.now) }
 {
-    let mut codes = Vec::with_capacity(alloc, functions.len())?;
+    let mut codes = Vec::new(alloc);
     for at in 0..functions.len() {
         codes.push(functions[at].code().copy(alloc)?)?;
     }

@@ -297,7 +297,7 @@ fn formed_item(
     }
 }
 
-#[tactic(auto, using(crate::proofs::Readings::result_refused, crate::proofs::Readings::result_read))]
+#[tactic(auto, using(crate::proofs::FormRefusals::form_refused, crate::proofs::Readings::result_read))]
 fn written_item(
     alloc: Global,
     atoms: &mut Atoms,
@@ -332,7 +332,7 @@ fn tuple_item(
     }
 }
 
-#[tactic(auto, using(crate::proofs::Readings::result_refused, crate::proofs::Readings::result_read))]
+#[tactic(auto, using(crate::proofs::FormRefusals::form_refused, crate::proofs::Readings::result_read))]
 fn bare_item(
     alloc: Global,
     atoms: &mut Atoms,

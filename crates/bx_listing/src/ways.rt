@@ -1,11 +1,11 @@
 //! Which instruction a form is, and what stands as its operands: the ways of writing.
 
 ghost use Rattle.std.specs.Prelude.{◌≡◌, ◌++◌, [], length, option_map};
-ghost use Rattle.bx_terms.specs.Outcomes.{Gives};
 ghost use Rattle.bx_ops.specs.Opcodes.{with_name};
 ghost use Rattle.bx_ops.specs.GuardBifs.{guard_bif_with};
 ghost use Rattle.bx_listing.specs.Ways.{counted, named_form, bare_op, bare_form, test_form, test_row, bif_form, bif_called, bif_named, is_raise, bif_found, bif_row, bif_op, gc_bif_op, gc_bif_form, gc_bif_called, raise_form, tuple_form};
 ghost use Rattle.bx_listing.specs.Formed.{formed};
+ghost use Rattle.bx_listing.specs.Wanting.{FormGives};
 
 use crate::operands::unsupported;
 use crate::shapes::{list_elements, word};
@@ -26,7 +26,7 @@ pub(crate) struct Form<'v, 'a> {
 
 /// An instruction whose operands are as many as the table says.
 fn counted<'v, 'a>(line: usize, form: Form<'v, 'a>) -> Result<Form<'v, 'a>, Fault>
-    ensures { Gives (Unit {0}) formed result (counted line form.entry.op (form.entry.before.now ++ (form.entry.list.now ++ form.entry.behind.now))) }
+    ensures { FormGives formed result (counted line form.entry.op (form.entry.before.now ++ (form.entry.list.now ++ form.entry.behind.now))) }
 {
     let left = slots(form.op).len();
     if form.before.len() <= left {
@@ -45,7 +45,7 @@ fn named_form<'v, 'a>(
     text: &str,
     parts: &'v [Node<'a>],
 ) -> Result<Form<'v, 'a>, Fault>
-    ensures { Gives (Unit {0}) formed result (named_form line text.now parts.now) }
+    ensures { FormGives formed result (named_form line text.now parts.now) }
 {
     let Some(op) = op_named(text) else {
         return Err(unsupported(alloc, line, text)?);
@@ -67,7 +67,7 @@ fn named_form<'v, 'a>(
 
 /// The instruction that is written as its name alone.
 fn bare_op(alloc: Global, line: usize, text: &str) -> Result<Op, Fault>
-    ensures { Gives (Unit {0}) (λ op. (op, [])) result (bare_op line text.now (with_name text.now)) }
+    ensures { FormGives (λ op. (op, [])) result (bare_op line text.now (with_name text.now)) }
 {
     let Some(op) = op_named(text) else {
         return Err(unsupported(alloc, line, text)?);
@@ -81,7 +81,7 @@ fn bare_op(alloc: Global, line: usize, text: &str) -> Result<Op, Fault>
 
 /// The instruction that is written as this word alone.
 pub(crate) fn bare_form(alloc: Global, line: usize, text: &str, form: FormWord) -> Result<Op, Fault>
-    ensures { Gives (Unit {0}) (λ op. (op, [])) result (bare_form line text.now form) }
+    ensures { FormGives (λ op. (op, [])) result (bare_form line text.now form) }
 {
     match form {
         FormWord::Module
@@ -97,7 +97,7 @@ pub(crate) fn bare_form(alloc: Global, line: usize, text: &str, form: FormWord) 
 
 /// The test that is written as `{test,NAME,LABEL,[OPERAND,..]}`, without the first two.
 fn test_row<'v, 'a>(line: usize, op: Op, rest: &'v [Node<'a>]) -> Result<Form<'v, 'a>, Fault>
-    ensures { Gives (Unit {0}) formed result (test_row line op rest.now) }
+    ensures { FormGives formed result (test_row line op rest.now) }
 {
     let [_, arguments] = rest else {
         return Err(Fault::BadOperand { line });
@@ -121,7 +121,7 @@ fn test_form<'v, 'a>(
     line: usize,
     parts: &'v [Node<'a>],
 ) -> Result<Form<'v, 'a>, Fault>
-    ensures { Gives (Unit {0}) formed result (test_form line parts.now) }
+    ensures { FormGives formed result (test_form line parts.now) }
 {
     let [name, rest @ ..] = parts else {
         return Err(Fault::BadOperand { line });
@@ -146,7 +146,7 @@ fn bif_row<'v, 'a>(
     list: &'v [Node<'a>],
     behind: &'v [Node<'a>],
 ) -> Result<Form<'v, 'a>, Fault>
-    ensures { Gives (Unit {0}) formed result (bif_row line op before.now list.now behind.now) }
+    ensures { FormGives formed result (bif_row line op before.now list.now behind.now) }
 {
     match (op, behind) {
         (Some(op), [_]) => counted(
@@ -171,7 +171,7 @@ fn bif_found<'v, 'a>(
     list: &'v [Node<'a>],
     behind: &'v [Node<'a>],
 ) -> Result<Form<'v, 'a>, Fault>
-    ensures { Gives (Unit {0}) formed result (bif_found line text.now op before.now list.now behind.now (guard_bif_with text.now (length list.now))) }
+    ensures { FormGives formed result (bif_found line text.now op before.now list.now behind.now (guard_bif_with text.now (length list.now))) }
 {
     if bif_by_name(text, list.len()).is_none() {
         let called = format!(in alloc; "{text}/{}", list.len())?;
@@ -211,7 +211,7 @@ fn bif_called<'v, 'a>(
     name: Option<&'v str>,
     arguments: Option<&'v [Node<'a>]>,
 ) -> Result<Form<'v, 'a>, Fault>
-    ensures { Gives (Unit {0}) formed result (bif_called line first.now fail.now behind.now (option_map (λ text. text.now) name.entry) (option_map (λ list. list.now) arguments.entry)) }
+    ensures { FormGives formed result (bif_called line first.now fail.now behind.now (option_map (λ text. text.now) name.entry) (option_map (λ list. list.now) arguments.entry)) }
 {
     match (name, arguments) {
         (Some(text), Some(list)) => bif_named(alloc, line, first, fail, behind, text, list),
@@ -228,7 +228,7 @@ fn bif_named<'v, 'a>(
     text: &str,
     list: &'v [Node<'a>],
 ) -> Result<Form<'v, 'a>, Fault>
-    ensures { Gives (Unit {0}) formed result (bif_named line first.now fail.now behind.now text.now list.now) }
+    ensures { FormGives formed result (bif_named line first.now fail.now behind.now text.now list.now) }
 {
     if is_raise(text, list) {
         bif_row(line, Some(Op::Raise), fail, list, behind)
@@ -249,7 +249,7 @@ fn bif_form<'v, 'a>(
     line: usize,
     parts: &'v [Node<'a>],
 ) -> Result<Form<'v, 'a>, Fault>
-    ensures { Gives (Unit {0}) formed result (bif_form line parts.now) }
+    ensures { FormGives formed result (bif_form line parts.now) }
 {
     let [name, _, arguments, behind @ ..] = parts else {
         return Err(Fault::BadOperand { line });
@@ -273,7 +273,7 @@ fn gc_bif_called<'v, 'a>(
     name: Option<&'v str>,
     arguments: Option<&'v [Node<'a>]>,
 ) -> Result<Form<'v, 'a>, Fault>
-    ensures { Gives (Unit {0}) formed result (gc_bif_called line first.now behind.now (option_map (λ text. text.now) name.entry) (option_map (λ list. list.now) arguments.entry)) }
+    ensures { FormGives formed result (gc_bif_called line first.now behind.now (option_map (λ text. text.now) name.entry) (option_map (λ list. list.now) arguments.entry)) }
 {
     match (name, arguments) {
         (Some(text), Some(list)) => bif_found(
@@ -295,7 +295,7 @@ fn gc_bif_form<'v, 'a>(
     line: usize,
     parts: &'v [Node<'a>],
 ) -> Result<Form<'v, 'a>, Fault>
-    ensures { Gives (Unit {0}) formed result (gc_bif_form line parts.now) }
+    ensures { FormGives formed result (gc_bif_form line parts.now) }
 {
     let [name, _, _, arguments, behind @ ..] = parts else {
         return Err(Fault::BadOperand { line });
@@ -311,7 +311,7 @@ fn gc_bif_form<'v, 'a>(
 }
 
 fn raise_form<'v, 'a>(line: usize, parts: &'v [Node<'a>]) -> Result<Form<'v, 'a>, Fault>
-    ensures { Gives (Unit {0}) formed result (raise_form line parts.now) }
+    ensures { FormGives formed result (raise_form line parts.now) }
 {
     let [_, arguments, behind @ ..] = parts else {
         return Err(Fault::BadOperand { line });
@@ -330,7 +330,7 @@ pub(crate) fn tuple_form<'v, 'a>(
     form: FormWord,
     parts: &'v [Node<'a>],
 ) -> Result<Form<'v, 'a>, Fault>
-    ensures { Gives (Unit {0}) formed result (tuple_form line text.now form parts.now) }
+    ensures { FormGives formed result (tuple_form line text.now form parts.now) }
 {
     match form {
         FormWord::Module
