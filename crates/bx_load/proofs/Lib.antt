@@ -1,4 +1,5 @@
 pub mod BehindMarks
+pub mod BehindSteps
 pub mod ExportSteps
 pub mod FunctionHeads
 pub mod LabelRows

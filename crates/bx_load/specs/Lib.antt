@@ -1,5 +1,6 @@
 pub mod Image
 pub mod Heads
+pub mod Behind
 pub mod Items
 pub mod Labels
 pub mod Exports

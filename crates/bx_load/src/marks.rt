@@ -1,11 +1,11 @@
 //! The items of one module: marks, labels and the instructions behind them.
 
-ghost use Rattle.std.specs.Prelude.{◌≡◌, ◌≤◌, ◌<◌, length, is_some, option_map, option_and_then, slice_get};
+ghost use Rattle.std.specs.Prelude.{◌≡◌, is_some, option_map, option_and_then, slice_get};
 ghost use Rattle.bx_listing.specs.Code.{items};
 ghost use Rattle.bx_asm.specs.Decoding.{instruction_of};
 ghost use Rattle.bx_asm.specs.Instructed.{instr_of};
 ghost use Rattle.bx_asm.specs.Marks.{label_of};
-ghost use Rattle.bx_load.specs.Image.{is_mark, at, after_in, unmarked};
+ghost use Rattle.bx_load.specs.Image.{is_mark, unmarked};
 ghost use Rattle.bx_load.specs.Items.{passes_at};
 
 use bx_asm::{Instruction, Unit};
@@ -35,47 +35,6 @@ pub(crate) fn has_instruction_in(unit: &Unit, number: u32) -> bool
     match unit.item(number as usize) {
         Some(item) => !item.is_mark(),
         None => false,
-    }
-}
-
-/// The number of the first item from that number on that is no mark, or else the number of items.
-#[inline(always)]
-#[tactic(auto, using(crate::proofs::BehindMarks::at_mark, crate::proofs::BehindMarks::at_here, crate::proofs::BehindMarks::at_end))]
-pub(crate) fn at(unit: &Unit, from: u32) -> u32
-    requires { from ≤ length (items unit.now) }
-    ensures { result ≡ at (items unit.now) from }
-{
-    let count = unit.item_count() as u32;
-    for number in from..count {
-        if !is_mark_at(unit, number) {
-            return number;
-        }
-    }
-    count
-}
-
-/// The number of the item at which it goes on behind that one.
-#[inline(always)]
-#[tactic(auto, using(crate::proofs::BehindMarks::at_here))]
-pub(crate) fn after_in(unit: &Unit, number: u32) -> u32
-    ensures { result ≡ after_in (items unit.now) number }
-{
-    let next = number as usize + 1;
-    if next < unit.item_count() && !is_mark_at(unit, next as u32) {
-        return next as u32;
-    }
-    after_marks(unit, number)
-}
-
-/// The same where a mark stands right behind, or nothing.
-#[inline(never)]
-fn after_marks(unit: &Unit, number: u32) -> u32
-    ensures { result ≡ after_in (items unit.now) number }
-{
-    if (number as usize) < unit.item_count() {
-        at(unit, number + 1)
-    } else {
-        number
     }
 }
 
