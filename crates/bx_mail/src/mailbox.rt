@@ -61,6 +61,7 @@ impl Mailbox {
     }
 
     /// Adds a message at the end, or hands it back where memory ran out, and then nothing has changed.
+    #[inline(always)]
     pub fn add(&mut self, message: Term) -> Result<(), Term>
         ensures ok { OnOk result (self.new ≡ added self.old message) }
         ensures err { IfErr result (λ m. (m ≡ message) × (self.new ≡ self.old)) }

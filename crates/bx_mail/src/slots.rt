@@ -84,6 +84,7 @@ impl Slots {
     }
 
     /// Makes the link in the slot that `behind` names, or `first` where it names none, lead to `to`.
+    #[inline(always)]
     pub(crate) fn relink(
         &mut self,
         first: &mut Option<usize>,
@@ -118,6 +119,7 @@ impl Slots {
     }
 
     /// Puts a message into a slot, with no slot next. The answer is the link that the slot had.
+    #[inline(always)]
     pub(crate) fn fill(&mut self, at: usize, message: Term) -> Option<usize>
         requires { at < length self.old }
         ensures next { result ≡ next_in (slice_get self.old at) }
@@ -135,6 +137,7 @@ impl Slots {
     }
 
     /// The number of a free slot: the first of them, or else a new one.
+    #[inline(always)]
     pub(crate) fn open(&mut self, free: Option<usize>) -> Result<usize, AllocError>
         requires { length self.old < 2 ^ 63 }
         ensures ok { IfOk result (λ at. Opened self.old self.new free at) }
@@ -144,6 +147,18 @@ impl Slots {
         if let Some(at) = free {
             return Ok(at);
         }
+        self.open_new()
+    }
+
+    /// The number of a new slot.
+    #[cold]
+    #[inline(never)]
+    fn open_new(&mut self) -> Result<usize, AllocError>
+        requires { length self.old < 2 ^ 63 }
+        ensures ok { IfOk result (λ at. Opened self.old self.new None at) }
+        ensures bounded { OnOk result (length self.new < 2 ^ 63) }
+        ensures err { OnErr result (self.new ≡ self.old) }
+    {
         let at = self.slots.len();
         self.slots.push(Slot {
             message: None,
