@@ -59,6 +59,7 @@ impl Proc {
     }
 
     /// A message arrives. It is handed back where memory ran out, and then nothing has changed.
+    #[inline(always)]
     pub fn add_message(&mut self, message: Term) -> Result<(), Term>
         ensures ok { OnOk result (self.new ≡ with_message message self.old) }
         ensures err { IfErr result (λ m. (m ≡ message) × (self.new ≡ self.old)) }
