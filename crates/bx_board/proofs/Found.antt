@@ -1,5 +1,6 @@
 -- What look-ups found.
 use Rattle.std.proofs.Common.{◌≡◌, ℕ, zero, suc, ◌+◌, ◌-◌, ◌≤◌, true, false, Option, None, Some, is_some, List, [], ◌∷◌, ◌++◌, length, map, option_map, slice_get, take, refl, sym, ap, ◌∙◌, arith}
+use Rattle.std.specs.Prelude.{Result, Ok, Err, IfErr}
 use Rattle.bx_load.specs.Image.{Loaded}
 use Rattle.bx_world.specs.declared.choices.Choice.{Choice}
 use Rattle.bx_world.specs.Running.{Ended}
@@ -23,6 +24,11 @@ none_is (Some x) h = cc
 pub some_is : {A : Type 0} (o : Option A) → is_some o ≡ true → (x : A) × (o ≡ Some x)
 some_is None h = absurd (cc)
 some_is (Some x) h = (x, refl)
+
+-- a clause on any error, where nothing is said of the error
+pub if_err_any : {A E P : Type 0} → (r : Result A E) → P → IfErr r (λ _. P)
+if_err_any (Ok x) p = tt
+if_err_any (Err e) p = p
 
 -- ---- rows
 

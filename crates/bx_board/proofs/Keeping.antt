@@ -1,5 +1,5 @@
 -- What a book keeps, field by field, with each event.
-use Rattle.std.proofs.Common.{◌≡◌, ◌⊎◌, inl, inr, ℕ, zero, suc, ◌+◌, ◌-◌, ◌<◌, ◌≤◌, ◌==◌, ◌&&◌, not, nat_lt, Bool, true, false, None, Some, List, [], ◌∷◌, ◌++◌, length, set, slice_get, take, refl, sym, ap, subst, ◌∙◌, arith, length-append}
+use Rattle.std.proofs.Common.{◌≡◌, ◌⊎◌, inl, inr, ℕ, zero, suc, ◌+◌, ◌-◌, ◌<◌, ◌≤◌, ◌==◌, ◌&&◌, not, nat_lt, Bool, true, false, None, Some, is_some, List, [], ◌∷◌, ◌++◌, length, set, slice_get, take, refl, sym, ap, subst, ◌∙◌, arith, length-append}
 use Rattle.std.specs.Prelude.{◌↔◌, IsTrue}
 use Rattle.std.specs.Ordering.{nat_cmp}
 use Rattle.std.specs.BTreeMap.{BTreeMap, get, is_at, Updates, IsUnchanged}
@@ -23,8 +23,8 @@ use Rattle.bx_world.specs.Running.{Ended}
 use Rattle.bx_board.proofs.Steps.{below_or_past, is_true, true_is, leased_within}
 use Rattle.bx_board.specs.declared.slots.Counts.{Counts}
 use Rattle.bx_board.specs.Counted.{counts_of}
-use Rattle.bx_board.proofs.Found.{empty_is, some_last, split_last}
-use Rattle.bx_board.proofs.Tending.{last_free, none_free, free_waits, done_waits, tended_lease, tended_back, tended_submit, tended_stop}
+use Rattle.bx_board.proofs.Found.{empty_is, none_is, some_last, split_last}
+use Rattle.bx_board.proofs.Tending.{last_free, none_free, free_waits, done_waits, holds_none, tended_lease, tended_back, tended_submit, tended_stop}
 
 module _ (b : Kept) (ready : List ℕ) (holders : BTreeMap ℕ ℕ) (leased done : ℕ) (is : IsTended b ready holders leased done) where
   -- the row is as long as there are free chains
@@ -49,6 +49,10 @@ module _ (b : Kept) (ready : List ℕ) (holders : BTreeMap ℕ ℕ) (leased done
 
   pub top_free : (n : ℕ) → slice_get ready (length ready - 1) ≡ Some n → is_free b.job b.state n ≡ true
   top_free n h = last_free b ready holders leased done is (take (length ready - 1) ready) n (top_is n h)
+
+  -- and may be leased to a worker that holds none
+  pub may_top : (k n : ℕ) → b.state.stopped ≡ false → is_some (get nat_cmp holders k) ≡ false → slice_get ready (length ready - 1) ≡ Some n → May b.job b.state (Lease k n)
+  may_top k n going alone h = (true_is _ (top_free n h), going, holds_none b ready holders leased done is k (none_is _ alone))
 
   pub none_left : slice_get ready (length ready - 1) ≡ None → (n : ℕ) → is_free b.job b.state n ≡ false
   none_left h = none_free b ready holders leased done is (empty_is ready (length ready - 1) refl h)

@@ -80,6 +80,10 @@ abbrev pub Leases : Kept → ℕ → Option Work → Kept → Type 0
 Leases old k None new = (new ≡ old) × ((n : ℕ) → May old.job old.state (Lease k n) → ⊥)
 Leases old k (Some work) new = (n : ℕ) × Happens old (Lease k n) new × (work ≡ work_of old.job n)
 
+-- some chain may be leased to that worker
+abbrev pub MayLease : Kept → ℕ → Type 0
+MayLease b k = (n : ℕ) × May b.job b.state (Lease k n)
+
 -- the work is the run of a chain of the campaign
 abbrev pub IsOf : Job → Work → ℕ → Type 0
 IsOf job work n = (n < chain_count job.chains) × IsSameRun work (work_of job n)

@@ -2,7 +2,7 @@
 
 ghost use Rattle.std.specs.Prelude.{◌≡◌, IfErr, IfOk, IsTrue};
 ghost use Rattle.bx_board.specs.Jobs.{work_of};
-ghost use Rattle.bx_board.specs.Kept.{Leases, Takes};
+ghost use Rattle.bx_board.specs.Kept.{Leases, MayLease, Takes};
 ghost use Rattle.bx_board.specs.Machine.{is_free};
 
 use crate::books::Book;
@@ -46,6 +46,7 @@ impl<'a> Book<'a> {
     ) -> Result<Option<(usize, Lease<'a>)>, Fault>
         ensures ok { IfOk result (λ task. Takes self.old worker task self.new) }
         ensures err { IfErr result (λ fault. (fault ≡ Fault.Memory) × (self.new ≡ self.old)) }
+        ensures free { IfErr result (λ _. MayLease self.old worker) }
     {
         if self.stopped {
             return Ok(None);
@@ -74,10 +75,12 @@ impl<'a> Book<'a> {
     /// Leases a free chain to the worker; none exactly where no chain is free, the campaign was stopped, or the worker
     /// holds one, and then nothing has changed.
     ///
-    /// Memory is all that it may lack, and then nothing has changed. Room is taken for the lease's end too.
+    /// Memory is all that it may lack, only where a chain may be leased to the worker, and then nothing has changed. Room is taken
+    /// for the lease's end too.
     pub fn lease(&mut self, alloc: Global, worker: usize) -> Result<Option<Lease<'a>>, Fault>
         ensures ok { IfOk result (λ lease. Leases self.old worker lease self.new) }
         ensures err { IfErr result (λ fault. (fault ≡ Fault.Memory) × (self.new ≡ self.old)) }
+        ensures free { IfErr result (λ _. MayLease self.old worker) }
     {
         let taken = self.take(alloc, worker)?;
         let Some((_, lease)) = taken else {

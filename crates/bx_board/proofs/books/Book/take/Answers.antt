@@ -5,14 +5,14 @@ use Rattle.std.specs.BTreeMap.{get}
 use Rattle.std.proofs.lemmas.Bool.{both_ways}
 use Rattle.std.proofs.lemmas.List.{length-set}
 use Rattle.bx_board.specs.declared.slots.Slot.TheVariants.{Leased}
-use Rattle.bx_board.specs.Kept.{Kept}
+use Rattle.bx_board.specs.Kept.{Kept, MayLease}
 use Rattle.bx_board.specs.declared.slots.Event.{Event}
 use Rattle.bx_board.specs.declared.slots.Event.TheVariants.{Lease}
 use Rattle.bx_board.specs.Jobs.{work_of}
 use Rattle.bx_board.specs.Tended.{IsTended, kept_view}
-use Rattle.bx_board.proofs.Found.{none_is, some_is}
+use Rattle.bx_board.proofs.Found.{if_err_any, none_is, some_is}
 use Rattle.bx_board.proofs.Runs.{same_run}
-use Rattle.bx_board.proofs.Keeping.{none_left, same_holders, stops_left_low, top_free, top_is, view_lease}
+use Rattle.bx_board.proofs.Keeping.{may_top, none_left, same_holders, stops_left_low, top_free, top_is, view_lease}
 use Rattle.bx_board.proofs.Steps.{free_is, is_true, true_is}
 use Rattle.bx_board.proofs.Tending.{holds_none}
 use Rattle.bx_board.proofs.books.Book.take.Goals as goal
@@ -95,3 +95,27 @@ returns-clause-ok c =
       (omega (arith, within, c.self.invariant.0.kept.count), same_run of),
       of,
     )
+
+pub returns-in_err-lease-clause-free : goal.returns-in_err-lease-clause-free
+returns-in_err-lease-clause-free c =
+    let i = c.self.inside in
+    let b = kept_view i.image.now i.start i.plan.now i.chains i.slots.items i.stopped i.events.items in
+    let last : slice_get i.ready.items (length i.ready.items - 1) ≡ Some c.in-Some.chain = ap (λ xs. slice_get xs (length xs - 1)) (sym c.deref.ensures.value) ∙ sym c.last.ensures.value ∙ sym c.copied.ensures ∙ c.in-Some.is in
+    let may : MayLease b c.args.worker = (c.in-Some.chain, may_top b i.ready.items i.holders i.leased i.done c.self.invariant.0 c.args.worker c.in-Some.chain c.if-self.false (sym c.contains_key.ensures ∙ c.if-contains_key.false) last) in
+    if_err_any _ (subst (λ (k : Kept). MayLease k c.args.worker) c.self.view_is may)
+
+pub returns-in_err-reserve-clause-free : goal.returns-in_err-reserve-clause-free
+returns-in_err-reserve-clause-free c =
+    let i = c.self.inside in
+    let b = kept_view i.image.now i.start i.plan.now i.chains i.slots.items i.stopped i.events.items in
+    let last : slice_get i.ready.items (length i.ready.items - 1) ≡ Some c.in-Some.chain = ap (λ xs. slice_get xs (length xs - 1)) (sym c.deref.ensures.value) ∙ sym c.last.ensures.value ∙ sym c.copied.ensures ∙ c.in-Some.is in
+    let may : MayLease b c.args.worker = (c.in-Some.chain, may_top b i.ready.items i.holders i.leased i.done c.self.invariant.0 c.args.worker c.in-Some.chain c.if-self.false (sym c.contains_key.ensures ∙ c.if-contains_key.false) last) in
+    if_err_any _ (subst (λ (k : Kept). MayLease k c.args.worker) c.self.view_is may)
+
+pub returns-in_default-insert-clause-free : goal.returns-in_default-insert-clause-free
+returns-in_default-insert-clause-free c =
+    let i = c.self.inside in
+    let b = kept_view i.image.now i.start i.plan.now i.chains i.slots.items i.stopped i.events.items in
+    let last : slice_get i.ready.items (length i.ready.items - 1) ≡ Some c.in-Some.chain = ap (λ xs. slice_get xs (length xs - 1)) (sym c.deref.ensures.value) ∙ sym c.last.ensures.value ∙ sym c.copied.ensures ∙ c.in-Some.is in
+    let may : MayLease b c.args.worker = (c.in-Some.chain, may_top b i.ready.items i.holders i.leased i.done c.self.invariant.0 c.args.worker c.in-Some.chain c.if-self.false (sym c.contains_key.ensures ∙ c.if-contains_key.false) last) in
+    subst (λ (k : Kept). MayLease k c.args.worker) c.self.view_is may
