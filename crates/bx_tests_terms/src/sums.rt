@@ -1,22 +1,29 @@
-//! Sums and differences of integers that are told without a term: only where they fit 64 bits, and of no other BIF.
+//! Integers that guard BIFs give on two integers, told without a term; none where they give anything else.
 
 use bx_bifs::guard_of_integers;
 use bx_ops::Bif;
 use bx_terms::Atoms;
 use std::test::Fail;
 
-static SUMS: [(Bif, i64, i64, Option<i64>); 5] = [
+static INTEGERS: [(Bif, i64, i64, Option<i64>); 12] = [
     (Bif::Add, 2, 3, Some(5)),
     (Bif::Add, i64::MAX, 1, None),
     (Bif::Subtract, 2, 3, Some(-1)),
     (Bif::Subtract, i64::MIN, 1, None),
-    (Bif::Multiply, 2, 3, None),
+    (Bif::Multiply, 2, 3, Some(6)),
+    (Bif::Div, 7, 0, None),
+    (Bif::Rem, -7, 2, Some(-1)),
+    (Bif::Bsr, -5, 1, Some(-3)),
+    (Bif::Min, 2, -3, Some(-3)),
+    (Bif::Max, 2, -3, Some(2)),
+    (Bif::Less, 2, 3, None),
+    (Bif::UnaryMinus, 2, 3, None),
 ];
 
 #[test]
-fn sums_and_differences_that_fit(rt: HostRuntime) -> Result<(), Fail> {
+fn integers_without_a_term(rt: HostRuntime) -> Result<(), Fail> {
     let atoms = Atoms::new(rt.alloc())?;
-    for (bif, m, n, want) in &SUMS {
+    for (bif, m, n, want) in &INTEGERS {
         assert!(rt;
             guard_of_integers(&atoms, *bif, *m, *n) == *want,
             "{m} and {n}"
