@@ -1,7 +1,8 @@
 -- Elements in a loop, and the depth of brackets.
-use Rattle.std.proofs.Common.{◌≡◌, ℕ, zero, suc, ◌+◌, ◌-◌, ◌<◌, inr, List, [], ◌∷◌, ◌++◌, Result, Ok, Err, IsOk, refl, sym, ap, ◌∙◌, subst, arith}
+use Rattle.std.proofs.Common.{◌≡◌, ℕ, zero, suc, ◌+◌, ◌-◌, ◌<◌, ◌≤◌, inr, List, [], ◌∷◌, ◌++◌, Result, Ok, Err, IsOk, refl, sym, ap, ◌∙◌, subst, arith}
 use Rattle.bx_terms.specs.Outcomes.{Gives, ◌>>=◌}
 use Rattle.bx_terms.specs.declared.faults.Fault.{Fault}
+use Rattle.bx_terms.specs.declared.faults.Fault.TheVariants.{Truncated}
 use Rattle.bx_text.specs.Token.{Lexeme}
 use Rattle.bx_text.specs.Tree.{Tree}
 use Rattle.bx_text.specs.Terms.{Reading, Follow, next, end, element_at, many, go_on, follow_at, term_at, kept}
@@ -64,3 +65,10 @@ element_begun d (suc turn) xs here first ys s g h = g (omega arith)
 pub kept_first : (d turn : ℕ) (here first : Lexeme) → (turn ≡ 0 → here ≡ first) → (0 < turn → IsOk (term_at d first)) → kept d here → kept d first
 kept_first d zero here first s g h = subst (kept d) (s refl) h
 kept_first d (suc turn) here first s g h = inr (g (omega arith))
+
+-- no turn is left
+pub many_unended : {X : Type 0} (T : Type 0) (v : X → List Tree × Lexeme) (e : Fault) (size turn : ℕ) (xs : List Tree) (term : Reading) (l : Lexeme) (said : Result (List Tree × Lexeme) Fault)
+    → size ≤ turn → e ≡ Truncated l.line → prefixed xs (many term (size - turn) l) ≡ said → Gives T v (Err e) said
+many_unended T v e size turn xs term l said t f s =
+    let none : size - turn ≡ 0 = omega arith in
+    subst (λ e. Gives T v (Err e) said) (sym f) (sym s ∙ ap (λ k. prefixed xs (many term k l)) none)

@@ -7,6 +7,7 @@ pub mod Digits
 pub mod Elements
 pub mod Escaping
 pub mod Grammatical
+pub mod Keeping
 pub mod Leads
 pub mod Letters
 pub mod Names

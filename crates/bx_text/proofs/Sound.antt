@@ -106,14 +106,14 @@ strings_from (suc k) p x h =
     string_step p (texts k) x b.0 (λ p x h. strings_from k p x h) (text_is p b.0 b.1) b.2
 
 -- what follows an element
-abbrev Goes : Place → Follow → Type 0
+abbrev pub Goes : Place → Follow → Type 0
 Goes r f = ((m : Lexeme) × (n : Lexeme) × (f ≡ next n) × (lexeme_at r ≡ Ok m) × (m.token ≡ token.mark Comma) × (lexeme_at m.after ≡ Ok n)) ⊎ ((m : Lexeme) × (f ≡ end m) × (lexeme_at r ≡ Ok m))
 
 follow_by : (b : Bool) (r : Place) (m : Lexeme) (f : Follow) → is_comma m.token ≡ b → lexeme_at r ≡ Ok m → (if b then (lexeme_at m.after >>= λ n. Ok (next n)) else Ok (end m)) ≡ Ok f → Goes r f
 follow_by true r m f b e h = let g = bind_ok (lexeme_at m.after) (λ n. Ok (next n)) f h in inl (m, g.0, sym (ok_same (next g.0) f g.2), e, comma_is m.token b, g.1)
 follow_by false r m f b e h = inr (m, sym (ok_same (end m) f h), e)
 
-follow_is : (r : Place) (f : Follow) → follow_at r ≡ Ok f → Goes r f
+pub follow_is : (r : Place) (f : Follow) → follow_at r ≡ Ok f → Goes r f
 follow_is r f h =
     let b = bind_ok (lexeme_at r) (λ m. if is_comma m.token then (lexeme_at m.after >>= λ n. Ok (next n)) else Ok (end m)) f h in
     follow_by (is_comma b.0.token) r b.0 f refl b.1 b.2

@@ -2,6 +2,8 @@
 use Rattle.std.specs.Prelude.{◌≡◌, ℕ, ℤ, suc, true, false, List, [], ◌∷◌, ◌++◌, length, Ok}
 use Rattle.std.specs.Str.Lossy.{utf8_valid_len}
 use Rattle.bx_text.specs.declared.tokens.Mark.TheVariants.{CloseTuple, CloseList, CloseBinary, Comma, Bar, Arrow, Colon, Slash, Stop, Fun}
+use Rattle.bx_text.specs.declared.node.Span.{Span}
+use Rattle.bx_text.specs.declared.node.Sort.{Sort}
 use Rattle.bx_text.specs.declared.node.Sort.TheVariants as sort
 use Rattle.bx_text.specs.Bytes.{begins}
 use Rattle.bx_text.specs.Place.{Place}
@@ -10,7 +12,7 @@ use Rattle.bx_text.specs.Token as token
 use Rattle.bx_text.specs.Token.{Body, spelled, Lexeme}
 use Rattle.bx_text.specs.Lexing.{lexeme_at}
 use Rattle.bx_text.specs.Tree.{Tree, integer, atom, tuple, list, other, nil, chain}
-use Rattle.bx_text.specs.Terms.{span, letters, is_quote, tail_of, taken, is_colon, is_slash, is_utf8_name}
+use Rattle.bx_text.specs.Terms.{span, letters, is_quote, tail_of, taken, kept_at, is_colon, is_slash, is_utf8_name, term_at}
 
 -- the first token from p on, behind spaces and comments
 abbrev pub Next : Place → Lexeme → Type 0
@@ -101,3 +103,15 @@ pub data Form : ℕ → Place → Tree → Place → Type 0 where
 -- only space and comments follow p
 abbrev pub OnlyBlank : Place → Type 0
 OnlyBlank p = (q : Place) × (skip p ≡ Ok q) × (q.rest ≡ [])
+
+-- the token stands in some text
+abbrev pub IsToken : Lexeme → Type 0
+IsToken l = (p : Place) × Next p l
+
+-- some text spells these bytes as a term that is kept as it is written
+abbrev pub SpelledAs : Sort → List ℕ → Type 0
+SpelledAs k w = (d : ℕ) × (p : Place) × (l : Lexeme) × (s : Span) × (q : Place) × Next p l × Spells d l (other s k w) q
+
+-- the term that begins with a token of some text ends at q, and is kept as it is written
+abbrev pub IsKept : Sort → Lexeme → Place → Type 0
+IsKept k l q = IsToken l × ((d : ℕ) × (term_at d l ≡ kept_at k l q))

@@ -6,6 +6,7 @@ use Rattle.bx_text.specs.declared.node.View.{View}
 use Rattle.bx_text.specs.declared.node.View.TheVariants.{Integer, Large, Atom, Tuple, List as Listed, Other}
 use Rattle.bx_text.specs.Number.{number, is_large, is_spelling}
 use Rattle.bx_text.specs.Tree.{Tree, integer, atom, tuple, list, other, nil, chain}
+use Rattle.bx_text.specs.Grammar.{SpelledAs}
 
 abbrev pub tail_seen : Option (Bor Tree) → Tree
 tail_seen None = nil
@@ -19,7 +20,9 @@ seen s (Tuple ts) = tuple s (chain ts.now nil)
 seen s (Listed ts u) = list s (chain ts.now (tail_seen u))
 seen s (Other k text) = other s k text.now
 
--- an integer that shows its digits is one outside 64 bits; they stand behind an optional minus sign
+-- an integer that shows its digits is one outside 64 bits; they stand behind an optional minus sign. A text that is shown as
+-- it was read is one that some text spells as a term of its sort
 abbrev pub IsView : View → Type 0
 IsView (Large digits) = (is_large (number digits.now) ≡ true) × (is_spelling digits.now ≡ true)
+IsView (Other k text) = SpelledAs k text.now
 IsView v = Unit {0}

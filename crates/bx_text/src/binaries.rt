@@ -6,6 +6,7 @@ ghost use Rattle.bx_text.specs.Place.{place};
 ghost use Rattle.bx_text.specs.Token as token;
 ghost use Rattle.bx_text.specs.Token.{lexeme_of, token_of, body_of};
 ghost use Rattle.bx_text.specs.Terms as terms;
+ghost use Rattle.bx_text.specs.Grammar.{IsToken};
 
 use crate::escapes::decode;
 use crate::follows::behind_token;
@@ -125,6 +126,8 @@ fn segments<'a>(alloc: Global, l: &mut Lexeme<'a>, depth: u32) -> Result<(), Fau
 
 /// The binary that begins with the token held, in which strings may nest `depth` deep.
 pub(crate) fn binary<'a>(alloc: Global, l: &mut Lexeme<'a>, depth: u32) -> Result<Node<'a>, Fault>
+    requires stands { IsToken (lexeme_of l.old) }
+    requires opens { token_of l.old.token ≡ token.open_binary }
     ensures { Gives (Unit {0}) (λ x. (x, place l.new.after)) result (terms.binary_at depth (lexeme_of l.old)) }
 {
     let first = *l;

@@ -6,6 +6,7 @@ ghost use Rattle.bx_text.specs.Place.{place, place_in};
 ghost use Rattle.bx_text.specs.Token.{lexeme_of, body_of, spelled, plain};
 ghost use Rattle.bx_text.specs.Lexing.{bare_at, name_at};
 ghost use Rattle.bx_text.specs.Terms.{keeps};
+ghost use Rattle.bx_text.specs.Grammar.{IsToken};
 ghost use Rattle.bx_text.specs.Forms as forms;
 
 use crate::blanks::skip;
@@ -32,6 +33,7 @@ fn form_by<'a>(
     l: &mut Lexeme<'a>,
     depth: u32,
 ) -> Result<Option<(Node<'a>, Reader<'a>)>, Fault>
+    requires { IsToken (lexeme_of l.old) }
     ensures { Gives (keeps depth (lexeme_of l.old)) (option_map (λ x. (x.0, place x.1))) result (forms.form_by depth (lexeme_of l.old)) }
 {
     let node = term(alloc, l, depth)?;

@@ -3,7 +3,9 @@
 ghost use Rattle.std.specs.Prelude.{◌≡◌, ◌-◌, take};
 ghost use Rattle.bx_terms.specs.Outcomes.{Gives};
 ghost use Rattle.bx_text.specs.Place.{place};
-ghost use Rattle.bx_text.specs.Token.{lexeme_of};
+ghost use Rattle.bx_text.specs.Token.{lexeme_of, token_of};
+ghost use Rattle.bx_text.specs.Named.{the_word_fun};
+ghost use Rattle.bx_text.specs.Grammar.{IsToken, IsKept};
 ghost use Rattle.bx_text.specs.Terms as terms;
 
 use crate::blanks::text_of;
@@ -26,8 +28,9 @@ fn taken<'a>(first: Lexeme<'a>, end: Reader<'a>) -> &'a [u8]
     }
 }
 
-/// The term from the token `first` to a place.
+/// The term from the token `first` to a place, where it ends.
 pub(crate) fn kept<'a>(first: Lexeme<'a>, end: Reader<'a>, sort: Sort) -> Result<Node<'a>, Fault>
+    requires { IsKept sort (lexeme_of first) (place end) }
     ensures { Gives ⊥ (λ x. (x, place end.entry)) result (terms.kept_at sort (lexeme_of first.entry) (place end.entry)) }
 {
     match text_of(taken(first, end)) {
@@ -38,6 +41,8 @@ pub(crate) fn kept<'a>(first: Lexeme<'a>, end: Reader<'a>, sort: Sort) -> Result
 
 /// The external fun that begins with the token held, the word `fun`.
 pub(crate) fn fun<'a>(l: &mut Lexeme<'a>) -> Result<Node<'a>, Fault>
+    requires stands { IsToken (lexeme_of l.old) }
+    requires word { token_of l.old.token ≡ the_word_fun }
     ensures { Gives ⊥ (λ x. (x, place l.new.after)) result (terms.fun_at (lexeme_of l.old)) }
 {
     let first = *l;

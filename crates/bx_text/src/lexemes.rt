@@ -21,8 +21,16 @@ pub(crate) struct Lexeme<'a> {
 }
 
 impl<'a> Lexeme<'a> {
+    ghost use Rattle.std.specs.Prelude.{◌≡◌};
+    ghost use Rattle.bx_text.specs.Token.{lexeme_of};
+    ghost use Rattle.bx_text.specs.Named.{parenthesis};
+    ghost use Rattle.bx_text.specs.Holding.{held};
+    ghost use Rattle.bx_text.specs.Place.{place};
+
     /// What is held before the first token at `r` is.
-    pub(crate) fn before(r: Reader<'a>) -> Lexeme<'a> {
+    pub(crate) fn before(r: Reader<'a>) -> Lexeme<'a>
+        ensures { lexeme_of result ≡ held (place r.entry) (parenthesis, place r.entry) }
+    {
         Lexeme {
             token: Token::Mark(Mark::Other),
             from: r.at,

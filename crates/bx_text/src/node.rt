@@ -107,6 +107,7 @@ impl<'a> Node<'a> {
     ghost use Rattle.bx_text.specs.Number.{number};
     ghost use Rattle.bx_text.specs.Tree.{integer, atom, tuple, list, other, nil, chain, span_of};
     ghost use Rattle.bx_text.specs.Form.{tail_tree};
+    ghost use Rattle.bx_text.specs.Grammar.{SpelledAs};
     ghost use Rattle.bx_text.specs.View.{seen, IsView};
 
     pub(crate) fn integer(span: Span, n: i64) -> Node<'a>
@@ -137,6 +138,7 @@ impl<'a> Node<'a> {
     }
 
     pub(crate) fn other(span: Span, sort: Sort, text: &'a str) -> Node<'a>
+        requires { SpelledAs sort text.now }
         ensures { result ≡ other span sort text.entry.now }
     {
         Node {

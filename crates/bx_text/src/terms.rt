@@ -3,8 +3,9 @@
 ghost use Rattle.std.specs.Prelude.{◌≡◌, ◌⊎◌, ◌++◌, ◌∷◌, [], IfOk, OnOk, IsOk, IsOkAnd, suc, true, false};
 ghost use Rattle.bx_terms.specs.Outcomes.{Gives};
 ghost use Rattle.bx_text.specs.Place.{place};
-ghost use Rattle.bx_text.specs.Token.{lexeme_of, token_of, body_of, IsEscaped};
+ghost use Rattle.bx_text.specs.Token.{lexeme_of, token_of, body_of, open_map, IsEscaped};
 ghost use Rattle.bx_text.specs.Form.{tail_tree};
+ghost use Rattle.bx_text.specs.Grammar.{IsToken};
 ghost use Rattle.bx_text.specs.Tree.{integer, atom, chain};
 ghost use Rattle.bx_text.specs.Lexing as lexing;
 ghost use Rattle.bx_text.specs.Terms as terms;
@@ -76,6 +77,7 @@ fn atom<'a>(alloc: Global, l: &Lexeme<'a>, body: Body<'a>) -> Result<Node<'a>, F
 /// The term that begins with the token held, where brackets may nest `depth` deep; its last token is held then.
 #[cycle(term)]
 pub(crate) fn term<'a>(alloc: Global, l: &mut Lexeme<'a>, depth: u32) -> Result<Node<'a>, Fault>
+    requires { IsToken (lexeme_of l.old) }
     ensures { Gives (terms.keeps depth (lexeme_of l.old)) (λ x. (x, place l.new.after)) result (terms.term_at depth (lexeme_of l.old)) }
 {
     match l.token {
@@ -92,6 +94,7 @@ pub(crate) fn term<'a>(alloc: Global, l: &mut Lexeme<'a>, depth: u32) -> Result<
 /// The tuple, list, string, map or binary that begins with the token held.
 #[cycle(term)]
 fn group<'a>(alloc: Global, l: &mut Lexeme<'a>, depth: u32) -> Result<Node<'a>, Fault>
+    requires { IsToken (lexeme_of l.old) }
     ensures { Gives (terms.keeps_group depth (lexeme_of l.old)) (λ x. (x, place l.new.after)) result (terms.group_at depth (lexeme_of l.old)) }
 {
     if depth == 0 {
@@ -103,6 +106,7 @@ fn group<'a>(alloc: Global, l: &mut Lexeme<'a>, depth: u32) -> Result<Node<'a>, 
 /// The same, where those in it may nest `depth` deep.
 #[cycle(term)]
 fn bracket<'a>(alloc: Global, l: &mut Lexeme<'a>, depth: u32) -> Result<Node<'a>, Fault>
+    requires { IsToken (lexeme_of l.old) }
     ensures { Gives (terms.keeps_group (suc depth) (lexeme_of l.old)) (λ x. (x, place l.new.after)) result (terms.group_at (suc depth) (lexeme_of l.old)) }
 {
     match l.token {
@@ -170,6 +174,7 @@ fn element<'a>(
     l: &mut Lexeme<'a>,
     depth: u32,
 ) -> Result<bool, Fault>
+    requires { IsToken (lexeme_of l.old) }
     ensures { Gives (terms.kept depth (lexeme_of l.old)) (λ more. (found.new.items, terms.follow_by more (lexeme_of l.new))) result (joined found.old.items (terms.element_at (terms.term_at depth) (lexeme_of l.old))) }
 {
     match l.token {
@@ -192,6 +197,7 @@ fn elements<'a>(
     l: &mut Lexeme<'a>,
     depth: u32,
 ) -> Result<(), Fault>
+    requires { IsToken (lexeme_of l.old) }
     ensures reads { Gives (terms.kept depth (lexeme_of l.old)) (λ _. (found.new.items, lexeme_of l.new)) result (prefixed found.old.items (terms.elements_at (terms.term_at depth) (lexeme_of l.old))) }
     ensures begins { OnOk result (IsOk (terms.term_at depth (lexeme_of l.old))) }
 {
@@ -267,6 +273,7 @@ fn tail<'a>(
     l: &mut Lexeme<'a>,
     depth: u32,
 ) -> Result<Option<Box<Node<'a>>>, Fault>
+    requires { IsToken (lexeme_of l.old) }
     ensures { Gives (Unit {0}) (λ x. (chain found.new.items (tail_tree x), place l.new.after)) result (chained found.old.items (terms.tail_at (terms.term_at depth) (lexeme_of l.old))) }
 {
     if spells_list(l.token) {
@@ -320,7 +327,8 @@ fn improper<'a>(
     l: &mut Lexeme<'a>,
     depth: u32,
 ) -> Result<Option<Box<Node<'a>>>, Fault>
-    requires { terms.spells_list (token_of l.old.token) ≡ false }
+    requires stands { IsToken (lexeme_of l.old) }
+    requires no_list { terms.spells_list (token_of l.old.token) ≡ false }
     ensures { Gives (Unit {0}) (λ x. (tail_tree x, place l.new.after)) result (terms.term_at depth (lexeme_of l.old)) }
 {
     let node = term(alloc, l, depth)?;
@@ -341,6 +349,7 @@ fn value<'a>(alloc: Global, l: &mut Lexeme<'a>, depth: u32) -> Result<(), Fault>
 /// The map's pair that begins with the token held: whether another follows, which is then held.
 #[cycle(term)]
 fn pair<'a>(alloc: Global, l: &mut Lexeme<'a>, depth: u32) -> Result<bool, Fault>
+    requires { IsToken (lexeme_of l.old) }
     ensures { Gives (terms.kept depth (lexeme_of l.old)) (λ more. terms.follow_by more (lexeme_of l.new)) result (terms.pair_at (terms.term_at depth) (lexeme_of l.old)) }
 {
     let _ = term(alloc, l, depth)?;
@@ -352,6 +361,7 @@ fn pair<'a>(alloc: Global, l: &mut Lexeme<'a>, depth: u32) -> Result<bool, Fault
 /// The map's pairs from the token held on; held then is the first token that is no comma.
 #[cycle(term)]
 fn pairs<'a>(alloc: Global, l: &mut Lexeme<'a>, depth: u32) -> Result<(), Fault>
+    requires { IsToken (lexeme_of l.old) }
     ensures { Gives (terms.kept depth (lexeme_of l.old)) (λ _. lexeme_of l.new) result (terms.parts_at (terms.pair_at (terms.term_at depth)) (lexeme_of l.old)) }
 {
     // Each pair takes a byte at least.
@@ -368,6 +378,8 @@ fn pairs<'a>(alloc: Global, l: &mut Lexeme<'a>, depth: u32) -> Result<(), Fault>
 /// The map that begins with the token held, whose keys and values may nest `depth` deep.
 #[cycle(term)]
 fn map<'a>(alloc: Global, l: &mut Lexeme<'a>, depth: u32) -> Result<Node<'a>, Fault>
+    requires stands { IsToken (lexeme_of l.old) }
+    requires opens { token_of l.old.token ≡ open_map }
     ensures { Gives (IsOkAnd (lexing.lexeme_at (place l.old.after)) (terms.kept depth)) (λ x. (x, place l.new.after)) result (terms.map_at (terms.term_at depth) (lexeme_of l.old)) }
 {
     let first = *l;

@@ -2,6 +2,7 @@ use Rattle.std.proofs.Common.{◌≡◌, ◌+◌, ◌*◌, ◌-◌, ◌<◌, IsO
 use Rattle.bx_text.specs.Token.{lexeme_of}
 use Rattle.bx_text.specs.Terms.{many, elements_at, parts, parts_at, pair_at, term_at}
 use Rattle.bx_text.specs.Rows.{prefixed}
+use Rattle.bx_text.specs.Grammar.{IsToken}
 use Rattle.bx_text.proofs.terms.+term.Given as goal
 
 -- each function's rank, over the depth
@@ -63,6 +64,7 @@ abbrev pub invariant-elements-loop-turn : goal.invariant-elements-loop-turn
 invariant-elements-loop-turn l = record {
   reads : prefixed l.found.items (many (term_at l.depth) (l._turn-end - l._turn) (lexeme_of l.l)) ≡ prefixed l.fn.found.items (elements_at (term_at l.depth) (lexeme_of l.fn.l));
   starts : l._turn ≡ 0 → lexeme_of l.l ≡ lexeme_of l.fn.l;
+  stands : IsToken (lexeme_of l.l);
   goes : 0 < l._turn → IsOk (term_at l.depth (lexeme_of l.fn.l));
 }
 
@@ -70,5 +72,6 @@ abbrev pub invariant-pairs-loop-turn : goal.invariant-pairs-loop-turn
 invariant-pairs-loop-turn l = record {
   reads : parts (pair_at (term_at l.depth)) (l._turn-end - l._turn) (lexeme_of l.l) ≡ parts_at (pair_at (term_at l.depth)) (lexeme_of l.fn.l);
   starts : l._turn ≡ 0 → lexeme_of l.l ≡ lexeme_of l.fn.l;
+  stands : IsToken (lexeme_of l.l);
   goes : 0 < l._turn → IsOk (term_at l.depth (lexeme_of l.fn.l));
 }
