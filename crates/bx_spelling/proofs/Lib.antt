@@ -6,6 +6,7 @@ pub mod FormsBack
 pub mod Frame
 pub mod Free
 pub mod Kept
+pub mod KeptTexts
 pub mod Longest
 pub mod Marks
 pub mod Means
@@ -18,6 +19,7 @@ pub mod Printing
 pub mod Quotes
 pub mod ReadBack
 pub mod Readings
+pub mod Refusing
 pub mod Runs
 pub mod Sentences
 pub mod Wholes

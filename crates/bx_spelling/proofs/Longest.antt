@@ -67,7 +67,7 @@ by_byte b bs at line x =
     pick p x (eqb b 195) _ _ (an_accent b bs at line x) (λ _.
     pick p x (leb 128 b) _ _ (λ _ h. absurd (no_foreign (eqb (utf8_valid_len (b ∷ bs)) 0) line x h)) (λ _. by_punctuation b bs at line x))))
 
-sound : (p : Place) (x : Token × Place) → token_at p ≡ Ok x → Spelled p x
+pub sound : (p : Place) (x : Token × Place) → token_at p ≡ Ok x → Spelled p x
 sound p x h = by_list p.rest p.at p.line x h
   where
     by_list : (bs : List ℕ) (at line : ℕ) (x : Token × Place) → token_at (on bs at line) ≡ Ok x → Spelled (on bs at line) x
@@ -122,7 +122,7 @@ complete (bare_atom x cs {bytes = bytes} small a utf8 other) rest at line f = at
 complete (quoted_atom {cs = cs} {vs = vs} {bytes = bytes} q utf8) rest at line f = quoted_found cs vs bytes rest at line q utf8
 complete (string {cs = cs} {vs = vs} {bytes = bytes} q utf8) rest at line f = string_found cs vs bytes rest at line q utf8
 
-found : (p : Place) (bytes : List ℕ) (t : Token) (rest : List ℕ) → Begins p.rest bytes t rest → Found p t rest
+pub found : (p : Place) (bytes : List ℕ) (t : Token) (rest : List ℕ) → Begins p.rest bytes t rest → Found p t rest
 found p bytes t rest (e, s, f) = subst (λ text. Found (on text p.at p.line) t rest) (sym e) (complete s rest p.at p.line f)
 
 -- both ways

@@ -31,7 +31,7 @@ abbrev pub plainly : Lexeme → Lexeme
 plainly l = record { token = meant l.token; from = l.from; line = l.line; begin = l.begin; after = l.after }
 
 -- one token
-step : (p : Place) (l : Lexeme) → Next p l → Stood p (plainly l)
+pub step : (p : Place) (l : Lexeme) → Next p l → Stood p (plainly l)
 step p l n = by_parts (parts p l n)
   where
     by_parts : ((q : Place) × (x : Token × Place) × (skip p ≡ Ok q) × (token_at q ≡ Ok x) × (standing q x ≡ l)) → Stood p (plainly l)
@@ -130,7 +130,7 @@ parts_are (grammar.more_segments {comma = comma} {next = next} s t a r) =
     terms.more_parts {comma = plainly comma} {next = plainly next} part (ap meant t) first more
 
 mutual
-  term_is : {d : ℕ} {l : Lexeme} {t : Tree} {q : Place} → Spells d l t q → Term d (plainly l) t q
+  pub term_is : {d : ℕ} {l : Lexeme} {t : Tree} {q : Place} → Spells d l t q → Term d (plainly l) t q
   term_is (grammar.an_integer {l = l} t) = terms.an_integer {l = plainly l} (ap meant t)
   term_is (grammar.an_atom {l = l} t) = terms.an_atom {l = plainly l} (ap meant t)
   term_is (grammar.strings {l = l} t s) = let more = texts_are s in terms.texts {l = plainly l} (ap meant t) more

@@ -3,6 +3,8 @@ use Rattle.std.specs.Prelude.{◌≡◌, Ok}
 use Rattle.bx_text.specs.Place.{Place}
 use Rattle.bx_text.specs.Token.{Token, Lexeme}
 use Rattle.bx_text.specs.Lexing.{lexeme_at}
+use Rattle.bx_spelling.specs.Blanks.{Passes}
+use Rattle.bx_spelling.specs.Spelling.{NoToken}
 use Rattle.bx_spelling.specs.Tokens.{meant}
 
 -- the reader finds t as the next token from p on, at the place q, and goes on at r
@@ -10,3 +12,7 @@ abbrev pub Finds : Place → Place → Token → Place → Type 0
 Finds p q t r =
     (l : Lexeme) × (lexeme_at p ≡ Ok l) × (meant l.token ≡ t) × (l.after ≡ r) × (l.from ≡ q.at)
     × (l.line ≡ q.line) × (l.begin ≡ q.rest)
+
+-- no token follows p: a comment is no text in UTF-8, or behind the blanks no token's spelling begins
+abbrev pub NoNext : Place → Type 0
+NoNext p = (q : Place) → Passes p q → NoToken q.rest

@@ -14,6 +14,10 @@ abbrev pub StandsAs : ℕ → Sort → List ℕ → Type 0
 StandsAs d k w = (p : Place) × (l : Lexeme) × (s : Span) × (q : Place) × Stood p l
     × Term d l (other s k w) q
 
+-- the bytes stand in some text as a term that is kept as it is written
+abbrev pub IsStanding : Sort → List ℕ → Type 0
+IsStanding k w = (d : ℕ) × StandsAs d k w
+
 abbrev mutual
   -- integers of any size, atoms, what is kept as it is written, and tuples and lists of such terms, nested at most so many deep
   pub Shown : ℕ → Tree → Type 0

@@ -80,3 +80,7 @@ MayFollow t rest = t ≡ named.full_stop → StopsAt rest
 -- a text begins with these bytes, which spell a token, and the rest follows
 abbrev pub Begins : List ℕ → List ℕ → Token → List ℕ → Type 0
 Begins text bytes t rest = (text ≡ bytes ++ rest) × Spelling bytes t × MayFollow t rest
+
+-- no spelling of any token begins the text
+abbrev pub NoToken : List ℕ → Type 0
+NoToken text = (bytes : List ℕ) (t : Token) (rest : List ℕ) → Begins text bytes t rest → ⊥

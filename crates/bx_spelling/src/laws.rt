@@ -1,14 +1,19 @@
 //! Laws over the definitions of the reader: each function's clause is one, and its body is empty.
 
-ghost use Rattle.std.specs.Prelude.{◌≡◌, ◌↔◌, Ok, Some, None};
+ghost use Rattle.std.specs.Prelude.{◌≡◌, ◌↔◌, List, ℕ, Ok, Err, Some, None};
+ghost use Rattle.bx_terms.specs.declared.faults.Fault.{Fault};
+ghost use Rattle.bx_text.specs.declared.node.Sort.{Sort};
 ghost use Rattle.bx_text.specs.Place.{Place};
 ghost use Rattle.bx_text.specs.Blank.{skip};
 ghost use Rattle.bx_text.specs.Forms.{form_at};
 ghost use Rattle.bx_text.specs.Token.{Token};
+ghost use Rattle.bx_text.specs.Lexing.{token_at, lexeme_at};
+ghost use Rattle.bx_text.specs.Grammar.{SpelledAs};
 ghost use Rattle.bx_spelling.specs.Blanks.{Passes};
-ghost use Rattle.bx_spelling.specs.Lexemes.{Finds};
+ghost use Rattle.bx_spelling.specs.Lexemes.{Finds, NoNext};
+ghost use Rattle.bx_spelling.specs.Spelling.{NoToken};
 ghost use Rattle.bx_text.specs.Tree.{Tree};
-ghost use Rattle.bx_spelling.specs.Shown.{Shown, IsReadBack};
+ghost use Rattle.bx_spelling.specs.Shown.{Shown, IsStanding, IsReadBack};
 ghost use Rattle.bx_spelling.specs.Terms.{Sentence, OnlyBlanks};
 ghost use Rattle.bx_spelling.specs.Tokens.{Takes, Longest};
 
@@ -27,6 +32,21 @@ pub fn blanks_are_skipped()
 /// begins there.
 pub fn the_next_token_is_the_longest()
     ensures { (p q : Place) (t : Token) (r : Place) → Finds p q t r ↔ (Passes p q × Longest q t r) }
+{}
+
+/// A token is refused at a place exactly where no token's spelling begins there.
+pub fn what_is_no_token_is_refused_by_its_bytes()
+    ensures { (p : Place) → ((f : Fault) × (token_at p ≡ Err f)) ↔ NoToken p.rest }
+{}
+
+/// The next token is refused exactly where no token's spelling begins behind the blanks.
+pub fn the_next_token_is_refused_by_its_bytes()
+    ensures { (p : Place) → ((f : Fault) × (lexeme_at p ≡ Err f)) ↔ NoNext p }
+{}
+
+/// The texts that nodes keep are those that stand in some text as a term of their sort, by their bytes.
+pub fn kept_texts_are_terms_by_their_bytes()
+    ensures { (k : Sort) (w : List ℕ) → SpelledAs k w ↔ IsStanding k w }
 {}
 
 /// What is read as a form is a term and its full stop, by the bytes of their tokens: all of it and nothing else.
