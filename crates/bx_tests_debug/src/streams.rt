@@ -2,7 +2,7 @@
 
 use crate::samples::{LOOP, is_told, tell};
 use bx_debugger::debug_text;
-use bx_engine::INPUT_LIMIT;
+use bx_engine::{INPUT_LIMIT, MOST_ASKS};
 use std::alloc::{AllocError, Global};
 use std::cell::Cell;
 use std::io;
@@ -239,5 +239,71 @@ fn flushes(alloc: Global) -> Result<bool, AllocError> {
 #[test]
 fn answers_are_flushed_before_more_is_asked_for(rt: HostRuntime) -> Result<(), Fail> {
     assert!(rt; flushes(rt.alloc())?);
+    Ok(())
+}
+
+/// A reader of a text that is interrupted so often before it, ends or fails behind it, and counts how often it is asked.
+#[derive(Drop)]
+struct Counted<'a> {
+    text: &'a [u8],
+    interrupted: u32,
+    fails: bool,
+    asked: u32,
+}
+
+impl Read for Counted<'_> {
+    fn read(&mut self, buf: &mut [u8]) -> io::Result<usize> {
+        self.asked = self.asked.wrapping_add(1);
+        if self.interrupted > 0 {
+            self.interrupted -= 1;
+            return Err(io::Error::from(ErrorKind::Interrupted));
+        }
+        if self.fails && self.text.is_empty() {
+            return Err(io::Error::from(ErrorKind::Other));
+        }
+        self.text.read(buf)
+    }
+}
+
+/// A text, how often its reader is interrupted, whether it fails, how often it is asked, and what is told.
+type AskRow<'a> = (&'a str, u32, bool, u32, &'a str);
+
+const ASKS: [AskRow<'static>; 8] = [
+    ("", 0, false, 1, ""),
+    ("step r0\n", 0, false, 2, "at 1 of 1\n"),
+    ("step r0", 3, false, 5, "at 1 of 1\n"),
+    ("step r0\nquit\n", 2, false, 3, "at 1 of 1\n"),
+    ("quit", 0, false, 2, ""),
+    ("", 0, true, 1, "bxemu: read -\n"),
+    ("step r0\nback", 1, true, 3, "at 1 of 1\nbxemu: read -\n"),
+    (
+        "step r0\n",
+        MOST_ASKS - 1,
+        false,
+        MOST_ASKS,
+        "at 1 of 1\nbxemu: read -\n",
+    ),
+];
+
+/// How many rows, from the first on, are so.
+fn right_asks(alloc: Global, rows: &[AskRow<'_>]) -> Result<usize, AllocError> {
+    for (number, (text, interrupted, fails, asked, want)) in rows.iter().enumerate() {
+        let mut commands = Counted {
+            text: text.as_bytes(),
+            interrupted: *interrupted,
+            fails: *fails,
+            asked: 0,
+        };
+        if !is_told(alloc, LOOP, "m:f", &mut commands, want)? || commands.asked != *asked {
+            return Ok(number);
+        }
+    }
+    Ok(rows.len())
+}
+
+#[test]
+fn a_reader_is_asked_so_often_and_no_more(rt: HostRuntime) -> Result<(), Fail> {
+    assert_eq!(rt; MOST_ASKS, 33_554_434);
+    assert_eq!(rt; right_asks(rt.alloc(), &ASKS)?, ASKS.len());
     Ok(())
 }
