@@ -6,6 +6,8 @@ mod heads;
 #[cfg(test)]
 mod items;
 #[cfg(test)]
+mod literals;
+#[cfg(test)]
 mod prefixes;
 #[cfg(test)]
 mod refusals;

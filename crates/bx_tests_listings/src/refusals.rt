@@ -6,7 +6,7 @@ use std::alloc::{AllocError, Global};
 use std::test::Fail;
 
 /// The number and the line of a refusal.
-fn number_and_line(fault: &Fault) -> Option<(u8, usize)> {
+pub fn number_and_line(fault: &Fault) -> Option<(u8, usize)> {
     let line = match fault {
         Fault::Truncated { line }
         | Fault::BadForm { line }
@@ -35,7 +35,7 @@ fn is_refused(alloc: Global, text: &str, number: u8, line: usize, name: &str) ->
 }
 
 /// Whether the function of a module with these items is refused with this number on this line, by this name.
-fn are_refused(
+pub fn are_refused(
     alloc: Global,
     items: &str,
     number: u8,
