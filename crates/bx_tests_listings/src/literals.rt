@@ -1,10 +1,10 @@
-//! Literals of other kinds of terms, and atoms where no more have room.
+//! Literals of other kinds of terms and literals that are too high, and atoms where no more have room.
 
 use crate::refusals::{are_refused, number_and_line};
-use crate::samples::module;
+use crate::samples::{module, read};
 use bx_listing::read_listing;
 use bx_terms::{AtomId, Atoms};
-use std::alloc::Global;
+use std::alloc::{AllocError, Global};
 use std::test::Fail;
 
 #[test]
@@ -17,6 +17,40 @@ fn kinds_outside_the_subset(rt: HostRuntime) -> Result<(), Fail> {
     ];
     for (items, name) in rows {
         assert!(rt; are_refused(rt.alloc(), items, 9, 9, name)?, "{items}");
+    }
+    Ok(())
+}
+
+/// A `move` of a literal: what stands before a list of so many integers, the list, and what stands behind it.
+fn with_list(
+    alloc: Global,
+    before: &str,
+    length: usize,
+    behind: &str,
+) -> Result<String, AllocError> {
+    let mut items = format!(in alloc; "{{move,{{literal,{before}[1")?;
+    for _ in 1..length {
+        items.push_str(",1")?;
+    }
+    items.push_str("]")?;
+    items.push_str(behind)?;
+    items.push_str("},{x,0}}.")?;
+    Ok(items)
+}
+
+#[test]
+fn literals_that_are_too_high(rt: HostRuntime) -> Result<(), Fail> {
+    let alloc = rt.alloc();
+    let rows = [
+        ("", 10_000, 10_001, ""),
+        ("{", 9_999, 10_000, "}"),
+        ("[", 9_999, 10_000, "|a]"),
+    ];
+    for (before, kept, refused, behind) in rows {
+        let items = with_list(alloc, before, kept, behind)?;
+        read(alloc, module(alloc, items.as_str())?.as_str())?;
+        let items = with_list(alloc, before, refused, behind)?;
+        assert!(rt; are_refused(alloc, items.as_str(), 11, 9, "")?, "{refused}");
     }
     Ok(())
 }
