@@ -3,6 +3,7 @@
 use crate::samples::{APART, APART_TEXT, book, finished, image, plan};
 use bx_board::{Book, Piece, work};
 use bx_terms::Fault;
+use bx_world::Choice;
 use std::alloc::Global;
 use std::test::Fail;
 
@@ -122,5 +123,35 @@ fn each_call_is_one_event_or_a_refusal(rt: HostRuntime) -> Result<(), Fail> {
     }
     let text = finished(alloc, &image, book)?;
     assert_eq!(&rt; text.as_str(), APART_TEXT);
+    Ok(())
+}
+
+/// Whether these choices are the path of the next lease and of its piece, which is handed in.
+fn is_next(alloc: Global, book: &mut Book<'_>, choices: &[Choice]) -> Result<bool, Fault> {
+    let Some(lease) = book.lease(alloc, 0)? else {
+        return Ok(false);
+    };
+    let leased = lease.path(alloc)?.choices() == choices;
+    let piece = match work(alloc, lease) {
+        Ok(piece) => piece,
+        Err((fault, _lease)) => return Err(fault),
+    };
+    let worked = piece.path(alloc)?.choices() == choices;
+    match book.submit(0, piece) {
+        Ok(()) => Ok(leased && worked),
+        Err((fault, _piece)) => Err(fault),
+    }
+}
+
+#[test]
+fn a_lease_has_all_choices_from_the_start(rt: HostRuntime) -> Result<(), Fail> {
+    let alloc = rt.alloc();
+    let image = image(alloc)?;
+    let plan = plan(alloc, "a: r0\nb: r0 d0>1 r2\n")?;
+    let mut book = book(alloc, &image, &plan)?;
+    let path = [Choice::Run(0), Choice::Deliver(0, 1), Choice::Run(2)];
+    assert!(rt; is_next(alloc, &mut book, &path[..1])?);
+    assert!(rt; is_next(alloc, &mut book, &path)?);
+    assert!(rt; !is_next(alloc, &mut book, &path)?);
     Ok(())
 }
