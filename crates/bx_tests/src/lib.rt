@@ -10,4 +10,6 @@ mod reports;
 #[cfg(test)]
 mod samples;
 #[cfg(test)]
+mod snapshots;
+#[cfg(test)]
 mod worlds;
