@@ -1,11 +1,10 @@
 -- A draft that grows by items.
-use Rattle.std.proofs.Common.{◌≡◌, ℕ, zero, suc, ◌+◌, ◌<◌, ◌≤◌, List, [], ◌∷◌, ◌++◌, length, map, take, drop, get_or, refl, ap, sym, subst, ◌∙◌, arith, add-one, length-append, append_assoc, Bool, true, false, cond}
-use Rattle.std.proofs.lemmas.List.{append-nil, map-append, take_more, take_all, length-map, length-take, drop_more}
+use Rattle.std.proofs.Common.{◌≡◌, ℕ, zero, suc, ◌+◌, ◌<◌, List, [], ◌∷◌, ◌++◌, length, map, take, drop, get_or, refl, ap, sym, subst, ◌∙◌, arith, add-one, length-append, append_assoc, Bool, true, false, cond}
+use Rattle.std.proofs.lemmas.List.{append-nil, map-append, take_more, drop_more}
 use Rattle.std.proofs.lemmas.Option.{slice_get-map}
 use Rattle.std.proofs.lemmas.Grind.{flat_map-append}
 use Rattle.std.specs.Prelude.{Option, Some, None, option_map, option_and_then, slice_get, ◌&&◌}
 use Rattle.std.specs.List.{list_all}
-use Rattle.bx_ops.specs.Opcodes.{opcode}
 use Rattle.bx_listing.specs.Items.{Item, PlacedItem}
 use Rattle.bx_listing.specs.Code.{items_of}
 use Rattle.bx_listing.specs.ListedCode.{ListedFunction}
@@ -13,7 +12,7 @@ use Rattle.bx_asm.specs.declared.numbering.Draft.{Draft}
 use Rattle.bx_asm.specs.declared.operands.NumberedItem.{NumberedItem}
 use Rattle.bx_asm.specs.declared.unit.Head.{Head}
 use Rattle.bx_asm.specs.Drafts.{ExtendsTables, SpellsItem, Spells, Grows, tables_of, head_of, all_items, as_list, at_number}
-use Rattle.bx_asm.specs.Limits.{first, or_else, register_fault, has_registers, is_register, count}
+use Rattle.bx_asm.specs.Limits.{first, or_else, register_fault, is_register, count}
 use Rattle.bx_asm.specs.Operands.{Tables}
 use Rattle.bx_asm.proofs.Firsts.{first_at}
 use Rattle.bx_asm.proofs.Growth.{row_more}

@@ -1,7 +1,7 @@
 -- Tables that grow while operands are numbered.
-use Rattle.std.proofs.Common.{◌≡◌, ℕ, zero, suc, ◌+◌, ◌<◌, ◌≤◌, List, [], ◌∷◌, ◌++◌, Bool, true, false, length, map, take, drop, get_or, refl, ap, sym, subst, ◌∙◌, arith}
+use Rattle.std.proofs.Common.{◌≡◌, ℕ, zero, suc, ◌+◌, ◌<◌, List, [], ◌∷◌, ◌++◌, Bool, true, false, length, map, take, drop, get_or, refl, ap, sym, subst, ◌∙◌, arith}
 use Rattle.std.specs.Prelude.{Option, Some, None, slice_get, option_map, if◌then◌else◌, nat_eq, ◌&&◌, unwrap_or}
-use Rattle.std.specs.List.{list_any, list_all}
+use Rattle.std.specs.List.{list_all}
 use Rattle.std.proofs.lemmas.List.{map-append, take_more, drop_more}
 use Rattle.std.proofs.lemmas.Bool.Decides.{nat_tests}
 use Rattle.bx_listing.specs.contracts.items.ImportPartialEq.TheImpl as imports
@@ -12,7 +12,7 @@ use Rattle.bx_asm.specs.declared.operands.Operand.{Operand}
 use Rattle.bx_asm.specs.declared.operands.Operand.TheVariants as numbers
 use Rattle.bx_asm.specs.Drafts.{Extends, ExtendsTables, SpellsRow}
 use Rattle.bx_asm.specs.Limits.{same_import}
-use Rattle.bx_asm.specs.Operands.{Tables, spelled, operand_of, row_of}
+use Rattle.bx_asm.specs.Operands.{Tables, spelled, row_of}
 
 pub extends_same : {A : Type 0} (xs : List A) → Extends xs xs
 extends_same xs k x e = e

@@ -1,7 +1,7 @@
 -- Labels that stand twice, in two rows one after the other.
-use Rattle.std.proofs.Common.{◌≡◌, ℕ, List, [], ◌∷◌, ◌++◌, Bool, true, false, cond, length, get_or, drop, ◌+◌, ◌<◌, refl, ap, sym, ◌∙◌, append_assoc}
+use Rattle.std.proofs.Common.{◌≡◌, ℕ, List, [], ◌∷◌, ◌++◌, Bool, true, false, cond, length, get_or, drop, ◌+◌, ◌<◌, ap, sym, ◌∙◌, append_assoc}
 use Rattle.std.proofs.lemmas.List.{append-nil}
-use Rattle.std.specs.Prelude.{Option, Some, None, nat_eq}
+use Rattle.std.specs.Prelude.{Some, None, nat_eq}
 use Rattle.std.specs.List.{list_any}
 use Rattle.bx_listing.specs.ListedCode.{ListedFunction}
 use Rattle.bx_asm.specs.Limits.{again, labels, all_labels, operands_of}

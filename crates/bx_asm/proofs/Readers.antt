@@ -1,5 +1,5 @@
 -- What operands stand for, told by their numbered forms.
-use Rattle.std.proofs.Common.{◌≡◌, ℕ, List, [], ◌∷◌, refl, ap, sym, ◌∙◌, map}
+use Rattle.std.proofs.Common.{◌≡◌, ℕ, List, [], ◌∷◌, refl, ap, ◌∙◌}
 use Rattle.std.specs.Prelude.{Option, Some, None, option_map, slice_get, unwrap_or}
 use Rattle.bx_terms.specs.Tree.{Tree}
 use Rattle.bx_terms.specs.declared.atom_table.AtomId.{AtomId}
@@ -7,8 +7,6 @@ use Rattle.bx_ops.specs.declared.guard_bif.Bif.{Bif}
 use Rattle.bx_listing.specs.declared.items.Import.{Import}
 use Rattle.bx_listing.specs.declared.items.Operand.{Operand as Spelt}
 use Rattle.bx_listing.specs.declared.items.Operand.TheVariants as spelt
-use Rattle.bx_asm.specs.declared.instruction.Key.{Key}
-use Rattle.bx_asm.specs.declared.instruction.Key.TheVariants as keys
 use Rattle.bx_asm.specs.declared.instruction.Register.{Register}
 use Rattle.bx_asm.specs.declared.instruction.Register.TheVariants as registers
 use Rattle.bx_asm.specs.declared.operands.Operand.{Operand}

@@ -1,8 +1,8 @@
 -- The items of a unit, found by their numbers.
-use Rattle.std.proofs.Common.{◌≡◌, ℕ, zero, suc, ◌+◌, ◌<◌, ◌≤◌, List, [], ◌∷◌, ◌++◌, length, map, take, drop, get_or, refl, ap, sym, subst, ◌∙◌, arith, length-drop, length-append}
+use Rattle.std.proofs.Common.{◌≡◌, ℕ, ◌<◌, ◌≤◌, List, [], ◌∷◌, ◌++◌, length, map, take, drop, get_or, refl, ap, sym, ◌∙◌, arith, length-drop, length-append}
 use Rattle.std.specs.Prelude.{Option, Some, None, option_map, slice_get, unwrap_or}
 use Rattle.std.specs.List.{flat_map}
-use Rattle.std.proofs.lemmas.List.{take-append-drop, take_all, length-take-le, length-map}
+use Rattle.std.proofs.lemmas.List.{take-append-drop, length-take-le, length-map}
 use Rattle.std.proofs.lemmas.Option.{slice_get-map, slice_get-get_or, slice_get_past}
 use Rattle.bx_ops.specs.Opcodes.{opcode}
 use Rattle.bx_ops.specs.declared.opcode.Op.{Op}
@@ -10,7 +10,7 @@ use Rattle.bx_ops.specs.declared.opcode.Op.TheVariants.{IntCodeEnd}
 use Rattle.bx_ops.proofs.OpcodeLemmas.{with_number-number}
 use Rattle.bx_listing.specs.Items.{Item, PlacedItem}
 use Rattle.bx_listing.specs.ListedCode.{ListedFunction}
-use Rattle.bx_listing.specs.Code.{CodeFunction, function_code_of, items_of}
+use Rattle.bx_listing.specs.Code.{function_code_of, items_of}
 use Rattle.bx_asm.specs.declared.operands.NumberedItem.{NumberedItem}
 use Rattle.bx_asm.specs.declared.unit.Head.{Head}
 use Rattle.bx_asm.specs.Drafts.{Spells, head_of, all_items}

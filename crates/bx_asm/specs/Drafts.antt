@@ -3,7 +3,7 @@ use Rattle.std.specs.Prelude.{◌≡◌, ℕ, ◌+◌, List, [], ◌∷◌, ◌+
 use Rattle.std.specs.List.{flat_map}
 use Rattle.bx_ops.specs.Opcodes.{opcode}
 use Rattle.bx_listing.specs.declared.items.Operand.{Operand as Spelt}
-use Rattle.bx_listing.specs.Items.{Item, PlacedItem}
+use Rattle.bx_listing.specs.Items.{Item}
 use Rattle.bx_listing.specs.ListedCode.{ListedFunction}
 use Rattle.bx_listing.specs.Code.{items_of}
 use Rattle.bx_asm.specs.declared.operands.NumberedItem.{NumberedItem}

@@ -1,5 +1,5 @@
 -- Which listings can be assembled: the limits on sizes, registers and labels, and the first that a listing breaks.
-use Rattle.std.specs.Prelude.{◌≡◌, ℕ, ◌+◌, List, [], ◌∷◌, ◌++◌, Bool, true, false, ◌||◌, ◌&&◌, not, if◌then◌else◌, Option, Some, None, Result, Ok, Err, length, map, fold, nat_le, nat_lt, nat_eq, option_map, IsSome}
+use Rattle.std.specs.Prelude.{◌≡◌, ℕ, ◌+◌, List, [], ◌∷◌, ◌++◌, Bool, true, ◌&&◌, if◌then◌else◌, Option, Some, None, Result, Ok, Err, length, fold, nat_le, nat_eq, option_map, IsSome}
 use Rattle.std.specs.List.{list_any, list_all, flat_map}
 use Rattle.bx_terms.specs.declared.faults.Fault.{Fault}
 use Rattle.bx_terms.specs.declared.faults.Fault.TheVariants.{LabelTwice, LabelMissing, EntryMissing, RegisterRange, TooLarge, Memory}

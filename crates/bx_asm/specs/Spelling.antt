@@ -1,15 +1,12 @@
 -- Numbered items, and what they spell by the tables of their unit.
 -- Source: `genop.tab` of Erlang/OTP.
-use Rattle.std.specs.Prelude.{ℕ, List, [], ◌∷◌, Option, Some, None, unwrap_or}
-use Rattle.bx_terms.specs.Options.{◌>>=◌}
+use Rattle.std.specs.Prelude.{ℕ, unwrap_or}
 use Rattle.bx_ops.specs.Opcodes.{with_number}
 use Rattle.bx_ops.specs.declared.opcode.Op.{Op}
 use Rattle.bx_ops.specs.declared.opcode.Op.TheVariants.{IntCodeEnd}
-use Rattle.bx_listing.specs.declared.items.Operand.{Operand as Spelt}
 use Rattle.bx_listing.specs.Items.{Item}
 use Rattle.bx_asm.specs.declared.operands.NumberedItem.{NumberedItem}
-use Rattle.bx_asm.specs.declared.operands.Operand.{Operand}
-use Rattle.bx_asm.specs.Operands.{Tables, spelled, row_of}
+use Rattle.bx_asm.specs.Operands.{Tables, row_of}
 
 -- the opcode of a number; a number of no opcode would be that of code that ends, and no item has one
 abbrev pub op_of : ℕ → Op

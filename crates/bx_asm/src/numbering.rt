@@ -89,7 +89,8 @@ impl Draft {
 
     /// Nothing is numbered yet but functions that are called.
     pub fn new(alloc: Global, imports: IndexSet<Import>) -> Draft
-        ensures { result.items.items ≡ [] }
+        ensures items { result.items.items ≡ [] }
+        ensures tables { tables_of result ≡ record { literals = []; imports = imports.keys } }
     {
         Draft {
             items: Vec::new(alloc),

@@ -1,5 +1,7 @@
 //! Operands of numbered instructions.
 
+ghost use Rattle.std.specs.Prelude.{◌≡◌};
+
 use bx_listing::Amount;
 use bx_ops::Bif;
 use bx_terms::AtomId;
@@ -35,7 +37,10 @@ pub enum Operand {
 }
 
 impl Default for Operand {
-    fn default() -> Operand {
+    /// What stands where there is none: nil.
+    fn default() -> Operand
+        ensures { result ≡ Operand.Nil }
+    {
         Operand::Nil
     }
 }

@@ -1,4 +1,4 @@
-use Rattle.std.proofs.Common.{◌≡◌, length, subst, arith, ◌∙◌, sym}
+use Rattle.std.proofs.Common.{subst, arith}
 use Rattle.std.proofs.lemmas.List.{take_all, length-map}
 use Rattle.bx_listing.specs.Items.{PlacedItem}
 use Rattle.bx_listing.specs.Code.{items_of}

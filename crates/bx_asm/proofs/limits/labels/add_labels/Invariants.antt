@@ -1,4 +1,4 @@
-use Rattle.std.proofs.Common.{◌≡◌, ◌+◌, ◌++◌, drop}
+use Rattle.std.proofs.Common.{◌≡◌, ◌++◌, drop}
 use Rattle.std.specs.Prelude.{IsSome}
 use Rattle.bx_asm.specs.Limits.{again, labels, first}
 use Rattle.bx_asm.specs.Decoding.{as_place}

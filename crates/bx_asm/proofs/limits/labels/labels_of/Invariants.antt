@@ -1,4 +1,4 @@
-use Rattle.std.proofs.Common.{◌≡◌, ◌+◌, ◌++◌, drop, take, []}
+use Rattle.std.proofs.Common.{◌≡◌, ◌++◌, drop, []}
 use Rattle.std.specs.Prelude.{IsSome}
 use Rattle.bx_asm.specs.Limits.{again, all_labels, first_label}
 use Rattle.bx_asm.proofs.limits.labels.labels_of.Given as goal

@@ -1,4 +1,4 @@
-use Rattle.std.proofs.Common.{◌≡◌, ◌+◌, ◌++◌, drop}
+use Rattle.std.proofs.Common.{◌≡◌, drop}
 use Rattle.bx_asm.specs.Limits.{first, target_fault}
 use Rattle.bx_asm.proofs.limits.labels.target_fault_in.Given as goal
 

@@ -1,4 +1,4 @@
-use Rattle.std.proofs.Common.{◌≡◌, ◌+◌, ◌++◌, drop}
+use Rattle.std.proofs.Common.{◌≡◌, drop}
 use Rattle.bx_asm.specs.Limits as limits
 use Rattle.bx_asm.proofs.limits.labels.target_faults.Given as goal
 

@@ -1,4 +1,4 @@
-use Rattle.std.proofs.Common.{◌≡◌, ◌+◌, ◌++◌, drop}
+use Rattle.std.proofs.Common.{◌≡◌, drop}
 use Rattle.bx_asm.specs.Limits.{first, register_fault}
 use Rattle.bx_asm.proofs.limits.registers.register_faults.Given as goal
 

@@ -1,4 +1,4 @@
-use Rattle.std.proofs.Common.{◌≡◌, ◌+◌, ◌++◌, drop, take, []}
+use Rattle.std.proofs.Common.{◌≡◌, drop}
 use Rattle.std.specs.Prelude.{IsSome}
 use Rattle.bx_asm.specs.Limits.{imports_after, first}
 use Rattle.bx_asm.specs.Decoding.{as_import}

@@ -1,4 +1,4 @@
-use Rattle.std.proofs.Common.{◌≡◌, ◌+◌, ◌++◌, drop}
+use Rattle.std.proofs.Common.{◌≡◌, ◌+◌, drop}
 use Rattle.bx_asm.specs.Limits.{count}
 use Rattle.bx_asm.proofs.limits.sizes.are_few.Given as goal
 

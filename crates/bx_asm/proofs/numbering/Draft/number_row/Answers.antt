@@ -1,4 +1,4 @@
-use Rattle.std.proofs.Common.{ℕ, ◌+◌, List, take, subst, sym}
+use Rattle.std.proofs.Common.{◌+◌, List, take, subst, sym}
 use Rattle.bx_asm.specs.declared.operands.Operand.{Operand}
 use Rattle.bx_asm.specs.Drafts.{SpellsRow, ExtendsTables, tables_of}
 use Rattle.bx_asm.specs.Limits.{is_register}

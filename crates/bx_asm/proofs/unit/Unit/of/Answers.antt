@@ -1,9 +1,9 @@
-use Rattle.std.proofs.Common.{◌≡◌, List, [], ◌++◌, ◌≤◌, length, map, refl, sym, ap, subst, ◌∙◌, arith}
+use Rattle.std.proofs.Common.{◌≡◌, List, [], ◌++◌, ◌≤◌, map, sym, ap, subst, ◌∙◌, arith}
 use Rattle.bx_listing.specs.Code.{function_code_of}
 use Rattle.bx_asm.specs.declared.operands.NumberedItem.{NumberedItem}
 use Rattle.bx_asm.specs.declared.unit.Head.{Head}
 use Rattle.bx_asm.specs.Spelling.{spelled_item}
-use Rattle.bx_asm.specs.Drafts.{Spells, Grows, tables_of, head_of, all_items}
+use Rattle.bx_asm.specs.Drafts.{Spells, tables_of, head_of, all_items}
 use Rattle.bx_asm.specs.Limits.{count}
 use Rattle.bx_asm.specs.Unit.{functions, IsUnit}
 use Rattle.bx_asm.proofs.Units.{unit_of, code_of_unit}
@@ -13,7 +13,7 @@ pub invariant_of-result : goal.invariant_of-result
 invariant_of-result c =
     let fs = c.functions.result.now in
     let t = tables_of c.add_functions.new.draft in
-    let start : Spells (tables_of c.new-draft.result) c.new-draft.result.items.items [] = subst (λ (ns : List NumberedItem). Spells (tables_of c.new-draft.result) ns []) (sym c.new-draft.ensures) tt in
+    let start : Spells (tables_of c.new-draft.result) c.new-draft.result.items.items [] = subst (λ (ns : List NumberedItem). Spells (tables_of c.new-draft.result) ns []) (sym c.new-draft.ensures.items) tt in
     let spells : Spells t c.add_functions.new.draft.items.items (all_items fs) = c.in_ok-add_functions.ensures.items.spells [] start in
     let heads : c.add_functions.new.heads.items ≡ map head_of fs = c.in_ok-add_functions.ensures.heads ∙ ap (λ (hs : List Head). hs ++ map head_of fs) c.new-heads.ensures.items in
     let few : count fs ≤ 1000000 = omega (arith, c.requires.few, ap count c.functions.ensures) in
@@ -23,7 +23,7 @@ pub returns : goal.returns
 returns c =
     let fs = c.functions.result.now in
     let t = tables_of c.add_functions.new.draft in
-    let start : Spells (tables_of c.new-draft.result) c.new-draft.result.items.items [] = subst (λ (ns : List NumberedItem). Spells (tables_of c.new-draft.result) ns []) (sym c.new-draft.ensures) tt in
+    let start : Spells (tables_of c.new-draft.result) c.new-draft.result.items.items [] = subst (λ (ns : List NumberedItem). Spells (tables_of c.new-draft.result) ns []) (sym c.new-draft.ensures.items) tt in
     let spells : Spells t c.add_functions.new.draft.items.items (all_items fs) = c.in_ok-add_functions.ensures.items.spells [] start in
     let heads : c.add_functions.new.heads.items ≡ map head_of fs = c.in_ok-add_functions.ensures.heads ∙ ap (λ (hs : List Head). hs ++ map head_of fs) c.new-heads.ensures.items in
     let own : functions c.add_functions.new.heads.items (map (spelled_item t) c.add_functions.new.draft.items.items) ≡ map function_code_of c.args.listing.now.functions =
