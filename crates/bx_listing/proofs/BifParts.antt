@@ -1,9 +1,9 @@
 -- The parts of a form, as slices of them.
-use Rattle.std.proofs.Common.{◌≡◌, ℕ, suc, ◌<◌, ◌≤◌, ◌-◌, length, take, drop, get_or, List, [], ◌∷◌, refl, sym, ap, ◌∙◌, arith}
+use Rattle.std.proofs.Common.{◌≡◌, ℕ, ◌≤◌, ◌-◌, length, take, drop, get_or, List, [], ◌∷◌, refl, ap, ◌∙◌, arith}
 use Rattle.std.proofs.Math.Seq.{take-length}
 use Rattle.bx_text.specs.Tree.{Tree}
 use Rattle.bx_listing.specs.Shape.{word, list_elements}
-use Rattle.bx_listing.specs.Ways.{Formed, bif_form, bif_called, gc_bif_form, gc_bif_called}
+use Rattle.bx_listing.specs.Ways.{bif_form, bif_called, gc_bif_form, gc_bif_called}
 
 all_left : (n k : ℕ) (ts : List Tree) → n ≡ length ts → take n ts ≡ ts
 all_left n k ts e = ap (λ n. take n ts) e ∙ take-length ts

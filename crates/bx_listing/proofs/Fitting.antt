@@ -1,6 +1,6 @@
 -- An item that is read fits its opcode's row of the table.
-use Rattle.std.proofs.Common.{◌≡◌, ℕ, ◌+◌, ◌≤◌, suc, Bool, true, false, List, [], ◌∷◌, ◌++◌, length, take, drop, Some, refl, sym, ap, ◌∙◌, subst, arith, nat_eq, if◌then◌else◌}
-use Rattle.std.specs.Prelude.{◌%◌, ◌==◌, nat_le}
+use Rattle.std.proofs.Common.{◌≡◌, ℕ, ◌+◌, ◌≤◌, suc, Bool, true, false, List, ◌∷◌, ◌++◌, length, take, drop, Some, refl, ap, ◌∙◌, arith, nat_eq, if◌then◌else◌}
+use Rattle.std.specs.Prelude.{◌==◌, nat_le}
 use Rattle.std.specs.Cmp.Derive.{both_true}
 use Rattle.std.proofs.lemmas.Bool.Decides.{Decides-eqb, nat_tests}
 use Rattle.std.proofs.lemmas.List.{length-append}
@@ -17,9 +17,8 @@ use Rattle.bx_listing.specs.declared.items.Operand.{Operand}
 use Rattle.bx_listing.specs.declared.items.Operand.TheVariants as operands
 use Rattle.bx_listing.specs.Items.{Item}
 use Rattle.bx_listing.specs.Reading.{Table}
-use Rattle.bx_listing.specs.Operands.{fail_label}
 use Rattle.bx_listing.specs.Fits.{is_one, are_members, begin_members, is_row, fits}
-use Rattle.bx_listing.specs.ListedItems.{IsRegister, in_x, in_y, in_typed, IsValue, an_integer, an_atom, IsSource, a_register, a_value, a_nil, a_literal, IsBif, IsPlain, IsOperand, AreMembers, no_member, a_member, IsSlot, an_operand, a_list, pairs, a_size, amounts, no_label, to_x0, AreSlots, no_slot, a_slot, IsItem}
+use Rattle.bx_listing.specs.ListedItems.{IsRegister, in_x, in_y, in_typed, IsValue, an_integer, an_atom, IsSource, a_register, a_value, a_nil, a_literal, IsPlain, IsOperand, AreMembers, no_member, a_member, IsSlot, an_operand, a_list, pairs, a_size, amounts, no_label, to_x0, AreSlots, no_slot, a_slot, IsItem}
 
 register_source : {t : Tree} {r : Operand} → IsRegister t r → is_one sorts.Source r ≡ true
 register_source (in_x e n) = refl

@@ -1,5 +1,5 @@
 -- A form that is refused before its operands are read.
-use Rattle.std.proofs.Common.{◌≡◌, List, Result, Ok, Err, ap}
+use Rattle.std.proofs.Common.{List, Err, ap}
 use Rattle.bx_terms.specs.declared.faults.Fault.{Fault}
 use Rattle.bx_terms.specs.declared.faults.Fault.TheVariants.{Memory}
 use Rattle.bx_text.specs.Tree.{Tree}

@@ -1,12 +1,11 @@
 -- The forms of a text are those that the grammar has.
-use Rattle.std.proofs.Common.{◌≡◌, ℕ, zero, suc, ◌<◌, ◌≤◌, Bool, true, List, length, Option, Some, None, Result, Ok, Err, refl, sym, ap, subst, ◌∙◌, arith, if◌then◌else◌}
+use Rattle.std.proofs.Common.{◌≡◌, ℕ, zero, suc, ◌<◌, Bool, true, length, Option, Some, None, Result, Ok, Err, refl, sym, ap, subst, ◌∙◌, arith, if◌then◌else◌}
 use Rattle.std.specs.Prelude.{◌↔◌, nat_lt}
 use Rattle.std.proofs.lemmas.Bool.Decides.{nat_tests}
 use Rattle.bx_terms.specs.declared.faults.Fault.{Fault}
 use Rattle.bx_terms.specs.Outcomes.{◌>>=◌}
 use Rattle.bx_text.specs.Tree.{Tree, span_of}
 use Rattle.bx_text.specs.Place.{Place}
-use Rattle.bx_text.specs.Token.{Lexeme}
 use Rattle.bx_text.specs.Forms.{form_at}
 use Rattle.bx_text.specs.Grammar.{Form, a_form}
 use Rattle.bx_text.proofs.Complete.{term_le}

@@ -1,10 +1,9 @@
 -- What is read as an item is one, and is read so wherever it is one.
-use Rattle.std.proofs.Common.{◌≡◌, ℕ, suc, ◌+◌, Bool, true, false, List, [], ◌∷◌, ◌++◌, length, Option, Some, None, Result, Ok, Err, codes, refl, sym, ap, subst, ◌∙◌, if◌then◌else◌, bytes_eq, nat_eq}
+use Rattle.std.proofs.Common.{◌≡◌, ℕ, Bool, true, false, List, [], ◌∷◌, ◌++◌, length, Option, Some, None, Ok, codes, refl, sym, ap, subst, ◌∙◌, if◌then◌else◌, nat_eq}
 use Rattle.std.specs.Prelude.{◌&&◌}
 use Rattle.std.proofs.lemmas.List.{append-nil}
 use Rattle.std.proofs.lemmas.Bool.Decides.{Decides-eqb}
 use Rattle.std.proofs.lemmas.Slice.Eq.{bytes_eq-Decides}
-use Rattle.bx_terms.specs.declared.faults.Fault.TheVariants as faults
 use Rattle.bx_text.specs.Tree.{Tree}
 use Rattle.bx_ops.specs.declared.opcode.Op.{Op}
 use Rattle.bx_ops.specs.declared.opcode.Op.TheVariants as ops
@@ -19,17 +18,17 @@ use Rattle.bx_ops.specs.Table.{slots, way}
 use Rattle.bx_listing.specs.declared.items.Operand.{Operand}
 use Rattle.bx_listing.specs.declared.words.FormWord.{FormWord}
 use Rattle.bx_listing.specs.declared.words.FormWord.TheVariants as forms
-use Rattle.bx_listing.specs.Reading.{Table, Reading, read, refused, and_then, ◌>>=◌, give, from_result}
+use Rattle.bx_listing.specs.Reading.{Table, read, and_then, ◌>>=◌, give, from_result}
 use Rattle.bx_listing.specs.Shape.{Shape, bare, tagged, other, shape, word, list_elements}
 use Rattle.bx_listing.specs.Words.{form_word}
-use Rattle.bx_listing.specs.Ways.{Formed, counted, bad_form_operand, named_way, named_op, named_form, bare_way, bare_op, bare_form, test_listed, test_row, test_way, test_op, test_found, test_form, bif_op, gc_bif_op, bif_row, bif_found, is_raise, bif_named, bif_called, bif_form, gc_bif_called, gc_bif_form, raise_listed, raise_form, tuple_form}
-use Rattle.bx_listing.specs.Rows.{Read, row, agrees, agreed, formed_item, written_item, tuple_item, bare_item, item_row}
+use Rattle.bx_listing.specs.Ways.{Formed, counted, bad_form_operand, named_way, named_op, named_form, bare_way, bare_op, bare_form, test_listed, test_row, test_way, test_op, test_found, test_form, bif_op, gc_bif_op, bif_row, bif_found, is_raise, bif_called, bif_form, gc_bif_called, gc_bif_form, raise_listed, raise_form, tuple_form}
+use Rattle.bx_listing.specs.Rows.{Read, formed_item, written_item, tuple_item, item_row}
 use Rattle.bx_listing.specs.Items.{Item}
 use Rattle.bx_listing.specs.ItemForms.{read_as, item}
 use Rattle.bx_listing.proofs.GoodReadings.{given, after_read, after_result}
 use Rattle.bx_listing.proofs.Written.{Written, AllWritten, parts_written}
 use Rattle.bx_listing.proofs.Worded.{IsFormWord, form_word_is}
-use Rattle.bx_listing.specs.ListedItems.{Tuple, IsWritten, bare as written_bare, plain, test, bif, gc_bif, raise, raise_bif, AreSlots, no_slot, a_slot, IsItem}
+use Rattle.bx_listing.specs.ListedItems.{Tuple, IsWritten, bare as written_bare, plain, test, bif, gc_bif, raise, raise_bif, AreSlots, no_slot, IsItem}
 use Rattle.bx_listing.proofs.ListedOperands.{at_word, bare_word, word_bare}
 use Rattle.bx_listing.proofs.ListedSlots.{elements_written, formed_is, formed_read, slots_length}
 

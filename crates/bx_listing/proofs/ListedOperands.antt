@@ -1,6 +1,6 @@
 -- What is read as an operand is one, and is read so wherever it is one.
-use Rattle.std.proofs.Common.{◌≡◌, ℕ, ℤ, Bool, true, false, List, [], ◌∷◌, ◌++◌, Option, Some, None, codes, refl, sym, ap, ◌∙◌, if◌then◌else◌}
-use Rattle.std.specs.Prelude.{option_map, nat_eq}
+use Rattle.std.proofs.Common.{◌≡◌, ℕ, Bool, true, false, List, [], ◌∷◌, Option, Some, None, codes, refl, sym, ap, ◌∙◌, if◌then◌else◌}
+use Rattle.std.specs.Prelude.{option_map}
 use Rattle.bx_terms.specs.declared.atom_table.AtomId.{AtomId}
 use Rattle.bx_terms.specs.declared.faults.Fault.TheVariants as faults
 use Rattle.bx_terms.specs.Naming.{naming}
@@ -13,8 +13,6 @@ use Rattle.bx_ops.specs.GuardBifs.{guard_bif_with}
 use Rattle.bx_ops.specs.declared.guard_bif.Bif.{Bif}
 use Rattle.bx_ops.specs.declared.sorts.Sort.{Sort}
 use Rattle.bx_ops.specs.declared.sorts.Sort.TheVariants as sorts
-use Rattle.bx_listing.specs.declared.items.Import.{Import}
-use Rattle.bx_listing.specs.declared.items.Amount.{Amount}
 use Rattle.bx_listing.specs.declared.items.Operand.{Operand}
 use Rattle.bx_listing.specs.declared.items.Operand.TheVariants as operands
 use Rattle.bx_listing.specs.declared.words.OperandWord.{OperandWord}
@@ -24,13 +22,13 @@ use Rattle.bx_listing.specs.Shape.{Shape, bare, tagged, other, shape, elements, 
 use Rattle.bx_listing.specs.Words.{operand_word}
 use Rattle.bx_listing.specs.Literals.{literal}
 use Rattle.bx_listing.specs.ListedTerms.{Names}
-use Rattle.bx_listing.specs.Operands.{operand, untyped, untyped_of, register_of, plain_register, register, only_y, label_of, label_in, label, bad_operand, callee_of, callee_in, callee, amount_of, amount_in, amount, external, atom_word, atom_of, atom_in, atom_operand, atom_source, integer_source, source_of, word_source, source_in, source, value_of, value_in, value, within_height, fail_label, bif_named, plain, simple}
+use Rattle.bx_listing.specs.Operands.{operand, untyped, untyped_of, register_of, plain_register, register, only_y, label_of, label_in, label, callee_of, callee_in, callee, amount_of, amount_in, amount, atom_word, atom_of, atom_in, atom_operand, atom_source, integer_source, source_of, word_source, source_in, source, value_of, value_in, value, within_height, fail_label, bif_named, plain, simple}
 use Rattle.bx_listing.proofs.Elements.{untyped_tagged}
 use Rattle.bx_listing.proofs.GoodReadings.{given, after_read, after_wanted, wanted_read, outcome_read, mapped}
 use Rattle.bx_listing.proofs.Written.{Written, parts_written}
 use Rattle.bx_listing.proofs.ListedTerms.{term_is, term_read}
 use Rattle.bx_listing.proofs.Worded.{IsOperandWord, operand_word_is}
-use Rattle.bx_listing.specs.ListedItems.{Tuple, Atom, AtomOperand, IntegerOperand, Target, Number, IsRegister, in_x, in_y, in_typed, IsValue, an_integer, an_atom, IsSource, a_register, a_value, a_nil, a_literal, IsCallee, IsAmount, IsBif, IsNumbered, IsLabelled, IsPlain, IsOperand}
+use Rattle.bx_listing.specs.ListedItems.{Tuple, Atom, AtomOperand, IntegerOperand, Target, IsRegister, in_x, in_y, in_typed, IsValue, an_integer, an_atom, IsSource, a_register, a_value, a_nil, a_literal, IsCallee, IsAmount, IsBif, IsNumbered, IsLabelled, IsPlain, IsOperand}
 
 -- a tuple that begins with a word, by what the word is
 pub at_word : (t : Tree) {text word : List ℕ} {parts : List Tree} → shape t ≡ tagged text parts → text ≡ word → Tuple t word parts

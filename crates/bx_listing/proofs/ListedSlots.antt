@@ -1,11 +1,11 @@
 -- What is read slot by slot stands in the places, and is read so wherever it stands there.
-use Rattle.std.proofs.Common.{◌≡◌, ℕ, suc, ◌+◌, Bool, true, false, List, [], ◌∷◌, ◌++◌, length, drop, Option, Some, None, codes, refl, sym, ap, subst, ◌∙◌, append_assoc, if◌then◌else◌, nat_eq}
+use Rattle.std.proofs.Common.{◌≡◌, ℕ, suc, Bool, true, false, List, [], ◌∷◌, ◌++◌, length, drop, Option, Some, None, codes, refl, sym, ap, subst, ◌∙◌, append_assoc, if◌then◌else◌}
 use Rattle.std.specs.Prelude.{option_map}
 use Rattle.std.proofs.lemmas.List.{append-nil}
 use Rattle.std.proofs.Math.Seq.{drop-append_seam}
 use Rattle.std.proofs.lemmas.Bool.Decides.{Decides-eqb}
 use Rattle.bx_terms.specs.declared.faults.Fault.TheVariants as faults
-use Rattle.bx_text.specs.Tree.{Tree, integer, atom, tuple, list, nil, cons}
+use Rattle.bx_text.specs.Tree.{Tree, integer}
 use Rattle.bx_ops.specs.declared.opcode.Op.{Op}
 use Rattle.bx_ops.specs.declared.sorts.Sort.{Sort}
 use Rattle.bx_ops.specs.declared.sorts.Sort.TheVariants as sorts
@@ -17,14 +17,14 @@ use Rattle.bx_listing.specs.declared.items.Operand.TheVariants as operands
 use Rattle.bx_listing.specs.declared.words.OperandWord.{OperandWord}
 use Rattle.bx_listing.specs.declared.words.OperandWord.TheVariants as words
 use Rattle.bx_listing.specs.Reading.{Table, Reading, read, and_then, ◌>>=◌, give}
-use Rattle.bx_listing.specs.Shape.{Shape, bare, tagged, other, shape, elements, number, proper, list_elements}
+use Rattle.bx_listing.specs.Shape.{Shape, bare, tagged, other, shape, number, proper, list_elements}
 use Rattle.bx_listing.specs.Words.{operand_word}
 use Rattle.bx_listing.specs.Operands.{operand, bad_operand, label, register, simple}
 use Rattle.bx_listing.specs.Rows.{members, listed_of, listed_in, listed, is_even, is_label, is_x, list_of, pairs_of, amounts_of, amounts_in, amounts, heap_of, slot, row, agrees, agreed, formed_item, Read}
 use Rattle.bx_listing.proofs.GoodReadings.{given, after_read, after_wanted}
-use Rattle.bx_listing.proofs.Written.{Written, AllWritten, parts_written, an_integer_term, an_atom_term, a_tuple_term, a_list_term, an_other_term, Elements, no_elements, an_element_first, Rest, no_rest, a_last, a_first}
+use Rattle.bx_listing.proofs.Written.{Written, AllWritten, parts_written, an_integer_term, an_atom_term, a_tuple_term, a_list_term, an_other_term, Rest, no_rest, a_last, a_first}
 use Rattle.bx_listing.proofs.Worded.{IsOperandWord, operand_word_is}
-use Rattle.bx_listing.specs.ListedItems.{Tuple, Target, IsRegister, IsOperand, AreMembers, no_member, a_member, IsList, IsSlot, an_operand, a_list, pairs, AreAmounts, a_size, amounts as some_amounts, no_label, to_x0, AreSlots, no_slot, a_slot}
+use Rattle.bx_listing.specs.ListedItems.{Target, IsRegister, IsOperand, AreMembers, no_member, a_member, IsList, IsSlot, an_operand, a_list, pairs, AreAmounts, a_size, amounts as some_amounts, no_label, to_x0, AreSlots, no_slot, a_slot}
 use Rattle.bx_listing.proofs.ListedOperands.{at_word, operand_is, operand_read, target_is, target_read, register_is, register_read}
 
 -- so much more was read

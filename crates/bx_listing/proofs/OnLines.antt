@@ -1,6 +1,6 @@
 -- What is refused while a form is read is refused with the line of that form.
 use Rattle.std.proofs.Common.{◌≡◌, ℕ, ℤ, Bool, true, false, List, [], ◌∷◌, ◌++◌, Option, Some, None, Result, Ok, Err, length, drop, refl, subst, if◌then◌else◌}
-use Rattle.std.specs.Prelude.{option_map, nat_lt, nat_eq}
+use Rattle.std.specs.Prelude.{nat_lt, nat_eq}
 use Rattle.bx_terms.specs.declared.faults.Fault.{Fault}
 use Rattle.bx_terms.specs.declared.faults.Fault.TheVariants as faults
 use Rattle.bx_terms.specs.AtomTable.{is_short, number_of}
@@ -32,9 +32,9 @@ use Rattle.bx_listing.specs.Reading.{Table, Outcome, read, refused, Reading, and
 use Rattle.bx_listing.specs.Shape.{Shape, bare, tagged, other, shape, number, word, list_elements}
 use Rattle.bx_listing.specs.Words.{form_word, operand_word}
 use Rattle.bx_listing.specs.Literals.{sort_name, small, kept_list, kept_tuple, ended, longer, Parts, no_row, parts, literal}
-use Rattle.bx_listing.specs.Operands.{operand, bad_operand, register, label, atom_word, atom_of, atom_in, atom_operand, atom_source, integer_source, within_height, source_of, word_source, source_in, source, value_of, value_in, value, external, callee_of, callee_in, callee, amount_of, amount_in, amount, plain, simple}
+use Rattle.bx_listing.specs.Operands.{operand, bad_operand, register, label, atom_word, atom_of, atom_in, atom_operand, atom_source, integer_source, within_height, source_of, word_source, source_in, source, value_of, value_in, value, callee_of, callee_in, callee, amount_of, amount_in, amount, plain, simple}
 use Rattle.bx_listing.specs.HeadForms.{bad_form, head, offer, are_offers, named_offer_of, named_offer, named_offers, offers, exports_of, exports_form, begun, function_form}
-use Rattle.bx_listing.specs.Ways.{Formed, counted, bad_form_operand, named_way, named_op, named_form, bare_way, bare_op, bare_form, test_listed, test_row, test_way, test_op, test_found, test_form, bif_op, gc_bif_op, bif_row, bif_found, is_raise, bif_named, bif_called, bif_form, gc_bif_called, gc_bif_form, raise_listed, raise_form, tuple_form}
+use Rattle.bx_listing.specs.Ways.{Formed, counted, bad_form_operand, named_way, named_op, named_form, bare_way, bare_op, bare_form, test_listed, test_row, test_way, test_op, test_found, test_form, bif_op, gc_bif_op, bif_row, bif_found, is_raise, bif_called, bif_form, gc_bif_called, gc_bif_form, raise_listed, raise_form, tuple_form}
 use Rattle.bx_listing.specs.Rows.{members, listed, is_even, is_label, is_x, list_of, pairs_of, amounts, heap_of, slot, row, agrees, agreed, formed_item, written_item, tuple_item, bare_item, item_row}
 use Rattle.bx_listing.specs.ItemForms.{read_as, item}
 use Rattle.bx_listing.specs.ListedCode.{ListedFunction}

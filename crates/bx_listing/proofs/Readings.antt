@@ -60,11 +60,6 @@ refuses_left old t new _ left whole grown e h = sym e ∙ h
 pub grown_after : {B : Type 0} (first : Reading B) (y : B) (old t mid : Table) → Begins old t → first.run t ≡ read mid y → Begins old mid
 grown_after first y old t mid grown h = Begins-trans old t mid grown (subst (λ o. Begins t (table_of o)) h (first.grows t))
 
--- what takes no names was refused, and so is the whole
-pub result_refused : {A B X : Type 0} (view : X → A) (texts : Table) (fault : Fault) (said : Result A Fault) (next : A → Reading B) → Gives {X = X} (Unit {0}) view (Err fault) said → Refuses (Unit {0}) texts texts fault (from_result said >>= next)
-result_refused view texts Memory said next h = (tt, Begins-refl texts, (from_result said >>= next).grows texts)
-result_refused view texts _ said next h = ap (λ r. (from_result r >>= next).run texts) h
-
 -- what takes no names was good: the answer to what follows is the answer to the whole
 pub result_read : {A B X : Type 0} (see : X → B) (old new : Table) (answer : Result X Fault) (said : Result A Fault) (x : A) (next : A → Reading B) → said ≡ Ok x → Reads (Unit {0}) see old new answer (next x) → Reads (Unit {0}) see old new answer (from_result said >>= next)
 result_read see old new answer said x next e h = reads_same (Unit {0}) see old new answer (next x) (from_result said >>= next) (sym (ap (λ r. (from_result r >>= next).run old) e)) h

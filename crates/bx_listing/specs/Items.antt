@@ -1,6 +1,6 @@
 -- Items as a listing writes them: an opcode with a row of operands. What stands in a list follows the list's length.
 -- Source: `genop.tab` of Erlang/OTP.
-use Rattle.std.specs.Prelude.{◌≡◌, ℕ, List, refl}
+use Rattle.std.specs.Prelude.{ℕ, List, refl}
 use Rattle.std.specs.Coded.{Coded, code_by, coded×, coded_ℕ, coded_list}
 use Rattle.bx_ops.specs.declared.opcode.Op.{Op}
 use Rattle.bx_listing.specs.declared.items.Operand.{Operand}

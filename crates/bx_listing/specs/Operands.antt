@@ -10,8 +10,6 @@ use Rattle.bx_ops.specs.declared.sorts.Sort.{Sort}
 use Rattle.bx_ops.specs.declared.sorts.Sort.TheVariants as sorts
 use Rattle.bx_listing.specs.declared.items.Operand.{Operand}
 use Rattle.bx_listing.specs.declared.items.Operand.TheVariants as operands
-use Rattle.bx_listing.specs.declared.items.Import.{Import}
-use Rattle.bx_listing.specs.declared.items.Amount.{Amount}
 use Rattle.bx_listing.specs.declared.words.OperandWord.{OperandWord}
 use Rattle.bx_listing.specs.declared.words.OperandWord.TheVariants as words
 use Rattle.bx_listing.specs.Reading.{Reading, ◌>>=◌, give, refuse, wanted, named}

@@ -1,6 +1,6 @@
 -- The operands of an instruction, slot by slot, behind those that were read before it. What stands in a list follows the
 -- list's length.
-use Rattle.std.specs.Prelude.{ℕ, ◌+◌, ◌%◌, Bool, true, false, ◌==◌, List, [], ◌∷◌, ◌++◌, length, drop, Option, Some, None, if◌then◌else◌}
+use Rattle.std.specs.Prelude.{ℕ, ◌%◌, Bool, true, false, ◌==◌, List, [], ◌∷◌, ◌++◌, length, drop, Option, Some, None, if◌then◌else◌}
 use Rattle.bx_ops.specs.declared.opcode.Op.{Op}
 use Rattle.bx_text.specs.Tree.{Tree}
 use Rattle.bx_ops.specs.declared.sorts.Sort.{Sort}

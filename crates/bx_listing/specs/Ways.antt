@@ -1,8 +1,7 @@
 -- Which instruction a form is, and the terms that stand as its operands. What is outside the subset is refused by its name,
 -- then what has a wrong number of operands, before any of these is looked at.
 -- Source: `genop.tab` and `beam_listing` of Erlang/OTP.
-use Rattle.std.specs.Prelude.{ℕ, Bool, true, false, ◌==◌, ◌&&◌, Result, Ok, Err, List, [], ◌∷◌, ◌++◌, Option, Some, None, length, codes, decimal, bytes_eq, if◌then◌else◌}
-use Rattle.bx_terms.specs.Outcomes.{◌>>=◌}
+use Rattle.std.specs.Prelude.{ℕ, Bool, ◌==◌, ◌&&◌, Result, Ok, Err, List, [], ◌∷◌, ◌++◌, Option, Some, None, length, codes, decimal, bytes_eq, if◌then◌else◌}
 use Rattle.bx_terms.specs.declared.faults.Fault.{Fault}
 use Rattle.bx_terms.specs.declared.faults.Fault.TheVariants as faults
 use Rattle.bx_text.specs.Tree.{Tree}

@@ -1,16 +1,14 @@
 -- The text of a code form, as a listing writes it: a form a line, without spaces. Types of registers, annotations and attributes
 -- are in no code form, and what `line` says is not kept, so none of them is written.
 -- Source: `beam_listing` and `genop.tab` of Erlang/OTP.
-use Rattle.std.specs.Prelude.{ℕ, ◌+◌, ◌-◌, zero, suc, max, nat_lt, if◌then◌else◌, List, [], ◌∷◌, ◌++◌, length, take, drop, codes, decimal, slice_get}
+use Rattle.std.specs.Prelude.{ℕ, ◌+◌, ◌-◌, max, nat_lt, if◌then◌else◌, List, [], ◌∷◌, ◌++◌, length, take, drop, codes, decimal, slice_get}
 use Rattle.std.specs.Fmt.{signed_decimal}
 use Rattle.std.specs.List.{flat_map, fold}
 use Rattle.bx_terms.specs.declared.atom_table.AtomId.{AtomId}
 use Rattle.bx_terms.specs.AtomText.{printed_atom}
 use Rattle.bx_terms.specs.Printed.{printed, printed_name}
-use Rattle.bx_ops.specs.declared.opcode.Op.{Op}
 use Rattle.bx_ops.specs.Opcodes.{opcode}
 use Rattle.bx_ops.specs.GuardBifs.{guard_bif}
-use Rattle.bx_ops.specs.declared.sorts.Sort.{Sort}
 use Rattle.bx_ops.specs.declared.sorts.Sort.TheVariants as sorts
 use Rattle.bx_ops.specs.declared.sorts.Slot.{Slot}
 use Rattle.bx_ops.specs.declared.sorts.Slot.TheVariants as slot_kinds

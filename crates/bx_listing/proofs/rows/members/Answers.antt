@@ -1,5 +1,4 @@
 use Rattle.std.proofs.lemmas.Result.{err_from_is_err_and}
-use Rattle.bx_listing.specs.Reading.{Begins-refl}
 use Rattle.bx_listing.specs.Operands.{simple}
 use Rattle.bx_listing.specs.Rows.{members}
 use Rattle.bx_listing.proofs.Readings.{grown_after}

@@ -1,5 +1,5 @@
 use Rattle.std.proofs.lemmas.Result.{err_from_is_err_and}
-use Rattle.std.proofs.Common.{List, [], ◌∷◌, ◌++◌}
+use Rattle.std.proofs.Common.{[], ◌∷◌, ◌++◌}
 use Rattle.bx_listing.specs.Reading.{give}
 use Rattle.bx_listing.specs.declared.items.Operand.{Operand}
 use Rattle.bx_listing.specs.Operands.{simple}

@@ -1,4 +1,4 @@
-use Rattle.std.proofs.Common.{get_or, sym, ◌∙◌}
+use Rattle.std.proofs.Common.{get_or, sym}
 use Rattle.bx_listing.specs.Formed.{formed}
 use Rattle.bx_listing.specs.Rows.{row, slot}
 use Rattle.bx_listing.proofs.Readings.{grown_after}
