@@ -96,7 +96,8 @@ impl<'a> Lookup<'a> {
 
     #[inline(always)]
     fn allocate(self, row: &'a [Operand]) -> Option<Instruction<'a>>
-        ensures { option_map instr_of result ≡ option_map instr.allocate (first_number (row_of (tables self.entry) row.now)) }
+        ensures { option_map instr_of result ≡ option_map instr.allocate
+            (first_number (row_of (tables self.entry) row.now)) }
     {
         let size = self.first_number(row)?;
         Some(Instruction::Allocate(size))
@@ -104,7 +105,8 @@ impl<'a> Lookup<'a> {
 
     #[inline(always)]
     fn deallocate(self, row: &'a [Operand]) -> Option<Instruction<'a>>
-        ensures { option_map instr_of result ≡ option_map instr.deallocate (first_number (row_of (tables self.entry) row.now)) }
+        ensures { option_map instr_of result ≡ option_map instr.deallocate
+            (first_number (row_of (tables self.entry) row.now)) }
     {
         let size = self.first_number(row)?;
         Some(Instruction::Deallocate(size))
@@ -112,7 +114,8 @@ impl<'a> Lookup<'a> {
 
     #[inline(always)]
     fn loop_rec_end(self, row: &'a [Operand]) -> Option<Instruction<'a>>
-        ensures { option_map instr_of result ≡ option_map instr.loop_rec_end (label_alone (row_of (tables self.entry) row.now)) }
+        ensures { option_map instr_of result ≡ option_map instr.loop_rec_end
+            (label_alone (row_of (tables self.entry) row.now)) }
     {
         let label = self.label_alone(row)?;
         Some(Instruction::LoopRecEnd(label))
@@ -120,7 +123,8 @@ impl<'a> Lookup<'a> {
 
     #[inline(always)]
     fn wait(self, row: &'a [Operand]) -> Option<Instruction<'a>>
-        ensures { option_map instr_of result ≡ option_map instr.wait (label_alone (row_of (tables self.entry) row.now)) }
+        ensures { option_map instr_of result ≡ option_map instr.wait
+            (label_alone (row_of (tables self.entry) row.now)) }
     {
         let label = self.label_alone(row)?;
         Some(Instruction::Wait(label))
@@ -128,7 +132,8 @@ impl<'a> Lookup<'a> {
 
     #[inline(always)]
     fn jump(self, row: &'a [Operand]) -> Option<Instruction<'a>>
-        ensures { option_map instr_of result ≡ option_map instr.jump (label_alone (row_of (tables self.entry) row.now)) }
+        ensures { option_map instr_of result ≡ option_map instr.jump
+            (label_alone (row_of (tables self.entry) row.now)) }
     {
         let label = self.label_alone(row)?;
         Some(Instruction::Jump(label))
@@ -136,7 +141,8 @@ impl<'a> Lookup<'a> {
 
     #[inline(always)]
     fn catch_end(self, row: &'a [Operand]) -> Option<Instruction<'a>>
-        ensures { option_map instr_of result ≡ option_map instr.catch_end (y_alone (row_of (tables self.entry) row.now)) }
+        ensures { option_map instr_of result ≡ option_map instr.catch_end
+            (y_alone (row_of (tables self.entry) row.now)) }
     {
         let tag = self.y_alone(row)?;
         Some(Instruction::CatchEnd(tag))
@@ -144,7 +150,8 @@ impl<'a> Lookup<'a> {
 
     #[inline(always)]
     fn try_end(self, row: &'a [Operand]) -> Option<Instruction<'a>>
-        ensures { option_map instr_of result ≡ option_map instr.try_end (y_alone (row_of (tables self.entry) row.now)) }
+        ensures { option_map instr_of result ≡ option_map instr.try_end
+            (y_alone (row_of (tables self.entry) row.now)) }
     {
         let tag = self.y_alone(row)?;
         Some(Instruction::TryEnd(tag))
@@ -152,7 +159,8 @@ impl<'a> Lookup<'a> {
 
     #[inline(always)]
     fn try_case(self, row: &'a [Operand]) -> Option<Instruction<'a>>
-        ensures { option_map instr_of result ≡ option_map instr.try_case (y_alone (row_of (tables self.entry) row.now)) }
+        ensures { option_map instr_of result ≡ option_map instr.try_case
+            (y_alone (row_of (tables self.entry) row.now)) }
     {
         let tag = self.y_alone(row)?;
         Some(Instruction::TryCase(tag))

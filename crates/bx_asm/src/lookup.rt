@@ -140,7 +140,8 @@ impl<'a> Lookup<'a> {
     #[inline(always)]
     #[tactic(auto, using(crate::proofs::Readers::list_is))]
     fn members(self, row: &'a [Operand]) -> Option<&'a [Operand]>
-        ensures { option_map (λ os. row_of (tables self.entry) os.now) result ≡ members (row_of (tables self.entry) row.now) }
+        ensures { option_map (λ os. row_of (tables self.entry) os.now) result ≡ members
+            (row_of (tables self.entry) row.now) }
     {
         match row {
             [Operand::List(_), members @ ..] => Some(members),
@@ -152,7 +153,8 @@ impl<'a> Lookup<'a> {
     #[inline(always)]
     #[tactic(auto, using(crate::proofs::Readers::sources_are))]
     pub fn sources(self, row: &'a [Operand]) -> Option<Sources<'a>>
-        ensures { option_map sources_of result ≡ sources_behind (row_of (tables self.entry) row.now) }
+        ensures { option_map sources_of result ≡ sources_behind
+            (row_of (tables self.entry) row.now) }
     {
         let operands = self.members(row)?;
         let literals = self.named.literals.as_slice();
@@ -163,7 +165,8 @@ impl<'a> Lookup<'a> {
     #[inline(always)]
     #[tactic(auto, using(crate::proofs::Readers::registers_are))]
     pub fn registers(self, row: &'a [Operand]) -> Option<YRegisters<'a>>
-        ensures { option_map registers_of result ≡ registers_behind (row_of (tables self.entry) row.now) }
+        ensures { option_map registers_of result ≡ registers_behind
+            (row_of (tables self.entry) row.now) }
     {
         let operands = self.members(row)?;
         Some(YRegisters { operands })

@@ -201,7 +201,8 @@ fn same_op(one: Op, other: Op) -> bool
 
 /// Whether the operands of one number are the same, or neither item has one.
 fn same_at(one: Numbered<'_>, other: Numbered<'_>, number: usize) -> bool
-    ensures { IsTrue result ↔ (slice_get (item_of one.entry).operands number ≡ slice_get (item_of other.entry).operands number) }
+    ensures { IsTrue result ↔ (slice_get (item_of one.entry).operands number ≡ slice_get
+        (item_of other.entry).operands number) }
 {
     match (one.operand(number), other.operand(number)) {
         (Some(operand), Some(other)) => operand.same(other),

@@ -24,7 +24,9 @@ fn number_literal(
     literals: &mut Vec<Term>,
     term: &Term,
 ) -> Result<Operand, AllocError>
-    ensures ok { IfOk result (λ n. (called : List Called) → spelled (record { literals = literals.new.items; imports = called }) n ≡ Some (Listed.Literal term.now)) }
+    ensures ok { IfOk result (λ n. (called : List Called) → spelled
+        (record { literals = literals.new.items; imports = called }) n ≡ Some
+        (Listed.Literal term.now)) }
     ensures extends { Extends literals.old.items literals.new.items }
 {
     let number = literals.as_slice().len();
@@ -36,7 +38,9 @@ fn number_literal(
 /// The number of a function that is called by its name; a new one goes to the end of the table.
 #[tactic(auto, using(crate::proofs::Growth::extends_insert, crate::proofs::Growth::stored_import))]
 fn number_import(imports: &mut IndexSet<Import>, function: Import) -> Result<Operand, AllocError>
-    ensures ok { IfOk result (λ n. (literals : List Tree) → spelled (record { literals = literals; imports = imports.new.keys }) n ≡ Some (Listed.Import function)) }
+    ensures ok { IfOk result (λ n. (literals : List Tree) → spelled
+        (record { literals = literals; imports = imports.new.keys }) n ≡ Some
+        (Listed.Import function)) }
     ensures extends { Extends imports.old.keys imports.new.keys }
 {
     let (number, _) = imports.insert_full(function)?;
@@ -52,7 +56,9 @@ fn number_operand(
     operand: &Listed,
 ) -> Result<Operand, AllocError>
     requires { is_register operand.now ≡ true }
-    ensures ok { IfOk result (λ n. spelled (record { literals = literals.new.items; imports = imports.new.keys }) n ≡ Some operand.now) }
+    ensures ok { IfOk result (λ n. spelled
+        (record { literals = literals.new.items; imports = imports.new.keys }) n ≡ Some
+        operand.now) }
     ensures literals { Extends literals.old.items literals.new.items }
     ensures imports { Extends imports.old.keys imports.new.keys }
 {
@@ -106,7 +112,8 @@ impl Draft {
         row: &[Listed],
     ) -> Result<SmallVec<Operand, 3>, AllocError>
         requires { list_all is_register row.now ≡ true }
-        ensures spells { IfOk result (λ numbered. SpellsRow (tables_of self.new) numbered.items row.now) }
+        ensures spells { IfOk result
+            (λ numbered. SpellsRow (tables_of self.new) numbered.items row.now) }
         ensures items { OnOk result (self.new.items ≡ self.old.items) }
         ensures extends { OnOk result (ExtendsTables (tables_of self.old) (tables_of self.new)) }
     {

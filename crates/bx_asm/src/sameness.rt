@@ -8,7 +8,8 @@ use bx_share::{Same, same_rows};
 
 /// Whether the items of one number are the same, or neither unit has one.
 fn same_at(one: &Unit, other: &Unit, number: usize) -> bool
-    ensures { IsTrue result ↔ (slice_get (items one.now) number ≡ slice_get (items other.now) number) }
+    ensures { IsTrue result ↔
+        (slice_get (items one.now) number ≡ slice_get (items other.now) number) }
 {
     match (one.item(number), other.item(number)) {
         (Some(item), Some(other)) => item.same(other),

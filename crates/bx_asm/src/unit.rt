@@ -48,12 +48,20 @@ impl Model for Unit {
 
     ghost Value = { Code };
 
-    ghost coded = { code_code atom.the_row.coded export.the_row.coded (item_code op.the_row.coded operand.the_row.coded) };
+    ghost coded = { code_code atom.the_row.coded export.the_row.coded
+        (item_code op.the_row.coded operand.the_row.coded) };
 
     ghost use Rattle.bx_asm.specs.Spelling.{spelled_item};
     ghost use Rattle.bx_asm.specs.Unit.{functions, IsUnit};
 
-    ghost view = { λ u. record { name = u.name; exports = u.exports.items; functions = functions u.heads.items (map (spelled_item (record { literals = u.named.literals.items; imports = u.named.imports.keys })) u.items.items) } };
+    ghost view = { λ u. record {
+      name = u.name;
+      exports = u.exports.items;
+      functions = functions
+          u.heads.items (map (spelled_item
+          (record { literals = u.named.literals.items; imports = u.named.imports.keys }))
+          u.items.items);
+    } };
 
     ghost invariant = { λ u. IsUnit u.heads.items u.items.items };
 }
@@ -179,7 +187,8 @@ fn add_item(
     number: usize,
 ) -> Result<(), AllocError>
     requires { option_and_then register_fault (slice_get function.now.items number) ≡ None }
-    ensures { OnOk result (Grows draft.old draft.new (at_number number (items_of function.now.items))) }
+    ensures { OnOk result
+        (Grows draft.old draft.new (at_number number (items_of function.now.items))) }
 {
     match function.item(number) {
         Some(item) => draft.add(alloc, item),

@@ -54,9 +54,16 @@ impl Model for CodeFunction {
 
     ghost Value = { CodeFunction };
 
-    ghost coded = { code_function_code atom.the_row.coded (item_code op.the_row.coded operand.the_row.coded) };
+    ghost coded = { code_function_code atom.the_row.coded
+        (item_code op.the_row.coded operand.the_row.coded) };
 
-    ghost view = { λ f. record { name = f.name; arity = f.arity; entry = f.entry; items = stored_items f.operands.items f.stored.items } };
+    ghost view = { λ f. record {
+      name = f.name;
+      arity = f.arity;
+      entry = f.entry;
+      items =
+          stored_items f.operands.items f.stored.items;
+    } };
 
     ghost invariant = { λ f. AreStored f.operands.items f.stored.items };
 }
@@ -79,9 +86,11 @@ impl CodeFunction {
     /// it, both stay as they are.
     #[tactic(auto, using(crate::proofs::Stores::item_added, crate::proofs::Stores::whole_added))]
     pub fn add(&mut self, op: Op, operands: &mut Vec<Operand>) -> Result<(), AllocError>
-        ensures added { OnOk result (self.new ≡ record self.old { items = self.old.items ++ record { op = op; operands = operands.old.items } ∷ [] }) }
+        ensures added { OnOk result (self.new ≡ record self.old
+            { items = self.old.items ++ record { op = op; operands = operands.old.items } ∷ [] }) }
         ensures taken { OnOk result (operands.new.items ≡ []) }
-        ensures kept { OnErr result ((self.new ≡ self.old) × (operands.new.items ≡ operands.old.items)) }
+        ensures kept { OnErr result
+            ((self.new ≡ self.old) × (operands.new.items ≡ operands.old.items)) }
     {
         self.stored.reserve(1)?;
         let from = self.operands.as_slice().len();
@@ -225,15 +234,18 @@ impl Model for Code {
 
     ghost Value = { Code };
 
-    ghost coded = { code_code atom.the_row.coded export.the_row.coded (item_code op.the_row.coded operand.the_row.coded) };
+    ghost coded = { code_code atom.the_row.coded export.the_row.coded
+        (item_code op.the_row.coded operand.the_row.coded) };
 
-    ghost view = { λ c. record { name = c.name; exports = c.exports.items; functions = c.functions.items } };
+    ghost view = { λ c. record
+        { name = c.name; exports = c.exports.items; functions = c.functions.items } };
 }
 
 impl Code {
     /// The code with these parts.
     pub fn new(name: AtomId, exports: Vec<Export>, functions: Vec<CodeFunction>) -> Code
-        ensures { result ≡ record { name = name; exports = exports.items; functions = functions.items } }
+        ensures { result ≡ record
+            { name = name; exports = exports.items; functions = functions.items } }
     {
         Code {
             name,

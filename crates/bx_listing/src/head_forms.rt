@@ -34,7 +34,8 @@ pub(crate) fn exports_form(
     line: usize,
     form: Shape,
 ) -> Result<Vec<Export>, Fault>
-    ensures { Reads (Unit {0}) (λ exports. exports.items) atoms.old atoms.new result (exports_form line (seen form.entry)) }
+    ensures { Reads (Unit {0}) (λ exports. exports.items) atoms.old atoms.new result
+        (exports_form line (seen form.entry)) }
 {
     let Shape::Tagged(text, [list]) = form else {
         return Err(Fault::BadForm { line });
@@ -51,7 +52,8 @@ fn offers(
     line: usize,
     list: &[Node],
 ) -> Result<Vec<Export>, Fault>
-    ensures { Reads (Unit {0}) (λ exports. exports.items) atoms.old atoms.new result (offers line list.now) }
+    ensures { Reads (Unit {0}) (λ exports. exports.items) atoms.old atoms.new result
+        (offers line list.now) }
 {
     if are_offers(list) {
         named_offers(alloc, atoms, line, list)
@@ -78,7 +80,8 @@ fn named_offers(
     line: usize,
     list: &[Node],
 ) -> Result<Vec<Export>, Fault>
-    ensures { Reads (Unit {0}) (λ exports. exports.items) atoms.old atoms.new result (named_offers line list.now) }
+    ensures { Reads (Unit {0}) (λ exports. exports.items) atoms.old atoms.new result
+        (named_offers line list.now) }
 {
     let mut exports = Vec::new(alloc);
     for i in 0..list.len() {
@@ -91,7 +94,8 @@ fn named_offers(
 }
 
 fn named_offer(alloc: Global, atoms: &mut Atoms, line: usize, node: &Node) -> Result<Export, Fault>
-    ensures { Reads (Unit {0}) (λ export. export) atoms.old atoms.new result (named_offer line node.now) }
+    ensures { Reads (Unit {0}) (λ export. export) atoms.old atoms.new result
+        (named_offer line node.now) }
 {
     match offer(node) {
         Some((name, arity)) => {
@@ -141,7 +145,8 @@ pub(crate) fn function_form(
     line: usize,
     parts: &[Node],
 ) -> Result<Function, Fault>
-    ensures { Reads (Unit {0}) (λ function. function) atoms.old atoms.new result (function_form line parts.now) }
+    ensures { Reads (Unit {0}) (λ function. function) atoms.old atoms.new result
+        (function_form line parts.now) }
 {
     let [name, arity, entry] = parts else {
         return Err(Fault::BadForm { line });

@@ -25,17 +25,22 @@ pub fn forms_are_the_grammar()
 /// The forms of a text are read as code where they are a listing of it, and nowhere else.
 #[tactic(auto, using(crate::proofs::Listed::listings_are))]
 pub fn a_listing_is_read_exactly()
-    ensures { (text : List ℕ) (code : ListedModule) (before behind : Table) → ((listing (last_line text) (forms (place_in text 0))).run before ≡ read behind code) ↔ IsListing before (forms (place_in text 0)) code behind }
+    ensures { (text : List ℕ) (code : ListedModule) (before behind : Table) →
+        ((listing (last_line text) (forms (place_in text 0))).run before ≡ read behind code) ↔
+        IsListing before (forms (place_in text 0)) code behind }
 {}
 
 /// Forms that are no listing are refused at the first one with which they are none, with its line.
 #[tactic(auto, using(crate::proofs::FirstFaults::first_faults_are))]
 pub fn the_first_form_at_fault_is_refused()
-    ensures { (text : List ℕ) (before behind : Table) (fault : Fault) → IsAtomTable before → (listing (last_line text) (forms (place_in text 0))).run before ≡ refused behind fault → IsFirstFault before (last_line text) (forms (place_in text 0)) fault }
+    ensures { (text : List ℕ) (before behind : Table) (fault : Fault) → IsAtomTable before →
+        (listing (last_line text) (forms (place_in text 0))).run before ≡ refused behind fault →
+        IsFirstFault before (last_line text) (forms (place_in text 0)) fault }
 {}
 
 /// What is listed as an item has the operands that its opcode's row of the table wants.
 #[tactic(auto, using(crate::proofs::Fitting::item_fits))]
 pub fn a_listed_item_fits_its_opcode()
-    ensures { (before behind : Table) (t : Tree) (i : Item) → IsItem before t i behind → fits i ≡ true }
+    ensures { (before behind : Table) (t : Tree) (i : Item) → IsItem before t i behind → fits i ≡
+        true }
 {}

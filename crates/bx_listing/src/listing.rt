@@ -33,9 +33,15 @@ impl Model for Function {
 
     ghost Value = { ListedFunction };
 
-    ghost coded = { function_code atom.the_row.coded (placed_code (item_code op.the_row.coded operand.the_row.coded)) };
+    ghost coded = { function_code atom.the_row.coded
+        (placed_code (item_code op.the_row.coded operand.the_row.coded)) };
 
-    ghost view = { λ f. record { name = f.code.name; arity = f.code.arity; entry = f.code.entry; items = placed f.lines.items f.code.items } };
+    ghost view = { λ f. record {
+      name = f.code.name;
+      arity = f.code.arity;
+      entry = f.code.entry;
+      items = placed f.lines.items f.code.items;
+    } };
 
     ghost invariant = { λ f. length f.lines.items ≡ length f.code.items };
 }
@@ -59,7 +65,10 @@ impl Function {
         op: Op,
         operands: &mut Vec<Operand>,
     ) -> Result<(), AllocError>
-        ensures added { OnOk result (self.new ≡ record self.old { items = self.old.items ++ record { line = line; item = record { op = op; operands = operands.old.items } } ∷ [] }) }
+        ensures added { OnOk result (self.new ≡ record self.old {
+          items = self.old.items ++ record
+              { line = line; item = record { op = op; operands = operands.old.items } } ∷ [];
+        }) }
         ensures taken { OnOk result (operands.new.items ≡ []) }
         ensures kept { OnErr result (self.new ≡ self.old) }
     {
@@ -101,7 +110,8 @@ impl Function {
     /// The item of this number, from 0; `None` past the last.
     #[tactic(auto, using(crate::proofs::Placed::placed_item_at))]
     pub fn item(&self, number: usize) -> Option<Item<'_>>
-        ensures { option_map seen_item result ≡ option_map (λ p. p.item) (slice_get self.now.items number) }
+        ensures { option_map seen_item result ≡ option_map (λ p. p.item)
+            (slice_get self.now.items number) }
     {
         self.code.item(number)
     }
@@ -156,14 +166,17 @@ impl Model for Listing {
 
     ghost Value = { ListedModule };
 
-    ghost coded = { module_code atom.the_row.coded export.the_row.coded (placed_code (item_code op.the_row.coded operand.the_row.coded)) };
+    ghost coded = { module_code atom.the_row.coded export.the_row.coded
+        (placed_code (item_code op.the_row.coded operand.the_row.coded)) };
 
-    ghost view = { λ a. record { name = a.«module»; exports = a.exports.items; functions = a.functions.items } };
+    ghost view = { λ a. record
+        { name = a.«module»; exports = a.exports.items; functions = a.functions.items } };
 }
 
 impl Listing {
     pub(crate) fn new(name: AtomId, exports: Vec<Export>, functions: Vec<Function>) -> Listing
-        ensures { result ≡ record { name = name; exports = exports.items; functions = functions.items } }
+        ensures { result ≡ record
+            { name = name; exports = exports.items; functions = functions.items } }
     {
         Listing {
             module: name,

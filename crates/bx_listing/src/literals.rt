@@ -29,7 +29,8 @@ pub(crate) fn literal(
     line: usize,
     node: &Node,
 ) -> Result<Option<Term>, Fault>
-    ensures read { Reads (Unit {0}) (λ term. term) atoms.old atoms.new result (literal line node.now) }
+    ensures read { Reads (Unit {0}) (λ term. term) atoms.old atoms.new result
+        (literal line node.now) }
     ensures node { IsNode node.now }
 {
     match node.view() {
@@ -71,7 +72,8 @@ fn literal_row(
     elements: &[Node],
     tail: Option<&Node>,
 ) -> Result<Row, Fault>
-    ensures { Reads (Unit {0}) row_of atoms.old atoms.new result (parts line (chain elements.now (tail_seen tail.entry))).row }
+    ensures { Reads (Unit {0}) row_of atoms.old atoms.new result
+        (parts line (chain elements.now (tail_seen tail.entry))).row }
 {
     let mut kept = Some(Vec::new(alloc));
     for i in 0..elements.len() {
@@ -96,7 +98,8 @@ fn literal_row(
 }
 
 fn with_last(terms: Option<Vec<Term>>, term: Option<Term>) -> Result<Option<Vec<Term>>, AllocError>
-    ensures { IfOk result (λ longer. option_map (λ ts. ts.items) longer ≡ with_last (option_map (λ ts. ts.items) terms) term) }
+    ensures { IfOk result (λ longer. option_map (λ ts. ts.items) longer ≡ with_last
+        (option_map (λ ts. ts.items) terms) term) }
 {
     match (terms, term) {
         (Some(mut terms), Some(term)) => {
@@ -122,7 +125,8 @@ fn cell(alloc: Global, head: Term, tail: Option<Term>) -> Result<Option<Term>, A
 }
 
 fn list(alloc: Global, row: Row) -> Result<Option<Term>, AllocError>
-    ensures { IfOk result (λ term. term ≡ kept_list (option_map (λ ts. ts.items) row.elements) row.tail) }
+    ensures { IfOk result
+        (λ term. term ≡ kept_list (option_map (λ ts. ts.items) row.elements) row.tail) }
 {
     let Row { elements, tail } = row;
     match elements {

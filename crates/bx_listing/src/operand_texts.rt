@@ -150,7 +150,8 @@ pub(crate) fn push_added(
     atoms: &Atoms,
     operands: &[Operand],
 ) -> Result<(), AllocError>
-    ensures { OnOk result (string_bytes out.new ≡ string_bytes out.old ++ added_text atoms.now operands.now) }
+    ensures { OnOk result
+        (string_bytes out.new ≡ string_bytes out.old ++ added_text atoms.now operands.now) }
 {
     for operand in operands {
         out.push_str(",")?;
@@ -185,7 +186,8 @@ pub(crate) fn push_list(
     atoms: &Atoms,
     operands: &[Operand],
 ) -> Result<(), AllocError>
-    ensures { OnOk result (string_bytes out.new ≡ string_bytes out.old ++ list_text atoms.now operands.now) }
+    ensures { OnOk result
+        (string_bytes out.new ≡ string_bytes out.old ++ list_text atoms.now operands.now) }
 {
     out.push_str("[")?;
     push_joined(alloc, out, atoms, operands)?;

@@ -97,7 +97,8 @@ fn atom_operand(
     line: usize,
     node: &Node,
 ) -> Result<Operand, Fault>
-    ensures { Reads (Unit {0}) (λ atom. atom) atoms.old atoms.new result (atom_operand line node.now) }
+    ensures { Reads (Unit {0}) (λ atom. atom) atoms.old atoms.new result
+        (atom_operand line node.now) }
 {
     let Shape::Tagged(word, [operand]) = shape_of(node) else {
         return Err(Fault::BadOperand { line });
@@ -110,7 +111,8 @@ fn atom_operand(
 
 /// A register, or a value that stands in the instruction.
 fn source(alloc: Global, atoms: &mut Atoms, line: usize, node: &Node) -> Result<Operand, Fault>
-    ensures { Reads (Unit {0}) (λ source. source) atoms.old atoms.new result (source line node.now) }
+    ensures { Reads (Unit {0}) (λ source. source) atoms.old atoms.new result
+        (source line node.now) }
 {
     match shape_of(node) {
         Shape::Bare(word) => match operand_word(word) {
@@ -138,7 +140,8 @@ fn tagged_source(
     word: OperandWord,
     parts: &[Node],
 ) -> Result<Operand, Fault>
-    ensures { Reads (Unit {0}) (λ source. source) atoms.old atoms.new result (source_of line node.now word parts.now) }
+    ensures { Reads (Unit {0}) (λ source. source) atoms.old atoms.new result
+        (source_of line node.now word parts.now) }
 {
     match (word, parts) {
         (OperandWord::Integer, [integer]) => integer_source(line, integer),
@@ -166,7 +169,8 @@ fn value(alloc: Global, atoms: &mut Atoms, line: usize, node: &Node) -> Result<O
 
 // The integer of `{integer,I}`.
 fn integer_source(line: usize, node: &Node) -> Result<Operand, Fault>
-    ensures { (texts : Table) → Reads (Unit {0}) (λ source. source) texts texts result (integer_source line node.now) }
+    ensures { (texts : Table) → Reads (Unit {0}) (λ source. source) texts texts result
+        (integer_source line node.now) }
 {
     match node.view() {
         View::Integer(value) => Ok(Operand::Integer(value)),
@@ -178,7 +182,8 @@ fn integer_source(line: usize, node: &Node) -> Result<Operand, Fault>
 // The atom of `{atom,A}`.
 #[tactic(auto, using(crate::proofs::Readings::refuses_first))]
 fn atom_source(alloc: Global, atoms: &mut Atoms, line: usize, node: &Node) -> Result<Operand, Fault>
-    ensures { Reads (Unit {0}) (λ source. source) atoms.old atoms.new result (atom_source line node.now) }
+    ensures { Reads (Unit {0}) (λ source. source) atoms.old atoms.new result
+        (atom_source line node.now) }
 {
     let atom = atom_word(alloc, atoms, line, node)?;
     Ok(Operand::Atom(atom))
@@ -192,7 +197,8 @@ fn literal_source(
     line: usize,
     node: &Node,
 ) -> Result<Operand, Fault>
-    ensures { Reads (Unit {0}) (λ source. source) atoms.old atoms.new result (literal_source line node.now) }
+    ensures { Reads (Unit {0}) (λ source. source) atoms.old atoms.new result
+        (literal_source line node.now) }
 {
     match literal(alloc, atoms, line, node)? {
         Some(term) => Ok(Operand::Literal(term)),
@@ -210,7 +216,8 @@ pub(crate) fn unsupported(alloc: Global, line: usize, name: &str) -> Result<Faul
 
 /// The function of `{extfunc,M,F,A}`.
 fn callee(alloc: Global, atoms: &mut Atoms, line: usize, node: &Node) -> Result<Operand, Fault>
-    ensures { Reads (Unit {0}) (λ callee. callee) atoms.old atoms.new result (callee line node.now) }
+    ensures { Reads (Unit {0}) (λ callee. callee) atoms.old atoms.new result
+        (callee line node.now) }
 {
     let Shape::Tagged(word, [module, function, count]) = shape_of(node) else {
         return Err(Fault::BadOperand { line });
@@ -230,7 +237,8 @@ fn external(
     function: &Node,
     count: &Node,
 ) -> Result<Operand, Fault>
-    ensures { Reads (Unit {0}) (λ callee. callee) atoms.old atoms.new result (external line module.now function.now count.now) }
+    ensures { Reads (Unit {0}) (λ callee. callee) atoms.old atoms.new result
+        (external line module.now function.now count.now) }
 {
     let module = atom_word(alloc, atoms, line, module)?;
     let function = atom_word(alloc, atoms, line, function)?;
@@ -247,7 +255,8 @@ fn external(
 /// `{KIND,N}`, which a tuple of two is whose first is an atom.
 #[tactic(auto, using(crate::proofs::Readings::refuses_first))]
 fn amount(alloc: Global, atoms: &mut Atoms, line: usize, node: &Node) -> Result<Operand, Fault>
-    ensures { Reads (Unit {0}) (λ amount. amount) atoms.old atoms.new result (amount line node.now) }
+    ensures { Reads (Unit {0}) (λ amount. amount) atoms.old atoms.new result
+        (amount line node.now) }
 {
     let Shape::Tagged(kind, [count]) = shape_of(node) else {
         return Err(Fault::BadOperand { line });
@@ -303,7 +312,8 @@ pub(crate) fn simple(
     sort: Sort,
     node: &Node,
 ) -> Result<Operand, Fault>
-    ensures { Reads (Unit {0}) (λ operand. operand) atoms.old atoms.new result (simple line sort node.now) }
+    ensures { Reads (Unit {0}) (λ operand. operand) atoms.old atoms.new result
+        (simple line sort node.now) }
 {
     match sort {
         Sort::Source => source(alloc, atoms, line, node),

@@ -26,7 +26,8 @@ pub(crate) fn part(
     line: usize,
     form: Shape,
 ) -> Result<(), Fault>
-    ensures { Reads (Unit {0}) (λ done. functions.new.items) atoms.old atoms.new result (part line functions.old.items (seen form.entry)) }
+    ensures { Reads (Unit {0}) (λ done. functions.new.items) atoms.old atoms.new result
+        (part line functions.old.items (seen form.entry)) }
 {
     match form {
         Shape::Tagged(text, parts) => match form_word(text) {
@@ -45,7 +46,8 @@ fn begin_function(
     line: usize,
     parts: &[Node],
 ) -> Result<(), Fault>
-    ensures { Reads (Unit {0}) (λ done. functions.new.items) atoms.old atoms.new result (begun_function line functions.old.items parts.now) }
+    ensures { Reads (Unit {0}) (λ done. functions.new.items) atoms.old atoms.new result
+        (begun_function line functions.old.items parts.now) }
 {
     let function = function_form(alloc, atoms, line, parts)?;
     functions.push(function)?;
@@ -61,7 +63,8 @@ fn add_form(
     line: usize,
     form: Shape,
 ) -> Result<(), Fault>
-    ensures { Reads (Unit {0}) (λ done. functions.new.items) atoms.old atoms.new result (with_form line functions.old.items (seen form.entry)) }
+    ensures { Reads (Unit {0}) (λ done. functions.new.items) atoms.old atoms.new result
+        (with_form line functions.old.items (seen form.entry)) }
 {
     if functions.is_empty() {
         return Err(Fault::BadForm { line });
@@ -78,7 +81,8 @@ fn add_form_item(
     line: usize,
     form: Shape,
 ) -> Result<(), Fault>
-    ensures { Reads (Unit {0}) (λ done. functions.new.items) atoms.old atoms.new result (with_form_item line functions.old.items (seen form.entry)) }
+    ensures { Reads (Unit {0}) (λ done. functions.new.items) atoms.old atoms.new result
+        (with_form_item line functions.old.items (seen form.entry)) }
 {
     let op = item(alloc, atoms, operands, line, form)?;
     add_item(functions, operands, line, op)?;
@@ -93,7 +97,8 @@ fn item(
     line: usize,
     form: Shape,
 ) -> Result<Option<Op>, Fault>
-    ensures { Reads (Unit {0}) (λ op. read_as (op, operands.new.items)) atoms.old atoms.new result (item line (seen form.entry)) }
+    ensures { Reads (Unit {0}) (λ op. read_as (op, operands.new.items)) atoms.old atoms.new result
+        (item line (seen form.entry)) }
 {
     operands.clear();
     read_item(alloc, atoms, line, operands, form)
@@ -106,7 +111,8 @@ fn add_item(
     line: usize,
     op: Option<Op>,
 ) -> Result<(), AllocError>
-    ensures { OnOk result (functions.new.items ≡ with_optional line (read_as (op, operands.old.items)) functions.old.items) }
+    ensures { OnOk result (functions.new.items ≡ with_optional line
+        (read_as (op, operands.old.items)) functions.old.items) }
 {
     let Some(op) = op else {
         return Ok(());

@@ -24,8 +24,10 @@ use std::alloc::Global;
 /// The next form and a reader behind it; `None` where only blanks follow.
 #[tactic(auto, unfolding(crate::specs::Forms::next_form))]
 fn next_form<'a>(alloc: Global, reader: Reader<'a>) -> Result<Option<(Node<'a>, Reader<'a>)>, Fault>
-    ensures form { Gives (takes_memory (place reader.entry)) (λ o. option_map (λ x. (x.0, place x.1)) o) result (next_form (place reader.entry)) }
-    ensures shorter { IfOk result (λ o. IfSome o (λ x. length x.1.rest.now < length reader.entry.rest.now)) }
+    ensures form { Gives (takes_memory (place reader.entry))
+        (λ o. option_map (λ x. (x.0, place x.1)) o) result (next_form (place reader.entry)) }
+    ensures shorter { IfOk result
+        (λ o. IfSome o (λ x. length x.1.rest.now < length reader.entry.rest.now)) }
 {
     // That each form takes bytes bounds the number of forms.
     match reader.next(alloc)? {
@@ -48,7 +50,8 @@ fn head_form<'a>(
     text: &[u8],
     reader: Reader<'a>,
 ) -> Result<(Node<'a>, Reader<'a>), Fault>
-    ensures { Gives (takes_memory (place reader.entry)) (λ x. listings.taken_at x.0 (place x.1)) result (listings.taken (last_line text.now) (forms (place reader.entry))) }
+    ensures { Gives (takes_memory (place reader.entry)) (λ x. listings.taken_at x.0 (place x.1))
+        result (listings.taken (last_line text.now) (forms (place reader.entry))) }
 {
     match next_form(alloc, reader)? {
         Some(form) => Ok(form),
@@ -60,7 +63,8 @@ fn head_form<'a>(
 
 /// A reader behind `{labels,N}`, before which `{attributes,T}` may stand.
 fn behind_head<'a>(alloc: Global, text: &[u8], reader: Reader<'a>) -> Result<Reader<'a>, Fault>
-    ensures { Gives (Unit {0}) (λ r. forms (place r)) result (listings.behind_head (last_line text.now) (forms (place reader.entry))) }
+    ensures { Gives (Unit {0}) (λ r. forms (place r)) result
+        (listings.behind_head (last_line text.now) (forms (place reader.entry))) }
 {
     let (form, behind) = head_form(alloc, text, reader)?;
     if is_attributes(shape_of(&form)) {
@@ -72,7 +76,8 @@ fn behind_head<'a>(alloc: Global, text: &[u8], reader: Reader<'a>) -> Result<Rea
 
 /// The reader behind a form, which must be `{labels,N}`.
 fn behind_labels<'a>(form: Node<'a>, behind: Reader<'a>) -> Result<Reader<'a>, Fault>
-    ensures { Gives ⊥ (λ r. forms (place r)) result (listings.behind_labels (listings.taken_at form.entry (place behind.entry))) }
+    ensures { Gives ⊥ (λ r. forms (place r)) result
+        (listings.behind_labels (listings.taken_at form.entry (place behind.entry))) }
 {
     if is_labels(shape_of(&form)) {
         Ok(behind)
@@ -85,7 +90,8 @@ fn behind_labels<'a>(form: Node<'a>, behind: Reader<'a>) -> Result<Reader<'a>, F
 
 /// The functions, each with its items, up to the end of the text.
 fn functions(alloc: Global, atoms: &mut Atoms, reader: Reader) -> Result<Vec<Function>, Fault>
-    ensures { Reads (Unit {0}) (λ functions. functions.items) atoms.old atoms.new result (listings.functions [] (forms (place reader.entry))) }
+    ensures { Reads (Unit {0}) (λ functions. functions.items) atoms.old atoms.new result
+        (listings.functions [] (forms (place reader.entry))) }
 {
     let mut functions = Vec::new(alloc);
     let mut operands = Vec::new(alloc);
@@ -104,7 +110,8 @@ fn take_form(
     operands: &mut Vec<Operand>,
     form: Node,
 ) -> Result<(), Fault>
-    ensures { Reads (Unit {0}) (λ done. functions.new.items) atoms.old atoms.new result (listings.part (span_of form.entry).line functions.old.items (shape form.entry)) }
+    ensures { Reads (Unit {0}) (λ done. functions.new.items) atoms.old atoms.new result
+        (listings.part (span_of form.entry).line functions.old.items (shape form.entry)) }
 {
     let line = form.span().line;
     part(alloc, atoms, functions, operands, line, shape_of(&form))
@@ -122,7 +129,10 @@ fn take_form(
 ///
 /// Source: the listings that `erlc -S` writes, and `genop.tab` of Erlang/OTP.
 pub fn read_listing(alloc: Global, atoms: &mut Atoms, text: &[u8]) -> Result<Listing, Fault>
-    ensures { Reads (takes_memory (place_in text.now 0) ⊎ listings.IsNamed (forms (place_in text.now 0))) (λ listing. listing) atoms.old atoms.new result (listings.listing (last_line text.now) (forms (place_in text.now 0))) }
+    ensures { Reads
+        (takes_memory (place_in text.now 0) ⊎ listings.IsNamed (forms (place_in text.now 0)))
+        (λ listing. listing) atoms.old atoms.new result
+        (listings.listing (last_line text.now) (forms (place_in text.now 0))) }
 {
     let (form, behind) = head_form(alloc, text, Reader::at(text, 0))?;
     let line = form.span().line;
@@ -141,7 +151,9 @@ fn named_listing(
     module: &str,
     behind: Reader,
 ) -> Result<Listing, Fault>
-    ensures { Reads (Unit {0}) (λ listing. listing) atoms.old atoms.new result (listings.named_listing (last_line text.now) line (forms (place behind.entry)) «module».now) }
+    ensures { Reads (Unit {0}) (λ listing. listing) atoms.old atoms.new result
+        (listings.named_listing (last_line text.now) line (forms (place behind.entry))
+        «module».now) }
 {
     let name = name_atom(alloc, atoms, line, module)?;
     behind_name(alloc, atoms, text, name, behind)
@@ -154,7 +166,8 @@ fn behind_name(
     name: AtomId,
     behind: Reader,
 ) -> Result<Listing, Fault>
-    ensures { Reads (Unit {0}) (λ listing. listing) atoms.old atoms.new result (listings.behind_name (last_line text.now) (forms (place behind.entry)) name) }
+    ensures { Reads (Unit {0}) (λ listing. listing) atoms.old atoms.new result
+        (listings.behind_name (last_line text.now) (forms (place behind.entry)) name) }
 {
     let (form, behind) = head_form(alloc, text, behind)?;
     exported(alloc, atoms, text, name, form, behind)
@@ -169,7 +182,8 @@ fn exported(
     form: Node,
     behind: Reader,
 ) -> Result<Listing, Fault>
-    ensures { Reads (Unit {0}) (λ listing. listing) atoms.old atoms.new result (listings.exported (last_line text.now) name (listings.taken_at form.entry (place behind.entry))) }
+    ensures { Reads (Unit {0}) (λ listing. listing) atoms.old atoms.new result (listings.exported
+        (last_line text.now) name (listings.taken_at form.entry (place behind.entry))) }
 {
     let exports = exports_form(alloc, atoms, form.span().line, shape_of(&form))?;
     behind_exports(alloc, atoms, text, name, exports, behind)
@@ -183,7 +197,9 @@ fn behind_exports(
     exports: Vec<Export>,
     behind: Reader,
 ) -> Result<Listing, Fault>
-    ensures { Reads (Unit {0}) (λ listing. listing) atoms.old atoms.new result (listings.behind_exports (last_line text.now) name (forms (place behind.entry)) exports.items) }
+    ensures { Reads (Unit {0}) (λ listing. listing) atoms.old atoms.new result
+        (listings.behind_exports (last_line text.now) name (forms (place behind.entry))
+        exports.items) }
 {
     let behind = behind_head(alloc, text, behind)?;
     listed(alloc, atoms, name, exports, behind)
@@ -197,7 +213,8 @@ fn listed(
     exports: Vec<Export>,
     behind: Reader,
 ) -> Result<Listing, Fault>
-    ensures { Reads (Unit {0}) (λ listing. listing) atoms.old atoms.new result (listings.listed name exports.items (forms (place behind.entry))) }
+    ensures { Reads (Unit {0}) (λ listing. listing) atoms.old atoms.new result
+        (listings.listed name exports.items (forms (place behind.entry))) }
 {
     let functions = functions(alloc, atoms, behind)?;
     Ok(Listing::new(name, exports, functions))

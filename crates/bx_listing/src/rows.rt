@@ -28,7 +28,8 @@ fn members(
     second: Sort,
     nodes: &[Node],
 ) -> Result<(), Fault>
-    ensures { Reads (Unit {0}) (λ done. operands.new.items) atoms.old atoms.new result (members line operands.old.items first second nodes.now) }
+    ensures { Reads (Unit {0}) (λ done. operands.new.items) atoms.old atoms.new result
+        (members line operands.old.items first second nodes.now) }
 {
     let mut this = first;
     let mut next = second;
@@ -107,7 +108,8 @@ fn list_of(
     second: Sort,
     nodes: &[Node],
 ) -> Result<(), Fault>
-    ensures { Reads (Unit {0}) (λ done. operands.new.items) atoms.old atoms.new result (list_of line operands.old.items first second nodes.now) }
+    ensures { Reads (Unit {0}) (λ done. operands.new.items) atoms.old atoms.new result
+        (list_of line operands.old.items first second nodes.now) }
 {
     operands.push(Operand::List(nodes.len()))?;
     members(alloc, atoms, line, operands, first, second, nodes)
@@ -122,7 +124,8 @@ fn one(
     sort: Sort,
     node: &Node,
 ) -> Result<(), Fault>
-    ensures { Reads (Unit {0}) (λ done. operands.new.items) atoms.old atoms.new result (slot line operands.old.items (Slot.One sort) node.now) }
+    ensures { Reads (Unit {0}) (λ done. operands.new.items) atoms.old atoms.new result
+        (slot line operands.old.items (Slot.One sort) node.now) }
 {
     let operand = simple(alloc, atoms, line, sort, node)?;
     operands.push(operand)?;
@@ -138,7 +141,8 @@ fn read_slot(
     kind: Slot,
     node: &Node,
 ) -> Result<(), Fault>
-    ensures { Reads (Unit {0}) (λ done. operands.new.items) atoms.old atoms.new result (slot line operands.old.items kind node.now) }
+    ensures { Reads (Unit {0}) (λ done. operands.new.items) atoms.old atoms.new result
+        (slot line operands.old.items kind node.now) }
 {
     match kind {
         Slot::One(sort) => one(alloc, atoms, line, operands, sort, node),
@@ -176,7 +180,8 @@ fn heap(
     operands: &mut Vec<Operand>,
     node: &Node,
 ) -> Result<(), Fault>
-    ensures { Reads (Unit {0}) (λ done. operands.new.items) atoms.old atoms.new result (heap line operands.old.items node.now) }
+    ensures { Reads (Unit {0}) (λ done. operands.new.items) atoms.old atoms.new result
+        (heap line operands.old.items node.now) }
 {
     match amounts(node) {
         Some(nodes) => list_of(
@@ -201,7 +206,8 @@ fn pairs_of(
     second: Sort,
     nodes: &[Node],
 ) -> Result<(), Fault>
-    ensures { Reads (Unit {0}) (λ done. operands.new.items) atoms.old atoms.new result (pairs_of line operands.old.items first second nodes.now) }
+    ensures { Reads (Unit {0}) (λ done. operands.new.items) atoms.old atoms.new result
+        (pairs_of line operands.old.items first second nodes.now) }
 {
     if is_even(nodes) {
         list_of(alloc, atoms, line, operands, first, second, nodes)
@@ -239,7 +245,8 @@ fn read_row(
     slots: &[Slot],
     form: Form,
 ) -> Result<(), Fault>
-    ensures { Reads (Unit {0}) (λ done. operands.new.items) atoms.old atoms.new result (row line operands.old.items slots.now (formed form.entry).1) }
+    ensures { Reads (Unit {0}) (λ done. operands.new.items) atoms.old atoms.new result
+        (row line operands.old.items slots.now (formed form.entry).1) }
 {
     for i in 0..slots.len() {
         let Some(node) = form.part(i) else {
@@ -281,7 +288,8 @@ fn formed_item(
     operands: &mut Vec<Operand>,
     form: Form,
 ) -> Result<Option<Op>, Fault>
-    ensures { Reads (Unit {0}) (λ op. (op, operands.new.items)) atoms.old atoms.new result (formed_item line operands.old.items (formed form.entry)) }
+    ensures { Reads (Unit {0}) (λ op. (op, operands.new.items)) atoms.old atoms.new result
+        (formed_item line operands.old.items (formed form.entry)) }
 {
     let from = operands.len();
     let op = form.op;
@@ -307,7 +315,8 @@ fn written_item(
     word: FormWord,
     parts: &[Node],
 ) -> Result<Option<Op>, Fault>
-    ensures { Reads (Unit {0}) (λ op. (op, operands.new.items)) atoms.old atoms.new result (written_item line operands.old.items text.now word parts.now) }
+    ensures { Reads (Unit {0}) (λ op. (op, operands.new.items)) atoms.old atoms.new result
+        (written_item line operands.old.items text.now word parts.now) }
 {
     match tuple_form(alloc, line, text, word, parts) {
         Ok(form) => formed_item(alloc, atoms, line, operands, form),
@@ -324,7 +333,8 @@ fn tuple_item(
     word: FormWord,
     parts: &[Node],
 ) -> Result<Option<Op>, Fault>
-    ensures { Reads (Unit {0}) (λ op. (op, operands.new.items)) atoms.old atoms.new result (tuple_item line operands.old.items text.now word parts.now) }
+    ensures { Reads (Unit {0}) (λ op. (op, operands.new.items)) atoms.old atoms.new result
+        (tuple_item line operands.old.items text.now word parts.now) }
 {
     match (word, parts) {
         (FormWord::Annotation, [_]) => Ok(None),
@@ -340,7 +350,8 @@ fn bare_item(
     operands: &mut Vec<Operand>,
     text: &str,
 ) -> Result<Option<Op>, Fault>
-    ensures { Reads (Unit {0}) (λ op. (op, operands.new.items)) atoms.old atoms.new result (bare_item line operands.old.items text.now) }
+    ensures { Reads (Unit {0}) (λ op. (op, operands.new.items)) atoms.old atoms.new result
+        (bare_item line operands.old.items text.now) }
 {
     match bare_form(alloc, line, text, form_word(text)) {
         Ok(op) => Ok(Some(op)),
@@ -356,7 +367,8 @@ pub(crate) fn read_item(
     operands: &mut Vec<Operand>,
     form: Shape,
 ) -> Result<Option<Op>, Fault>
-    ensures { Reads (Unit {0}) (λ op. (op, operands.new.items)) atoms.old atoms.new result (item_row line operands.old.items (seen form.entry)) }
+    ensures { Reads (Unit {0}) (λ op. (op, operands.new.items)) atoms.old atoms.new result
+        (item_row line operands.old.items (seen form.entry)) }
 {
     match form {
         Shape::Tagged(text, parts) => tuple_item(

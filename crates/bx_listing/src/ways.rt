@@ -26,7 +26,8 @@ pub(crate) struct Form<'v, 'a> {
 
 /// An instruction whose operands are as many as the table says.
 fn counted<'v, 'a>(line: usize, form: Form<'v, 'a>) -> Result<Form<'v, 'a>, Fault>
-    ensures { FormGives formed result (counted line form.entry.op (form.entry.before.now ++ (form.entry.list.now ++ form.entry.behind.now))) }
+    ensures { FormGives formed result (counted line form.entry.op
+        (form.entry.before.now ++ (form.entry.list.now ++ form.entry.behind.now))) }
 {
     let left = slots(form.op).len();
     if form.before.len() <= left {
@@ -171,7 +172,8 @@ fn bif_found<'v, 'a>(
     list: &'v [Node<'a>],
     behind: &'v [Node<'a>],
 ) -> Result<Form<'v, 'a>, Fault>
-    ensures { FormGives formed result (bif_found line text.now op before.now list.now behind.now (guard_bif_with text.now (length list.now))) }
+    ensures { FormGives formed result (bif_found line text.now op before.now list.now behind.now
+        (guard_bif_with text.now (length list.now))) }
 {
     if bif_by_name(text, list.len()).is_none() {
         let called = format!(in alloc; "{text}/{}", list.len())?;
@@ -211,7 +213,9 @@ fn bif_called<'v, 'a>(
     name: Option<&'v str>,
     arguments: Option<&'v [Node<'a>]>,
 ) -> Result<Form<'v, 'a>, Fault>
-    ensures { FormGives formed result (bif_called line first.now fail.now behind.now (option_map (λ text. text.now) name.entry) (option_map (λ list. list.now) arguments.entry)) }
+    ensures { FormGives formed result (bif_called line first.now fail.now behind.now
+        (option_map (λ text. text.now) name.entry)
+        (option_map (λ list. list.now) arguments.entry)) }
 {
     match (name, arguments) {
         (Some(text), Some(list)) => bif_named(alloc, line, first, fail, behind, text, list),
@@ -228,7 +232,8 @@ fn bif_named<'v, 'a>(
     text: &str,
     list: &'v [Node<'a>],
 ) -> Result<Form<'v, 'a>, Fault>
-    ensures { FormGives formed result (bif_named line first.now fail.now behind.now text.now list.now) }
+    ensures { FormGives formed result
+        (bif_named line first.now fail.now behind.now text.now list.now) }
 {
     if is_raise(text, list) {
         bif_row(line, Some(Op::Raise), fail, list, behind)
@@ -273,7 +278,9 @@ fn gc_bif_called<'v, 'a>(
     name: Option<&'v str>,
     arguments: Option<&'v [Node<'a>]>,
 ) -> Result<Form<'v, 'a>, Fault>
-    ensures { FormGives formed result (gc_bif_called line first.now behind.now (option_map (λ text. text.now) name.entry) (option_map (λ list. list.now) arguments.entry)) }
+    ensures { FormGives formed result (gc_bif_called line first.now behind.now
+        (option_map (λ text. text.now) name.entry)
+        (option_map (λ list. list.now) arguments.entry)) }
 {
     match (name, arguments) {
         (Some(text), Some(list)) => bif_found(

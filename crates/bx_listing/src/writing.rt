@@ -20,7 +20,8 @@ fn push_offer(
     atoms: &Atoms,
     export: Export,
 ) -> Result<(), AllocError>
-    ensures { OnOk result (string_bytes out.new ≡ string_bytes out.old ++ offer_text atoms.now export) }
+    ensures { OnOk result
+        (string_bytes out.new ≡ string_bytes out.old ++ offer_text atoms.now export) }
 {
     out.push_str("{")?;
     push_name(alloc, out, atoms, export.function)?;
@@ -37,7 +38,8 @@ fn push_offers(
     atoms: &Atoms,
     exports: &[Export],
 ) -> Result<(), AllocError>
-    ensures { OnOk result (string_bytes out.new ≡ string_bytes out.old ++ offers_text atoms.now exports.now) }
+    ensures { OnOk result
+        (string_bytes out.new ≡ string_bytes out.old ++ offers_text atoms.now exports.now) }
 {
     match exports {
         [] => Ok(()),
@@ -115,7 +117,8 @@ fn push_module(
     atoms: &Atoms,
     name: AtomId,
 ) -> Result<(), AllocError>
-    ensures { OnOk result (string_bytes out.new ≡ string_bytes out.old ++ module_text atoms.now name) }
+    ensures { OnOk result
+        (string_bytes out.new ≡ string_bytes out.old ++ module_text atoms.now name) }
 {
     out.push_str("{module,")?;
     push_name(alloc, out, atoms, name)?;
@@ -148,7 +151,8 @@ fn push_labels(out: &mut String, count: u32) -> Result<(), AllocError>
 
 /// Adds the forms that stand before the functions.
 fn push_head(alloc: Global, out: &mut String, atoms: &Atoms, code: &Code) -> Result<(), AllocError>
-    ensures { OnOk result (string_bytes out.new ≡ string_bytes out.old ++ head_text atoms.now code.now) }
+    ensures { OnOk result
+        (string_bytes out.new ≡ string_bytes out.old ++ head_text atoms.now code.now) }
 {
     push_module(alloc, out, atoms, code.name())?;
     push_exports(alloc, out, atoms, code.exports())?;
@@ -244,7 +248,8 @@ fn push_functions(
 ///
 /// An atom that is not in `atoms` is written `?`. Memory is all that it may lack.
 pub fn write_listing(alloc: Global, atoms: &Atoms, code: &Code) -> Result<String, Fault>
-    ensures { Gives (Unit {0}) (λ text. string_bytes text) result (Ok (code_text atoms.now code.now)) }
+    ensures { Gives (Unit {0}) (λ text. string_bytes text) result
+        (Ok (code_text atoms.now code.now)) }
 {
     let mut out = String::new(alloc);
     push_head(alloc, &mut out, atoms, code)?;

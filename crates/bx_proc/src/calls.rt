@@ -36,7 +36,8 @@ impl Proc {
         kind: CallKind,
         label: u32,
     ) -> Result<(), Stop>
-        ensures { Turns ⊥ self.old self.new result (call_row image.now here (after image.now here) kind label self.old) }
+        ensures { Turns ⊥ self.old self.new result
+            (call_row image.now here (after image.now here) kind label self.old) }
     {
         let target = image.target(here.module, label);
         let Some(place) = target else {
@@ -65,7 +66,8 @@ impl Proc {
 
     /// Whether a last call has a frame of its size to give back.
     pub(crate) fn may_prepare(&self, kind: CallKind) -> Result<(), Trap>
-        ensures { MatchResult result (λ done. framed kind self.now ≡ Ok self.now) (λ trap. framed kind self.now ≡ Err trap) }
+        ensures { MatchResult result (λ done. framed kind self.now ≡ Ok self.now)
+            (λ trap. framed kind self.now ≡ Err trap) }
     {
         if let CallKind::Last(size) = kind {
             self.saved(size as u64)?;

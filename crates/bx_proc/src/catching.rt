@@ -106,7 +106,8 @@ impl Proc {
         trace: Source<'_>,
         value: Source<'_>,
     ) -> Result<Effect, Stop>
-        ensures { Makes (Unit {0}) self.old self.new result (raise_row (source_of trace.entry) (source_of value.entry) self.old) }
+        ensures { Makes (Unit {0}) self.old self.new result
+            (raise_row (source_of trace.entry) (source_of value.entry) self.old) }
     {
         let class = self.trace(trace)?;
         let value = self.term_of(alloc, value)?;
@@ -133,7 +134,8 @@ impl Proc {
         mismatch: Mismatch,
         value: Source<'_>,
     ) -> Result<Effect, Stop>
-        ensures { Makes (Unit {0}) self.old self.new result (no_match_row mismatch (source_of value.entry) self.old) }
+        ensures { Makes (Unit {0}) self.old self.new result
+            (no_match_row mismatch (source_of value.entry) self.old) }
     {
         let value = self.term_of(alloc, value)?;
         let told = mismatched(alloc, mismatch, value)?;

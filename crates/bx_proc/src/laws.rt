@@ -19,29 +19,40 @@ ghost use Rattle.bx_proc.specs.Table.{row, looks_at_faults};
 
 /// An instruction changes only the parts of its process that its family may change.
 pub fn an_instruction_changes_only_what_its_family_may()
-    ensures { (pid : ℕ) (image : Loaded) (here : Place) (i : Instr) (p q : Process) (effect : Effect) → row pid image here i p ≡ Ok (q, effect) → KeepsBut (parts_of i) p q }
+    ensures { (pid : ℕ) (image : Loaded) (here : Place) (i : Instr) (p q : Process)
+        (effect : Effect) → row pid image here i p ≡ Ok (q, effect) → KeepsBut (parts_of i) p q }
 {}
 
 /// A run of one instruction that concerns nobody else does not end its process and keeps its links. Any other run, and a
 /// trap, changes nothing.
 pub fn a_run_is_done_whole_or_changes_nothing()
-    ensures attempt { (image : Loaded) (pid : ℕ) (p q : Process) (effect : Effect) → attempted image pid p ≡ (q, effect) → Whole p q effect }
-    ensures answer { (image : Loaded) (answer : Answer) (p q : Process) (effect : Effect) → settled image answer p ≡ (q, effect) → Whole p q effect }
-    ensures noted { (image : Loaded) (answer : Answer) (message : Tree) (p q : Process) (effect : Effect) → settled_with image answer message p ≡ (q, effect) → Whole p q effect }
+    ensures attempt { (image : Loaded) (pid : ℕ) (p q : Process) (effect : Effect) → attempted image
+        pid p ≡ (q, effect) → Whole p q effect }
+    ensures answer { (image : Loaded) (answer : Answer) (p q : Process) (effect : Effect) → settled
+        image answer p ≡ (q, effect) → Whole p q effect }
+    ensures noted { (image : Loaded) (answer : Answer) (message : Tree) (p q : Process)
+        (effect : Effect) → settled_with image answer message p ≡ (q, effect) → Whole p q effect }
 {}
 
 /// A process that stands where no instruction is has nothing to run: the trap `BadPlace`, also while a fault is pending.
 pub fn there_is_nothing_to_run_without_an_instruction()
-    ensures { (image : Loaded) (pid : ℕ) (here : Place) (p : Process) → p.status ≡ Ready → p.asked ≡ None → p.place ≡ Some here → instruction_at image here ≡ None → attempted image pid p ≡ (p, effects.Trap BadPlace) }
+    ensures { (image : Loaded) (pid : ℕ) (here : Place) (p : Process) → p.status ≡ Ready → p.asked ≡
+        None → p.place ≡ Some here → instruction_at image here ≡ None → attempted image pid p ≡
+        (p, effects.Trap BadPlace) }
 {}
 
 /// While a fault is pending, an instruction that does not look at it is the trap `NoTag`.
 pub fn a_pending_fault_is_looked_at_first()
-    ensures { (image : Loaded) (pid : ℕ) (here : Place) (i : Instr) (fault : Pending) (p : Process) → p.status ≡ Ready → p.asked ≡ None → p.place ≡ Some here → p.fault ≡ Some fault → instruction_at image here ≡ Some i → looks_at_faults i ≡ false → attempted image pid p ≡ (p, effects.Trap NoTag) }
+    ensures { (image : Loaded) (pid : ℕ) (here : Place) (i : Instr) (fault : Pending) (p : Process)
+        → p.status ≡ Ready → p.asked ≡ None → p.place ≡ Some here → p.fault ≡ Some fault →
+        instruction_at image here ≡ Some i → looks_at_faults i ≡ false → attempted image pid p ≡
+        (p, effects.Trap NoTag) }
 {}
 
 /// A process that has ended, and one that was not answered yet, does not run: the trap `WrongShape`.
 pub fn nothing_runs_after_the_end_or_before_an_answer()
-    ensures ended { (image : Loaded) (pid : ℕ) (reason : Tree) (p : Process) → p.status ≡ Ended reason → attempted image pid p ≡ (p, effects.Trap WrongShape) }
-    ensures asked { (image : Loaded) (pid : ℕ) (native : Native) (p : Process) → p.asked ≡ Some native → attempted image pid p ≡ (p, effects.Trap WrongShape) }
+    ensures ended { (image : Loaded) (pid : ℕ) (reason : Tree) (p : Process) → p.status ≡ Ended
+        reason → attempted image pid p ≡ (p, effects.Trap WrongShape) }
+    ensures asked { (image : Loaded) (pid : ℕ) (native : Native) (p : Process) → p.asked ≡ Some
+        native → attempted image pid p ≡ (p, effects.Trap WrongShape) }
 {}

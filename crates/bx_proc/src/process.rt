@@ -45,9 +45,23 @@ impl Model for Proc {
 
     ghost Value = { Process };
 
-    ghost coded = { process_code tree_code held.the_row.coded places.the_row.coded pending.the_row.coded states.the_row.coded natives.the_row.coded };
+    ghost coded = { process_code tree_code held.the_row.coded places.the_row.coded
+        pending.the_row.coded states.the_row.coded natives.the_row.coded };
 
-    ghost view = { λ a. record { x = a.x; cp = a.cp; frames = a.frames; place = a.place; fault = a.fault; mailbox = a.mailbox; links = a.links; trap_exit = a.trap_exit; status = a.status; expires = a.expires; asked = a.asked } };
+    ghost view = { λ a. record {
+      x = a.x;
+      cp = a.cp;
+      frames = a.frames;
+      place = a.place;
+      fault =
+          a.fault;
+      mailbox = a.mailbox;
+      links = a.links;
+      trap_exit = a.trap_exit;
+      status = a.status;
+      expires = a.expires;
+      asked = a.asked;
+    } };
 }
 
 impl Proc {
@@ -150,7 +164,8 @@ impl Copied for Proc {
 
 /// Whether both are the same fault, or neither is one.
 fn same_fault(one: Option<&Pending>, other: Option<&Pending>) -> bool
-    ensures { IsTrue result ↔ (option_map (λ f. f.now) one.entry ≡ option_map (λ f. f.now) other.entry) }
+    ensures { IsTrue result ↔
+        (option_map (λ f. f.now) one.entry ≡ option_map (λ f. f.now) other.entry) }
 {
     match (one, other) {
         (None, None) => true,

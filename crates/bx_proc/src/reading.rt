@@ -62,7 +62,8 @@ impl Proc {
     /// What a register holds.
     #[inline(always)]
     pub(crate) fn held(&self, register: Register) -> Result<&Value, Trap>
-        ensures { MatchResult result (λ v. held_in register self.now ≡ Ok v.now) (λ trap. held_in register self.now ≡ Err trap) }
+        ensures { MatchResult result (λ v. held_in register self.now ≡ Ok v.now)
+            (λ trap. held_in register self.now ≡ Err trap) }
     {
         let cell = match register {
             Register::X(number) => self.x.get(number),
@@ -77,7 +78,8 @@ impl Proc {
     /// The term that a register holds.
     #[inline(always)]
     pub(crate) fn term(&self, register: Register) -> Result<&Term, Trap>
-        ensures { MatchResult result (λ t. term_in register self.now ≡ Ok t.now) (λ trap. term_in register self.now ≡ Err trap) }
+        ensures { MatchResult result (λ t. term_in register self.now ≡ Ok t.now)
+            (λ trap. term_in register self.now ≡ Err trap) }
     {
         match self.held(register)? {
             Value::Term(term) => Ok(term),
@@ -90,10 +92,11 @@ impl Proc {
     pub(crate) fn value_by(
         &self,
         alloc: Global,
-        tables: &Lookup<'_>,
+        tables: Lookup<'_>,
         operand: Operand,
     ) -> Result<Value, Stop>
-        ensures { Reads (Unit {0}) (λ v. v) result (value_at (spelled_source tables.now operand) self.now) }
+        ensures { Reads (Unit {0}) (λ v. v) result
+            (value_at (spelled_source tables.entry operand) self.now) }
     {
         match operand {
             Operand::X(number) => self.carried(alloc, Register::X(number)),
@@ -107,10 +110,11 @@ impl Proc {
     pub(crate) fn term_by(
         &self,
         alloc: Global,
-        tables: &Lookup<'_>,
+        tables: Lookup<'_>,
         operand: Operand,
     ) -> Result<Term, Stop>
-        ensures { Reads (Unit {0}) (λ t. t) result (term_at (spelled_source tables.now operand) self.now) }
+        ensures { Reads (Unit {0}) (λ t. t) result
+            (term_at (spelled_source tables.entry operand) self.now) }
     {
         match operand {
             Operand::X(number) => Ok(self.term(Register::X(number))?.copy(alloc)?),
@@ -121,8 +125,9 @@ impl Proc {
 
     /// The integer that an operand gives, where it gives one.
     #[inline(always)]
-    pub(crate) fn integer(&self, _tables: &Lookup<'_>, operand: &Operand) -> Option<i64>
-        ensures { IfSome result (λ n. term_at (spelled_source _tables.now operand.now) self.now ≡ Ok (int n)) }
+    pub(crate) fn integer(&self, _tables: Lookup<'_>, operand: &Operand) -> Option<i64>
+        ensures { IfSome result
+            (λ n. term_at (spelled_source _tables.entry operand.now) self.now ≡ Ok (int n)) }
     {
         match *operand {
             Operand::X(number) => self.integer_in(Register::X(number)),
@@ -146,7 +151,9 @@ impl Proc {
     /// The term that a source gives, to be looked at.
     #[inline(always)]
     pub(crate) fn seen<'a>(&'a self, source: Source<'a>) -> Result<Seen<'a>, Trap>
-        ensures { MatchResult result (λ s. term_at (source_of source.entry) self.now ≡ Ok (tree_of s)) (λ trap. term_at (source_of source.entry) self.now ≡ Err trap) }
+        ensures { MatchResult result
+            (λ s. term_at (source_of source.entry) self.now ≡ Ok (tree_of s))
+            (λ trap. term_at (source_of source.entry) self.now ≡ Err trap) }
     {
         Ok(match source {
             Source::Register(register) => Seen::Held(self.term(register)?),
@@ -191,7 +198,9 @@ impl Proc {
     /// What a y register holds, where it holds something.
     #[inline(always)]
     pub(crate) fn y_cell(&self, number: u16) -> Result<Option<&Value>, Trap>
-        ensures { MatchResult result (λ cell. y_cell number self.now.frames ≡ Ok (option_map (λ v. v.now) cell)) (λ trap. y_cell number self.now.frames ≡ Err trap) }
+        ensures { MatchResult result
+            (λ cell. y_cell number self.now.frames ≡ Ok (option_map (λ v. v.now) cell))
+            (λ trap. y_cell number self.now.frames ≡ Err trap) }
     {
         self.frames.get(number)
     }
@@ -217,7 +226,8 @@ impl Proc {
         other: Register,
         more: Value,
     ) -> Result<(), Stop>
-        ensures { Turns (Unit {0}) self.old self.new result (both_written one value other more self.old) }
+        ensures { Turns (Unit {0}) self.old self.new result
+            (both_written one value other more self.old) }
     {
         match (one, other) {
             (Register::X(first), Register::X(second)) => {
@@ -241,7 +251,8 @@ impl Proc {
     /// Puts values into an x and a y register, or into none.
     #[inline(always)]
     fn write_x_and_y(&mut self, x: u16, value: Value, y: u16, more: Value) -> Result<(), Stop>
-        ensures { Turns (Unit {0}) self.old self.new result (both_written (X x) value (Y y) more self.old) }
+        ensures { Turns (Unit {0}) self.old self.new result
+            (both_written (X x) value (Y y) more self.old) }
     {
         self.y_cell(y)?;
         self.write(Register::X(x), value)?;
@@ -250,7 +261,8 @@ impl Proc {
 
     /// Puts values into two y registers, one after the other, or into none.
     fn write_ys(&mut self, first: u16, value: Value, second: u16, more: Value) -> Result<(), Stop>
-        ensures { Turns ⊥ self.old self.new result (both_written (Y first) value (Y second) more self.old) }
+        ensures { Turns ⊥ self.old self.new result
+            (both_written (Y first) value (Y second) more self.old) }
     {
         self.y_cell(first)?;
         self.y_cell(second)?;

@@ -34,7 +34,8 @@ impl Proc {
         otherwise: u32,
         to: Register,
     ) -> Result<(), Stop>
-        ensures { Turns (Unit {0}) self.old self.new result (loop_rec_row image.now here (after image.now here) otherwise to self.old) }
+        ensures { Turns (Unit {0}) self.old self.new result
+            (loop_rec_row image.now here (after image.now here) otherwise to self.old) }
     {
         let Some(message) = self.mailbox.current() else {
             return self.go(image, here, otherwise);
@@ -62,7 +63,8 @@ impl Proc {
         here: Place,
         label: u32,
     ) -> Result<(), Stop>
-        ensures { Turns ⊥ self.old self.new result (loop_rec_end_row image.now here label self.old) }
+        ensures { Turns ⊥ self.old self.new result
+            (loop_rec_end_row image.now here label self.old) }
     {
         if self.mailbox.current().is_none() {
             return Err(Stop::Trapped(Trap::NoMessage));
@@ -98,7 +100,8 @@ impl Proc {
         label: u32,
         time: Source<'_>,
     ) -> Result<Effect, Stop>
-        ensures { Makes (Unit {0}) self.old self.new result (wait_timeout_row image.now here (after image.now here) label (source_of time.entry) self.old) }
+        ensures { Makes (Unit {0}) self.old self.new result (wait_timeout_row image.now here
+            (after image.now here) label (source_of time.entry) self.old) }
     {
         let time = {
             let seen = self.seen(time)?;

@@ -32,7 +32,8 @@ impl Proc {
     #[inline(always)]
     #[tactic(auto, using(crate::proofs::Unsent::is_not_free, crate::proofs::Unsent::stands_nowhere, crate::proofs::Unsent::nothing_there, crate::proofs::Unsent::other_there, crate::proofs::Unsent::no_receiver, crate::proofs::Unsent::no_message))]
     pub fn sending(&self, image: &Image) -> Option<Sending<'_>>
-        ensures { MatchOption result (SendsNothing image.now self.now) (λ s. Sends image.now s.here s.to s.message.now self.now) }
+        ensures { MatchOption result (SendsNothing image.now self.now)
+            (λ s. Sends image.now s.here s.to s.message.now self.now) }
     {
         if !self.is_free() {
             return None;
@@ -52,7 +53,8 @@ impl Proc {
     /// The pid in x0, where it holds one.
     #[inline(always)]
     fn pid_held(&self) -> Option<u32>
-        ensures { MatchOption result ((to : ℕ) → term_in (X 0) self.now ≡ Ok (pid to) → ⊥) (λ to. term_in (X 0) self.now ≡ Ok (pid to)) }
+        ensures { MatchOption result ((to : ℕ) → term_in (X 0) self.now ≡ Ok (pid to) → ⊥)
+            (λ to. term_in (X 0) self.now ≡ Ok (pid to)) }
     {
         match self.term(Register::X(0)) {
             Ok(term) => pid_of(term),

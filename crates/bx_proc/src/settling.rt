@@ -24,7 +24,8 @@ impl Proc {
     ///
     /// The only fault is `Memory`, and then nothing has changed. It is not taken for an integer, an atom or a pid.
     pub fn settle(&mut self, alloc: Global, image: &Image, answer: &Answer) -> Result<Effect, Fault>
-        ensures { Does (settling_takes answer.now) self.old self.new result (Ok (settled image.now answer.now self.old)) }
+        ensures { Does (settling_takes answer.now) self.old self.new result
+            (Ok (settled image.now answer.now self.old)) }
     {
         Ok(self.try_settle(alloc, image, answer)?)
     }
@@ -41,7 +42,8 @@ impl Proc {
         answer: &Answer,
         message: Term,
     ) -> Result<Effect, Fault>
-        ensures { Does (Unit {0}) self.old self.new result (Ok (settled_with image.now answer.now message self.old)) }
+        ensures { Does (Unit {0}) self.old self.new result
+            (Ok (settled_with image.now answer.now message self.old)) }
     {
         match answer {
             Answer::Value(value) => Ok(self.try_note(alloc, image, value, message)?),
@@ -56,7 +58,8 @@ impl Proc {
         image: &Image,
         answer: &Answer,
     ) -> Result<Effect, AllocError>
-        ensures { Tells (settling_takes answer.now) self.old self.new result (settled image.now answer.now self.old) }
+        ensures { Tells (settling_takes answer.now) self.old self.new result
+            (settled image.now answer.now self.old) }
     {
         let ran = self.settle_here(alloc, image, answer);
         self.rest(ran)
@@ -70,7 +73,8 @@ impl Proc {
         value: &Term,
         message: Term,
     ) -> Result<Effect, AllocError>
-        ensures { Tells (Unit {0}) self.old self.new result (noted message (settled image.now (answers.Value value.now) self.old)) }
+        ensures { Tells (Unit {0}) self.old self.new result
+            (noted message (settled image.now (answers.Value value.now) self.old)) }
     {
         let ran = self.note_here(alloc, image, value, message);
         self.rest(ran)
@@ -94,7 +98,8 @@ impl Proc {
     }
 
     fn settle_here(&mut self, alloc: Global, image: &Image, answer: &Answer) -> Result<Effect, Stop>
-        ensures { Makes (settling_takes answer.now) self.old self.new result (settling image.now answer.now self.old) }
+        ensures { Makes (settling_takes answer.now) self.old self.new result
+            (settling image.now answer.now self.old) }
     {
         let (here, kind) = self.asked_at(image)?;
         self.give(alloc, image, here, kind, answer)
@@ -127,7 +132,8 @@ impl Proc {
         kind: CallKind,
         answer: &Answer,
     ) -> Result<Effect, Stop>
-        ensures { Makes (settling_takes answer.now) self.old self.new result (given_to (after image.now here) kind answer.now self.old) }
+        ensures { Makes (settling_takes answer.now) self.old self.new result
+            (given_to (after image.now here) kind answer.now self.old) }
     {
         match answer {
             Answer::Value(value) => {
@@ -151,7 +157,8 @@ impl Proc {
         value: &Term,
         message: Term,
     ) -> Result<Effect, Stop>
-        ensures { Makes (Unit {0}) self.old self.new result (noting message (settling image.now (answers.Value value.now) self.old)) }
+        ensures { Makes (Unit {0}) self.old self.new result
+            (noting message (settling image.now (answers.Value value.now) self.old)) }
     {
         let (here, kind) = self.asked_at(image)?;
         let Some(_) = self.x.get(0) else {
@@ -187,7 +194,8 @@ impl Proc {
     ) -> Result<Effect, Stop>
         requires held { is_some (finite.get self.old.x 0) ≡ true }
         requires goes_on { leads_on (leads_to kind (after image.now here) self.old) ≡ true }
-        ensures { Makes (Unit {0}) self.old self.new result (noting message (finished_with (after image.now here) kind value.now self.old)) }
+        ensures { Makes (Unit {0}) self.old self.new result
+            (noting message (finished_with (after image.now here) kind value.now self.old)) }
     {
         let value = value.copy(alloc)?;
         if let Err(_) = self.mailbox.add(message) {

@@ -42,7 +42,8 @@ impl Proc {
     ///
     /// Memory is all that it may lack, and only where there is a link.
     pub fn links_but(&self, alloc: Global, pid: u32) -> Result<Vec<u32>, Fault>
-        ensures { Gives (self.now.links ≢ []) (λ v. v.items) result (Ok (unlinked pid self.now.links)) }
+        ensures { Gives (self.now.links ≢ []) (λ v. v.items) result
+            (Ok (unlinked pid self.now.links)) }
     {
         Ok(self.links.but(alloc, pid)?)
     }
@@ -69,7 +70,8 @@ impl Proc {
 
     /// One link more. Memory is all that it may lack, and only for a link that is not there; then nothing has changed.
     pub fn add_link(&mut self, pid: u32) -> Result<(), Fault>
-        ensures { Does (among pid self.old.links ≡ false) self.old self.new result (Ok (with_link pid self.old, tt)) }
+        ensures { Does (among pid self.old.links ≡ false) self.old self.new result
+            (Ok (with_link pid self.old, tt)) }
     {
         self.links.insert(pid)?;
         Ok(())

@@ -33,7 +33,8 @@ impl Proc {
 
     /// `init_yregs`.
     pub(crate) fn init_yregs(&mut self, registers: YRegisters<'_>) -> Result<(), Stop>
-        ensures { Turns ⊥ self.old self.new result (init_yregs_row (registers_of registers.entry) self.old) }
+        ensures { Turns ⊥ self.old self.new result
+            (init_yregs_row (registers_of registers.entry) self.old) }
     {
         self.find_yregs(registers)?;
         self.clear_yregs(registers);
@@ -43,7 +44,9 @@ impl Proc {
     /// Whether the topmost frame has all of these.
     #[tactic(auto, using(crate::proofs::Registers::there_none, crate::proofs::Registers::there_end))]
     fn find_yregs(&self, registers: YRegisters<'_>) -> Result<(), Trap>
-        ensures { MatchResult result (λ done. there_all (registers_of registers.entry) self.now ≡ Ok self.now) (λ trap. there_all (registers_of registers.entry) self.now ≡ Err trap) }
+        ensures { MatchResult result
+            (λ done. there_all (registers_of registers.entry) self.now ≡ Ok self.now)
+            (λ trap. there_all (registers_of registers.entry) self.now ≡ Err trap) }
     {
         for at in 0..registers.len() {
             let Some(number) = registers.get(at) else {

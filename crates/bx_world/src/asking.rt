@@ -37,7 +37,8 @@ pub(crate) fn perform(
     pid: u32,
     request: Request,
 ) -> Result<Turn, Fault>
-    ensures { Does (Unit {0}) (process.old, lanes.old) (process.new, lanes.new) result (Ok (done_by image.now pid request process.old lanes.old)) }
+    ensures { Does (Unit {0}) (process.old, lanes.old) (process.new, lanes.new) result
+        (Ok (done_by image.now pid request process.old lanes.old)) }
 {
     match request {
         Request::Refused => {
@@ -71,7 +72,8 @@ pub(crate) fn leave(
     pid: u32,
     reason: Term,
 ) -> Result<Turn, Fault>
-    ensures { Does (Unit {0}) lanes.old lanes.new result (Ok (parting pid process.now.links reason lanes.old, turns.Ended reason)) }
+    ensures { Does (Unit {0}) lanes.old lanes.new result
+        (Ok (parting pid process.now.links reason lanes.old, turns.Ended reason)) }
 {
     lanes
         .channels
@@ -87,7 +89,8 @@ fn finish(
     pid: u32,
     effect: Effect,
 ) -> Result<Turn, Fault>
-    ensures ok { IfOk result (λ turn. closing pid lanes.old (process.now, effect) ≡ ((process.now, lanes.new), turn)) }
+    ensures ok { IfOk result
+        (λ turn. closing pid lanes.old (process.now, effect) ≡ ((process.now, lanes.new), turn)) }
     ensures err { OnErr result (IsEnded effect × (lanes.new ≡ lanes.old)) }
     ensures memory { IfErr result (λ fault. fault ≡ Memory) }
 {
@@ -110,7 +113,8 @@ pub(crate) fn close(
     pid: u32,
     answer: &Answer,
 ) -> Result<Turn, Fault>
-    ensures { Does (Unit {0}) (process.old, lanes.old) (process.new, lanes.new) result (Ok (closing pid lanes.old (settled image.now answer.now process.old))) }
+    ensures { Does (Unit {0}) (process.old, lanes.old) (process.new, lanes.new) result
+        (Ok (closing pid lanes.old (settled image.now answer.now process.old))) }
 {
     let effect = process.settle(alloc, image, answer)?;
     finish(alloc, process, lanes, pid, effect)
@@ -127,7 +131,9 @@ fn note(
     answer: &Answer,
     message: Term,
 ) -> Result<Turn, Fault>
-    ensures { Does (Unit {0}) (process.old, lanes.old) (process.new, lanes.new) result (Ok (whole (process.old, lanes.old) (closing pid lanes.old (settled_with image.now answer.now message process.old)))) }
+    ensures { Does (Unit {0}) (process.old, lanes.old) (process.new, lanes.new) result (Ok (whole
+        (process.old, lanes.old)
+        (closing pid lanes.old (settled_with image.now answer.now message process.old)))) }
 {
     let effect = process.settle_with(alloc, image, answer, message)?;
     finish(alloc, process, lanes, pid, effect)
@@ -143,7 +149,9 @@ pub(crate) fn close_whole(
     pid: u32,
     answer: &Answer,
 ) -> Result<Turn, Fault>
-    ensures { Does (Unit {0}) (process.old, lanes.old) (process.new, lanes.new) result (Ok (whole (process.old, lanes.old) (closing pid lanes.old (settled image.now answer.now process.old)))) }
+    ensures { Does (Unit {0}) (process.old, lanes.old) (process.new, lanes.new) result (Ok (whole
+        (process.old, lanes.old)
+        (closing pid lanes.old (settled image.now answer.now process.old)))) }
 {
     close(alloc, image, process, lanes, pid, answer)
 }
@@ -160,7 +168,9 @@ fn tell(
     signal: Signal,
     answer: &Answer,
 ) -> Result<Turn, Fault>
-    ensures { Does (Unit {0}) (process.old, lanes.old) (process.new, lanes.new) result (Ok (whole (process.old, lanes.old) (sending image.now pid to signal answer.now process.old lanes.old))) }
+    ensures { Does (Unit {0}) (process.old, lanes.old) (process.new, lanes.new) result (Ok (whole
+        (process.old, lanes.old)
+        (sending image.now pid to signal answer.now process.old lanes.old))) }
 {
     if let Err(_signal) = lanes.channels.put(alloc, pid, to, signal) {
         return Err(Fault::Memory);
@@ -187,7 +197,8 @@ fn send(
     to: u32,
     message: Term,
 ) -> Result<Turn, Fault>
-    ensures { Does (Unit {0}) (process.old, lanes.old) (process.new, lanes.new) result (Ok (done_by image.now pid (requests.Send to message) process.old lanes.old)) }
+    ensures { Does (Unit {0}) (process.old, lanes.old) (process.new, lanes.new) result
+        (Ok (done_by image.now pid (requests.Send to message) process.old lanes.old)) }
 {
     let answer = Answer::Value(message.copy(alloc)?);
     if to == pid {
@@ -206,7 +217,8 @@ fn exit(
     to: u32,
     reason: Term,
 ) -> Result<Turn, Fault>
-    ensures { Does (Unit {0}) (process.old, lanes.old) (process.new, lanes.new) result (Ok (done_by image.now pid (requests.Exit to reason) process.old lanes.old)) }
+    ensures { Does (Unit {0}) (process.old, lanes.old) (process.new, lanes.new) result
+        (Ok (done_by image.now pid (requests.Exit to reason) process.old lanes.old)) }
 {
     if to == pid {
         return exit_itself(alloc, image, process, lanes, pid, reason);
@@ -232,7 +244,8 @@ fn exit_itself(
     pid: u32,
     reason: Term,
 ) -> Result<Turn, Fault>
-    ensures { Does (Unit {0}) (process.old, lanes.old) (process.new, lanes.new) result (Ok (whole (process.old, lanes.old) (exiting_oneself image.now pid reason process.old lanes.old))) }
+    ensures { Does (Unit {0}) (process.old, lanes.old) (process.new, lanes.new) result (Ok (whole
+        (process.old, lanes.old) (exiting_oneself image.now pid reason process.old lanes.old))) }
 {
     if is_atom(&reason, fixed::KILL) {
         return leave(alloc, process, lanes, pid, Term::atom(fixed::KILLED));
@@ -274,7 +287,8 @@ fn link(
     pid: u32,
     to: u32,
 ) -> Result<Turn, Fault>
-    ensures { Does (Unit {0}) (process.old, lanes.old) (process.new, lanes.new) result (Ok (whole (process.old, lanes.old) (linking image.now pid to process.old lanes.old))) }
+    ensures { Does (Unit {0}) (process.old, lanes.old) (process.new, lanes.new) result
+        (Ok (whole (process.old, lanes.old) (linking image.now pid to process.old lanes.old))) }
 {
     if to == pid || process.is_linked(to) {
         return close_whole(alloc, image, process, lanes, pid, &yes());
@@ -303,7 +317,8 @@ fn unlink(
     pid: u32,
     to: u32,
 ) -> Result<Turn, Fault>
-    ensures { Does (Unit {0}) (process.old, lanes.old) (process.new, lanes.new) result (Ok (whole (process.old, lanes.old) (unlinking image.now pid to process.old lanes.old))) }
+    ensures { Does (Unit {0}) (process.old, lanes.old) (process.new, lanes.new) result
+        (Ok (whole (process.old, lanes.old) (unlinking image.now pid to process.old lanes.old))) }
 {
     if to == pid || !process.is_linked(to) {
         return close_whole(alloc, image, process, lanes, pid, &yes());
@@ -334,7 +349,9 @@ fn close_without(
     pid: u32,
     to: u32,
 ) -> Result<Turn, Fault>
-    ensures { Does (Unit {0}) (process.old, lanes.old) (process.new, lanes.new) result (Ok (whole (process.old, lanes.old) (closing pid lanes.old (unlinked_done to (settled image.now yes process.old))))) }
+    ensures { Does (Unit {0}) (process.old, lanes.old) (process.new, lanes.new) result (Ok (whole
+        (process.old, lanes.old)
+        (closing pid lanes.old (unlinked_done to (settled image.now yes process.old))))) }
 {
     match process.settle(alloc, image, &yes())? {
         Effect::Ran => {
@@ -362,7 +379,8 @@ fn display(
     pid: u32,
     term: Term,
 ) -> Result<Turn, Fault>
-    ensures { Does (Unit {0}) (process.old, lanes.old) (process.new, lanes.new) result (Ok (done_by image.now pid (requests.Display term) process.old lanes.old)) }
+    ensures { Does (Unit {0}) (process.old, lanes.old) (process.new, lanes.new) result
+        (Ok (done_by image.now pid (requests.Display term) process.old lanes.old)) }
 {
     if let Err(_term) = lanes.output.push(pid, term) {
         return Err(Fault::Memory);
@@ -391,7 +409,9 @@ pub(crate) fn close_linked(
     child: u32,
     answer: &Answer,
 ) -> Result<Turn, Fault>
-    ensures { Does (Unit {0}) (process.old, lanes.old) (process.new, lanes.new) result (Ok (whole (process.old, lanes.old) (closing pid lanes.old (settled image.now answer.now (with_link child process.old))))) }
+    ensures { Does (Unit {0}) (process.old, lanes.old) (process.new, lanes.new) result (Ok (whole
+        (process.old, lanes.old)
+        (closing pid lanes.old (settled image.now answer.now (with_link child process.old))))) }
 {
     if process.is_linked(child) {
         return close_whole(alloc, image, process, lanes, pid, answer);

@@ -26,7 +26,9 @@ pub(crate) fn make<P: Hold<Proc>, C: Hold<Lanes>>(
     lanes: &mut C,
     choice: Choice,
 ) -> Result<Turn, Fault>
-    ensures { Does (IsTrue (able choice procs.old (C.shown lanes.old))) (procs.old, C.shown lanes.old) (procs.new, C.shown lanes.new) result (made image.now choice procs.old (C.shown lanes.old)) }
+    ensures { Does (IsTrue (able choice procs.old (C.shown lanes.old)))
+        (procs.old, C.shown lanes.old) (procs.new, C.shown lanes.new) result
+        (made image.now choice procs.old (C.shown lanes.old)) }
 {
     match choice {
         Choice::Run(pid) => run(alloc, image, procs, lanes, pid),
@@ -46,7 +48,9 @@ fn run<P: Hold<Proc>, C: Hold<Lanes>>(
     lanes: &mut C,
     pid: u32,
 ) -> Result<Turn, Fault>
-    ensures { Does (IsTrue (may_at may_run (slice_get procs.old pid))) (procs.old, C.shown lanes.old) (procs.new, C.shown lanes.new) result (born_too image.now pid (lives_run image.now pid (C.shown lanes.old) procs.old)) }
+    ensures { Does (IsTrue (may_at may_run (slice_get procs.old pid)))
+        (procs.old, C.shown lanes.old) (procs.new, C.shown lanes.new) result
+        (born_too image.now pid (lives_run image.now pid (C.shown lanes.old) procs.old)) }
 {
     match procs.run(alloc, image, lanes, pid)? {
         Turn::Bears(birth) => procs.bear(alloc, image, lanes, pid, birth),
@@ -63,7 +67,8 @@ fn deliver<P: Hold<Proc>, C: Hold<Lanes>>(
     from: u32,
     to: u32,
 ) -> Result<Turn, Fault>
-    ensures { Does (Waits from to (C.shown lanes.old)) (procs.old, C.shown lanes.old) (procs.new, C.shown lanes.new) result (lives_told from to (C.shown lanes.old) procs.old) }
+    ensures { Does (Waits from to (C.shown lanes.old)) (procs.old, C.shown lanes.old)
+        (procs.new, C.shown lanes.new) result (lives_told from to (C.shown lanes.old) procs.old) }
 {
     if lanes.see().channels.first(from, to).is_none() {
         return Err(Fault::NotEnabled);

@@ -23,7 +23,8 @@ pub(crate) fn receive(
     from: u32,
     pid: u32,
 ) -> Result<Turn, Fault>
-    ensures { Does (Unit {0}) (process.old, lanes.old) (process.new, lanes.new) result (received from pid process.old lanes.old) }
+    ensures { Does (Unit {0}) (process.old, lanes.old) (process.new, lanes.new) result
+        (received from pid process.old lanes.old) }
 {
     let Some(signal) = lanes.channels.first(from, pid) else {
         return Err(Fault::NotEnabled);
@@ -61,7 +62,8 @@ fn hear_link_exit(
     pid: u32,
     reason: Term,
 ) -> Result<Turn, Fault>
-    ensures { Does (Unit {0}) (process.old, lanes.old) (process.new, lanes.new) result (Ok (by_link from pid process.old reason lanes.old)) }
+    ensures { Does (Unit {0}) (process.old, lanes.old) (process.new, lanes.new) result
+        (Ok (by_link from pid process.old reason lanes.old)) }
 {
     if !process.is_linked(from) {
         lanes.drop_first(from, pid);
@@ -99,7 +101,8 @@ fn hear_exit(
     pid: u32,
     reason: Term,
 ) -> Result<Turn, Fault>
-    ensures { Does (Unit {0}) (process.old, lanes.old) (process.new, lanes.new) result (Ok (by_exit from pid process.old reason lanes.old)) }
+    ensures { Does (Unit {0}) (process.old, lanes.old) (process.new, lanes.new) result
+        (Ok (by_exit from pid process.old reason lanes.old)) }
 {
     if is_atom(&reason, fixed::KILL) {
         return end(alloc, process, lanes, from, pid, Term::atom(fixed::KILLED));
@@ -130,7 +133,8 @@ fn end(
     pid: u32,
     reason: Term,
 ) -> Result<Turn, Fault>
-    ensures { Does (Unit {0}) (process.now, lanes.old) (process.now, lanes.new) result (Ok (ending from pid process.now reason lanes.old)) }
+    ensures { Does (Unit {0}) (process.now, lanes.old) (process.now, lanes.new) result
+        (Ok (ending from pid process.now reason lanes.old)) }
 {
     lanes
         .channels
@@ -166,7 +170,8 @@ pub(crate) fn receive_gone(
 
 /// The first signal to a pid that no process has is lost.
 pub(crate) fn lose(lanes: &mut Lanes, from: u32, pid: u32) -> Result<(), Fault>
-    ensures { Does ⊥ lanes.old lanes.new result (lost from pid lanes.old (first (waiting lanes.old.channels (from, pid)))) }
+    ensures { Does ⊥ lanes.old lanes.new result
+        (lost from pid lanes.old (first (waiting lanes.old.channels (from, pid)))) }
 {
     if lanes.channels.first(from, pid).is_none() {
         return Err(Fault::NotEnabled);

@@ -27,54 +27,79 @@ pub fn nothing_is_enabled_after_a_trap()
 
 /// A choice that traps leaves all but the trap as it was.
 pub fn a_trap_changes_nothing_else()
-    ensures { (image : Loaded) (choice : Choice) (w : State) (trap : Trap × ℕ) → w.trap ≡ None → (chosen image choice w).trap ≡ Some trap → chosen image choice w ≡ record w { trap = Some trap } }
+    ensures { (image : Loaded) (choice : Choice) (w : State) (trap : Trap × ℕ) → w.trap ≡ None →
+        (chosen image choice w).trap ≡ Some trap → chosen image choice w ≡ record w
+        { trap = Some trap } }
 {}
 
 /// A choice that is not enabled changes nothing of the world, and is not counted.
 pub fn a_refused_choice_changes_nothing()
-    ensures { (image : Loaded) (choice : Choice) (end : Ended) → can end.world choice ≡ false → ((advanced image choice end).world ≡ end.world) × ((advanced image choice end).applied ≡ end.applied) }
+    ensures { (image : Loaded) (choice : Choice) (end : Ended) → can end.world choice ≡ false →
+        ((advanced image choice end).world ≡ end.world) ×
+        ((advanced image choice end).applied ≡ end.applied) }
 {}
 
 /// After a refused choice, and after a trap, nothing happens any more.
 pub fn nothing_happens_after_the_end()
-    ensures refused { (image : Loaded) (choices : List Choice) (end : Ended) → IsSome end.refused → ran image choices end ≡ end }
-    ensures trapped { (image : Loaded) (choices : List Choice) (end : Ended) → IsSome end.world.trap → ran image choices end ≡ end }
+    ensures refused { (image : Loaded) (choices : List Choice) (end : Ended) → IsSome end.refused →
+        ran image choices end ≡ end }
+    ensures trapped { (image : Loaded) (choices : List Choice) (end : Ended) → IsSome end.world.trap
+        → ran image choices end ≡ end }
 {}
 
 /// The run of choices that are followed by others is the run of those others from where the first led.
 pub fn runs_go_on_where_they_stopped()
-    ensures { (image : Loaded) (first more : List Choice) (end : Ended) → ran image (first ++ more) end ≡ ran image more (ran image first end) }
+    ensures { (image : Loaded) (first more : List Choice) (end : Ended) → ran image (first ++ more)
+        end ≡ ran image more (ran image first end) }
 {}
 
 /// No more choices are applied than there are.
 pub fn each_choice_is_applied_once_at_most()
-    ensures { (image : Loaded) (choices : List Choice) (end : Ended) → (ran image choices end).applied ≤ end.applied + length choices }
+    ensures { (image : Loaded) (choices : List Choice) (end : Ended) →
+        (ran image choices end).applied ≤ end.applied + length choices }
 {}
 
 /// Over every list of choices, what waited in a channel and was put into it is what was taken out of it, followed by what still
 /// waits. So from the start on, what was delivered from one process to another is the beginning of what was sent, in that order.
 pub fn signals_arrive_in_the_order_in_which_they_were_sent()
-    ensures from_anywhere { (image : Loaded) (choices : List Choice) (w : State) (pair : ℕ × ℕ) → waiting w.lanes.channels pair ++ all_put image choices w pair ≡ all_taken image choices w pair ++ waiting (all_behind image choices w).lanes.channels pair }
-    ensures from_the_start { (image : Loaded) (choices : List Choice) (place : Place) (pair : ℕ × ℕ) → all_put image choices (begun place) pair ≡ all_taken image choices (begun place) pair ++ waiting (all_behind image choices (begun place)).lanes.channels pair }
+    ensures from_anywhere { (image : Loaded) (choices : List Choice) (w : State) (pair : ℕ × ℕ) →
+        waiting w.lanes.channels pair ++ all_put image choices w pair ≡ all_taken image choices w
+        pair ++ waiting (all_behind image choices w).lanes.channels pair }
+    ensures from_the_start { (image : Loaded) (choices : List Choice) (place : Place) (pair : ℕ × ℕ)
+        → all_put image choices (begun place) pair ≡ all_taken image choices (begun place) pair ++
+        waiting (all_behind image choices (begun place)).lanes.channels pair }
 {}
 
 /// A choice leaves each process but the one that it concerns as it was, and adds one process at most, behind the others.
 pub fn a_choice_changes_its_own_process_alone()
-    ensures others { (image : Loaded) (choice : Choice) (w : State) (p : ℕ) → p ≢ actor choice → p < length w.processes → slice_get (chosen image choice w).processes p ≡ slice_get w.processes p }
-    ensures none_less { (image : Loaded) (choice : Choice) (w : State) → length w.processes ≤ length (chosen image choice w).processes }
-    ensures one_more { (image : Loaded) (choice : Choice) (w : State) → length (chosen image choice w).processes ≤ length w.processes + 1 }
+    ensures others { (image : Loaded) (choice : Choice) (w : State) (p : ℕ) → p ≢ actor choice → p <
+        length w.processes → slice_get (chosen image choice w).processes p ≡ slice_get w.processes
+        p }
+    ensures none_less { (image : Loaded) (choice : Choice) (w : State) → length w.processes ≤ length
+        (chosen image choice w).processes }
+    ensures one_more { (image : Loaded) (choice : Choice) (w : State) → length
+        (chosen image choice w).processes ≤ length w.processes + 1 }
 {}
 
 /// A process that has ended keeps its reason whatever is chosen from then on, so its pid is not used again; and it does not run.
 pub fn an_ended_process_keeps_its_reason()
-    ensures kept { (image : Loaded) (choices : List Choice) (w : State) (p : ℕ) (reason : Tree) → slice_get w.processes p ≡ Some (Gone reason) → slice_get (all_behind image choices w).processes p ≡ Some (Gone reason) }
-    ensures idle { (w : State) (p : ℕ) (reason : Tree) → slice_get w.processes p ≡ Some (Gone reason) → (can w (Run p) ≡ false) × (can w (Expire p) ≡ false) }
+    ensures kept { (image : Loaded) (choices : List Choice) (w : State) (p : ℕ) (reason : Tree) →
+        slice_get w.processes p ≡ Some (Gone reason) → slice_get
+        (all_behind image choices w).processes p ≡ Some (Gone reason) }
+    ensures idle { (w : State) (p : ℕ) (reason : Tree) → slice_get w.processes p ≡ Some
+        (Gone reason) → (can w (Run p) ≡ false) × (can w (Expire p) ≡ false) }
 {}
 
 /// A process enters another's set of links only by that one's own `link`, by a `spawn_link` of either, or by a link signal of its
 /// own that is delivered there: by one choice, and over every list of choices. At the start no process is linked.
 pub fn a_link_comes_by_link_by_spawn_link_or_by_a_signal()
-    ensures one { (image : Loaded) (choice : Choice) (w : State) (p q : ℕ) → is_linked (chosen image choice w).processes p q ≡ true → (is_linked w.processes p q ≡ true) ⊎ Enters image w choice p q }
-    ensures all { (image : Loaded) (choices : List Choice) (w : State) (p q : ℕ) → is_linked (all_behind image choices w).processes p q ≡ true → (is_linked w.processes p q ≡ true) ⊎ Entered image choices w p q }
-    ensures from_the_start { (image : Loaded) (choices : List Choice) (place : Place) (p q : ℕ) → is_linked (all_behind image choices (begun place)).processes p q ≡ true → Entered image choices (begun place) p q }
+    ensures one { (image : Loaded) (choice : Choice) (w : State) (p q : ℕ) → is_linked
+        (chosen image choice w).processes p q ≡ true → (is_linked w.processes p q ≡ true) ⊎ Enters
+        image w choice p q }
+    ensures all { (image : Loaded) (choices : List Choice) (w : State) (p q : ℕ) → is_linked
+        (all_behind image choices w).processes p q ≡ true → (is_linked w.processes p q ≡ true) ⊎
+        Entered image choices w p q }
+    ensures from_the_start { (image : Loaded) (choices : List Choice) (place : Place) (p q : ℕ) →
+        is_linked (all_behind image choices (begun place)).processes p q ≡ true → Entered image
+        choices (begun place) p q }
 {}

@@ -1,6 +1,6 @@
 //! Runs: what a list of choices leads to.
 
-ghost use Rattle.std.specs.Prelude.{◌≡◌, ◌↔◌, ◌<◌, IsTrue, Ok};
+ghost use Rattle.std.specs.Prelude.{◌≡◌, ◌↔◌, ◌<◌, IsTrue, None, Ok};
 ghost use Rattle.bx_terms.specs.Outcomes.{Does};
 ghost use Rattle.bx_world.specs.Running.{advanced, AdvanceTakes};
 
@@ -33,7 +33,9 @@ impl<P: Hold<Proc>, C: Hold<Lanes>> Model for RunEnd<P, C> {
 
     ghost Value = { Ended };
 
-    ghost coded = { ended_code (state_code process.the_row.coded tree_code lane.the_row.coded traps.the_row.coded) choices.the_row.coded };
+    ghost coded = { ended_code
+        (state_code process.the_row.coded tree_code lane.the_row.coded traps.the_row.coded)
+        choices.the_row.coded };
 
     ghost view = { λ a. record { world = a.world; applied = a.applied; refused = a.refused } };
 }
@@ -61,12 +63,33 @@ pub fn advance<P: Hold<Proc>, C: Hold<Lanes>>(
     choice: Choice,
 ) -> Result<(), Fault>
     requires { end.old.applied < u64.MAX }
-    ensures { Does (AdvanceTakes choice end.old) end.old end.new result (Ok (advanced image.now choice end.old, tt)) }
+    ensures { Does (AdvanceTakes choice end.old) end.old end.new result
+        (Ok (advanced image.now choice end.old, tt)) }
 {
     if end.refused.is_some() {
         return Ok(());
     }
-    match end.world.apply(alloc, image, choice) {
+    if end.world.hurry(alloc, image, choice)? {
+        end.applied += 1;
+        return Ok(());
+    }
+    advance_whole(alloc, end, image, choice)
+}
+
+/// The same of a run that has not come to its end, whatever the choice takes.
+#[inline(never)]
+fn advance_whole<P: Hold<Proc>, C: Hold<Lanes>>(
+    alloc: Global,
+    end: &mut RunEnd<P, C>,
+    image: &Image,
+    choice: Choice,
+) -> Result<(), Fault>
+    requires few { end.old.applied < u64.MAX }
+    requires goes_on { end.old.refused ≡ None }
+    ensures { Does (AdvanceTakes choice end.old) end.old end.new result
+        (Ok (advanced image.now choice end.old, tt)) }
+{
+    match end.world.apply_whole(alloc, image, choice) {
         Ok(()) => end.applied += 1,
         Err(Fault::NotEnabled) => end.refused = Some(choice),
         Err(Fault::Halted) => {}

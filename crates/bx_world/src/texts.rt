@@ -35,7 +35,8 @@ pub fn outcome_text(
     refused: Option<Choice>,
     outcome: &Outcome,
 ) -> Result<String, Fault>
-    ensures { Gives (Unit {0}) (λ text. string_bytes text) result (Ok (outcome_lines atoms.now applied refused outcome.now)) }
+    ensures { Gives (Unit {0}) (λ text. string_bytes text) result
+        (Ok (outcome_lines atoms.now applied refused outcome.now)) }
 {
     let mut out = String::new(alloc);
     push_outcome(alloc, &mut out, atoms, applied, refused, outcome)?;
@@ -50,7 +51,8 @@ fn push_outcome(
     refused: Option<Choice>,
     outcome: &Outcome,
 ) -> Result<(), AllocError>
-    ensures { OnOk result (string_bytes out.new ≡ string_bytes out.old ++ outcome_lines atoms.now applied refused outcome.now) }
+    ensures { OnOk result (string_bytes out.new ≡ string_bytes out.old ++ outcome_lines atoms.now
+        applied refused outcome.now) }
 {
     write!(out, "applied {applied}\nstate ")?;
     push_state(alloc, out, refused, &outcome.state)?;
@@ -86,7 +88,8 @@ fn push_state(
     refused: Option<Choice>,
     state: &Standing,
 ) -> Result<(), AllocError>
-    ensures { OnOk result (string_bytes out.new ≡ string_bytes out.old ++ state_words refused state.now) }
+    ensures { OnOk result
+        (string_bytes out.new ≡ string_bytes out.old ++ state_words refused state.now) }
 {
     if let Some(choice) = refused {
         out.push_str("stopped ")?;
@@ -112,7 +115,8 @@ fn push_status(
     atoms: &Atoms,
     status: &Status,
 ) -> Result<(), AllocError>
-    ensures { OnOk result (string_bytes out.new ≡ string_bytes out.old ++ status_words atoms.now status.now) }
+    ensures { OnOk result
+        (string_bytes out.new ≡ string_bytes out.old ++ status_words atoms.now status.now) }
 {
     match status {
         Status::Ready => out.push_str("ready"),
@@ -131,7 +135,8 @@ fn push_processes(
     atoms: &Atoms,
     statuses: &[Status],
 ) -> Result<(), AllocError>
-    ensures { OnOk result (string_bytes out.new ≡ string_bytes out.old ++ process_lines atoms.now 0 statuses.now) }
+    ensures { OnOk result
+        (string_bytes out.new ≡ string_bytes out.old ++ process_lines atoms.now 0 statuses.now) }
 {
     for pid in 0..statuses.len() {
         push_process(alloc, out, atoms, pid, &statuses[pid])?;
@@ -146,7 +151,8 @@ fn push_process(
     pid: usize,
     status: &Status,
 ) -> Result<(), AllocError>
-    ensures { OnOk result (string_bytes out.new ≡ string_bytes out.old ++ process_line atoms.now pid status.now) }
+    ensures { OnOk result
+        (string_bytes out.new ≡ string_bytes out.old ++ process_line atoms.now pid status.now) }
 {
     write!(out, "process <0.{pid}.0> ")?;
     push_status(alloc, out, atoms, status)?;
@@ -160,7 +166,8 @@ fn push_output(
     atoms: &Atoms,
     output: &[(u32, Term)],
 ) -> Result<(), AllocError>
-    ensures { OnOk result (string_bytes out.new ≡ string_bytes out.old ++ output_lines atoms.now output.now) }
+    ensures { OnOk result
+        (string_bytes out.new ≡ string_bytes out.old ++ output_lines atoms.now output.now) }
 {
     for (pid, term) in output {
         write!(out, "output <0.{pid}.0> ")?;
@@ -171,7 +178,8 @@ fn push_output(
 }
 
 fn push_term(alloc: Global, out: &mut String, atoms: &Atoms, term: &Term) -> Result<(), AllocError>
-    ensures { OnOk result (string_bytes out.new ≡ string_bytes out.old ++ printed atoms.now term.now) }
+    ensures { OnOk result
+        (string_bytes out.new ≡ string_bytes out.old ++ printed atoms.now term.now) }
 {
     let text = print(alloc, atoms, term)?;
     out.push_str(text.as_str())

@@ -46,7 +46,8 @@ impl<P: Hold<Proc>, C: Hold<Lanes>> Model for World<P, C> {
 
     ghost Value = { State };
 
-    ghost coded = { state_code process.the_row.coded tree_code lane.the_row.coded traps.the_row.coded };
+    ghost coded = { state_code process.the_row.coded tree_code lane.the_row.coded
+        traps.the_row.coded };
 
     ghost view = { λ w. record { processes = w.procs; lanes = C.shown w.lanes; trap = w.trap } };
 }
@@ -61,7 +62,8 @@ impl<P: Hold<Proc>, C: Hold<Lanes>> World<P, C> {
         module: AtomId,
         function: AtomId,
     ) -> Result<World<P, C>, Fault>
-        ensures { Gives (IsSome (export image.now «module» function 0)) (λ w. w) result (started image.now «module» function) }
+        ensures { Gives (IsSome (export image.now «module» function 0)) (λ w. w) result
+            (started image.now «module» function) }
     {
         let Some(place) = image.entry(module, function, 0) else {
             return Err(Fault::NoEntry);
@@ -82,7 +84,8 @@ impl<P: Hold<Proc>, C: Hold<Lanes>> World<P, C> {
     ///
     /// Memory is all that it may lack, and none is taken where no choice is enabled.
     pub fn enabled(&self, alloc: Global) -> Result<Vec<Choice>, Fault>
-        ensures { Gives (enabled self.now ≢ []) (λ choices. choices.items) result (Ok (enabled self.now)) }
+        ensures { Gives (enabled self.now ≢ []) (λ choices. choices.items) result
+            (Ok (enabled self.now)) }
     {
         if self.trap.is_some() {
             return Ok(Vec::new(alloc));
@@ -93,7 +96,8 @@ impl<P: Hold<Proc>, C: Hold<Lanes>> World<P, C> {
 
     /// The choices that are enabled in a world that has not trapped.
     fn open(&self, alloc: Global) -> Result<Vec<Choice>, AllocError>
-        ensures ok { IfOk result (λ choices. choices.items ≡ open_choices self.now.processes self.now.lanes) }
+        ensures ok { IfOk result
+            (λ choices. choices.items ≡ open_choices self.now.processes self.now.lanes) }
         ensures err { OnErr result (open_choices self.now.processes self.now.lanes ≢ []) }
     {
         let mut choices = Vec::new(alloc);
@@ -125,7 +129,8 @@ impl<P: Hold<Proc>, C: Hold<Lanes>> World<P, C> {
     #[inline(always)]
     #[tactic(auto, using(crate::proofs::AtOnce::applied_after))]
     pub fn apply(&mut self, alloc: Global, image: &Image, choice: Choice) -> Result<(), Fault>
-        ensures { Does (IsTrue (can self.old choice)) self.old self.new result (applied image.now choice self.old) }
+        ensures { Does (IsTrue (can self.old choice)) self.old self.new result
+            (applied image.now choice self.old) }
     {
         if self.hurry(alloc, image, choice)? {
             return Ok(());
@@ -135,8 +140,14 @@ impl<P: Hold<Proc>, C: Hold<Lanes>> World<P, C> {
 
     /// Makes a choice where that is done at once: whether it was. Where not, nothing has changed.
     #[inline(always)]
-    fn hurry(&mut self, alloc: Global, image: &Image, choice: Choice) -> Result<bool, AllocError>
-        ensures { Hurries (IsTrue (can self.old choice)) self.old self.new result (applied image.now choice self.old) }
+    pub(crate) fn hurry(
+        &mut self,
+        alloc: Global,
+        image: &Image,
+        choice: Choice,
+    ) -> Result<bool, AllocError>
+        ensures { Hurries (IsTrue (can self.old choice)) self.old self.new result
+            (applied image.now choice self.old) }
     {
         match choice {
             Choice::Run(pid) => self.hurry_run(alloc, image, pid),
@@ -147,7 +158,8 @@ impl<P: Hold<Proc>, C: Hold<Lanes>> World<P, C> {
 
     #[inline(always)]
     fn hurry_run(&mut self, alloc: Global, image: &Image, pid: u32) -> Result<bool, AllocError>
-        ensures { Hurries (IsTrue (can self.old (Choice.Run pid))) self.old self.new result (applied image.now (Choice.Run pid) self.old) }
+        ensures { Hurries (IsTrue (can self.old (Choice.Run pid))) self.old self.new result
+            (applied image.now (Choice.Run pid) self.old) }
     {
         if self.trap.is_some() {
             return Ok(false);
@@ -157,7 +169,8 @@ impl<P: Hold<Proc>, C: Hold<Lanes>> World<P, C> {
 
     #[inline(always)]
     fn hurry_delivery(&mut self, alloc: Global, from: u32, to: u32) -> Result<bool, AllocError>
-        ensures { (image : Loaded) → Hurries (IsTrue (can self.old (Choice.Deliver from to))) self.old self.new result (applied image (Choice.Deliver from to) self.old) }
+        ensures { (image : Loaded) → Hurries (IsTrue (can self.old (Choice.Deliver from to)))
+            self.old self.new result (applied image (Choice.Deliver from to) self.old) }
     {
         if self.trap.is_some() {
             return Ok(false);
@@ -167,8 +180,14 @@ impl<P: Hold<Proc>, C: Hold<Lanes>> World<P, C> {
 
     /// Applies a choice, whatever it takes.
     #[inline(never)]
-    fn apply_whole(&mut self, alloc: Global, image: &Image, choice: Choice) -> Result<(), Fault>
-        ensures { Does (IsTrue (can self.old choice)) self.old self.new result (applied image.now choice self.old) }
+    pub(crate) fn apply_whole(
+        &mut self,
+        alloc: Global,
+        image: &Image,
+        choice: Choice,
+    ) -> Result<(), Fault>
+        ensures { Does (IsTrue (can self.old choice)) self.old self.new result
+            (applied image.now choice self.old) }
     {
         if self.trap.is_some() {
             return Err(Fault::Halted);
@@ -216,7 +235,8 @@ impl<P: Hold<Proc>, C: Hold<Lanes>> World<P, C> {
     }
 
     fn standing(&self, alloc: Global) -> Result<Standing, Fault>
-        ensures { Gives (Unit {0}) (λ s. s) result (Ok (standing_of self.now.trap (enabled self.now))) }
+        ensures { Gives (Unit {0}) (λ s. s) result
+            (Ok (standing_of self.now.trap (enabled self.now))) }
     {
         if let Some((kind, pid)) = self.trap {
             return Ok(Standing::Trapped(kind, pid));

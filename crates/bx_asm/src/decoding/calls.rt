@@ -20,7 +20,8 @@ impl<'a> Lookup<'a> {
         argument: Operand,
         to: Operand,
     ) -> Option<Instruction<'a>>
-        ensures { option_map instr_of result ≡ bif1_row (row_of (tables self.entry) (name ∷ label ∷ argument ∷ to ∷ [])) }
+        ensures { option_map instr_of result ≡ bif1_row
+            (row_of (tables self.entry) (name ∷ label ∷ argument ∷ to ∷ [])) }
     {
         let bif = self.bif(name)?;
         let fail = self.fail(label)?;
@@ -44,7 +45,8 @@ impl<'a> Lookup<'a> {
         right: Operand,
         to: Operand,
     ) -> Option<Instruction<'a>>
-        ensures { option_map instr_of result ≡ bif2_row (row_of (tables self.entry) (name ∷ label ∷ left ∷ right ∷ to ∷ [])) }
+        ensures { option_map instr_of result ≡ bif2_row
+            (row_of (tables self.entry) (name ∷ label ∷ left ∷ right ∷ to ∷ [])) }
     {
         let bif = self.bif(name)?;
         let fail = self.fail(label)?;
@@ -86,7 +88,8 @@ impl<'a> Lookup<'a> {
 
     #[inline(always)]
     pub fn call_ext(self, kind: CallKind, row: &'a [Operand]) -> Option<Instruction<'a>>
-        ensures { option_map instr_of result ≡ call_ext_row kind (row_of (tables self.entry) row.now) }
+        ensures { option_map instr_of result ≡ call_ext_row kind
+            (row_of (tables self.entry) row.now) }
     {
         let [_, callee] = row else {
             return None;
@@ -97,7 +100,8 @@ impl<'a> Lookup<'a> {
 
     #[inline(always)]
     pub fn call_ext_last(self, row: &'a [Operand]) -> Option<Instruction<'a>>
-        ensures { option_map instr_of result ≡ call_ext_last_row (row_of (tables self.entry) row.now) }
+        ensures { option_map instr_of result ≡ call_ext_last_row
+            (row_of (tables self.entry) row.now) }
     {
         let [_, callee, size] = row else {
             return None;

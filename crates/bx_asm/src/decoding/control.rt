@@ -48,7 +48,8 @@ impl<'a> Lookup<'a> {
 
     #[inline(always)]
     pub fn wait_timeout(self, row: &'a [Operand]) -> Option<Instruction<'a>>
-        ensures { option_map instr_of result ≡ wait_timeout_row (row_of (tables self.entry) row.now) }
+        ensures { option_map instr_of result ≡ wait_timeout_row
+            (row_of (tables self.entry) row.now) }
     {
         let [target, time] = row else {
             return None;
@@ -60,7 +61,8 @@ impl<'a> Lookup<'a> {
 
     #[inline(always)]
     pub fn compare(self, comparison: Comparison, row: &'a [Operand]) -> Option<Instruction<'a>>
-        ensures { option_map instr_of result ≡ compare_row comparison (row_of (tables self.entry) row.now) }
+        ensures { option_map instr_of result ≡ compare_row comparison
+            (row_of (tables self.entry) row.now) }
     {
         let [target, left, right] = row else {
             return None;
@@ -78,7 +80,8 @@ impl<'a> Lookup<'a> {
 
     #[inline(always)]
     pub fn is_kind(self, kind: Kind, row: &'a [Operand]) -> Option<Instruction<'a>>
-        ensures { option_map instr_of result ≡ is_kind_row kind (row_of (tables self.entry) row.now) }
+        ensures { option_map instr_of result ≡ is_kind_row kind
+            (row_of (tables self.entry) row.now) }
     {
         let [target, subject] = row else {
             return None;
@@ -111,7 +114,8 @@ impl<'a> Lookup<'a> {
 
     #[inline(always)]
     pub fn is_tagged_tuple(self, row: &'a [Operand]) -> Option<Instruction<'a>>
-        ensures { option_map instr_of result ≡ is_tagged_tuple_row (row_of (tables self.entry) row.now) }
+        ensures { option_map instr_of result ≡ is_tagged_tuple_row
+            (row_of (tables self.entry) row.now) }
     {
         let [target, subject, size, first] = row else {
             return None;
@@ -147,7 +151,8 @@ impl<'a> Lookup<'a> {
 
     #[inline(always)]
     pub fn select_tuple_arity(self, row: &'a [Operand]) -> Option<Instruction<'a>>
-        ensures { option_map instr_of result ≡ select_tuple_arity_row (row_of (tables self.entry) row.now) }
+        ensures { option_map instr_of result ≡ select_tuple_arity_row
+            (row_of (tables self.entry) row.now) }
     {
         let [subject, target, list @ ..] = row else {
             return None;

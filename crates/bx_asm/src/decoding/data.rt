@@ -29,7 +29,8 @@ impl<'a> Lookup<'a> {
 
     #[inline(always)]
     pub fn swap(self, row: &'a [Operand]) -> Option<Instruction<'a>>
-        ensures { option_map instr_of result ≡ registers_row instr.swap (row_of (tables self.entry) row.now) }
+        ensures { option_map instr_of result ≡ registers_row instr.swap
+            (row_of (tables self.entry) row.now) }
     {
         let [one, other] = row else {
             return None;
@@ -41,7 +42,8 @@ impl<'a> Lookup<'a> {
 
     #[inline(always)]
     pub fn get_hd(self, row: &'a [Operand]) -> Option<Instruction<'a>>
-        ensures { option_map instr_of result ≡ registers_row instr.get_hd (row_of (tables self.entry) row.now) }
+        ensures { option_map instr_of result ≡ registers_row instr.get_hd
+            (row_of (tables self.entry) row.now) }
     {
         let [list, head] = row else {
             return None;
@@ -53,7 +55,8 @@ impl<'a> Lookup<'a> {
 
     #[inline(always)]
     pub fn get_tl(self, row: &'a [Operand]) -> Option<Instruction<'a>>
-        ensures { option_map instr_of result ≡ registers_row instr.get_tl (row_of (tables self.entry) row.now) }
+        ensures { option_map instr_of result ≡ registers_row instr.get_tl
+            (row_of (tables self.entry) row.now) }
     {
         let [list, tail] = row else {
             return None;
@@ -78,7 +81,8 @@ impl<'a> Lookup<'a> {
 
     #[inline(always)]
     pub fn get_tuple_element(self, row: &'a [Operand]) -> Option<Instruction<'a>>
-        ensures { option_map instr_of result ≡ get_tuple_element_row (row_of (tables self.entry) row.now) }
+        ensures { option_map instr_of result ≡ get_tuple_element_row
+            (row_of (tables self.entry) row.now) }
     {
         let [subject, place, to] = row else {
             return None;
@@ -127,7 +131,8 @@ impl<'a> Lookup<'a> {
 
     #[inline(always)]
     pub fn no_match(self, mismatch: Mismatch, row: &'a [Operand]) -> Option<Instruction<'a>>
-        ensures { option_map instr_of result ≡ no_match_row mismatch (row_of (tables self.entry) row.now) }
+        ensures { option_map instr_of result ≡ no_match_row mismatch
+            (row_of (tables self.entry) row.now) }
     {
         let value = self.source_alone(row)?;
         Some(Instruction::NoMatch { mismatch, value })

@@ -15,7 +15,8 @@ use std::alloc::{AllocError, Global};
 fn add_labels(seen: &mut IndexSet<u32>, operands: &[Operand]) -> Result<Option<u32>, AllocError>
     ensures again { IfOk result (λ twice. twice ≡ again seen.old.keys (labels operands.now)) }
     ensures err { OnErr result (IsSome (first as_place operands.now)) }
-    ensures added { IfOk result (λ twice. twice ≡ None → seen.new.keys ≡ seen.old.keys ++ labels operands.now) }
+    ensures added { IfOk result
+        (λ twice. twice ≡ None → seen.new.keys ≡ seen.old.keys ++ labels operands.now) }
 {
     for operand in operands {
         if let Operand::Place(number) = operand {
@@ -31,7 +32,8 @@ fn add_labels(seen: &mut IndexSet<u32>, operands: &[Operand]) -> Result<Option<u
 /// The labels of all functions, or the first that stands twice.
 #[tactic(auto, using(crate::proofs::Labels::again_next, crate::proofs::Labels::keys_next, crate::proofs::Labels::again_here, crate::proofs::Firsts::first_later, crate::proofs::Firsts::first_here))]
 pub(crate) fn labels_of(alloc: Global, functions: &[Function]) -> Result<IndexSet<u32>, Fault>
-    ensures ok { IfOk result (λ seen. (again [] (all_labels functions.now) ≡ None) × (seen.keys ≡ all_labels functions.now)) }
+    ensures ok { IfOk result (λ seen. (again [] (all_labels functions.now) ≡ None) ×
+        (seen.keys ≡ all_labels functions.now)) }
     ensures err { IfErr result (RefusesLabels functions.now) }
 {
     let mut seen = IndexSet::new(alloc);

@@ -36,7 +36,8 @@ fn are_small(operands: &[Operand]) -> bool
 }
 
 fn functions_are_small(functions: &[Function]) -> bool
-    ensures { result ≡ list_all (λ f. is_arity f.arity && list_all is_small (operands_of f)) functions.now }
+    ensures { result ≡ list_all (λ f. is_arity f.arity && list_all is_small (operands_of f))
+        functions.now }
 {
     functions.iter().all(|function| function.arity() <= MOST_ARGUMENTS
         && are_small(function.operands()))
