@@ -1,6 +1,5 @@
 -- Runs that are cut into chains in one way or another.
 use Rattle.std.proofs.Common.{◌≡◌, ap}
-use Rattle.bx_world.specs.Running.{Ended}
 use Rattle.bx_board.specs.Jobs.{IsSameRun, Work, end_of, run_alone}
 
 pub same_run : {work other : Work} → work ≡ other → IsSameRun work other

@@ -1,10 +1,12 @@
 //! A book behind a lock, which workers serve.
 
-ghost use Rattle.std.specs.Prelude.{◌≡◌, IfOk, IfSome};
-ghost use Rattle.bx_board.specs.Kept.{IsOf};
+ghost use Rattle.std.specs.Prelude.{◌≡◌, ◌⊎◌, IfErr, IfOk, IfSome, MatchBool};
+ghost use Rattle.bx_board.specs.Counted.{counts_of};
+ghost use Rattle.bx_board.specs.Kept.{GivesBack, Happens, IsOf, MayLease, Takes};
+ghost use Rattle.bx_board.specs.Machine.{Holds};
 
 use crate::books::Book;
-use crate::slots::Counts;
+use crate::slots::{Counts, Event};
 use crate::working::{Lease, Piece, work};
 use bx_terms::Fault;
 use std::alloc::Global;
@@ -58,10 +60,20 @@ struct Shelf<'a, J: Campaign> {
 
 impl<'a, J: Campaign> Model for Shelf<'a, J> {
     ghost use Rattle.std.specs.Prelude.{◌≡◌};
+    ghost use Rattle.bx_terms.specs.contracts.atom_table.AtomId as ids;
+    ghost use Rattle.bx_asm.specs.contracts.unit.Unit as unit;
+    ghost use Rattle.bx_load.specs.Image.{loaded_code};
+    ghost use Rattle.bx_plan.specs.contracts.plans.Plan as plans;
+    ghost use Rattle.bx_chains.specs.contracts.chains.Chains as chained;
+    ghost use Rattle.bx_board.specs.contracts.slots.Slot as slot;
+    ghost use Rattle.bx_board.specs.contracts.slots.Event as event;
+    ghost use Rattle.bx_board.specs.Kept.{Kept, kept_code};
 
-    ghost Value = { Unit {0} };
+    ghost Value = { Kept };
 
-    ghost view = { λ s. tt };
+    ghost coded = { kept_code (loaded_code unit.the_row.coded) ids.the_row.coded plans.the_row.coded chained.the_row.coded slot.the_row.coded event.the_row.coded };
+
+    ghost view = { λ s. s.book };
 
     ghost invariant = { λ s. s.book.job ≡ J.job };
 }
@@ -69,6 +81,7 @@ impl<'a, J: Campaign> Model for Shelf<'a, J> {
 impl<'a, J: Campaign> Shelf<'a, J> {
     fn new(book: Book<'a>) -> Shelf<'a, J>
         requires { book.job ≡ J.job }
+        ensures { result ≡ book.entry }
     {
         Shelf {
             book,
@@ -77,19 +90,25 @@ impl<'a, J: Campaign> Shelf<'a, J> {
     }
 
     fn into_book(self) -> Book<'a>
-        ensures { result.job ≡ J.job }
+        ensures book { result ≡ self.entry }
+        ensures job { result.job ≡ J.job }
     {
         let Shelf { book, of: _ } = self;
         book
     }
 
-    fn counts(&self) -> Counts {
+    fn counts(&self) -> Counts
+        ensures { result ≡ counts_of self.now }
+    {
         self.book.counts()
     }
 
     /// A lease, with its chain's number.
     fn take(&mut self, alloc: Global, worker: usize) -> Result<Option<(usize, Lease<'a>)>, Fault>
-        ensures { IfOk result (λ found. IfSome found (λ task. IsOf J.job task.1 task.0)) }
+        ensures ok { IfOk result (λ found. Takes self.old worker found self.new) }
+        ensures own { IfOk result (λ found. IfSome found (λ task. IsOf J.job task.1 task.0)) }
+        ensures err { IfErr result (λ fault. (fault ≡ Fault.Memory) × (self.new ≡ self.old)) }
+        ensures free { IfErr result (λ _. MayLease self.old worker) }
     {
         self.book.take(alloc, worker)
     }
@@ -97,11 +116,15 @@ impl<'a, J: Campaign> Shelf<'a, J> {
     /// Hands in what came of a chain. Whether the worker held it.
     fn accept(&mut self, worker: usize, chain: usize, piece: Piece<'a>) -> bool
         requires { IsOf J.job piece chain }
+        ensures { MatchBool result (Happens self.old (Event.Submit worker chain) self.new) (self.new ≡ self.old) }
     {
         self.book.accept(worker, chain, piece)
     }
 
-    fn give_back(&mut self, worker: usize) {
+    /// Gives back what the worker holds, where it holds a chain.
+    fn give_back(&mut self, worker: usize)
+        ensures { GivesBack self.old worker self.new ⊎ ((self.new ≡ self.old) × (Holds self.old.state worker → ⊥)) }
+    {
         let _held = self.book.give_back(worker);
     }
 }
@@ -140,7 +163,9 @@ impl<'a, J: Campaign> Board<'a, J> {
         alloc: Global,
         worker: usize,
         gate: &G,
-    ) -> Result<(), Fault> {
+    ) -> Result<(), Fault>
+        ensures { IfErr result (λ fault. fault ≡ Fault.Memory) }
+    {
         for _ in rt.forever() {
             let Some((chain, lease)) = self.next(rt, alloc, worker)? else {
                 return Ok(());
@@ -170,7 +195,8 @@ impl<'a, J: Campaign> Board<'a, J> {
         alloc: Global,
         worker: usize,
     ) -> Result<Option<(usize, Lease<'a>)>, Fault>
-        ensures { IfOk result (λ found. IfSome found (λ task. IsOf J.job task.1 task.0)) }
+        ensures own { IfOk result (λ found. IfSome found (λ task. IsOf J.job task.1 task.0)) }
+        ensures err { IfErr result (λ fault. fault ≡ Fault.Memory) }
     {
         let mut shelf = self.shelf.lock(rt);
         for _ in rt.forever() {

@@ -1,6 +1,6 @@
 //! Campaigns: a book served by threads.
 
-ghost use Rattle.std.specs.Prelude.{⊤, ◌≡◌, IsOk, IsSome};
+ghost use Rattle.std.specs.Prelude.{⊤, ◌≡◌, ◌<◌, ◌≤◌, IsOk, IsSome};
 ghost use Rattle.bx_terms.specs.Outcomes.{Gives};
 ghost use Rattle.bx_load.specs.Image.{export};
 ghost use Rattle.bx_world.specs.World.{started};
@@ -88,8 +88,8 @@ fn settle(
 /// of the plan's tree. The caller's thread is worker 0; a thread that cannot be started is done without.
 ///
 /// `Workers` exactly where they are not 1 to 64; else `NoEntry` exactly where the module does not export that function of no
-/// arguments. `Memory` where a worker lacked it and chains are left, or the report lacks it. The promise holds if the call
-/// returns, as it waits for its threads.
+/// arguments. `Memory` where a worker lacked it and chains are left, or the report lacks it, and only where neither of these
+/// faults is. The promise holds if the call returns, as it waits for its threads.
 pub fn campaign<R: Threads + Wait + Sync, G: Gate + Sync>(
     rt: &R,
     alloc: Global,
@@ -100,7 +100,8 @@ pub fn campaign<R: Threads + Wait + Sync, G: Gate + Sync>(
     workers: u32,
     gate: &G,
 ) -> Result<Report, Fault>
-    ensures { Gives (IsSome (export image.now «module» function 0)) (λ report. report) result (report_by workers image.now («module», function) (schedules plan.now)) }
+    ensures { Gives ((0 < workers) × ((workers ≤ 64) × IsSome (export image.now «module» function 0))) (λ report. report) result
+        (report_by workers image.now («module», function) (schedules plan.now)) }
 {
     if workers == 0 || workers > MOST_WORKERS {
         return Err(Fault::Workers);

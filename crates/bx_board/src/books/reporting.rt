@@ -1,6 +1,6 @@
 //! The report of a campaign whose chains are all done.
 
-ghost use Rattle.std.specs.Prelude.{◌≡◌, ◌⊎◌, ◌↔◌, ◌<◌, List, ℕ, length, option_map, slice_get, IfErr, IfOk, IsTrue, Some};
+ghost use Rattle.std.specs.Prelude.{◌≡◌, ◌⊎◌, ◌↔◌, ◌<◌, List, ℕ, length, option_map, slice_get, IfErr, IfOk, IsTrue, OnErr, Some};
 ghost use Rattle.bx_world.specs.declared.choices.Choice.{Choice};
 ghost use Rattle.bx_plan.specs.Planned.{schedules};
 ghost use Rattle.bx_board.specs.Jobs.{run_alone};
@@ -72,7 +72,8 @@ impl<'a> Book<'a> {
     /// What came of each schedule, in the plan's order.
     fn report(&self, alloc: Global) -> Result<Report, AllocError>
         requires { IsAllDone self.now }
-        ensures { IfOk result (λ report. report ≡ report_of self.now.job) }
+        ensures ok { IfOk result (λ report. report ≡ report_of self.now.job) }
+        ensures err { OnErr result (0 < length (schedules self.now.job.plan)) }
     {
         let mut report = Report::new(alloc);
         for number in 0..self.plan.len() {
@@ -87,11 +88,12 @@ impl<'a> Book<'a> {
 
     /// The report of the plan's schedules.
     ///
-    /// `Unfinished` exactly where a chain is not done; the book comes back then, as it was, and also where memory runs out.
+    /// `Unfinished` exactly where a chain is not done; the book comes back then, as it was, and also where memory runs out, which it
+    /// does only where there is a schedule.
     pub fn finish(self, alloc: Global) -> Result<Report, (Fault, Book<'a>)>
         ensures ok { IfOk result (λ report. IsAllDone self.entry × (report ≡ report_of self.entry.job)) }
         ensures err { IfErr result (λ refused. (refused.1 ≡ self.entry)
-            × (((refused.0 ≡ Fault.Memory) × IsAllDone self.entry) ⊎ ((refused.0 ≡ Fault.Unfinished) × (IsAllDone self.entry → ⊥)))) }
+            × (((refused.0 ≡ Fault.Memory) × IsAllDone self.entry × (0 < length (schedules self.entry.job.plan))) ⊎ ((refused.0 ≡ Fault.Unfinished) × (IsAllDone self.entry → ⊥)))) }
     {
         if !self.is_done() {
             return Err((Fault::Unfinished, self));

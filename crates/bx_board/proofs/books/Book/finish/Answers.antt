@@ -3,4 +3,4 @@ use Rattle.bx_board.proofs.Steps.{true_is}
 use Rattle.bx_board.proofs.books.Book.finish.Goals as goal
 
 pub returns-clause-err : goal.returns-clause-err
-returns-clause-err c = (refl, inl (refl, c.is_done.ensures.0 (true_is _ c.if-not-is_done.false)))
+returns-clause-err c = (refl, inl (refl, c.is_done.ensures.0 (true_is _ c.if-not-is_done.false), c.in-Err.ensures.err))
