@@ -1,5 +1,5 @@
 -- What is printed of a term, with a full stop at the end of its line, is read as a form, whatever follows the line.
-use Rattle.std.proofs.Common.{◌≡◌, ℕ, ◌+◌, List, [], ◌∷◌, ◌++◌, Ok, refl, ◌∙◌}
+use Rattle.std.proofs.Common.{◌≡◌, ℕ, ◌+◌, List, ◌∷◌, ◌++◌, refl, ◌∙◌}
 use Rattle.bx_text.specs.Place.{Place}
 use Rattle.bx_text.specs.Named as named
 use Rattle.bx_text.specs.Token.{Lexeme}

@@ -1,6 +1,7 @@
 pub mod Blanking
 pub mod Escapes
 pub mod Exact
+pub mod Failing
 pub mod Finding
 pub mod FormsBack
 pub mod Frame

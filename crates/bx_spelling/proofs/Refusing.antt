@@ -1,14 +1,13 @@
 -- A token is refused where none is spelled.
-use Rattle.std.proofs.Common.{◌≡◌, ◌≤◌, ◌↔◌, List, ℕ, length, Result, Ok, Err, refl, sym, ap, ◌∙◌}
+use Rattle.std.proofs.Common.{◌≡◌, ◌↔◌, Result, Ok, Err, refl, ap, ◌∙◌}
 use Rattle.bx_terms.specs.Outcomes.{◌>>=◌}
 use Rattle.bx_terms.specs.declared.faults.Fault.{Fault}
 use Rattle.bx_text.specs.Place.{Place}
 use Rattle.bx_text.specs.Blank.{skip}
 use Rattle.bx_text.specs.Token.{Token, Lexeme}
 use Rattle.bx_text.specs.Lexing.{token_at, lexeme_from, lexeme_at}
-use Rattle.bx_spelling.specs.Blanks.{Passes}
 use Rattle.bx_spelling.specs.Lexemes.{NoNext}
-use Rattle.bx_spelling.specs.Spelling.{Begins, NoToken}
+use Rattle.bx_spelling.specs.Spelling.{NoToken}
 use Rattle.bx_spelling.proofs.Blanking.{skipped_is_blank}
 use Rattle.bx_spelling.proofs.Finding.{standing, parts}
 use Rattle.bx_spelling.proofs.Frame.{Spelled, Found}

@@ -3,6 +3,7 @@ pub mod Characters
 pub mod Lexemes
 pub mod Numerals
 pub mod Quoted
+pub mod Refusals
 pub mod Shown
 pub mod Spelling
 pub mod Terms

@@ -11,6 +11,7 @@ ghost use Rattle.bx_text.specs.Lexing.{token_at, lexeme_at};
 ghost use Rattle.bx_text.specs.Grammar.{SpelledAs};
 ghost use Rattle.bx_spelling.specs.Blanks.{Passes};
 ghost use Rattle.bx_spelling.specs.Lexemes.{Finds, NoNext};
+ghost use Rattle.bx_spelling.specs.Refusals.{Unquoted, Fails};
 ghost use Rattle.bx_spelling.specs.Spelling.{NoToken};
 ghost use Rattle.bx_text.specs.Tree.{Tree};
 ghost use Rattle.bx_spelling.specs.Shown.{Shown, IsStanding, IsReadBack};
@@ -37,6 +38,12 @@ pub fn the_next_token_is_the_longest()
 /// A token is refused at a place exactly where no token's spelling begins there.
 pub fn what_is_no_token_is_refused_by_its_bytes()
     ensures { (p : Place) → ((f : Fault) × (token_at p ≡ Err f)) ↔ NoToken p.rest }
+{}
+
+/// Where no quote begins, a token is refused exactly where none is spelled, with the fault and the line that the bytes say.
+pub fn faults_outside_quotes_are_by_the_bytes()
+    ensures { (p : Place) (f : Fault) → Unquoted p.rest
+        → (token_at p ≡ Err f) ↔ (NoToken p.rest × Fails p.rest p.line f) }
 {}
 
 /// The next token is refused exactly where no token's spelling begins behind the blanks.
