@@ -40,13 +40,13 @@ here bs at line q n h =
 feed_lines : (bytes : List ℕ) → lines (10 ∷ bytes) ≡ suc (lines bytes)
 feed_lines bytes = omega arith
 
-other_lines : (b : ℕ) (bytes : List ℕ) → eqb b 10 ≡ false → lines (b ∷ bytes) ≡ lines bytes
+pub other_lines : (b : ℕ) (bytes : List ℕ) → eqb b 10 ≡ false → lines (b ∷ bytes) ≡ lines bytes
 other_lines b bytes e = ap (λ (t : Bool). cond t (1 + lines bytes) (lines bytes)) e
 
-feed_space : (b : ℕ) → eqb b 10 ≡ true → IsSpace b
+pub feed_space : (b : ℕ) → eqb b 10 ≡ true → IsSpace b
 feed_space b e = grind (arith, nat_tests)
 
-space_is : (b : ℕ) → is_space b ≡ true → IsSpace b
+pub space_is : (b : ℕ) → is_space b ≡ true → IsSpace b
 space_is b e = grind (arith, nat_tests)
 
 space_not : (b : ℕ) → is_space b ≡ false → IsSpace b → ⊥
@@ -68,17 +68,17 @@ not_feed b n = grind (arith, nat_tests)
 feed_stops : (b : ℕ) → b ≡ 10 → is_not_feed b ≡ false
 feed_stops b e = grind (arith, nat_tests)
 
-line_len : (text rest : List ℕ) → AllByRecursion (λ b. b ≢ 10) text → LineEnds rest → prefix_len is_not_feed (text ++ rest) ≡ length text
+pub line_len : (text rest : List ℕ) → AllByRecursion (λ b. b ≢ 10) text → LineEnds rest → prefix_len is_not_feed (text ++ rest) ≡ length text
 line_len [] [] a e = refl
 line_len [] (r ∷ rs) a e = ap (λ (t : Bool). cond t (1 + prefix_len is_not_feed rs) 0) (feed_stops r e)
 line_len (t ∷ text) rest (n, a) e =
     let one : prefix_len is_not_feed (t ∷ (text ++ rest)) ≡ 1 + prefix_len is_not_feed (text ++ rest) = ap (λ (u : Bool). cond u (1 + prefix_len is_not_feed (text ++ rest)) 0) (not_feed t n) in
     omega (arith, one, line_len text rest a e)
 
-line_is : (text rest : List ℕ) → AllByRecursion (λ b. b ≢ 10) text → LineEnds rest → line_of (text ++ rest) ≡ text
+pub line_is : (text rest : List ℕ) → AllByRecursion (λ b. b ≢ 10) text → LineEnds rest → line_of (text ++ rest) ≡ text
 line_is text rest a e = take_at text rest (prefix_len is_not_feed (text ++ rest)) (sym (line_len text rest a e))
 
-text_lines : (text : List ℕ) → AllByRecursion (λ b. b ≢ 10) text → lines text ≡ 0
+pub text_lines : (text : List ℕ) → AllByRecursion (λ b. b ≢ 10) text → lines text ≡ 0
 text_lines [] a = refl
 text_lines (t ∷ text) (n, a) = other_lines t text (unequal t n) ∙ text_lines text a
   where
@@ -159,7 +159,7 @@ not_line b e = grind (arith, nat_tests)
 not_percent : (b : ℕ) → b ≢ 37 → eqb b 37 ≡ false
 not_percent b n = grind (arith, nat_tests)
 
-space_percent : (b : ℕ) → IsSpace b → (eqb b 37 ≡ false) × (is_space b ≡ true)
+pub space_percent : (b : ℕ) → IsSpace b → (eqb b 37 ≡ false) × (is_space b ≡ true)
 space_percent b h = (grind (arith, nat_tests), grind (arith, nat_tests))
 
 pub tests_by : (b : ℕ) (bs : List ℕ) (at line : ℕ) (f s : Bool) → eqb b 37 ≡ false → eqb b 10 ≡ f → is_space b ≡ s

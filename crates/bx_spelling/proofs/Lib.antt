@@ -23,5 +23,6 @@ pub mod Readings
 pub mod Refusing
 pub mod Runs
 pub mod Sentences
+pub mod Spoiling
 pub mod Wholes
 pub mod Words

@@ -31,3 +31,9 @@ NoBlank (b ∷ bs) = (IsSpace b → ⊥) × (b ≢ 37)
 abbrev pub Passes : Place → Place → Type 0
 Passes p q = (bytes : List ℕ) × (p.rest ≡ bytes ++ q.rest) × Blank bytes q.rest × NoBlank q.rest
     × Stands p bytes q
+
+-- behind spaces and comments that stand at p, a comment at q is no text in UTF-8
+abbrev pub Spoilt : Place → Place → Type 0
+Spoilt p q = (bytes text rest : List ℕ) × (p.rest ≡ bytes ++ q.rest) × Blank bytes q.rest
+    × (q.rest ≡ 37 ∷ (text ++ rest)) × AllByRecursion (λ b. b ≢ 10) text × LineEnds rest
+    × (IsUtf8 text → ⊥) × Stands p bytes q

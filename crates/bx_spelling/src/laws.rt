@@ -2,6 +2,7 @@
 
 ghost use Rattle.std.specs.Prelude.{◌≡◌, ◌↔◌, List, ℕ, Ok, Err, Some, None};
 ghost use Rattle.bx_terms.specs.declared.faults.Fault.{Fault};
+ghost use Rattle.bx_terms.specs.declared.faults.Fault.TheVariants.{NotUtf8};
 ghost use Rattle.bx_text.specs.declared.node.Sort.{Sort};
 ghost use Rattle.bx_text.specs.Place.{Place};
 ghost use Rattle.bx_text.specs.Blank.{skip};
@@ -9,7 +10,7 @@ ghost use Rattle.bx_text.specs.Forms.{form_at};
 ghost use Rattle.bx_text.specs.Token.{Token};
 ghost use Rattle.bx_text.specs.Lexing.{token_at, lexeme_at};
 ghost use Rattle.bx_text.specs.Grammar.{SpelledAs};
-ghost use Rattle.bx_spelling.specs.Blanks.{Passes};
+ghost use Rattle.bx_spelling.specs.Blanks.{Passes, Spoilt};
 ghost use Rattle.bx_spelling.specs.Lexemes.{Finds, NoNext};
 ghost use Rattle.bx_spelling.specs.Refusals.{Unquoted, Fails};
 ghost use Rattle.bx_spelling.specs.Spelling.{NoToken};
@@ -27,6 +28,12 @@ pub fn tokens_are_the_longest_spellings()
 /// What the reader skips is the spaces and comments that stand there, all of them and nothing else.
 pub fn blanks_are_skipped()
     ensures { (p q : Place) → (skip p ≡ Ok q) ↔ Passes p q }
+{}
+
+/// Blanks are refused exactly at a comment that is no text in UTF-8, as that and with the comment's line.
+pub fn comments_are_refused_by_their_bytes()
+    ensures { (p : Place) (f : Fault) → (skip p ≡ Err f)
+        ↔ ((q : Place) × Spoilt p q × (f ≡ NotUtf8 q.line)) }
 {}
 
 /// What the reader finds as the next token is the longest spelling behind the blanks, and it finds one exactly where one
