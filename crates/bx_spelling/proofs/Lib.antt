@@ -14,6 +14,7 @@ pub mod Means
 pub mod Meant
 pub mod Moved
 pub mod Moving
+pub mod NextFailing
 pub mod Numbers
 pub mod NumbersFound
 pub mod Printing

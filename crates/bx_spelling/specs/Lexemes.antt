@@ -1,9 +1,12 @@
 -- A token behind blanks, and where it stands.
-use Rattle.std.specs.Prelude.{◌≡◌, Ok}
+use Rattle.std.specs.Prelude.{◌≡◌, ◌⊎◌, Ok}
+use Rattle.bx_terms.specs.declared.faults.Fault.{Fault}
+use Rattle.bx_terms.specs.declared.faults.Fault.TheVariants.{NotUtf8}
 use Rattle.bx_text.specs.Place.{Place}
 use Rattle.bx_text.specs.Token.{Token, Lexeme}
 use Rattle.bx_text.specs.Lexing.{lexeme_at}
-use Rattle.bx_spelling.specs.Blanks.{Passes}
+use Rattle.bx_spelling.specs.Blanks.{Passes, Spoilt}
+use Rattle.bx_spelling.specs.Refusals.{Unquoted, Fails}
 use Rattle.bx_spelling.specs.Spelling.{NoToken}
 use Rattle.bx_spelling.specs.Tokens.{meant}
 
@@ -16,3 +19,13 @@ Finds p q t r =
 -- no token follows p: a comment is no text in UTF-8, or behind the blanks no token's spelling begins
 abbrev pub NoNext : Place → Type 0
 NoNext p = (q : Place) → Passes p q → NoToken q.rest
+
+-- behind the blanks at p no quote begins
+abbrev pub NextUnquoted : Place → Type 0
+NextUnquoted p = (q : Place) → Passes p q → Unquoted q.rest
+
+-- the fault of the next token from p on, and its line: a comment is no text in UTF-8, or behind the
+-- blanks no token is spelled
+abbrev pub NextFails : Place → Fault → Type 0
+NextFails p f = ((q : Place) × Spoilt p q × (f ≡ NotUtf8 q.line))
+    ⊎ ((q : Place) × Passes p q × NoToken q.rest × Fails q.rest q.line f)
