@@ -1,3 +1,6 @@
+mod desk;
+mod orders;
+
 use crate::program::{names_of, run};
 use bx_engine::fault_line;
 use std::alloc::Global;
