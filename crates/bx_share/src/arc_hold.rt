@@ -55,7 +55,7 @@ impl<T: Drop> Hold<T> for ArcHold<T> {
 fn own<T: Copied>(alloc: Global, inner: &mut Arc<T>) -> Result<(), AllocError>
     ensures { arc_value inner.new ≡ arc_value inner.old }
 {
-    if let None = Arc::get_mut(inner) {
+    if Arc::strong_count(inner) != 1 {
         part(alloc, inner)?;
     }
     Ok(())

@@ -54,7 +54,7 @@ impl<T: Drop> Hold<T> for RcHold<T> {
 fn own<T: Copied>(alloc: Global, inner: &mut Rc<T>) -> Result<(), AllocError>
     ensures { inner.new.value ≡ inner.old.value }
 {
-    if let None = Rc::get_mut(inner) {
+    if Rc::strong_count(inner) != 1 {
         part(alloc, inner)?;
     }
     Ok(())
