@@ -19,20 +19,27 @@ run s cs = known_in s cs ++ known_last (fold step s cs)
 abbrev pub whole : Open → List ℕ → Bool
 whole s cs = is_whole (fold step s cs)
 
+-- a test that takes octal digits, to which more may come, for nothing open
+abbrev pub Tests : (Open → Bool) → Type 0
+Tests p = ((v : ℕ) → p (named.octal_digit v) ≡ p named.nothing) × ((v : ℕ) → p (named.octal_digits v) ≡ p named.nothing)
+
 -- over xs the characters vs are meant, and t is open where ys follow
 pub record Turn (s : Open) (xs vs : List ℕ) (t : Open) (ys : List ℕ) : Type 0 where
   pub means : run s xs ≡ vs ++ run t ys
-  pub ends : whole s xs ≡ whole t ys
+  pub tests : (p : Open → Bool) → Tests p → p (fold step s xs) ≡ p (fold step t ys)
+
+pub ends : {s t : Open} {xs vs ys : List ℕ} → Turn s xs vs t ys → whole s xs ≡ whole t ys
+ends turn = turn.tests is_whole (λ v. refl, λ v. refl)
 
 pub one : (s : Open) (c : ℕ) (cs : List ℕ) → Turn s (c ∷ cs) (known s c) (step s c) cs
-one s c cs = record { means = append_assoc (known s c) (known_in (step s c) cs) (known_last (fold step (step s c) cs)); ends = refl }
+one s c cs = record { means = append_assoc (known s c) (known_in (step s c) cs) (known_last (fold step (step s c) cs)); tests = λ p o. refl }
 
 one_is : (s t : Open) (c : ℕ) (cs vs : List ℕ) → known s c ≡ vs → step s c ≡ t → Turn s (c ∷ cs) vs t cs
 one_is s t c cs vs e f =
     subst (λ t. Turn s (c ∷ cs) vs t cs) f (subst (λ vs. Turn s (c ∷ cs) vs (step s c) cs) e (one s c cs))
 
 pub then : {s t r : Open} {xs ys zs vs ws : List ℕ} → Turn s xs vs t ys → Turn t ys ws r zs → Turn s xs (vs ++ ws) r zs
-then {r = r} {zs = zs} {vs = vs} {ws = ws} a b = record { means = a.means ∙ ap (λ us. vs ++ us) b.means ∙ sym (append_assoc vs ws (run r zs)); ends = a.ends ∙ b.ends }
+then {r = r} {zs = zs} {vs = vs} {ws = ws} a b = record { means = a.means ∙ ap (λ us. vs ++ us) b.means ∙ sym (append_assoc vs ws (run r zs)); tests = λ p o. a.tests p o ∙ b.tests p o }
 
 -- tests
 hex_brace : (c : ℕ) → is_hex c ≡ true → eqb c 123 ≡ false
@@ -63,25 +70,25 @@ no_octal [] = true
 no_octal (c ∷ cs) = not (is_octal c)
 
 abbrev pub Ends : Open → ℕ → Type 0
-Ends s v = (known_last s ≡ coded v) × (is_whole s ≡ true) × ((c : ℕ) → is_octal c ≡ false → (known s c ≡ coded v ++ itself c) × (step s c ≡ begins_with c))
+Ends s v = (known_last s ≡ coded v) × ((p : Open → Bool) → Tests p → p s ≡ p named.nothing) × ((c : ℕ) → is_octal c ≡ false → (known s c ≡ coded v ++ itself c) × (step s c ≡ begins_with c))
 
 pub octal_ends : (s : Open) (v : ℕ) (cs : List ℕ) → Ends s v → no_octal cs ≡ true → Turn s cs (coded v) named.nothing cs
-octal_ends s v [] ends e = record { means = ends.0 ∙ sym (append-nil (coded v)); ends = ends.1 }
+octal_ends s v [] ends e = record { means = ends.0 ∙ sym (append-nil (coded v)); tests = ends.1 }
 octal_ends s v (c ∷ cs) ends e =
     let next = ends.2 c (not_true (is_octal c) e) in
     let turned = one_is s (begins_with c) c cs (coded v ++ itself c) next.0 next.1 in
     let plain = one named.nothing c cs in
-    record { means = turned.means ∙ append_assoc (coded v) (itself c) (run (begins_with c) cs) ∙ ap (λ us. coded v ++ us) (sym plain.means); ends = turned.ends ∙ sym plain.ends }
+    record { means = turned.means ∙ append_assoc (coded v) (itself c) (run (begins_with c) cs) ∙ ap (λ us. coded v ++ us) (sym plain.means); tests = λ p o. turned.tests p o ∙ sym (plain.tests p o) }
   where
     not_true : (t : Bool) → not t ≡ true → t ≡ false
     not_true true e = cc
     not_true false e = refl
 
 pub octal_one : (v : ℕ) → Ends (named.octal_digit v) v
-octal_one v = (refl, refl, λ c e. (ap (λ (t : Bool). cond t [] (coded v ++ itself c)) e, ap (λ (t : Bool). cond t (named.octal_digits (8 * v + digit c)) (begins_with c)) e))
+octal_one v = (refl, λ p o. o.0 v, λ c e. (ap (λ (t : Bool). cond t [] (coded v ++ itself c)) e, ap (λ (t : Bool). cond t (named.octal_digits (8 * v + digit c)) (begins_with c)) e))
 
 pub octal_two : (v : ℕ) → Ends (named.octal_digits v) v
-octal_two v = (refl, refl, λ c e. (ap (λ (t : Bool). cond t (coded (8 * v + digit c)) (coded v ++ itself c)) e, ap (λ (t : Bool). cond t named.nothing (begins_with c)) e))
+octal_two v = (refl, λ p o. o.1 v, λ c e. (ap (λ (t : Bool). cond t (coded (8 * v + digit c)) (coded v ++ itself c)) e, ap (λ (t : Bool). cond t named.nothing (begins_with c)) e))
 
 pub first_hex : (a : ℕ) (cs : List ℕ) → is_hex a ≡ true → Turn named.hex (a ∷ cs) [] (named.hex_digit (digit a)) cs
 first_hex a cs e =
@@ -192,7 +199,7 @@ same_fold (d ∷ ds) w n a h =
 
 -- digits between braces
 pub over_braced : (ds : List ℕ) (w : ℕ) (cs : List ℕ) → list_all is_hex ds ≡ true → Turn (named.braced w) (ds ++ cs) [] (named.braced (fold saturated w ds)) cs
-over_braced [] w cs a = record { means = refl; ends = refl }
+over_braced [] w cs a = record { means = refl; tests = λ p o. refl }
 over_braced (d ∷ ds) w cs a =
     let both = and_parts (is_hex d) (list_all is_hex ds) a in
     then (next_braced w d (ds ++ cs) both.0) (over_braced ds (saturated w d) cs both.1)

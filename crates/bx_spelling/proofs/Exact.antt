@@ -13,14 +13,14 @@ use Rattle.bx_text.specs.Named as named
 use Rattle.bx_text.specs.Token as token
 use Rattle.bx_text.specs.Token.{Token}
 use Rattle.bx_text.specs.Lexing.{token_at, quoted_at, number_by, fraction_len, sign_len, power_len, exponent_len, name_len, accent_len, behind, word}
-use Rattle.bx_spelling.specs.Quoted.{Quoted}
+use Rattle.bx_spelling.specs.Quoted.{IsQuote, Quoted}
 use Rattle.bx_spelling.specs.Spelling.{Spelling, Minus, no_minus, a_minus, Sign, no_sign, plus, minus, Exponent, no_exponent, an_exponent, InUtf8, open_tuple, close_tuple, open_list, close_list, open_map, open_binary, close_binary, comma, bar, arrow, colon, slash, open_parenthesis, close_parenthesis, full_stop, the_word_fun, integer, negative, float, bare_atom, quoted_atom, string}
 use Rattle.bx_spelling.specs.Tokens.{meant}
 use Rattle.bx_spelling.proofs.Frame.{on}
 use Rattle.bx_spelling.proofs.Runs.{run_append, digits_of}
 use Rattle.bx_spelling.proofs.NumbersFound.{first_number, digits_on, not_e, is_e, no_sign_digit, power_some, point_found, some_digits}
 use Rattle.bx_spelling.proofs.Free.{free, free_text}
-use Rattle.bx_spelling.proofs.Readings.{IsQuote, quoted_free}
+use Rattle.bx_spelling.proofs.Readings.{quoted_free}
 use Rattle.bx_spelling.proofs.Quotes.{Gives, gives, behind_rest, grouped}
 use Rattle.bx_spelling.proofs.Longest.{unsigned}
 use Rattle.bx_spelling.proofs.Printing.{Delimits, Exactly, numeral_exact, exactly_is, word_exact}

@@ -97,7 +97,7 @@ pub free_text : (q : ℕ) (cs : List ℕ) → q < 128 → free q (encode_utf8_al
 free_text q cs l = (free_bytes q l cs).0
 
 -- where the bytes between quotes end
-len_cond : (q b : ℕ) (bs : List ℕ) (t u : Bool) → eqb b q ≡ t → eqb b 92 ≡ u → body_len q (b ∷ bs) ≡ cond t 0 (cond u (1 + escaped_len q bs) (1 + body_len q bs))
+pub len_cond : (q b : ℕ) (bs : List ℕ) (t u : Bool) → eqb b q ≡ t → eqb b 92 ≡ u → body_len q (b ∷ bs) ≡ cond t 0 (cond u (1 + escaped_len q bs) (1 + body_len q bs))
 len_cond q b bs t u e f = ap (λ (t : Bool). cond t 0 (cond (eqb b 92) (1 + escaped_len q bs) (1 + body_len q bs))) e ∙ ap (λ (u : Bool). cond t 0 (cond u (1 + escaped_len q bs) (1 + body_len q bs))) f
 
 same : (q : ℕ) → eqb q q ≡ true
@@ -107,7 +107,7 @@ same q = grind (arith, nat_tests)
 quote_len : (q : ℕ) (zs : List ℕ) → body_len q (q ∷ zs) ≡ 0
 quote_len q zs = ap (λ (t : Bool). cond t 0 (cond (eqb q 92) (1 + escaped_len q zs) (1 + body_len q zs))) (same q)
 
-slash_quote : (q b : ℕ) → q ≢ 92 → eqb b 92 ≡ true → eqb b q ≡ false
+pub slash_quote : (q b : ℕ) → q ≢ 92 → eqb b 92 ≡ true → eqb b q ≡ false
 slash_quote q b n e = grind (arith, nat_tests)
 
 pub not_one : (t : Bool) → not t ≡ true → t ≡ false
@@ -155,7 +155,7 @@ ended_by q p r xs ys zs f (inr (e, w)) = inr (f e, w)
 split_more : (q b n : ℕ) (p r : List ℕ → Bool) (bs : List ℕ) → ((raw : List ℕ) → p raw ≡ true → r (b ∷ raw) ≡ true) → Split q p bs n → Split q r (b ∷ bs) (1 + n)
 split_more q b n p r bs f (raw, zs, e, l, d) = (b ∷ raw, zs, ap (λ us. b ∷ us) e, omega (arith, l), ended_by q p r raw (b ∷ raw) zs (f raw) d)
 
-free_slash : (q b : ℕ) (raw : List ℕ) → eqb b 92 ≡ true → freed q raw ≡ true → free q (b ∷ raw) ≡ true
+pub free_slash : (q b : ℕ) (raw : List ℕ) → eqb b 92 ≡ true → freed q raw ≡ true → free q (b ∷ raw) ≡ true
 free_slash q b raw e f = ap (λ (t : Bool). cond t (freed q raw) (not (eqb b q) && free q raw)) e ∙ f
 
 pub free_plain : (q b : ℕ) (raw : List ℕ) → eqb b 92 ≡ false → eqb b q ≡ false → free q raw ≡ true → free q (b ∷ raw) ≡ true

@@ -2,12 +2,15 @@ pub mod Blanking
 pub mod Escapes
 pub mod Exact
 pub mod Failing
+pub mod Faulty
+pub mod FaultsFound
 pub mod Finding
 pub mod FormsBack
 pub mod Frame
 pub mod Free
 pub mod Kept
 pub mod KeptTexts
+pub mod Leftover
 pub mod Longest
 pub mod Marks
 pub mod Means
@@ -23,7 +26,9 @@ pub mod ReadBack
 pub mod Readings
 pub mod Refusing
 pub mod Runs
+pub mod Seams
 pub mod Sentences
 pub mod Spoiling
+pub mod Unclosed
 pub mod Wholes
 pub mod Words

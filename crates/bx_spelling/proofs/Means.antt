@@ -1,5 +1,5 @@
 -- What is quoted is what the reader makes of it.
-use Rattle.std.proofs.Common.{◌≡◌, ◌≢◌, ℕ, ◌+◌, ◌*◌, ◌%◌, ◌≤◌, ◌<◌, Bool, true, false, not, eqb, ◌&&◌, List, [], ◌∷◌, ◌++◌, length, refl, sym, ap, ◌∙◌, subst, arith, ◌⊎◌, inl, inr}
+use Rattle.std.proofs.Common.{◌≡◌, ◌≢◌, ℕ, ◌+◌, ◌*◌, ◌%◌, ◌≤◌, ◌<◌, Bool, true, false, not, eqb, ◌&&◌, List, [], ◌∷◌, ◌++◌, length, refl, sym, ap, ◌∙◌, subst, arith, append_assoc, append-nil, ◌⊎◌, inl, inr}
 use Rattle.std.specs.List.{fold, list_all}
 use Rattle.std.proofs.lemmas.Bool.{and_parts}
 use Rattle.std.proofs.lemmas.Bool.Decides.{nat_tests}
@@ -9,7 +9,7 @@ use Rattle.bx_text.specs.Escapes as escapes
 use Rattle.bx_spelling.specs.Characters.{IsControl}
 use Rattle.bx_spelling.specs.Quoted as quoted
 use Rattle.bx_spelling.specs.Quoted.{Quoted, Named, IsOctal, IsNamed, IsOther, NoOctal, backspace, delete, escape, form_feed, line_feed, carriage_return, space, tab, vertical_tab}
-use Rattle.bx_spelling.proofs.Escapes.{run, whole, Turn, one, then, over_itself, over_slash, first_octal, second_octal, third_octal, no_octal, octal_ends, octal_one, octal_two, first_hex, second_hex, first_braced, close_braced, over_braced, over_control, over_named, with_digit, Value, numeral_value, counts, below, saturated, same_fold, same_scalar, is_scalar_from, coded_is}
+use Rattle.bx_spelling.proofs.Escapes.{run, whole, Turn, ends, one, then, over_itself, over_slash, first_octal, second_octal, third_octal, no_octal, octal_ends, octal_one, octal_two, first_hex, second_hex, first_braced, close_braced, over_braced, over_control, over_named, with_digit, Value, numeral_value, counts, below, saturated, same_fold, same_scalar, is_scalar_from, coded_is}
 
 pub small_scalar : (v : ℕ) → v < 0xd800 → is_scalar v ≡ true
 small_scalar v h = grind (arith, nat_tests)
@@ -142,18 +142,35 @@ other_by c cs (n, o, x, k) =
     (λ e. n (32, subst (λ c. Named c 32) (sym e) space)) (λ e. n (9, subst (λ c. Named c 9) (sym e) tab)) (λ e. n (11, subst (λ c. Named c 11) (sym e) vertical_tab)) in
     subst (λ v. Turn named.nothing (92 ∷ c ∷ cs) (v ∷ []) named.nothing cs) is (named_turn c cs (octal_next c o) (unequal c 120 x) (unequal c 94 k))
 
+-- over what is quoted, where no octal digit follows
+octal_behind : (cs ys : List ℕ) → NoOctal cs → NoOctal ys → NoOctal (cs ++ ys)
+octal_behind [] ys n m = m
+octal_behind (c ∷ cs) ys n m = n
+
+ended : (n : ℕ) (cs ys : List ℕ) → NoOctal ys → (n ≡ 3) ⊎ NoOctal cs → (n ≡ 3) ⊎ NoOctal (cs ++ ys)
+ended n cs ys m (inl e) = inl e
+ended n cs ys m (inr k) = inr (octal_behind cs ys k m)
+
+pub over_quoted : {q : ℕ} {cs vs : List ℕ} → Quoted q cs vs → (ys : List ℕ) → NoOctal ys → Turn named.nothing (cs ++ ys) vs named.nothing ys
+over_quoted quoted.none ys m = record { means = refl; tests = λ p o. refl }
+over_quoted (quoted.itself {c = c} {cs = cs} other plain k) ys m = then (over_itself c (cs ++ ys) (unequal c 92 plain)) (over_quoted k ys m)
+over_quoted (quoted.named {cs = cs} n k) ys m = then (named_by n (cs ++ ys)) (over_quoted k ys m)
+over_quoted (quoted.octal {v = v} {ds = ds} {cs = cs} {vs = vs} n l e k) ys m =
+    subst (λ us. Turn named.nothing (92 ∷ us) (v ∷ vs) named.nothing ys) (sym (append_assoc ds cs ys))
+    (then (octal_turn ds (cs ++ ys) v (numeral_value n) l (ended (length ds) cs ys m e)) (over_quoted k ys m))
+over_quoted (quoted.hex {v = v} {ds = ds} {cs = cs} {vs = vs} n l k) ys m =
+    subst (λ us. Turn named.nothing (92 ∷ 120 ∷ us) (v ∷ vs) named.nothing ys) (sym (append_assoc ds cs ys))
+    (then (hex_turn ds (cs ++ ys) v (numeral_value n) l) (over_quoted k ys m))
+over_quoted (quoted.braced {v = v} {ds = ds} {cs = cs} {vs = vs} n s k) ys m =
+    subst (λ us. Turn named.nothing (92 ∷ 120 ∷ 123 ∷ us) (v ∷ vs) named.nothing ys) (sym (append_assoc ds (125 ∷ cs) ys))
+    (then (braced_turn ds (cs ++ ys) v (numeral_value n) (is_scalar_from v s)) (over_quoted k ys m))
+over_quoted (quoted.control {c = c} {cs = cs} h k) ys m = then (control_turn c (cs ++ ys) (control_is c h)) (over_quoted k ys m)
+over_quoted (quoted.other {c = c} {cs = cs} h k) ys m = then (other_by c (cs ++ ys) h) (over_quoted k ys m)
+
 abbrev pub Meant : List ℕ → List ℕ → Type 0
 Meant cs vs = (run named.nothing cs ≡ vs) × (whole named.nothing cs ≡ true)
 
-after : {xs ys vs : List ℕ} {v : ℕ} → Turn named.nothing xs (v ∷ []) named.nothing ys → Meant ys vs → Meant xs (v ∷ vs)
-after {v = v} t m = (t.means ∙ ap (λ us. v ∷ us) m.0, t.ends ∙ m.1)
-
 pub means : {q : ℕ} {cs vs : List ℕ} → Quoted q cs vs → Meant cs vs
-means quoted.none = (refl, refl)
-means (quoted.itself {c = c} {cs = cs} other plain k) = after (over_itself c cs (unequal c 92 plain)) (means k)
-means (quoted.named {cs = cs} n k) = after (named_by n cs) (means k)
-means (quoted.octal {v = v} {ds = ds} {cs = cs} n l e k) = after (octal_turn ds cs v (numeral_value n) l e) (means k)
-means (quoted.hex {v = v} {ds = ds} {cs = cs} n l k) = after (hex_turn ds cs v (numeral_value n) l) (means k)
-means (quoted.braced {v = v} {ds = ds} {cs = cs} n s k) = after (braced_turn ds cs v (numeral_value n) (is_scalar_from v s)) (means k)
-means (quoted.control {c = c} {cs = cs} h k) = after (control_turn c cs (control_is c h)) (means k)
-means (quoted.other {c = c} {cs = cs} h k) = after (other_by c cs h) (means k)
+means {cs = cs} {vs = vs} k =
+    let turn : Turn named.nothing cs vs named.nothing [] = subst (λ us. Turn named.nothing us vs named.nothing []) (append-nil cs) (over_quoted k [] tt) in
+    (turn.means ∙ append-nil vs, ends turn)

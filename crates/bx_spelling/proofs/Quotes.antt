@@ -21,7 +21,7 @@ use Rattle.bx_text.specs.Token.{Token, Body, spelled}
 use Rattle.bx_text.specs.Lexing.{token_at, quoted_at, body_at, closing_at, escaped_at, ended_at, behind, body_len, valid_front, broken}
 use Rattle.bx_text.proofs.Outcomes.{ok_same, bind_ok}
 use Rattle.bx_spelling.specs.Quoted as quoted
-use Rattle.bx_spelling.specs.Quoted.{Quoted}
+use Rattle.bx_spelling.specs.Quoted.{IsQuote, Quoted}
 use Rattle.bx_spelling.specs.Spelling.{Spelling, MayFollow, InUtf8, quoted_atom, string}
 use Rattle.bx_spelling.specs.Tokens.{lines, meant}
 use Rattle.bx_spelling.proofs.Frame.{on, Spelled, Found, found_exact, lines-append}
@@ -29,7 +29,7 @@ use Rattle.bx_spelling.proofs.Runs.{run_split, run_append}
 use Rattle.bx_spelling.proofs.Free.{free, freed, shape, Shape, free_text, body_of, body_split, Split}
 use Rattle.bx_spelling.proofs.Escapes.{run, whole, over_itself}
 use Rattle.bx_spelling.proofs.Means.{means}
-use Rattle.bx_spelling.proofs.Readings.{IsQuote, Read, reads, quoted_free}
+use Rattle.bx_spelling.proofs.Readings.{Read, reads, quoted_free}
 
 -- UTF-8
 valid_le : (bs : List ℕ) (n : ℕ) → valid_len_up_to bs n ≤ n
@@ -56,13 +56,13 @@ tested : (n : ℕ) → eqb n n ≡ true
 tested n = grind (arith, nat_tests)
 
 -- the place behind a quoted token
-feeds_lines : (bs : List ℕ) → lines bs ≡ feeds bs
+pub feeds_lines : (bs : List ℕ) → lines bs ≡ feeds bs
 feeds_lines bs = is_count_by lines is_feed refl (λ x xs. refl) bs
 
-quote_line : (q : ℕ) → IsQuote q → eqb q 10 ≡ false
+pub quote_line : (q : ℕ) → IsQuote q → eqb q 10 ≡ false
 quote_line q h = grind (arith, nat_tests)
 
-quote_low : (q : ℕ) → IsQuote q → q < 128
+pub quote_low : (q : ℕ) → IsQuote q → q < 128
 quote_low q h = grind arith
 
 pub quote_slash : (q : ℕ) → IsQuote q → q ≢ 92
@@ -88,10 +88,10 @@ behind_rest q bytes zs =
 abbrev Taken : ℕ → List ℕ → ℕ → ℕ → Body × Place → Type 0
 Taken q body at line y = (cs vs bytes zs : List ℕ) × (body ≡ bytes ++ q ∷ zs) × InUtf8 cs bytes × Quoted q cs vs × (spelled y.0 ≡ encode_utf8_all vs) × (y.1 ≡ behind (on (q ∷ body) at line) body (length bytes))
 
-plain_parts : (q c : ℕ) → is_plain q c ≡ true → (c ≢ q) × (c ≢ 92)
+pub plain_parts : (q c : ℕ) → is_plain q c ≡ true → (c ≢ q) × (c ≢ 92)
 plain_parts q c e = (λ i. grind (arith, nat_tests), λ i. grind (arith, nat_tests))
 
-plain_quoted : (q : ℕ) (cs : List ℕ) → list_all (is_plain q) cs ≡ true → Quoted q cs cs
+pub plain_quoted : (q : ℕ) (cs : List ℕ) → list_all (is_plain q) cs ≡ true → Quoted q cs cs
 plain_quoted q [] a = quoted.none
 plain_quoted q (c ∷ cs) a =
     let both = and_parts (is_plain q c) (list_all (is_plain q) cs) a in
@@ -105,7 +105,7 @@ all_past p (x ∷ xs) ys a = all_past p xs ys (and_parts (p x) (list_all p (xs +
 high_is_plain : (q c : ℕ) → q < 128 → 128 ≤ c → is_plain q c ≡ true
 high_is_plain q c l h = grind (arith, nat_tests)
 
-plain_chars : (q : ℕ) → q < 128 → (cs : List ℕ) → list_all (is_plain q) (encode_utf8_all cs) ≡ true → list_all (is_plain q) cs ≡ true
+pub plain_chars : (q : ℕ) → q < 128 → (cs : List ℕ) → list_all (is_plain q) (encode_utf8_all cs) ≡ true → list_all (is_plain q) cs ≡ true
 plain_chars q l [] a = refl
 plain_chars q l (c ∷ cs) a = by_shape (shape c) (plain_chars q l cs (all_past (is_plain q) (encode_utf8 c) (encode_utf8_all cs) a))
   where
@@ -187,10 +187,10 @@ by_escapes q body at line y h (raw, zs, e, l, d) g =
         let is : y ≡ (token.escaped raw, behind p body (length raw)) = sym (ok_same (token.escaped (take n body), behind p body n) y ended.1) ∙ ap (λ us. (token.escaped us, behind p body n)) front ∙ ap (λ n. (token.escaped raw, behind p body n)) l in
         subst (λ b. y ≡ (token.escaped raw, behind (on (q ∷ b) at line) b (length raw)) → Taken q b at line y) (sym text) (escaped_taken q raw us at line y h f size closed) is
 
-not_slash : (q b : ℕ) → is_plain q b ≡ false → eqb b 92 ≡ false → b ≡ q
+pub not_slash : (q b : ℕ) → is_plain q b ≡ false → eqb b 92 ≡ false → b ≡ q
 not_slash q b e f = grind (arith, nat_tests)
 
-stop_at : (p : ℕ → Bool) (raw : List ℕ) (z : ℕ) (zs : List ℕ) → list_all p raw ≡ true → prefix_len p (raw ++ z ∷ zs) ≡ length raw → p z ≡ false
+pub stop_at : (p : ℕ → Bool) (raw : List ℕ) (z : ℕ) (zs : List ℕ) → list_all p raw ≡ true → prefix_len p (raw ++ z ∷ zs) ≡ length raw → p z ≡ false
 stop_at p raw z zs a n = by (p z) refl
   where
     none : prefix_len p (z ∷ zs) ≡ 0
@@ -292,7 +292,7 @@ Gives q bytes rest at line vs =
 valid_text : (cs bytes : List ℕ) → InUtf8 cs bytes → utf8_valid_len bytes ≡ length bytes
 valid_text cs bytes (s, t) = utf8_valid_len-IsUtf8 bytes (cs, (s, t))
 
-same_test : (m n : ℕ) → m ≡ n → eqb m n ≡ true
+pub same_test : (m n : ℕ) → m ≡ n → eqb m n ≡ true
 same_test m n e = grind (arith, nat_tests)
 
 quote_not_plain : (q : ℕ) → is_plain q q ≡ false
@@ -364,7 +364,7 @@ escapes_found q cs vs bytes rest at line h is_free r u =
     closed : is_whole (open_in (take (length bytes) B)) ≡ true
     closed = ap (λ us. is_whole (open_in us)) front ∙ opens cs bytes u ∙ (means r).1
 
-free_next : (q : ℕ) (raw : List ℕ) (z : ℕ) (zs : List ℕ) → list_all (is_plain q) raw ≡ true → is_plain q z ≡ false → free q (raw ++ z ∷ zs) ≡ true → eqb z 92 ≡ true
+pub free_next : (q : ℕ) (raw : List ℕ) (z : ℕ) (zs : List ℕ) → list_all (is_plain q) raw ≡ true → is_plain q z ≡ false → free q (raw ++ z ∷ zs) ≡ true → eqb z 92 ≡ true
 free_next q [] z zs a n f = by (eqb z 92) (eqb z q) refl refl f
   where
     by : (t u : Bool) → eqb z 92 ≡ t → eqb z q ≡ u → cond t (freed q zs) (not u && free q zs) ≡ true → eqb z 92 ≡ true

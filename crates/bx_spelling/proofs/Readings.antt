@@ -1,5 +1,5 @@
 -- What the reader makes of characters with escapes is quoted so.
-use Rattle.std.proofs.Common.{◌≡◌, ◌≢◌, ℕ, zero, suc, ◌+◌, ◌≤◌, ◌<◌, Bool, true, false, cond, not, eqb, ◌&&◌, List, [], ◌∷◌, ◌++◌, length, refl, sym, ap, ◌∙◌, subst, arith, ◌⊎◌, inl, inr, length-append}
+use Rattle.std.proofs.Common.{◌≡◌, ◌≢◌, ℕ, zero, suc, ◌+◌, ◌≤◌, ◌<◌, Bool, true, false, cond, not, eqb, ◌&&◌, List, [], ◌∷◌, ◌++◌, length, refl, sym, ap, ◌∙◌, subst, arith, ◌⊎◌, inl, inr, append_assoc, append-nil, length-append}
 use Rattle.std.specs.List.{fold, list_all, prefix_len}
 use Rattle.std.proofs.lemmas.Bool.{eqb-true, eqb-false, and_parts, and_from, cases_eq}
 use Rattle.std.proofs.lemmas.Bool.Decides.{nat_tests}
@@ -9,10 +9,10 @@ use Rattle.bx_text.specs.Escapes as escapes
 use Rattle.bx_spelling.specs.Characters.{IsControl}
 use Rattle.bx_spelling.specs.Numerals.{Digit, Numeral, one_digit}
 use Rattle.bx_spelling.specs.Quoted as quoted
-use Rattle.bx_spelling.specs.Quoted.{Quoted, Named, IsOctal, IsNamed, IsOther, NoOctal, backspace, delete, escape, form_feed, line_feed, carriage_return, space, tab, vertical_tab}
+use Rattle.bx_spelling.specs.Quoted.{IsQuote, Quoted, Named, IsOctal, IsNamed, IsOther, NoOctal, backspace, delete, escape, form_feed, line_feed, carriage_return, space, tab, vertical_tab}
 use Rattle.bx_spelling.proofs.Free.{free, freed, capped, free_plain, past_cap, not_one}
 use Rattle.bx_spelling.proofs.Runs.{run_split, run_append}
-use Rattle.bx_spelling.proofs.Escapes.{run, whole, Turn, over_itself, no_octal, first_hex, first_braced, over_braced, is_base, with_digit, value_from, numeral_value, saturated, same_fold, scalar_same, scalar_from}
+use Rattle.bx_spelling.proofs.Escapes.{run, whole, Turn, ends, over_itself, no_octal, first_hex, first_braced, over_braced, is_base, with_digit, value_from, numeral_value, saturated, same_fold, scalar_same, scalar_from}
 use Rattle.bx_spelling.proofs.Means.{one_turn, two_turn, three_turn, hex_two, braced_by, control_turn, named_turn, names_itself}
 
 -- the characters are quoted, and mean what the reader makes of them
@@ -29,19 +29,16 @@ more {v = v} t f (vs, r, e) = (v ∷ vs, f vs r, t.means ∙ ap (λ us. v ∷ us
 -- past a turn all is as free and as whole
 step_on : {q k v : ℕ} (xs ys : List ℕ) → Next q k → length ys ≤ k → free q ys ≡ true → Turn named.nothing xs (v ∷ []) named.nothing ys → ((vs : List ℕ) → Quoted q ys vs → Quoted q xs (v ∷ vs))
     → whole named.nothing xs ≡ true → Read q xs
-step_on xs ys next l f t make w = more t make (next ys l f (sym t.ends ∙ w))
+step_on xs ys next l f t make w = more t make (next ys l f (sym (ends t) ∙ w))
 
 -- digits are neither quotes nor backslashes
-abbrev pub IsQuote : ℕ → Type 0
-IsQuote q = (q ≡ 39) ⊎ (q ≡ 34)
-
-hex_plain : (q c : ℕ) → IsQuote q → is_hex c ≡ true → (eqb c 92 ≡ false) × (eqb c q ≡ false)
+pub hex_plain : (q c : ℕ) → IsQuote q → is_hex c ≡ true → (eqb c 92 ≡ false) × (eqb c q ≡ false)
 hex_plain q c h e = (grind (arith, nat_tests), grind (arith, nat_tests))
 
-hex_uncapped : (c : ℕ) → is_hex c ≡ true → eqb c 94 ≡ false
+pub hex_uncapped : (c : ℕ) → is_hex c ≡ true → eqb c 94 ≡ false
 hex_uncapped c e = grind (arith, nat_tests)
 
-octal_hex : (c : ℕ) → is_octal c ≡ true → is_hex c ≡ true
+pub octal_hex : (c : ℕ) → is_octal c ≡ true → is_hex c ≡ true
 octal_hex c e = grind (arith, nat_tests)
 
 free_past : (q c : ℕ) (cs : List ℕ) → eqb c 92 ≡ false → free q (c ∷ cs) ≡ true → free q cs ≡ true
@@ -133,7 +130,7 @@ stops hs y ys a n = by (is_hex y) refl
     by false e = refl
 
 whole_braced : (g : ℕ) (hs zs : List ℕ) → is_hex g ≡ true → list_all is_hex hs ≡ true → whole named.nothing (92 ∷ 120 ∷ 123 ∷ g ∷ (hs ++ zs)) ≡ whole (named.braced (fold saturated (digit g) hs)) zs
-whole_braced g hs zs i a = (first_braced g (hs ++ zs) i).ends ∙ (over_braced hs (digit g) zs a).ends
+whole_braced g hs zs i a = ends (first_braced g (hs ++ zs) i) ∙ ends (over_braced hs (digit g) zs a)
 
 closed_brace : (q k g : ℕ) (hs ys : List ℕ) → IsQuote q → Next q k → is_hex g ≡ true → list_all is_hex hs ≡ true → is_scalar (fold saturated (digit g) hs) ≡ true
     → length ys ≤ k → free q (g ∷ (hs ++ 125 ∷ ys)) ≡ true → whole named.nothing (92 ∷ 120 ∷ 123 ∷ g ∷ (hs ++ 125 ∷ ys)) ≡ true → Read q (92 ∷ 120 ∷ 123 ∷ g ∷ (hs ++ 125 ∷ ys))
@@ -182,14 +179,14 @@ behind_brace q k (g ∷ gs) h next l f w = by (is_hex g) refl
 
 -- behind `x`
 behind_hex : (q k a : ℕ) (cs : List ℕ) → IsQuote q → Next q k → is_hex a ≡ true → Goes q k (92 ∷ 120 ∷ a ∷ cs) cs
-behind_hex q k a [] h next i l f w = never _ (first_hex a [] i).ends w
+behind_hex q k a [] h next i l f w = never _ (ends (first_hex a [] i)) w
 behind_hex q k a (b ∷ cs) h next i l f w = by (is_hex b) refl
   where
     by : (t : Bool) → is_hex b ≡ t → Read q (92 ∷ 120 ∷ a ∷ b ∷ cs)
     by true e =
         step_on (92 ∷ 120 ∷ a ∷ b ∷ cs) cs next (omega arith) (free_past q b cs (hex_plain q b h e).0 f) (hex_two a b cs i e)
         (λ vs r. quoted.hex {ds = a ∷ b ∷ []} (value_from 16 a (b ∷ []) (omega arith) (and_from (is_hex a) _ i (and_from (is_hex b) true e refl))) refl r) w
-    by false e = never _ ((first_hex a (b ∷ cs) i).ends ∙ ap (λ s. whole s cs) (ap (λ (t : Bool). cond t named.nothing named.bad) e) ∙ bad_stays cs) w
+    by false e = never _ (ends (first_hex a (b ∷ cs) i) ∙ ap (λ s. whole s cs) (ap (λ (t : Bool). cond t named.nothing named.bad) e) ∙ bad_stays cs) w
 
 behind_x : (q k : ℕ) (cs : List ℕ) → IsQuote q → Next q k → Goes q k (92 ∷ 120 ∷ cs) cs
 behind_x q k [] h next l f w = cc
@@ -340,7 +337,7 @@ hex_from q (d ∷ ds) cs h a f =
 based_hex : (b c : ℕ) → b ≤ 16 → is_base b c ≡ true → is_hex c ≡ true
 based_hex b c l e = grind (arith, nat_tests)
 
-all_hex : (b : ℕ) (ds : List ℕ) → b ≤ 16 → list_all (is_base b) ds ≡ true → list_all is_hex ds ≡ true
+pub all_hex : (b : ℕ) (ds : List ℕ) → b ≤ 16 → list_all (is_base b) ds ≡ true → list_all is_hex ds ≡ true
 all_hex b [] l a = refl
 all_hex b (d ∷ ds) l a = let all = and_parts (is_base b d) (list_all (is_base b) ds) a in and_from (is_hex d) (list_all is_hex ds) (based_hex b d l all.0) (all_hex b ds l all.1)
 
@@ -350,7 +347,7 @@ different c d n = grind (arith, nat_tests)
 control_plain : (q c : ℕ) → IsQuote q → IsControl c → eqb c q ≡ false
 control_plain q c h k = grind (arith, nat_tests)
 
-brace_plain : (q : ℕ) → IsQuote q → (eqb 123 q ≡ false) × (eqb 125 q ≡ false) × (eqb 120 q ≡ false)
+pub brace_plain : (q : ℕ) → IsQuote q → (eqb 123 q ≡ false) × (eqb 125 q ≡ false) × (eqb 120 q ≡ false)
 brace_plain q h = (grind (arith, nat_tests), grind (arith, nat_tests), grind (arith, nat_tests))
 
 octals_free : (q : ℕ) (ds cs : List ℕ) → IsQuote q → list_all is_hex ds ≡ true → 0 < length ds → free q cs ≡ true → freed q (ds ++ cs) ≡ true
@@ -370,19 +367,24 @@ named_uncapped space = refl
 named_uncapped tab = refl
 named_uncapped vertical_tab = refl
 
-pub quoted_free : {q : ℕ} {cs vs : List ℕ} → Quoted q cs vs → IsQuote q → free q cs ≡ true
-quoted_free quoted.none h = refl
-quoted_free (quoted.itself {q = q} {c = x} {cs = cs} other plain k) h = free_plain q x cs (different x 92 plain) (different x q other) (quoted_free k h)
-quoted_free (quoted.named {q = q} {c = x} {cs = cs} n k) h = past_cap q x cs (named_uncapped n) ∙ quoted_free k h
-quoted_free (quoted.octal {q = q} {ds = ds} {cs = cs} n l e k) h =
+pub quoted_before : {q : ℕ} {cs vs : List ℕ} → Quoted q cs vs → IsQuote q → (ys : List ℕ) → free q ys ≡ true → free q (cs ++ ys) ≡ true
+quoted_before quoted.none h ys f = f
+quoted_before (quoted.itself {q = q} {c = x} {cs = cs} other plain k) h ys f =
+    free_plain q x (cs ++ ys) (different x 92 plain) (different x q other) (quoted_before k h ys f)
+quoted_before (quoted.named {q = q} {c = x} {cs = cs} n k) h ys f = past_cap q x (cs ++ ys) (named_uncapped n) ∙ quoted_before k h ys f
+quoted_before (quoted.octal {q = q} {ds = ds} {cs = cs} n l e k) h ys f =
     let v = numeral_value n in
-    octals_free q ds cs h (all_hex 8 ds (omega arith) v.0) v.2 (quoted_free k h)
-quoted_free (quoted.hex {q = q} {ds = ds} {cs = cs} n l k) h =
-    hex_from q ds cs h (all_hex 16 ds (omega arith) (numeral_value n).0) (quoted_free k h)
-quoted_free (quoted.braced {q = q} {ds = ds} {cs = cs} n s k) h =
+    subst (λ us. freed q us ≡ true) (sym (append_assoc ds cs ys)) (octals_free q ds (cs ++ ys) h (all_hex 8 ds (omega arith) v.0) v.2 (quoted_before k h ys f))
+quoted_before (quoted.hex {q = q} {ds = ds} {cs = cs} n l k) h ys f =
+    subst (λ us. free q us ≡ true) (sym (append_assoc ds cs ys)) (hex_from q ds (cs ++ ys) h (all_hex 16 ds (omega arith) (numeral_value n).0) (quoted_before k h ys f))
+quoted_before (quoted.braced {q = q} {ds = ds} {cs = cs} n s k) h ys f =
     let plain = brace_plain q h in
-    let rest : free q cs ≡ true = quoted_free k h in
-    free_plain q 123 (ds ++ 125 ∷ cs) refl plain.0 (hex_from q ds (125 ∷ cs) h (all_hex 16 ds (omega arith) (numeral_value n).0) (free_plain q 125 cs refl plain.1 rest))
-quoted_free (quoted.control {q = q} {c = x} {cs = cs} i k) h =
-    and_from (not (eqb x q)) (free q cs) (ap not (control_plain q x h i)) (quoted_free k h)
-quoted_free (quoted.other {q = q} {c = x} {cs = cs} i k) h = past_cap q x cs (different x 94 i.3) ∙ quoted_free k h
+    let rest : free q (cs ++ ys) ≡ true = quoted_before k h ys f in
+    subst (λ us. free q (123 ∷ us) ≡ true) (sym (append_assoc ds (125 ∷ cs) ys))
+    (free_plain q 123 (ds ++ 125 ∷ (cs ++ ys)) refl plain.0 (hex_from q ds (125 ∷ (cs ++ ys)) h (all_hex 16 ds (omega arith) (numeral_value n).0) (free_plain q 125 (cs ++ ys) refl plain.1 rest)))
+quoted_before (quoted.control {q = q} {c = x} {cs = cs} i k) h ys f =
+    and_from (not (eqb x q)) (free q (cs ++ ys)) (ap not (control_plain q x h i)) (quoted_before k h ys f)
+quoted_before (quoted.other {q = q} {c = x} {cs = cs} i k) h ys f = past_cap q x (cs ++ ys) (different x 94 i.3) ∙ quoted_before k h ys f
+
+pub quoted_free : {q : ℕ} {cs vs : List ℕ} → Quoted q cs vs → IsQuote q → free q cs ≡ true
+quoted_free {q = q} {cs = cs} k h = subst (λ us. free q us ≡ true) (append-nil cs) (quoted_before k h [] refl)

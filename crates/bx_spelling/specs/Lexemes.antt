@@ -6,7 +6,7 @@ use Rattle.bx_text.specs.Place.{Place}
 use Rattle.bx_text.specs.Token.{Token, Lexeme}
 use Rattle.bx_text.specs.Lexing.{lexeme_at}
 use Rattle.bx_spelling.specs.Blanks.{Passes, Spoilt}
-use Rattle.bx_spelling.specs.Refusals.{Unquoted, Fails}
+use Rattle.bx_spelling.specs.Refusals.{Fails}
 use Rattle.bx_spelling.specs.Spelling.{NoToken}
 use Rattle.bx_spelling.specs.Tokens.{meant}
 
@@ -19,10 +19,6 @@ Finds p q t r =
 -- no token follows p: a comment is no text in UTF-8, or behind the blanks no token's spelling begins
 abbrev pub NoNext : Place → Type 0
 NoNext p = (q : Place) → Passes p q → NoToken q.rest
-
--- behind the blanks at p no quote begins
-abbrev pub NextUnquoted : Place → Type 0
-NextUnquoted p = (q : Place) → Passes p q → Unquoted q.rest
 
 -- the fault of the next token from p on, and its line: a comment is no text in UTF-8, or behind the
 -- blanks no token is spelled

@@ -18,6 +18,10 @@ pub data Named : ℕ → ℕ → Type 0 where
   tab : Named 116 9
   vertical_tab : Named 118 11
 
+-- a single quote or a double one
+abbrev pub IsQuote : ℕ → Type 0
+IsQuote q = (q ≡ 39) ⊎ (q ≡ 34)
+
 -- `0` to `7`
 abbrev pub IsOctal : ℕ → Type 0
 IsOctal c = (x : ℕ) × Digit 8 c x

@@ -11,8 +11,8 @@ ghost use Rattle.bx_text.specs.Token.{Token};
 ghost use Rattle.bx_text.specs.Lexing.{token_at, lexeme_at};
 ghost use Rattle.bx_text.specs.Grammar.{SpelledAs};
 ghost use Rattle.bx_spelling.specs.Blanks.{Passes, Spoilt};
-ghost use Rattle.bx_spelling.specs.Lexemes.{Finds, NoNext, NextUnquoted, NextFails};
-ghost use Rattle.bx_spelling.specs.Refusals.{Unquoted, Fails};
+ghost use Rattle.bx_spelling.specs.Lexemes.{Finds, NoNext, NextFails};
+ghost use Rattle.bx_spelling.specs.Refusals.{Fails};
 ghost use Rattle.bx_spelling.specs.Spelling.{NoToken};
 ghost use Rattle.bx_text.specs.Tree.{Tree};
 ghost use Rattle.bx_spelling.specs.Shown.{Shown, IsStanding, IsReadBack};
@@ -47,10 +47,10 @@ pub fn what_is_no_token_is_refused_by_its_bytes()
     ensures { (p : Place) → ((f : Fault) × (token_at p ≡ Err f)) ↔ NoToken p.rest }
 {}
 
-/// Where no quote begins, a token is refused exactly where none is spelled, with the fault and the line that the bytes say.
-pub fn faults_outside_quotes_are_by_the_bytes()
-    ensures { (p : Place) (f : Fault) → Unquoted p.rest
-        → (token_at p ≡ Err f) ↔ (NoToken p.rest × Fails p.rest p.line f) }
+/// A token is refused exactly where none is spelled, with the fault and the line that the bytes say.
+pub fn faults_are_by_the_bytes()
+    ensures { (p : Place) (f : Fault) → (token_at p ≡ Err f)
+        ↔ (NoToken p.rest × Fails p.rest p.line f) }
 {}
 
 /// The next token is refused exactly where no token's spelling begins behind the blanks.
@@ -58,9 +58,9 @@ pub fn the_next_token_is_refused_by_its_bytes()
     ensures { (p : Place) → ((f : Fault) × (lexeme_at p ≡ Err f)) ↔ NoNext p }
 {}
 
-/// Where no quote begins behind the blanks, the next token's refusal and its line are those that the bytes say.
-pub fn the_next_fault_outside_quotes_is_by_the_bytes()
-    ensures { (p : Place) (f : Fault) → NextUnquoted p → (lexeme_at p ≡ Err f) ↔ NextFails p f }
+/// The next token's refusal and its line are those that the bytes say.
+pub fn the_next_fault_is_by_the_bytes()
+    ensures { (p : Place) (f : Fault) → (lexeme_at p ≡ Err f) ↔ NextFails p f }
 {}
 
 /// The texts that nodes keep are those that stand in some text as a term of their sort, by their bytes.

@@ -1,5 +1,5 @@
 -- Spaces and comments, which may stand between tokens: a comment goes from `%` to the end of its line.
-use Rattle.std.specs.Prelude.{ℕ, ◌+◌, ◌==◌, if◌then◌else◌, List, [], ◌∷◌, length, take, Result, Ok, Err}
+use Rattle.std.specs.Prelude.{ℕ, ◌+◌, ◌==◌, if◌then◌else◌, List, [], ◌∷◌, length, take, Option, Some, None, Result, Ok, Err}
 use Rattle.std.specs.List.{prefix_len}
 use Rattle.std.specs.Str.Lossy.{utf8_valid_len}
 use Rattle.bx_terms.specs.declared.faults.Fault.{Fault}
@@ -32,3 +32,15 @@ abbrev mutual
 -- the first place from p on where neither a space nor a comment stands
 abbrev pub skip : Place → Result Place Fault
 skip p = skip_from p.rest p.at p.line
+
+-- the same, where only spaces come before that place and something stands there
+abbrev pub spaces_from : List ℕ → ℕ → ℕ → Option Place
+spaces_from [] at line = None
+spaces_from (b ∷ bs) at line =
+    if b == 37 then None
+    else (if b == 10 then spaces_from bs (at + 1) (line + 1)
+    else (if is_space b then spaces_from bs (at + 1) line
+    else Some (record { rest = b ∷ bs; at = at; line = line })))
+
+abbrev pub spaces : Place → Option Place
+spaces p = spaces_from p.rest p.at p.line

@@ -1,12 +1,12 @@
 //! What may stand between tokens: spaces and comments.
 
-ghost use Rattle.std.specs.Prelude.{true, IfOk, IfSome, Ok, Err, ◌≡◌, ◌<◌, ◌≤◌, length, MatchResult};
+ghost use Rattle.std.specs.Prelude.{true, IfOk, IfSome, Ok, Err, Some, None, ◌≡◌, ◌<◌, ◌≤◌, length, MatchOption, MatchResult};
 ghost use Rattle.std.specs.List.{prefix_len};
 ghost use Rattle.std.specs.Str.Lossy.{utf8_valid_len};
 ghost use Rattle.bx_terms.specs.Outcomes.{Gives};
 ghost use Rattle.bx_text.specs.Bytes.{begins, is_not_feed, is_percent};
 ghost use Rattle.bx_text.specs.Place.{place};
-ghost use Rattle.bx_text.specs.Blank.{skip, comment_end};
+ghost use Rattle.bx_text.specs.Blank.{skip, spaces, comment_end};
 
 use crate::bytes::is_space;
 use crate::moves::ahead;
@@ -55,6 +55,7 @@ fn comment<'a>(r: Reader<'a>) -> Result<Reader<'a>, Fault>
 /// The first place from `r` on where neither a space nor a comment stands, if only spaces come before it and something stands there.
 #[inline(always)]
 pub(crate) fn spaces<'a>(r: Reader<'a>) -> Option<Reader<'a>>
+    ensures exact { MatchOption result (spaces (place r.entry) ≡ None) (λ q. spaces (place r.entry) ≡ Some (place q)) }
     ensures skips { IfSome result (λ q. skip (place r.entry) ≡ Ok (place q)) }
     ensures some { IfSome result (λ q. 1 ≤ length q.rest.now) }
 {

@@ -3,11 +3,12 @@
 ghost use Rattle.std.specs.Prelude.{◌≡◌, ◌≤◌, ◌-◌, pos, Ok, Err, true, false, length, take};
 ghost use Rattle.bx_text.specs.Number.{IsSign};
 ghost use Rattle.bx_terms.specs.Outcomes.{Gives};
+ghost use Rattle.bx_text.specs.Bytes.{begins, is_digit};
 ghost use Rattle.bx_text.specs.Place.{place};
 ghost use Rattle.bx_text.specs.Token.{token_of, lexeme_of, integer};
 ghost use Rattle.bx_text.specs.Lexing.{ends, stop_at, pair_at, number_at, token_by, lexeme_from, lexeme_at};
 ghost use Rattle.bx_text.specs.Holding.{held, holding};
-ghost use Rattle.bx_text.specs.Short.{is_short};
+ghost use Rattle.bx_text.specs.Short.{is_short, is_common, is_common_next};
 
 use crate::blanks::{skip, spaces};
 use crate::bytes::{is_digit, is_space};
@@ -121,6 +122,7 @@ fn take_any<'a>(l: &mut Lexeme<'a>, kind: Kind, r: Reader<'a>) -> Result<(), Fau
 fn take_number<'a>(l: &mut Lexeme<'a>, r: Reader<'a>) -> bool
     ensures taken { result ≡ true → number_at (place r.entry) 0 ≡ Ok (token_of l.new.token, place l.new.after) }
     ensures held { result ≡ true → lexeme_of l.new ≡ held (place r.entry) (token_of l.new.token, place l.new.after) }
+    ensures exact { result ≡ begins is_digit r.entry.rest.now }
     ensures stays { result ≡ false → place l.new.after ≡ place l.old.after }
 {
     match number(r, 0) {
@@ -158,6 +160,7 @@ fn take_digits<'a>(l: &mut Lexeme<'a>, r: Reader<'a>) -> bool
     requires { 1 ≤ length r.rest.now }
     ensures taken { result ≡ true → number_at (place r.entry) 0 ≡ Ok (token_of l.new.token, place l.new.after) }
     ensures held { result ≡ true → lexeme_of l.new ≡ held (place r.entry) (token_of l.new.token, place l.new.after) }
+    ensures exact { result ≡ begins is_digit r.entry.rest.now }
     ensures stays { result ≡ false → place l.new.after ≡ place l.old.after }
 {
     if is_short(r.rest) {
@@ -173,6 +176,7 @@ fn take_digits<'a>(l: &mut Lexeme<'a>, r: Reader<'a>) -> bool
 fn take_common<'a>(l: &mut Lexeme<'a>, r: Reader<'a>) -> bool
     requires { 1 ≤ length r.rest.now }
     ensures taken { result ≡ true → lexeme_from (place r.entry) ≡ Ok (lexeme_of l.new) }
+    ensures exact { result ≡ is_common r.entry.rest.now }
     ensures stays { result ≡ false → place l.new.after ≡ place l.old.after }
 {
     match kind_of(r.rest[0]) {
@@ -237,6 +241,7 @@ fn advance_any<'a>(l: &mut Lexeme<'a>) -> Result<(), Fault>
 #[inline(never)]
 fn advance_common<'a>(l: &mut Lexeme<'a>) -> bool
     ensures taken { result ≡ true → lexeme_at (place l.old.after) ≡ Ok (lexeme_of l.new) }
+    ensures exact { result ≡ is_common_next (place l.old.after) }
     ensures stays { result ≡ false → place l.new.after ≡ place l.old.after }
 {
     match spaces(l.after) {

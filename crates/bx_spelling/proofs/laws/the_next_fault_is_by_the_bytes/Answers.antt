@@ -1,5 +1,5 @@
 use Rattle.bx_spelling.proofs.NextFailing.{next_fails}
-use Rattle.bx_spelling.proofs.laws.the_next_fault_outside_quotes_is_by_the_bytes.Goals as goal
+use Rattle.bx_spelling.proofs.laws.the_next_fault_is_by_the_bytes.Goals as goal
 
 pub returns : goal.returns
 returns c = next_fails
