@@ -18,4 +18,5 @@ pub mod Stacking
 pub mod Stepping
 pub mod Stops
 pub mod Table
+pub mod Wanting
 pub mod Families

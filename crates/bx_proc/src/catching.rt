@@ -5,6 +5,7 @@ ghost use Rattle.bx_asm.specs.Instructed.{source_of};
 ghost use Rattle.bx_proc.specs.Catching.{tagged, tag_at, try_end_row, caught_of, catch_end_row, class_atom, try_case_row, trace_at, raise_row, build_stacktrace_row, mismatched, no_match_row};
 ghost use Rattle.bx_proc.specs.Faults.{within_height};
 ghost use Rattle.bx_proc.specs.Stops.{Reads, Turns, Makes};
+ghost use Rattle.bx_proc.specs.Wanting.{CaughtTakes, CatchEndTakes, TryCaseTakes, RaiseTakes, NoMatchTakes};
 
 use crate::faults::pair;
 use crate::parts::{Effect, Pending};
@@ -51,7 +52,8 @@ impl Proc {
     /// `catch_end`.
     #[tactic(auto, unfolding(crate::specs::Catching::catch_end_row))]
     pub(crate) fn catch_end(&mut self, alloc: Global, number: u16) -> Result<(), Stop>
-        ensures { Turns (Unit {0}) self.old self.new result (catch_end_row number self.old) }
+        ensures { Turns (CatchEndTakes number self.old) self.old self.new result
+            (catch_end_row number self.old) }
     {
         self.tag_of(number)?;
         if let Some(fault) = &self.fault {
@@ -68,7 +70,8 @@ impl Proc {
     /// `try_case`.
     #[tactic(auto, unfolding(crate::specs::Catching::try_case_row))]
     pub(crate) fn try_case(&mut self, alloc: Global, number: u16) -> Result<(), Stop>
-        ensures { Turns (Unit {0}) self.old self.new result (try_case_row number self.old) }
+        ensures { Turns (TryCaseTakes number self.old) self.old self.new result
+            (try_case_row number self.old) }
     {
         self.frames.get(number)?;
         let Some(fault) = &self.fault else {
@@ -106,8 +109,9 @@ impl Proc {
         trace: Source<'_>,
         value: Source<'_>,
     ) -> Result<Effect, Stop>
-        ensures { Makes (Unit {0}) self.old self.new result
-            (raise_row (source_of trace.entry) (source_of value.entry) self.old) }
+        ensures { Makes (RaiseTakes (source_of trace.entry) (source_of value.entry) self.old)
+            self.old self.new result (raise_row (source_of trace.entry) (source_of value.entry)
+            self.old) }
     {
         let class = self.trace(trace)?;
         let value = self.term_of(alloc, value)?;
@@ -134,7 +138,7 @@ impl Proc {
         mismatch: Mismatch,
         value: Source<'_>,
     ) -> Result<Effect, Stop>
-        ensures { Makes (Unit {0}) self.old self.new result
+        ensures { Makes (NoMatchTakes (source_of value.entry) self.old) self.old self.new result
             (no_match_row mismatch (source_of value.entry) self.old) }
     {
         let value = self.term_of(alloc, value)?;
@@ -145,7 +149,7 @@ impl Proc {
 
 /// What `catch` gives for a fault.
 fn caught_of(alloc: Global, class: Class, value: Term) -> Result<Term, Stop>
-    ensures { Reads (Unit {0}) (λ t. t) result (caught_of class value) }
+    ensures { Reads (CaughtTakes class) (λ t. t) result (caught_of class value) }
 {
     let exit = Term::atom(fixed::EXIT_TAG);
     match class {

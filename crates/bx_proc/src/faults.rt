@@ -4,6 +4,7 @@ ghost use Rattle.std.specs.Prelude.{◌≡◌, Ok};
 ghost use Rattle.bx_proc.specs.Faults.{reason, pair, within_height, raised, caught_at};
 ghost use Rattle.bx_proc.specs.Calls.{raised_by};
 ghost use Rattle.bx_proc.specs.Stops.{Reads, Makes};
+ghost use Rattle.bx_proc.specs.Wanting.{Pairs, Raises, RaisesBy};
 
 use crate::parts::{Effect, Pending};
 use crate::process::Proc;
@@ -16,7 +17,8 @@ impl Proc {
     /// Raises a fault: it is caught in the stack, or the process ends.
     #[inline(never)]
     pub(crate) fn raise(&mut self, alloc: Global, class: Class, value: Term) -> Result<Effect, Stop>
-        ensures { Makes (Unit {0}) self.old self.new result (raised class value self.old) }
+        ensures { Makes (Raises class self.old) self.old self.new result
+            (raised class value self.old) }
     {
         let Some((above, place)) = self.frames.handler() else {
             let reason = reason(alloc, class, value)?;
@@ -35,7 +37,8 @@ impl Proc {
         class: Class,
         value: Term,
     ) -> Result<Effect, Stop>
-        ensures { Makes (Unit {0}) self.old self.new result (raised_by kind class value self.old) }
+        ensures { Makes (RaisesBy kind class self.old) self.old self.new result
+            (raised_by kind class value self.old) }
     {
         let CallKind::Last(size) = kind else {
             return self.raise(alloc, class, value);
@@ -62,7 +65,7 @@ impl Proc {
 
 /// The reason with which a process ends that did not catch a fault.
 fn reason(alloc: Global, class: Class, value: Term) -> Result<Term, Stop>
-    ensures { Reads (Unit {0}) (λ r. r) result (within_height (reason class value)) }
+    ensures { Reads (Pairs class) (λ r. r) result (within_height (reason class value)) }
 {
     match class {
         Class::Exit => Ok(value),

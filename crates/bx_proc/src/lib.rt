@@ -28,3 +28,4 @@ mod waking;
 pub use parts::{Answer, Arguments, Effect, Pending, Status};
 pub use process::Proc;
 pub use sending::Sending;
+pub use stops::Undone;

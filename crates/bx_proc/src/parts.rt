@@ -1,6 +1,7 @@
 //! What a process waits for, and what a run of it may end in.
 
-ghost use Rattle.std.specs.Prelude.{◌≡◌, ◌↔◌, IfOk, IsTrue};
+ghost use Rattle.std.specs.Prelude.{◌≡◌, ◌↔◌, IfOk, OnErr, IsTrue};
+ghost use Rattle.bx_proc.specs.Wanting.{Shares, SharesReason};
 
 use bx_bifs::Native;
 use bx_share::{Same, same_rows};
@@ -18,9 +19,11 @@ pub struct Pending {
 }
 
 impl Pending {
-    /// The same fault. Terms are shared.
+    /// The same fault. Terms are shared. Memory is taken only where the value is a tuple or a list
+    /// cell.
     pub fn copy(&self, alloc: Global) -> Result<Pending, AllocError>
-        ensures { IfOk result (λ f. f ≡ self.now) }
+        ensures copied { IfOk result (λ f. f ≡ self.now) }
+        ensures memory { OnErr result (Shares self.now.value) }
     {
         let value = self.value.copy(alloc)?;
         Ok(Pending {
@@ -50,9 +53,11 @@ pub enum Status {
 }
 
 impl Status {
-    /// The same status. Terms are shared.
+    /// The same status. Terms are shared. Memory is taken only where the reason is a tuple or a list
+    /// cell.
     pub fn copy(&self, alloc: Global) -> Result<Status, AllocError>
-        ensures { IfOk result (λ s. s ≡ self.now) }
+        ensures copied { IfOk result (λ s. s ≡ self.now) }
+        ensures memory { OnErr result (SharesReason self.now) }
     {
         Ok(match self {
             Status::Ready => Status::Ready,

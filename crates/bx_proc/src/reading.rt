@@ -1,6 +1,6 @@
 //! What an instruction reads and writes.
 
-ghost use Rattle.std.specs.Prelude.{◌≡◌, Ok, Err, IfSome, MatchResult, option_map};
+ghost use Rattle.std.specs.Prelude.{◌≡◌, ◌⊎◌, Ok, Err, IfSome, MatchResult, option_map};
 ghost use Rattle.bx_terms.specs.Tree.{int};
 ghost use Rattle.bx_asm.specs.Instructed.{source_of};
 ghost use Rattle.bx_asm.specs.declared.instruction.Register.TheVariants.{X, Y};
@@ -9,6 +9,7 @@ ghost use Rattle.bx_cells.specs.TopFrame.{y_cell};
 ghost use Rattle.bx_proc.specs.Looking.{tree_of};
 ghost use Rattle.bx_proc.specs.Reading.{value_at, held_in, written, both_written, carried, carried_in, term_in, term_at};
 ghost use Rattle.bx_proc.specs.Stops.{Reads, Turns};
+ghost use Rattle.bx_proc.specs.Wanting.{KeepsTerm, KeepsValue, Opens};
 
 use crate::process::Proc;
 use crate::stops::Stop;
@@ -40,7 +41,8 @@ impl Proc {
     /// What a source gives, to be kept.
     #[inline(always)]
     pub(crate) fn value_of(&self, alloc: Global, source: Source<'_>) -> Result<Value, Stop>
-        ensures { Reads (Unit {0}) (λ v. v) result (value_at (source_of source.entry) self.now) }
+        ensures { Reads (KeepsValue (value_at (source_of source.entry) self.now)) (λ v. v) result
+            (value_at (source_of source.entry) self.now) }
     {
         match source {
             Source::Register(register) => carried(alloc, self.held(register)?),
@@ -54,7 +56,8 @@ impl Proc {
     /// What a register holds, to be kept in another.
     #[inline(always)]
     pub(crate) fn carried(&self, alloc: Global, register: Register) -> Result<Value, Stop>
-        ensures { Reads (Unit {0}) (λ v. v) result (carried_in register self.now) }
+        ensures { Reads (KeepsValue (carried_in register self.now)) (λ v. v) result
+            (carried_in register self.now) }
     {
         carried(alloc, self.held(register)?)
     }
@@ -95,8 +98,8 @@ impl Proc {
         tables: Lookup<'_>,
         operand: Operand,
     ) -> Result<Value, Stop>
-        ensures { Reads (Unit {0}) (λ v. v) result
-            (value_at (spelled_source tables.entry operand) self.now) }
+        ensures { Reads (KeepsValue (value_at (spelled_source tables.entry operand) self.now))
+            (λ v. v) result (value_at (spelled_source tables.entry operand) self.now) }
     {
         match operand {
             Operand::X(number) => self.carried(alloc, Register::X(number)),
@@ -113,8 +116,8 @@ impl Proc {
         tables: Lookup<'_>,
         operand: Operand,
     ) -> Result<Term, Stop>
-        ensures { Reads (Unit {0}) (λ t. t) result
-            (term_at (spelled_source tables.entry operand) self.now) }
+        ensures { Reads (KeepsTerm (term_at (spelled_source tables.entry operand) self.now))
+            (λ t. t) result (term_at (spelled_source tables.entry operand) self.now) }
     {
         match operand {
             Operand::X(number) => Ok(self.term(Register::X(number))?.copy(alloc)?),
@@ -167,7 +170,8 @@ impl Proc {
     /// The term that a source gives, to be kept.
     #[inline(always)]
     pub(crate) fn term_of(&self, alloc: Global, source: Source<'_>) -> Result<Term, Stop>
-        ensures { Reads (Unit {0}) (λ t. t) result (term_at (source_of source.entry) self.now) }
+        ensures { Reads (KeepsTerm (term_at (source_of source.entry) self.now)) (λ t. t) result
+            (term_at (source_of source.entry) self.now) }
     {
         match source {
             Source::Register(register) => Ok(self.term(register)?.copy(alloc)?),
@@ -178,10 +182,11 @@ impl Proc {
         }
     }
 
-    /// Puts `value` into a register. Memory is taken only for an x register.
+    /// Puts `value` into a register. Memory is taken only for an x register that holds nothing.
     #[inline(always)]
     pub(crate) fn write(&mut self, register: Register, value: Value) -> Result<(), Stop>
-        ensures { Turns (Unit {0}) self.old self.new result (written register value self.old) }
+        ensures { Turns (Opens register self.old) self.old self.new result
+            (written register value self.old) }
     {
         match register {
             Register::X(number) => match self.x.set(number, value) {
@@ -216,7 +221,8 @@ impl Proc {
         }
     }
 
-    /// Puts values into two registers, one after the other, or into none. Memory is taken only for x registers.
+    /// Puts values into two registers, one after the other, or into none. Memory is taken only for
+    /// x registers that hold nothing.
     #[inline(always)]
     #[tactic(auto, using(crate::proofs::Writing::y_and_x))]
     pub(crate) fn write_both(
@@ -226,7 +232,7 @@ impl Proc {
         other: Register,
         more: Value,
     ) -> Result<(), Stop>
-        ensures { Turns (Unit {0}) self.old self.new result
+        ensures { Turns (Opens one self.old ⊎ Opens other self.old) self.old self.new result
             (both_written one value other more self.old) }
     {
         match (one, other) {
@@ -251,7 +257,7 @@ impl Proc {
     /// Puts values into an x and a y register, or into none.
     #[inline(always)]
     fn write_x_and_y(&mut self, x: u16, value: Value, y: u16, more: Value) -> Result<(), Stop>
-        ensures { Turns (Unit {0}) self.old self.new result
+        ensures { Turns (Opens (X x) self.old) self.old self.new result
             (both_written (X x) value (Y y) more self.old) }
     {
         self.y_cell(y)?;
@@ -284,7 +290,7 @@ fn integer_of(term: &Term) -> Option<i64>
 /// A copy of what an instruction may carry from one register to another.
 #[inline(always)]
 fn carried(alloc: Global, value: &Value) -> Result<Value, Stop>
-    ensures { Reads (Unit {0}) (λ v. v) result (carried value.now) }
+    ensures { Reads (KeepsValue (carried value.now)) (λ v. v) result (carried value.now) }
 {
     match value {
         Value::Term(term) => Ok(Value::Term(term.copy(alloc)?)),

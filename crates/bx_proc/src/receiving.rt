@@ -5,6 +5,7 @@ ghost use Rattle.bx_asm.specs.Instructed.{source_of};
 ghost use Rattle.bx_load.specs.Image.{after};
 ghost use Rattle.bx_proc.specs.Receiving.{loop_rec_row, remove_message_row, loop_rec_end_row, wait_row, timeout_row, time_of, wait_timeout_row};
 ghost use Rattle.bx_proc.specs.Stops.{Turns, Makes};
+ghost use Rattle.bx_proc.specs.Wanting.{LoopRecTakes, WaitTimeoutTakes};
 
 use crate::parts::{Effect, Status};
 use crate::process::Proc;
@@ -34,7 +35,7 @@ impl Proc {
         otherwise: u32,
         to: Register,
     ) -> Result<(), Stop>
-        ensures { Turns (Unit {0}) self.old self.new result
+        ensures { Turns (LoopRecTakes to self.old) self.old self.new result
             (loop_rec_row image.now here (after image.now here) otherwise to self.old) }
     {
         let Some(message) = self.mailbox.current() else {
@@ -100,8 +101,9 @@ impl Proc {
         label: u32,
         time: Source<'_>,
     ) -> Result<Effect, Stop>
-        ensures { Makes (Unit {0}) self.old self.new result (wait_timeout_row image.now here
-            (after image.now here) label (source_of time.entry) self.old) }
+        ensures { Makes (WaitTimeoutTakes (source_of time.entry) self.old) self.old self.new result
+            (wait_timeout_row image.now here (after image.now here) label (source_of time.entry)
+            self.old) }
     {
         let time = {
             let seen = self.seen(time)?;

@@ -7,7 +7,7 @@ ghost use Rattle.bx_asm.specs.Instructed.{instr_of};
 ghost use Rattle.bx_load.specs.Image.{after};
 ghost use Rattle.bx_proc.specs.declared.parts.Answer.TheVariants as answers;
 ghost use Rattle.bx_proc.specs.Asking.{finished_with};
-ghost use Rattle.bx_proc.specs.Stepping.{asking, asked_at, given_to, settling, settled, settled_with, settling_takes, noted, noting, leads_to, leads_on, Rests, Tells};
+ghost use Rattle.bx_proc.specs.Stepping.{asking, asked_at, given_to, settling, settled, settled_with, SettlingTakes, SettlingWithTakes, NotingTakes, GivenTakes, noted, noting, leads_to, leads_on, Rests, Tells};
 ghost use Rattle.bx_proc.specs.Stops.{Makes};
 
 use crate::parts::{Answer, Effect, Status};
@@ -22,9 +22,10 @@ impl Proc {
     /// Ends what the process asked for or sent, at the `send` or the call by name that stands there: where it goes on it is
     /// done, and else what became of it is told and nothing has changed.
     ///
-    /// The only fault is `Memory`, and then nothing has changed. It is not taken for an integer, an atom or a pid.
+    /// The only fault is `Memory`, and then nothing has changed. It is taken for a value that is a
+    /// tuple or a list cell, and for a fault that is one or that ends the process.
     pub fn settle(&mut self, alloc: Global, image: &Image, answer: &Answer) -> Result<Effect, Fault>
-        ensures { Does (settling_takes answer.now) self.old self.new result
+        ensures { Does (SettlingTakes image.now answer.now self.old) self.old self.new result
             (Ok (settled image.now answer.now self.old)) }
     {
         Ok(self.try_settle(alloc, image, answer)?)
@@ -42,7 +43,7 @@ impl Proc {
         answer: &Answer,
         message: Term,
     ) -> Result<Effect, Fault>
-        ensures { Does (Unit {0}) self.old self.new result
+        ensures { Does (SettlingWithTakes image.now answer.now self.old) self.old self.new result
             (Ok (settled_with image.now answer.now message self.old)) }
     {
         match answer {
@@ -58,7 +59,7 @@ impl Proc {
         image: &Image,
         answer: &Answer,
     ) -> Result<Effect, AllocError>
-        ensures { Tells (settling_takes answer.now) self.old self.new result
+        ensures { Tells (SettlingTakes image.now answer.now self.old) self.old self.new result
             (settled image.now answer.now self.old) }
     {
         let ran = self.settle_here(alloc, image, answer);
@@ -73,7 +74,7 @@ impl Proc {
         value: &Term,
         message: Term,
     ) -> Result<Effect, AllocError>
-        ensures { Tells (Unit {0}) self.old self.new result
+        ensures { Tells (NotingTakes image.now self.old) self.old self.new result
             (noted message (settled image.now (answers.Value value.now) self.old)) }
     {
         let ran = self.note_here(alloc, image, value, message);
@@ -98,7 +99,7 @@ impl Proc {
     }
 
     fn settle_here(&mut self, alloc: Global, image: &Image, answer: &Answer) -> Result<Effect, Stop>
-        ensures { Makes (settling_takes answer.now) self.old self.new result
+        ensures { Makes (SettlingTakes image.now answer.now self.old) self.old self.new result
             (settling image.now answer.now self.old) }
     {
         let (here, kind) = self.asked_at(image)?;
@@ -132,7 +133,7 @@ impl Proc {
         kind: CallKind,
         answer: &Answer,
     ) -> Result<Effect, Stop>
-        ensures { Makes (settling_takes answer.now) self.old self.new result
+        ensures { Makes (GivenTakes kind answer.now self.old) self.old self.new result
             (given_to (after image.now here) kind answer.now self.old) }
     {
         match answer {
@@ -157,7 +158,7 @@ impl Proc {
         value: &Term,
         message: Term,
     ) -> Result<Effect, Stop>
-        ensures { Makes (Unit {0}) self.old self.new result
+        ensures { Makes (NotingTakes image.now self.old) self.old self.new result
             (noting message (settling image.now (answers.Value value.now) self.old)) }
     {
         let (here, kind) = self.asked_at(image)?;

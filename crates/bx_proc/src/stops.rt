@@ -13,9 +13,9 @@ pub(crate) enum Stop {
 }
 
 /// Why an instruction was not done at once. Nothing has changed then.
-#[derive(Clone, Copy, Debug)]
-pub(crate) enum Undone {
-    /// It is left to the table of all instructions.
+#[derive(Clone, Copy, Debug, PartialEq, Eq)]
+pub enum Undone {
+    /// It is left to what does all instructions.
     Left,
     /// Memory ran out.
     Memory,

@@ -2,16 +2,16 @@
 
 ghost use Rattle.std.specs.Prelude.{◌≡◌, ◌↔◌, ◌<◌, IsTrue, None, Ok};
 ghost use Rattle.bx_terms.specs.Outcomes.{Does};
-ghost use Rattle.bx_world.specs.Running.{advanced, AdvanceTakes};
+ghost use Rattle.bx_world.specs.Running.{advanced, AdvanceTakes, Moves};
 
 use crate::choices::Choice;
 use crate::lanes::Lanes;
 use crate::world::World;
 use bx_load::Image;
-use bx_proc::Proc;
+use bx_proc::{Proc, Undone};
 use bx_share::Hold;
 use bx_terms::Fault;
-use std::alloc::Global;
+use std::alloc::{AllocError, Global};
 use std::marker::Model;
 
 /// Where a list of choices has led: the world, how many of the choices were applied, and the one that was refused, where one was.
@@ -69,11 +69,12 @@ pub fn advance<P: Hold<Proc>, C: Hold<Lanes>>(
     if end.refused.is_some() {
         return Ok(());
     }
-    if end.world.hurry(alloc, image, choice)? {
-        end.applied += 1;
-        return Ok(());
+    match end.world.hurry(alloc, image, choice) {
+        Ok(()) => end.applied += 1,
+        Err(Undone::Left) => advance_whole(alloc, end, image, choice)?,
+        Err(Undone::Memory) => return Err(Fault::Memory),
     }
-    advance_whole(alloc, end, image, choice)
+    Ok(())
 }
 
 /// The same of a run that has not come to its end, whatever the choice takes.
@@ -83,17 +84,17 @@ fn advance_whole<P: Hold<Proc>, C: Hold<Lanes>>(
     end: &mut RunEnd<P, C>,
     image: &Image,
     choice: Choice,
-) -> Result<(), Fault>
+) -> Result<(), AllocError>
     requires few { end.old.applied < u64.MAX }
     requires goes_on { end.old.refused ≡ None }
-    ensures { Does (AdvanceTakes choice end.old) end.old end.new result
-        (Ok (advanced image.now choice end.old, tt)) }
+    ensures { Moves (AdvanceTakes choice end.old) end.old end.new result
+        (advanced image.now choice end.old) }
 {
     match end.world.apply_whole(alloc, image, choice) {
         Ok(()) => end.applied += 1,
         Err(Fault::NotEnabled) => end.refused = Some(choice),
-        Err(Fault::Halted) => {}
-        Err(fault) => return Err(fault),
+        Err(Fault::Memory) => return Err(AllocError),
+        Err(_) => {} // the world has trapped: nothing changes any more
     }
     Ok(())
 }

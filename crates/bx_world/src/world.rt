@@ -16,7 +16,7 @@ use crate::outcomes::{Outcome, Standing};
 use crate::procs::Procs;
 use crate::turns::Turn;
 use bx_load::Image;
-use bx_proc::Proc;
+use bx_proc::{Proc, Undone};
 use bx_share::{ArcHold, Hold, RcHold, Same};
 use bx_terms::{AtomId, Fault, Place, Trap};
 use std::alloc::{AllocError, Global};
@@ -132,48 +132,49 @@ impl<P: Hold<Proc>, C: Hold<Lanes>> World<P, C> {
         ensures { Does (IsTrue (can self.old choice)) self.old self.new result
             (applied image.now choice self.old) }
     {
-        if self.hurry(alloc, image, choice)? {
-            return Ok(());
+        match self.hurry(alloc, image, choice) {
+            Ok(()) => Ok(()),
+            Err(Undone::Left) => self.apply_whole(alloc, image, choice),
+            Err(Undone::Memory) => Err(Fault::Memory),
         }
-        self.apply_whole(alloc, image, choice)
     }
 
-    /// Makes a choice where that is done at once: whether it was. Where not, nothing has changed.
+    /// Makes a choice where that is done at once. Where it was not, nothing has changed.
     #[inline(always)]
     pub(crate) fn hurry(
         &mut self,
         alloc: Global,
         image: &Image,
         choice: Choice,
-    ) -> Result<bool, AllocError>
+    ) -> Result<(), Undone>
         ensures { Hurries (IsTrue (can self.old choice)) self.old self.new result
             (applied image.now choice self.old) }
     {
         match choice {
             Choice::Run(pid) => self.hurry_run(alloc, image, pid),
             Choice::Deliver(from, to) => self.hurry_delivery(alloc, from, to),
-            Choice::Expire(_) => Ok(false),
+            Choice::Expire(_) => Err(Undone::Left),
         }
     }
 
     #[inline(always)]
-    fn hurry_run(&mut self, alloc: Global, image: &Image, pid: u32) -> Result<bool, AllocError>
+    fn hurry_run(&mut self, alloc: Global, image: &Image, pid: u32) -> Result<(), Undone>
         ensures { Hurries (IsTrue (can self.old (Choice.Run pid))) self.old self.new result
             (applied image.now (Choice.Run pid) self.old) }
     {
         if self.trap.is_some() {
-            return Ok(false);
+            return Err(Undone::Left);
         }
         self.procs.hurry(alloc, image, &mut self.lanes, pid)
     }
 
     #[inline(always)]
-    fn hurry_delivery(&mut self, alloc: Global, from: u32, to: u32) -> Result<bool, AllocError>
+    fn hurry_delivery(&mut self, alloc: Global, from: u32, to: u32) -> Result<(), Undone>
         ensures { (image : Loaded) → Hurries (IsTrue (can self.old (Choice.Deliver from to)))
             self.old self.new result (applied image (Choice.Deliver from to) self.old) }
     {
         if self.trap.is_some() {
-            return Ok(false);
+            return Err(Undone::Left);
         }
         self.procs.hand(alloc, &mut self.lanes, from, to)
     }

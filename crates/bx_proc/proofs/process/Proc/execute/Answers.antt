@@ -13,9 +13,9 @@ returns-in_err-put_tuple2-in-PutTuple2 c =
     let p = err_from_is_err_and c.from_residual-in_err-put_tuple2-in-PutTuple2.result c.from_residual-in_err-put_tuple2-in-PutTuple2.ensures.1 in
     let said = tupled c.args.pid c.args.image.now c.args.here c.in-PutTuple2.destination (sources_of c.in-PutTuple2.elements) c.args.self.now in
     rw (p.1, p.2)
-    (subst (λ i. Makes (Takes (instr_of i)) c.args.self.now c.put_tuple2.new.self (Err c.in_err-put_tuple2-in-PutTuple2.field-0.0) (row c.args.pid c.args.image.now c.args.here (instr_of i) c.args.self.now)) (sym c.in-PutTuple2.is)
-    (subst (λ r. Makes (Takes (instr.put_tuple2 c.in-PutTuple2.destination (sources_of c.in-PutTuple2.elements))) c.args.self.now c.put_tuple2.new.self (Err c.in_err-put_tuple2-in-PutTuple2.field-0.0) r) (sym said)
-    (onward_stopped _ c.args.self.now c.put_tuple2.new.self _ (after c.args.image.now c.args.here) _ (tuple_takes _ _) c.in_err-put_tuple2-in-PutTuple2.ensures)))
+    (subst (λ i. Makes (Takes c.args.image.now (instr_of i) c.args.self.now) c.args.self.now c.put_tuple2.new.self (Err c.in_err-put_tuple2-in-PutTuple2.field-0.0) (row c.args.pid c.args.image.now c.args.here (instr_of i) c.args.self.now)) (sym c.in-PutTuple2.is)
+    (subst (λ r. Makes (Takes c.args.image.now (instr.put_tuple2 c.in-PutTuple2.destination (sources_of c.in-PutTuple2.elements)) c.args.self.now) c.args.self.now c.put_tuple2.new.self (Err c.in_err-put_tuple2-in-PutTuple2.field-0.0) r) (sym said)
+    (onward_stopped _ c.args.self.now c.put_tuple2.new.self _ (after c.args.image.now c.args.here) _ (tuple_takes _ _ _ _) c.in_err-put_tuple2-in-PutTuple2.ensures)))
 
 pub returns-in_ok-put_tuple2-in-PutTuple2 : goal.returns-in_ok-put_tuple2-in-PutTuple2
 returns-in_ok-put_tuple2-in-PutTuple2 c =

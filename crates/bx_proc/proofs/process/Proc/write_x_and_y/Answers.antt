@@ -10,5 +10,5 @@ returns-in_err-y_cell c =
 
 pub returns : goal.returns
 returns c =
-    x_and_y_done c.args.x c.args.y c.args.value c.args.more _ c.args.self.now c.write.new.self c.write_y.new.self c.write_y.result
+    x_and_y_done _ c.args.x c.args.y c.args.value c.args.more _ c.args.self.now c.write.new.self c.write_y.new.self c.write_y.result
     c.in_ok-y_cell.ensures (sym (ok_same _ _ c.in_ok-write.ensures)) c.write_y.ensures
