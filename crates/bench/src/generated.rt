@@ -13,8 +13,9 @@ const HEAD: &str = "{module,m}.\n{exports,[{f,0}]}.\n{attributes,[]}.\n{labels,9
 /// How many items, or rows of them, stand behind each label.
 const ROWS: u32 = 6;
 
-/// Items. A capital letter stands for a random part: S for a source, D for a destination, R for a register, Y for a y
-/// register, F for a label, N for a small number, K for a kind of terms, C for a comparison, B for a BIF of two arguments.
+/// Items. A capital letter stands for a random part: S for a source, D for a destination, R for a
+/// register, Y for a y register, F for a label, N for a small number, K for a kind of terms, C for
+/// a comparison, B for a BIF of two arguments.
 const ITEMS: [&str; 50] = [
     "{move,S,D}",
     "{move,S,D}",
@@ -87,6 +88,16 @@ const YS: [&str; 3] = ["{y,0}", "{y,1}", "{y,2}"];
 
 const LABELS: [&str; 6] = ["{f,3}", "{f,4}", "{f,5}", "{f,6}", "{f,7}", "{f,8}"];
 
+/// Where each of them stands.
+const MARKS: [&str; 6] = [
+    "{label,3}.\n",
+    "{label,4}.\n",
+    "{label,5}.\n",
+    "{label,6}.\n",
+    "{label,7}.\n",
+    "{label,8}.\n",
+];
+
 const NUMBERS: [&str; 4] = ["0", "1", "2", "3"];
 
 const KINDS: [&str; 7] = [
@@ -114,9 +125,8 @@ const BIFS: [&str; 6] = ["'+'", "'-'", "'*'", "'div'", "'rem'", "'band'"];
 pub fn listing(alloc: Global, number: u32) -> Result<String, Trouble> {
     let mut rng = Pcg32::new(u64::from(number), 7);
     let mut text = String::from_str(alloc, HEAD)?;
-    for label in 3..9 {
-        let row = format!(in alloc; "{{label,{label}}}.\n")?;
-        text.push_str(row.as_str())?;
+    for label in MARKS {
+        text.push_str(label)?;
         push_items(&mut rng, &mut text)?;
     }
     text.push_str("{jump,{f,3}}.\n")?;

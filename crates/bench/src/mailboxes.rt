@@ -1,25 +1,24 @@
 //! How fast a mailbox is, with few and with many messages waiting.
 
+use crate::figures::{Watch, figure};
 use crate::trouble::Trouble;
 use bx_mail::Mailbox;
 use bx_terms::Term;
 use std::alloc::Global;
-use std::time::Instant;
 
-/// Adds, passes, takes and resets, so many rounds of each, with 10 and with 100,000 messages waiting.
+/// Passes, takes, resets and adds, so many rounds of each, with 10 and with 100,000 messages
+/// waiting.
 pub fn measure(rt: &HostRuntime, rounds: u32) -> Result<(), Trouble> {
-    for waiting in [10, 100_000] {
-        let mut mailbox = filled(rt.alloc(), waiting)?;
-        let start = Instant::now(rt)?;
-        let taken = turn(&mut mailbox, rounds)?;
-        let took = start.elapsed(rt)?.as_nanos();
-        let operations = u128::from(rounds) * 4;
-        if operations > 0 {
-            let each = took / operations;
-            eprintln!(rt; "{waiting} waiting: {each} ns an operation, {taken} taken")?;
-        }
-    }
-    Ok(())
+    timed(rt, "10 messages", 10, rounds)?;
+    timed(rt, "100000 messages", 100_000, rounds)
+}
+
+fn timed(rt: &HostRuntime, name: &str, waiting: u32, rounds: u32) -> Result<(), Trouble> {
+    let mut mailbox = filled(rt.alloc(), waiting)?;
+    let watch = Watch::start(rt);
+    turn(&mut mailbox, rounds)?;
+    let operations = u64::from(rounds) * 4;
+    figure(rt, name, operations, "an operation", watch.nanos(rt))
 }
 
 fn filled(alloc: Global, waiting: u32) -> Result<Mailbox, Trouble> {
@@ -37,16 +36,15 @@ fn add(mailbox: &mut Mailbox, number: u32) -> Result<(), Trouble> {
     }
 }
 
-/// Passes the current message over, takes the next one, resets, and adds one. Says how many were taken.
-fn turn(mailbox: &mut Mailbox, rounds: u32) -> Result<u32, Trouble> {
-    let mut taken = 0;
+/// Passes the current message over, takes the next one, resets, and adds one.
+fn turn(mailbox: &mut Mailbox, rounds: u32) -> Result<(), Trouble> {
     for number in 0..rounds {
         mailbox.pass();
-        if mailbox.take().is_some() && taken < rounds {
-            taken += 1;
+        if mailbox.take().is_none() {
+            return Err(Trouble::Wrong);
         }
         mailbox.reset();
         add(mailbox, number)?;
     }
-    Ok(taken)
+    Ok(())
 }

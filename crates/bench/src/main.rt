@@ -1,19 +1,23 @@
 //! Measures of `bxemu`, on standard error. Without arguments it does nothing.
 //!
-//! `bench listing ITEMS`, `bench choices ROUNDS`, `bench mailbox ROUNDS`, `bench worlds ROUNDS`, `bench ring ROUNDS`,
-//! `bench senders TURNS`, `bench session CHOICES`, `bench campaign SCHEDULES`, `bench units SCHEDULES`; over a listing in a file
-//! `bench program CHOICES FILE` and `bench forms ROUNDS FILE`; at random `bench fuzz ROUNDS`, `bench walk CHOICES`,
+//! `bench listing ITEMS`, `bench choices ROUNDS`, `bench mailbox ROUNDS`, `bench worlds ROUNDS`,
+//! `bench ring ROUNDS`, `bench senders TURNS`, `bench session CHOICES`, `bench campaign SCHEDULES`,
+//! `bench units SCHEDULES`; over a listing in a file `bench program CHOICES FILE` and
+//! `bench forms ROUNDS FILE`; at random `bench fuzz ROUNDS`, `bench walk CHOICES`,
 //! `bench texts ROUNDS FILE`.
 #![tactic(auto)]
 
 mod campaigns;
-mod choices;
 mod crowds;
+mod figures;
 mod fuzz;
 mod generated;
 mod listings;
 mod mailboxes;
+mod plans;
 mod programs;
+mod replays;
+mod scenes;
 mod sessions;
 mod texts;
 mod trouble;
@@ -22,8 +26,8 @@ mod walks;
 mod worlds;
 
 use crate::trouble::Trouble;
-use std::env;
 use std::process::ExitCode;
+use std::{env, fs};
 
 /// A measure that starts threads, with how many schedules it runs.
 #[derive(Clone, Copy)]
@@ -61,7 +65,8 @@ fn by_threads(rt: &HostRuntime) -> Result<Option<Threaded>, Trouble> {
     }
 }
 
-/// Takes the measure that the arguments ask for, which starts no thread: a word, a number and, for some, a file.
+/// Takes the measure that the arguments ask for, which starts no thread: a word, a number and, for
+/// some, a file.
 fn take(rt: &HostRuntime) -> Result<(), Trouble> {
     let words: Vec<String> = env::args(rt)?.collect(rt.alloc())?;
     match words.as_slice() {
@@ -88,7 +93,7 @@ fn parsed(text: &str) -> Result<u32, Trouble> {
 fn by_number(rt: &HostRuntime, word: &str, number: u32) -> Result<(), Trouble> {
     match word {
         "listing" => listings::measure(rt, number),
-        "choices" => choices::measure(rt, number),
+        "choices" => replays::loops(rt, number),
         "mailbox" => mailboxes::measure(rt, number),
         "fuzz" => fuzz::measure(rt, number),
         "ring" => crowds::ring(rt, number),
@@ -102,10 +107,11 @@ fn by_number(rt: &HostRuntime, word: &str, number: u32) -> Result<(), Trouble> {
 
 /// Takes a measure that asks for a number and a file.
 fn by_file(rt: &HostRuntime, word: &str, number: u32, file: &str) -> Result<(), Trouble> {
+    let text = fs::read(rt, file)?;
     match word {
-        "program" => programs::measure(rt, number, file),
-        "forms" => texts::measure(rt, number, file),
-        "texts" => texts::fuzz(rt, number, file),
+        "program" => replays::program(rt, number, file, &text),
+        "forms" => texts::measure(rt, number, file, &text),
+        "texts" => texts::fuzz(rt, number, &text),
         _ => Err(Trouble::Usage),
     }
 }

@@ -1,17 +1,15 @@
-//! How fast the choices of a program are made.
+//! From listings to programs that run.
 
-use crate::trouble::Trouble;
 use bx_asm::{Unit, assemble};
 use bx_listing::read_listing;
 use bx_load::{Image, load};
 use bx_terms::{AtomId, Atoms, Fault};
 use bx_world::{Choice, RcWorld, RunEnd, advance};
 use std::alloc::Global;
-use std::fs;
-use std::time::Instant;
 
-/// The most choices of a schedule; where more are asked for, they are made again from the start.
-const MOST: u32 = 1_000_000;
+/// The head of a module `m` that exports `f/0`, and the beginning of `f`.
+pub const HEAD: &str = "{module,m}.\n{exports,[{f,0}]}.\n{attributes,[]}.\n{labels,9}.\n\
+    {function,f,0,2}.\n{label,1}.\n{func_info,{atom,m},{atom,f},0}.\n{label,2}.\n";
 
 /// An image, and the exported function of no arguments that it begins with.
 #[derive(Drop)]
@@ -26,17 +24,25 @@ impl Program {
     pub fn of(alloc: Global, text: &[u8], start: &str) -> Result<Program, Fault> {
         let mut atoms = Atoms::new(alloc)?;
         let start = atoms.name(alloc, start)?;
-        let listing = read_listing(alloc, &mut atoms, text)?;
-        let mut units: Vec<Unit> = Vec::new(alloc);
-        units.push(assemble(alloc, &listing)?)?;
+        let unit = unit_of(alloc, &mut atoms, text)?;
+        Program::loaded(alloc, atoms, unit, start)
+    }
+
+    /// The program of a listing in parts, which begins with `f`.
+    pub fn of_parts(alloc: Global, parts: &[(&str, u32)]) -> Result<Program, Fault> {
+        let text = text_of(alloc, parts)?;
+        Program::of(alloc, text.as_bytes(), "f")
+    }
+
+    fn loaded(alloc: Global, atoms: Atoms, unit: Unit, start: AtomId) -> Result<Program, Fault> {
+        let module = unit.name();
+        let units = row_of(alloc, unit)?;
         match load(alloc, atoms, units) {
-            Ok(image) => {
-                Ok(Program {
-                    image,
-                    module: listing.module(),
-                    start,
-                })
-            }
+            Ok(image) => Ok(Program {
+                image,
+                module,
+                start,
+            }),
             Err(refused) => Err(refused.fault),
         }
     }
@@ -45,31 +51,21 @@ impl Program {
         &self.image
     }
 
+    pub fn module(&self) -> AtomId {
+        self.module
+    }
+
+    pub fn start(&self) -> AtomId {
+        self.start
+    }
+
     /// Its world before any choice.
     pub fn begin(&self, alloc: Global) -> Result<RcWorld, Fault> {
         RcWorld::start(alloc, &self.image, self.module, self.start)
     }
 
-    /// At most so many choices of a schedule: the last choice again while it is enabled, else the first that is.
-    fn schedule(&self, alloc: Global, most: u32) -> Result<Vec<Choice>, Fault> {
-        let mut world = self.begin(alloc)?;
-        let mut row = Vec::new(alloc);
-        let mut choice = Choice::Run(0);
-        for _ in 0..most {
-            if !world.can(choice) {
-                match world.enabled(alloc)?.first() {
-                    Some(first) => choice = *first,
-                    None => return Ok(row),
-                }
-            }
-            world.apply(alloc, &self.image, choice)?;
-            row.push(choice)?;
-        }
-        Ok(row)
-    }
-
     /// Makes these choices from the start: how many there were.
-    fn replay(&self, alloc: Global, row: &[Choice]) -> Result<u64, Fault> {
+    pub fn replay(&self, alloc: Global, row: &[Choice]) -> Result<u64, Fault> {
         let mut end = RunEnd {
             world: self.begin(alloc)?,
             applied: 0,
@@ -84,23 +80,30 @@ impl Program {
     }
 }
 
-/// Makes so many choices of the program in a file, which begins with its `main/0`.
-pub fn measure(rt: &HostRuntime, rounds: u32, file: &str) -> Result<(), Trouble> {
-    let text = fs::read(rt, file)?;
-    let program = Program::of(rt.alloc(), &text, "main")?;
-    let row = program.schedule(rt.alloc(), rounds.min(MOST))?;
-    let times = (rounds as usize).checked_div(row.len()).unwrap_or(0);
-    let mut applied: u64 = 0;
-    let start = Instant::now(rt)?;
-    for _ in 0..times {
-        applied = applied.saturating_add(program.replay(rt.alloc(), &row)?);
+/// The code of a listing.
+pub fn unit_of(alloc: Global, atoms: &mut Atoms, text: &[u8]) -> Result<Unit, Fault> {
+    let listing = read_listing(alloc, atoms, text)?;
+    assemble(alloc, &listing)
+}
+
+fn row_of(alloc: Global, unit: Unit) -> Result<Vec<Unit>, Fault> {
+    let mut units: Vec<Unit> = Vec::new(alloc);
+    units.push(unit)?;
+    Ok(units)
+}
+
+/// A text in parts, each as often as it is told.
+pub fn text_of(alloc: Global, parts: &[(&str, u32)]) -> Result<String, Fault> {
+    let mut text = String::new(alloc);
+    for (part, times) in parts {
+        push_times(&mut text, part, *times)?;
     }
-    let took = start.elapsed(rt)?.as_nanos();
-    if applied > 0 {
-        let tenths = took * 10 / u128::from(applied);
-        let whole = tenths / 10;
-        let rest = tenths % 10;
-        eprintln!(rt; "{file}: {whole}.{rest} ns a choice, {applied} applied")?;
+    Ok(text)
+}
+
+fn push_times(text: &mut String, part: &str, times: u32) -> Result<(), Fault> {
+    for _ in 0..times {
+        text.push_str(part)?;
     }
     Ok(())
 }

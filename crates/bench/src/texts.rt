@@ -1,12 +1,12 @@
 //! Forms of listings that are nearly right: read, printed, and read again.
 
+use crate::figures::{Watch, rate, tally};
 use crate::fuzz::change;
+use crate::programs::text_of;
 use crate::trouble::Trouble;
 use bx_terms::Fault;
 use bx_text::{Node, Reader, print_node};
 use std::alloc::Global;
-use std::fs;
-use std::time::Instant;
 
 /// How far texts were read.
 #[derive(Clone, Copy, Drop)]
@@ -15,20 +15,16 @@ struct Tally {
     refused: u64,
 }
 
-/// Reads all forms of a file so many times.
-pub fn measure(rt: &HostRuntime, rounds: u32, file: &str) -> Result<(), Trouble> {
-    let text = fs::read(rt, file)?;
+/// Reads all forms of a text so many times.
+pub fn measure(rt: &HostRuntime, rounds: u32, file: &str, text: &[u8]) -> Result<(), Trouble> {
     let mut forms: u64 = 0;
-    let start = Instant::now(rt)?;
+    let watch = Watch::start(rt);
     for _ in 0..rounds {
-        forms = forms.saturating_add(count(rt.alloc(), &text)?);
+        forms = forms.saturating_add(count(rt.alloc(), text)?);
     }
-    let took = start.elapsed(rt)?.as_micros();
-    if took > 0 {
-        let rate = text.len() as u128 * u128::from(rounds) / took;
-        eprintln!(rt; "{file}: {forms} forms, {rate} MB a second")?;
-    }
-    Ok(())
+    let bytes = (text.len() as u64).saturating_mul(u64::from(rounds));
+    rate(rt, file, bytes, watch.nanos(rt))?;
+    tally(rt, forms, "forms")
 }
 
 /// How many forms a text has.
@@ -45,38 +41,35 @@ fn count(alloc: Global, text: &[u8]) -> Result<u64, Fault> {
     Ok(forms)
 }
 
-/// Changes the text of a file in a few places, by the number of the round, and reads what comes of it, so many rounds long. What
-/// is refused has a line, and what is read is printed as a text that is read as what prints the same.
-pub fn fuzz(rt: &HostRuntime, rounds: u32, file: &str) -> Result<(), Trouble> {
-    let text = fs::read(rt, file)?;
-    let mut tally = Tally {
+/// Changes a text in a few places, by the number of the round, and reads what comes of it, so many
+/// rounds long. What is refused has a line, and what is read is printed as a text that is read as
+/// what prints the same.
+pub fn fuzz(rt: &HostRuntime, rounds: u32, text: &[u8]) -> Result<(), Trouble> {
+    let mut seen = Tally {
         forms: 0,
         refused: 0,
     };
     for round in 0..rounds {
-        let changed = change(rt.alloc(), &text, u64::from(round))?;
-        read_all(rt.alloc(), &changed, &mut tally)?;
+        let changed = change(rt.alloc(), text, u64::from(round))?;
+        read_all(rt.alloc(), &changed, &mut seen)?;
     }
-    let Tally { forms, refused } = tally;
-    eprintln!(rt;
-        "{rounds} texts, {refused} of them refused; {forms} forms read, printed and read again"
-    )?;
-    Ok(())
+    tally(rt, u64::from(rounds), "texts")?;
+    tally(rt, seen.refused, "of them refused")?;
+    tally(rt, seen.forms, "forms read, printed and read again")
 }
 
 /// Reads the forms of a text up to the first refusal.
-fn read_all(alloc: Global, text: &[u8], tally: &mut Tally) -> Result<(), Trouble> {
+fn read_all(alloc: Global, text: &[u8], seen: &mut Tally) -> Result<(), Trouble> {
     let mut reader = Reader::at(text, 0);
     for _ in 0..text.len() {
         match reader.next(alloc) {
             Ok(Some((node, after))) => {
-                again(alloc, &node)?;
-                tally.forms = tally.forms.saturating_add(1);
+                print_again(alloc, &node, seen)?;
                 reader = after;
             }
             Ok(None) => return Ok(()),
             Err(fault) => {
-                tally.refused = tally.refused.saturating_add(1);
+                seen.refused = seen.refused.saturating_add(1);
                 return lined(fault);
             }
         }
@@ -85,18 +78,27 @@ fn read_all(alloc: Global, text: &[u8], tally: &mut Tally) -> Result<(), Trouble
 }
 
 /// Prints a node, and reads and prints that.
-fn again(alloc: Global, node: &Node<'_>) -> Result<(), Trouble> {
+fn print_again(alloc: Global, node: &Node<'_>, seen: &mut Tally) -> Result<(), Trouble> {
     let first = print_node(alloc, node)?;
-    let mut text = String::from_str(alloc, first.as_str())?;
-    text.push_str(" .")?;
-    let Some((node, _)) = Reader::at(text.as_bytes(), 0).next(alloc)? else {
-        return Err(Trouble::Wrong);
-    };
-    let second = print_node(alloc, &node)?;
+    let second = print_read(alloc, first.as_str())?;
     if first.as_str() == second.as_str() {
+        seen.forms = seen.forms.saturating_add(1);
         Ok(())
     } else {
         Err(Trouble::Wrong)
+    }
+}
+
+/// Reads a term, and prints it.
+fn print_read(alloc: Global, term: &str) -> Result<String, Trouble> {
+    let text = text_of(alloc, &[(term, 1), (" .", 1)])?;
+    print_first(alloc, text.as_bytes())
+}
+
+fn print_first(alloc: Global, text: &[u8]) -> Result<String, Trouble> {
+    match Reader::at(text, 0).next(alloc)? {
+        Some((node, _)) => Ok(print_node(alloc, &node)?),
+        None => Err(Trouble::Wrong),
     }
 }
 

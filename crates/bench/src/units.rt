@@ -1,39 +1,40 @@
 //! What a unit of a campaign costs on top of its choice.
 
-use crate::campaigns::{Loop, PROCESSES, entry_of, listing_of};
-use crate::listings::image_of;
+use crate::figures::{Watch, figure};
+use crate::plans::{HEAD, JUMP, PROCESSES, START, plan_of};
+use crate::programs::Program;
 use crate::trouble::Trouble;
-use crate::worlds::told;
-use bx_board::{ArcEnd, FreeGate, campaign};
-use bx_load::Image;
-use bx_plan::{Plan, read_plan};
+use bx_board::{FreeGate, campaign};
+use bx_plan::Plan;
+use bx_terms::Fault;
 use bx_world::{ArcWorld, Choice, RunEnd, advance};
 use std::alloc::Global;
 use std::sync::Wait;
 use std::thread::Threads;
-use std::time::{Clock, Instant};
+use std::time::Clock;
 
 /// How many choices process 0 makes until it has started all others.
 const BEFORE: u32 = 4 * (PROCESSES - 1);
 
-/// Runs a campaign of that many schedules by one worker, in which every unit behind the first is one choice.
+/// Runs a campaign of that many schedules by one worker, in which every unit behind the first is
+/// one choice: behind what all begin with each node has some thirty children, or none.
 pub fn measure<R: Threads + Wait + Clock + Eprint + AllocGlobal + Sync>(
     rt: &R,
     schedules: u32,
 ) -> Result<(), Trouble> {
-    let text = listing_of(rt.alloc(), Loop::Jump)?;
-    let image = image_of(rt.alloc(), text.as_bytes())?;
-    let plan = plan_of(rt.alloc(), schedules)?;
-    let units = units_of(&plan);
-    let (m, f) = entry_of(&image)?;
-    let start = Instant::now(rt)?;
-    let _report = campaign(rt, rt.alloc(), &image, m, f, &plan, 1, &FreeGate)?;
-    let took = start.elapsed(rt)?.as_nanos();
-    told(rt, "a lease, its choice and its submit", took, units)?;
-    let took = alone(rt, &image, units)?;
-    told(rt, "a choice in a world that shares all", took, units)?;
-    eprintln!(rt; "{units} units")?;
-    Ok(())
+    let plan = plan_of(rt.alloc(), schedules, BEFORE, "")?;
+    let parts = [(HEAD, 1), (START, PROCESSES - 1), (JUMP, 1)];
+    let program = Program::of_parts(rt.alloc(), &parts)?;
+    compare(rt, &program, &plan)
+}
+
+fn compare<R: Threads + Wait + Clock + Eprint + AllocGlobal + Sync>(
+    rt: &R,
+    program: &Program,
+    plan: &Plan,
+) -> Result<(), Trouble> {
+    shared(rt, program, plan)?;
+    alone(rt, program, units_of(plan))
 }
 
 /// How many of a plan's nodes stand behind what all schedules begin with.
@@ -42,49 +43,85 @@ fn units_of(plan: &Plan) -> u32 {
     nodes.saturating_sub(BEFORE)
 }
 
-/// How many nanoseconds it takes to make so many choices, each in a snapshot of its own of one world.
-fn alone<R: Clock + AllocGlobal>(rt: &R, image: &Image, times: u32) -> Result<u128, Trouble> {
-    let alloc = rt.alloc();
-    let end = behind(alloc, image)?;
-    let start = Instant::now(rt)?;
+/// Tells what a unit takes in a campaign.
+fn shared<R: Threads + Wait + Clock + Eprint + AllocGlobal + Sync>(
+    rt: &R,
+    program: &Program,
+    plan: &Plan,
+) -> Result<(), Trouble> {
+    let nanos = timed(rt, program, plan)?;
+    let units = u64::from(units_of(plan));
+    figure(
+        rt,
+        "a campaign by one worker",
+        units,
+        "a lease, its choice and its submit",
+        nanos,
+    )
+}
+
+fn timed<R: Threads + Wait + Clock + AllocGlobal + Sync>(
+    rt: &R,
+    program: &Program,
+    plan: &Plan,
+) -> Result<Option<u128>, Fault> {
+    let image = program.image();
+    let (m, f) = (program.module(), program.start());
+    let watch = Watch::start(rt);
+    let _report = campaign(rt, rt.alloc(), image, m, f, plan, 1, &FreeGate)?;
+    Ok(watch.nanos(rt))
+}
+
+/// Tells what so many choices take, each in a snapshot of its own of one world.
+fn alone<R: Clock + Eprint + AllocGlobal>(
+    rt: &R,
+    program: &Program,
+    times: u32,
+) -> Result<(), Trouble> {
+    let world = behind(rt.alloc(), program)?;
+    try_all(rt, program, &world, times)
+}
+
+fn try_all<R: Clock + Eprint + AllocGlobal>(
+    rt: &R,
+    program: &Program,
+    world: &ArcWorld,
+    times: u32,
+) -> Result<(), Trouble> {
+    let watch = Watch::start(rt);
     for number in 0..times {
-        let world = end.world.snapshot(alloc)?;
-        let mut other = RunEnd {
-            world,
-            applied: 0,
-            refused: None,
-        };
-        advance(alloc, &mut other, image, Choice::Run(number % PROCESSES))?;
+        try_out(rt.alloc(), program, world, Choice::Run(number % PROCESSES))?;
     }
-    Ok(start.elapsed(rt)?.as_nanos())
+    figure(
+        rt,
+        "a world that shares all",
+        u64::from(times),
+        "a choice",
+        watch.nanos(rt),
+    )
 }
 
 /// Where process 0 has started all others.
-fn behind(alloc: Global, image: &Image) -> Result<ArcEnd, Trouble> {
-    let (m, f) = entry_of(image)?;
-    let mut world = ArcWorld::start(alloc, image, m, f)?;
+fn behind(alloc: Global, program: &Program) -> Result<ArcWorld, Fault> {
+    let image = program.image();
+    let mut world = ArcWorld::start(alloc, image, program.module(), program.start())?;
     for _ in 0..BEFORE {
         world.apply(alloc, image, Choice::Run(0))?;
     }
-    Ok(RunEnd {
-        world,
-        applied: 0,
-        refused: None,
-    })
+    Ok(world)
 }
 
-/// Schedules that part again and again behind what all begin with: each node there has some thirty children, or none.
-fn plan_of(alloc: Global, schedules: u32) -> Result<Plan, Trouble> {
-    let mut text = String::new(alloc);
-    for number in 0..schedules {
-        let last = number % PROCESSES;
-        let third = number / PROCESSES % PROCESSES;
-        let second = number / (PROCESSES * PROCESSES) % PROCESSES;
-        let first = number / (PROCESSES * PROCESSES * PROCESSES) % PROCESSES;
-        let line = format!(in alloc;
-            "s{number}: r0*{BEFORE} r{first} r{second} r{third} r{last}\n"
-        )?;
-        text.push_str(line.as_str())?;
-    }
-    Ok(read_plan(alloc, text.as_bytes())?)
+/// Makes a choice in a snapshot.
+fn try_out(
+    alloc: Global,
+    program: &Program,
+    world: &ArcWorld,
+    choice: Choice,
+) -> Result<(), Fault> {
+    let mut end = RunEnd {
+        world: world.snapshot(alloc)?,
+        applied: 0,
+        refused: None,
+    };
+    advance(alloc, &mut end, program.image(), choice)
 }

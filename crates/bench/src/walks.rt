@@ -1,5 +1,6 @@
 //! Choices at random, enabled and not, in worlds of generated listings.
 
+use crate::figures::tally;
 use crate::generated::listing;
 use crate::programs::Program;
 use crate::trouble::Trouble;
@@ -22,10 +23,10 @@ struct Tally {
     unread: u64,
 }
 
-/// Makes so many choices, each listing's until its world is quiet or has trapped. A choice that is refused must leave the
-/// world as it was, and must be one that is not enabled.
+/// Makes so many choices, each listing's until its world is quiet or has trapped. A choice that is
+/// refused must leave the world as it was, and must be one that is not enabled.
 pub fn measure(rt: &HostRuntime, rounds: u32) -> Result<(), Trouble> {
-    let mut tally = Tally {
+    let mut seen = Tally {
         applied: 0,
         refused: 0,
         trapped: 0,
@@ -33,51 +34,69 @@ pub fn measure(rt: &HostRuntime, rounds: u32) -> Result<(), Trouble> {
         unread: 0,
     };
     for number in 0..rounds {
-        if tally.applied.saturating_add(tally.refused) >= u64::from(rounds) {
+        if seen.applied.saturating_add(seen.refused) >= u64::from(rounds) {
             break;
         }
-        walk(rt.alloc(), number, &mut tally)?;
+        walk(rt.alloc(), number, &mut seen)?;
     }
-    let Tally {
-        applied,
-        refused,
-        trapped,
-        worlds,
-        unread,
-    } = tally;
-    eprintln!(rt;
-        "{worlds} worlds, {trapped} trapped; {applied} choices applied, {refused} refused; {unread} listings refused"
-    )?;
-    Ok(())
+    told(rt, seen)
+}
+
+fn told(rt: &HostRuntime, seen: Tally) -> Result<(), Trouble> {
+    tally(rt, seen.worlds, "worlds")?;
+    tally(rt, seen.trapped, "of them trapped")?;
+    tally(rt, seen.applied, "choices applied")?;
+    tally(rt, seen.refused, "choices refused")?;
+    tally(rt, seen.unread, "listings refused")
 }
 
 /// Makes choices in the world of the listing of that number.
-fn walk(alloc: Global, number: u32, tally: &mut Tally) -> Result<(), Trouble> {
+fn walk(alloc: Global, number: u32, seen: &mut Tally) -> Result<(), Trouble> {
     let text = listing(alloc, number)?;
-    let Ok(program) = Program::of(alloc, text.as_bytes(), "f") else {
-        tally.unread = tally.unread.saturating_add(1);
-        return Ok(());
-    };
+    match Program::of(alloc, text.as_bytes(), "f") {
+        Ok(program) => walk_in(alloc, &program, number, seen),
+        Err(_) => {
+            seen.unread = seen.unread.saturating_add(1);
+            Ok(())
+        }
+    }
+}
+
+fn walk_in(alloc: Global, program: &Program, number: u32, seen: &mut Tally) -> Result<(), Trouble> {
     let mut rng = Pcg32::new(u64::from(number), 11);
     let mut world = program.begin(alloc)?;
-    tally.worlds = tally.worlds.saturating_add(1);
+    seen.worlds = seen.worlds.saturating_add(1);
     for _ in 0..LONGEST {
-        let Some(choice) = draw(alloc, &mut rng, &world)? else {
-            return Ok(());
-        };
-        if world.can(choice) {
-            world.apply(alloc, program.image(), choice)?;
-            tally.applied = tally.applied.saturating_add(1);
-        } else {
-            refuse(alloc, &program, &mut world, choice)?;
-            tally.refused = tally.refused.saturating_add(1);
-        }
-        if world.trap().is_some() {
-            tally.trapped = tally.trapped.saturating_add(1);
-            return Ok(());
+        if !go_on(alloc, program, &mut rng, &mut world, seen)? {
+            break;
         }
     }
     Ok(())
+}
+
+/// Makes a choice, where one is enabled: whether it goes on.
+fn go_on(
+    alloc: Global,
+    program: &Program,
+    rng: &mut Pcg32,
+    world: &mut RcWorld,
+    seen: &mut Tally,
+) -> Result<bool, Trouble> {
+    let Some(choice) = draw(alloc, rng, world)? else {
+        return Ok(false);
+    };
+    if world.can(choice) {
+        world.apply(alloc, program.image(), choice)?;
+        seen.applied = seen.applied.saturating_add(1);
+    } else {
+        refuse(alloc, program, world, choice)?;
+        seen.refused = seen.refused.saturating_add(1);
+    }
+    if world.trap().is_some() {
+        seen.trapped = seen.trapped.saturating_add(1);
+        return Ok(false);
+    }
+    Ok(true)
 }
 
 /// A choice: mostly one that is enabled, else any among the first pids; none where none is enabled.

@@ -1,13 +1,11 @@
 //! What sends, deliveries and snapshots cost.
 
-use crate::listings::HEAD;
-use crate::programs::Program;
+use crate::figures::{Watch, figure};
+use crate::programs::HEAD;
+use crate::scenes::{Scene, Step};
 use crate::trouble::Trouble;
-use bx_terms::Fault;
+use bx_world::Choice;
 use bx_world::Choice::{Deliver, Run};
-use bx_world::{Choice, RcWorld};
-use std::alloc::Global;
-use std::time::Instant;
 
 /// A process with a child, whose pid is in `{x,3}`.
 const CHILD: &str = "{move,{atom,m},{x,0}}. {move,{atom,f},{x,1}}. {move,nil,{x,2}}.\n\
@@ -18,21 +16,26 @@ const CHILDREN: &str =
     "{label,3}. {move,{atom,m},{x,0}}. {move,{atom,f},{x,1}}. {move,nil,{x,2}}.\n\
     {call_ext,3,{extfunc,erlang,spawn,3}}. {jump,{f,3}}.\n";
 
-/// So many laps of sends to a child, each with its delivery; of the same without the sends; and snapshots.
+const PLAIN: &str = "{label,3}. {move,{x,3},{x,0}}. {move,{integer,1},{x,1}}. {jump,{f,3}}.";
+
+const SENDS: &str = "{label,3}. {move,{x,3},{x,0}}. {move,{integer,1},{x,1}}. send. {jump,{f,3}}.";
+
+const PLAIN_LAP: [Choice; 3] = [Run(0), Run(0), Run(0)];
+
+const SENDS_LAP: [Choice; 5] = [Run(0), Run(0), Run(0), Deliver(0, 1), Run(0)];
+
+/// So many laps of sends to a child, each with its delivery; of the same without the sends; and
+/// snapshots.
 pub fn measure(rt: &HostRuntime, rounds: u32) -> Result<(), Trouble> {
-    let plain = "{label,3}. {move,{x,3},{x,0}}. {move,{integer,1},{x,1}}. {jump,{f,3}}.";
-    let sends = "{label,3}. {move,{x,3},{x,0}}. {move,{integer,1},{x,1}}. send. {jump,{f,3}}.";
-    let lap = [Run(0), Run(0), Run(0)];
-    laps(rt, rounds, "two moves and a jump", plain, &lap)?;
-    let lap = [Run(0), Run(0), Run(0), Deliver(0, 1), Run(0)];
+    laps(rt, rounds, "two moves and a jump", PLAIN, &PLAIN_LAP)?;
     laps(
         rt,
         rounds,
         "the same with a send and its delivery",
-        sends,
-        &lap,
+        SENDS,
+        &SENDS_LAP,
     )?;
-    snapshots(rt, rounds)
+    of_ten(rt, rounds)
 }
 
 /// Makes the choices of a lap so many times, in a world whose process 0 has a child.
@@ -43,65 +46,69 @@ fn laps(
     items: &str,
     lap: &[Choice],
 ) -> Result<(), Trouble> {
-    let text = format!(in rt.alloc(); "{HEAD}{CHILD}{items}")?;
-    let program = Program::of(rt.alloc(), text.as_bytes(), "f")?;
-    let mut world = program.begin(rt.alloc())?;
-    run_all(rt.alloc(), &program, &mut world, &[Run(0); 5])?;
-    let start = Instant::now(rt)?;
-    for _ in 0..rounds {
-        run_all(rt.alloc(), &program, &mut world, lap)?;
-    }
-    told(rt, name, start.elapsed(rt)?.as_nanos(), rounds)
+    let parts = [(HEAD, 1), (CHILD, 1), (items, 1)];
+    let mut pair = Scene::led(rt.alloc(), &parts, &[runs(5)])?;
+    go_laps(rt, rounds, name, &mut pair, lap)
 }
 
-fn run_all(
-    alloc: Global,
-    program: &Program,
-    world: &mut RcWorld,
-    choices: &[Choice],
-) -> Result<(), Fault> {
-    for choice in choices {
-        world.apply(alloc, program.image(), *choice)?;
+fn go_laps(
+    rt: &HostRuntime,
+    rounds: u32,
+    name: &str,
+    pair: &mut Scene,
+    lap: &[Choice],
+) -> Result<(), Trouble> {
+    let watch = Watch::start(rt);
+    for _ in 0..rounds {
+        pair.apply_all(rt.alloc(), lap)?;
     }
-    Ok(())
+    figure(rt, name, u64::from(rounds), "a lap", watch.nanos(rt))
 }
 
-/// Takes so many snapshots of a world of ten processes, and as many with a choice after each.
-fn snapshots(rt: &HostRuntime, rounds: u32) -> Result<(), Trouble> {
-    let text = format!(in rt.alloc(); "{HEAD}{CHILDREN}")?;
-    let program = Program::of(rt.alloc(), text.as_bytes(), "f")?;
-    let mut world = program.begin(rt.alloc())?;
-    run_all(rt.alloc(), &program, &mut world, &[Run(0); 45])?;
-    let start = Instant::now(rt)?;
-    for _ in 0..rounds {
-        let _ = world.snapshot(rt.alloc())?;
+/// So many runs of process 0.
+fn runs(times: u32) -> Step {
+    Step::Runs {
+        from: 0,
+        past: 1,
+        times,
     }
-    told(
-        rt,
-        "a snapshot of ten processes",
-        start.elapsed(rt)?.as_nanos(),
-        rounds,
-    )?;
-    let start = Instant::now(rt)?;
+}
+
+fn of_ten(rt: &HostRuntime, rounds: u32) -> Result<(), Trouble> {
+    let parts = [(HEAD, 1), (CHILDREN, 1)];
+    let ten = Scene::led(rt.alloc(), &parts, &[runs(45)])?;
+    of_both(rt, rounds, &ten)
+}
+
+fn of_both(rt: &HostRuntime, rounds: u32, ten: &Scene) -> Result<(), Trouble> {
+    snapshots(rt, rounds, ten)?;
+    tries(rt, rounds, ten)
+}
+
+fn snapshots(rt: &HostRuntime, rounds: u32, ten: &Scene) -> Result<(), Trouble> {
+    let watch = Watch::start(rt);
     for _ in 0..rounds {
-        let mut other = world.snapshot(rt.alloc())?;
-        other.apply(rt.alloc(), program.image(), Run(1))?;
+        let _ = ten.snapshot(rt.alloc())?;
     }
-    told(
+    figure(
         rt,
-        "a snapshot and a choice in it",
-        start.elapsed(rt)?.as_nanos(),
-        rounds,
+        "ten processes",
+        u64::from(rounds),
+        "a snapshot",
+        watch.nanos(rt),
     )
 }
 
-/// Tells what one of so many took.
-pub fn told<R: Eprint>(rt: &R, name: &str, nanos: u128, rounds: u32) -> Result<(), Trouble> {
-    if rounds > 0 {
-        let tenths = nanos.saturating_mul(10) / u128::from(rounds);
-        let whole = tenths / 10;
-        let rest = tenths % 10;
-        eprintln!(rt; "{name}: {whole}.{rest} ns")?;
+fn tries(rt: &HostRuntime, rounds: u32, ten: &Scene) -> Result<(), Trouble> {
+    let watch = Watch::start(rt);
+    for _ in 0..rounds {
+        ten.try_out(rt.alloc(), Run(1))?;
     }
-    Ok(())
+    figure(
+        rt,
+        "ten processes",
+        u64::from(rounds),
+        "a snapshot and a choice in it",
+        watch.nanos(rt),
+    )
 }

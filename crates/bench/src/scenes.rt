@@ -1,0 +1,97 @@
+//! Worlds in which choices are made, and timed.
+
+use crate::programs::Program;
+use bx_terms::Fault;
+use bx_world::{Choice, RcWorld};
+use std::alloc::Global;
+
+/// What leads to where a measure begins.
+#[derive(Clone, Copy)]
+pub enum Step {
+    /// So many runs of each process from the first one on.
+    Runs { from: u32, past: u32, times: u32 },
+    /// What a process sent to each of those from the first one on is delivered.
+    Deliveries { from: u32, to: u32, past: u32 },
+}
+
+/// A program, and a world of it.
+#[derive(Drop)]
+pub struct Scene {
+    program: Program,
+    world: RcWorld,
+}
+
+impl Scene {
+    /// The start of the program of a listing in parts.
+    fn of(alloc: Global, parts: &[(&str, u32)]) -> Result<Scene, Fault> {
+        let program = Program::of_parts(alloc, parts)?;
+        let world = program.begin(alloc)?;
+        Ok(Scene { program, world })
+    }
+
+    /// Where these steps lead from the start.
+    pub fn led(alloc: Global, parts: &[(&str, u32)], steps: &[Step]) -> Result<Scene, Fault> {
+        let mut scene = Scene::of(alloc, parts)?;
+        scene.lead(alloc, steps)?;
+        Ok(scene)
+    }
+
+    fn lead(&mut self, alloc: Global, steps: &[Step]) -> Result<(), Fault> {
+        for step in steps {
+            match *step {
+                Step::Runs { from, past, times } => self.run_each(alloc, from, past, times)?,
+                Step::Deliveries { from, to, past } => self.deliver(alloc, from, to, past)?,
+            }
+        }
+        Ok(())
+    }
+
+    fn deliver(&mut self, alloc: Global, from: u32, to: u32, past: u32) -> Result<(), Fault> {
+        for pid in to..past {
+            self.apply(alloc, Choice::Deliver(from, pid))?;
+        }
+        Ok(())
+    }
+
+    pub fn apply(&mut self, alloc: Global, choice: Choice) -> Result<(), Fault> {
+        self.world.apply(alloc, self.program.image(), choice)
+    }
+
+    pub fn run(&mut self, alloc: Global, pid: u32, times: u32) -> Result<(), Fault> {
+        for _ in 0..times {
+            self.apply(alloc, Choice::Run(pid))?;
+        }
+        Ok(())
+    }
+
+    /// So many runs of each process from that one on.
+    pub fn run_each(
+        &mut self,
+        alloc: Global,
+        from: u32,
+        past: u32,
+        times: u32,
+    ) -> Result<(), Fault> {
+        for pid in from..past {
+            self.run(alloc, pid, times)?;
+        }
+        Ok(())
+    }
+
+    pub fn apply_all(&mut self, alloc: Global, choices: &[Choice]) -> Result<(), Fault> {
+        for choice in choices {
+            self.apply(alloc, *choice)?;
+        }
+        Ok(())
+    }
+
+    pub fn snapshot(&self, alloc: Global) -> Result<RcWorld, Fault> {
+        self.world.snapshot(alloc)
+    }
+
+    /// Makes a choice in a snapshot.
+    pub fn try_out(&self, alloc: Global, choice: Choice) -> Result<(), Fault> {
+        let mut other = self.world.snapshot(alloc)?;
+        other.apply(alloc, self.program.image(), choice)
+    }
+}
