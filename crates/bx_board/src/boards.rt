@@ -71,7 +71,8 @@ impl<'a, J: Campaign> Model for Shelf<'a, J> {
 
     ghost Value = { Kept };
 
-    ghost coded = { kept_code (loaded_code unit.the_row.coded) ids.the_row.coded plans.the_row.coded chained.the_row.coded slot.the_row.coded event.the_row.coded };
+    ghost coded = { kept_code (loaded_code unit.the_row.coded) ids.the_row.coded plans.the_row.coded
+        chained.the_row.coded slot.the_row.coded event.the_row.coded };
 
     ghost view = { λ s. s.book };
 
@@ -116,14 +117,16 @@ impl<'a, J: Campaign> Shelf<'a, J> {
     /// Hands in what came of a chain. Whether the worker held it.
     fn accept(&mut self, worker: usize, chain: usize, piece: Piece<'a>) -> bool
         requires { IsOf J.job piece chain }
-        ensures { MatchBool result (Happens self.old (Event.Submit worker chain) self.new) (self.new ≡ self.old) }
+        ensures { MatchBool result (Happens self.old (Event.Submit worker chain) self.new)
+            (self.new ≡ self.old) }
     {
         self.book.accept(worker, chain, piece)
     }
 
     /// Gives back what the worker holds, where it holds a chain.
     fn give_back(&mut self, worker: usize)
-        ensures { GivesBack self.old worker self.new ⊎ ((self.new ≡ self.old) × (Holds self.old.state worker → ⊥)) }
+        ensures { GivesBack self.old worker self.new ⊎
+            ((self.new ≡ self.old) × (Holds self.old.state worker → ⊥)) }
     {
         let _held = self.book.give_back(worker);
     }

@@ -51,11 +51,13 @@ impl<'a> Model for Book<'a> {
 
     ghost Value = { Kept };
 
-    ghost coded = { kept_code (loaded_code unit.the_row.coded) ids.the_row.coded plans.the_row.coded chained.the_row.coded slot.the_row.coded event.the_row.coded };
+    ghost coded = { kept_code (loaded_code unit.the_row.coded) ids.the_row.coded plans.the_row.coded
+        chained.the_row.coded slot.the_row.coded event.the_row.coded };
 
     ghost use Rattle.bx_board.specs.Tended.{kept_view, IsTended, events_to_come};
 
-    ghost view = { λ b. kept_view b.image.now b.start b.plan.now b.chains b.slots.items b.stopped b.events.items };
+    ghost view = { λ b. kept_view b.image.now b.start b.plan.now b.chains b.slots.items b.stopped
+        b.events.items };
 
     ghost invariant = { λ b.
         IsTended (kept_view b.image.now b.start b.plan.now b.chains b.slots.items b.stopped b.events.items)

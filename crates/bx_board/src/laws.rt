@@ -7,7 +7,8 @@ ghost use Rattle.bx_board.specs.Texts.{report_lines};
 
 /// The text of schedules followed by others is the text of the first, and then that of the others: none is left out.
 pub fn every_schedule_is_reported()
-    ensures { (texts : List (List ℕ)) (first more : List Scheduled) → report_lines texts (first ++ more) ≡ report_lines texts first ++ report_lines texts more }
+    ensures { (texts : List (List ℕ)) (first more : List Scheduled) → report_lines texts
+        (first ++ more) ≡ report_lines texts first ++ report_lines texts more }
 {}
 
 /// Workers share a campaign's chains soundly, whatever they do: after every list of events that may happen one after

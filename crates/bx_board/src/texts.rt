@@ -14,7 +14,8 @@ use std::alloc::Global;
 ///
 /// Memory is all that it may lack, and none is taken where there is no schedule.
 pub fn report_text(alloc: Global, atoms: &Atoms, report: &Report) -> Result<String, Fault>
-    ensures { Gives (report.now ≢ []) (λ text. string_bytes text) result (Ok (report_lines atoms.now report.now)) }
+    ensures { Gives (report.now ≢ []) (λ text. string_bytes text) result
+        (Ok (report_lines atoms.now report.now)) }
 {
     let mut out = String::new(alloc);
     for schedule in report.schedules() {
@@ -29,7 +30,8 @@ fn push_schedule(
     atoms: &Atoms,
     schedule: &Scheduled,
 ) -> Result<(), Fault>
-    ensures { Gives (Unit {0}) (λ _. string_bytes out.new) result (Ok (string_bytes out.old ++ schedule_lines atoms.now schedule.now)) }
+    ensures { Gives (Unit {0}) (λ _. string_bytes out.new) result
+        (Ok (string_bytes out.old ++ schedule_lines atoms.now schedule.now)) }
 {
     let name = schedule.name.as_str();
     write!(out, "schedule {name}\n")?;

@@ -44,13 +44,16 @@ impl<'a> Model for Lease<'a> {
 
     ghost Value = { Work };
 
-    ghost coded = { work_code (loaded_code unit.the_row.coded) ids.the_row.coded choices.the_row.coded };
+    ghost coded = { work_code (loaded_code unit.the_row.coded) ids.the_row.coded
+        choices.the_row.coded };
 
     ghost use Rattle.bx_board.specs.Working.{run_up_to, work_at, IsSpan};
 
     ghost view = { λ l. work_at l.image.now l.start l.plan.now l.span.first l.span.last };
 
-    ghost invariant = { λ l. IsSpan l.plan.now.tree l.span.first l.span.last × (l.from ≡ run_up_to l.image.now l.start l.plan.now.tree (parent l.plan.now.tree l.span.first)) };
+    ghost invariant = { λ l. IsSpan l.plan.now.tree l.span.first l.span.last ×
+        (l.from ≡ run_up_to l.image.now l.start l.plan.now.tree
+        (parent l.plan.now.tree l.span.first)) };
 }
 
 /// A chain that was run, with its end.
@@ -73,13 +76,15 @@ impl<'a> Model for Piece<'a> {
 
     ghost Value = { Work };
 
-    ghost coded = { work_code (loaded_code unit.the_row.coded) ids.the_row.coded choices.the_row.coded };
+    ghost coded = { work_code (loaded_code unit.the_row.coded) ids.the_row.coded
+        choices.the_row.coded };
 
     ghost use Rattle.bx_board.specs.Working.{run_up_to, work_at, IsSpan};
 
     ghost view = { λ p. work_at p.image.now p.start p.plan.now p.span.first p.span.last };
 
-    ghost invariant = { λ p. IsSpan p.plan.now.tree p.span.first p.span.last × (p.end ≡ run_up_to p.image.now p.start p.plan.now.tree p.span.last) };
+    ghost invariant = { λ p. IsSpan p.plan.now.tree p.span.first p.span.last ×
+        (p.end ≡ run_up_to p.image.now p.start p.plan.now.tree p.span.last) };
 }
 
 impl<'a> Lease<'a> {
@@ -179,7 +184,8 @@ fn run_chain(
     from: &ArcEnd,
 ) -> Result<ArcEnd, Fault>
     requires span { IsSpan plan.now.tree span.first span.last }
-    requires from { from.now ≡ run_up_to image.now start plan.now.tree (parent plan.now.tree span.first) }
+    requires from { from.now ≡ run_up_to image.now start plan.now.tree
+        (parent plan.now.tree span.first) }
     ensures { Gives ⊤ (λ end. end) result (Ok (run_up_to image.now start plan.now.tree span.last)) }
 {
     let _nodes = plan.nodes();

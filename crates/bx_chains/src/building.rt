@@ -12,7 +12,8 @@ use std::alloc::{AllocError, Global};
 impl Chains {
     /// The root alone.
     fn root(alloc: Global) -> Result<Chains, AllocError>
-        ensures { IfOk result (λ all. (length all.owners ≡ 1) × ((plan : Planned) → AreSoFar plan all)) }
+        ensures { IfOk result (λ all. (length all.owners ≡ 1) ×
+            ((plan : Planned) → AreSoFar plan all)) }
     {
         let mut heads = Vec::new(alloc);
         heads.push(Head { first: 0, above: 0 })?;

@@ -59,7 +59,11 @@ impl Model for Chains {
 
     ghost Value = { Chained };
 
-    ghost view = { λ c. record { heads = c.heads.items; kids = c.kids.items; owners = c.owners.items } };
+    ghost view = { λ c. record {
+      heads = c.heads.items;
+      kids = c.kids.items;
+      owners = c.owners.items;
+    } };
 }
 
 impl Chains {

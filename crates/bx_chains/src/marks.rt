@@ -73,7 +73,8 @@ fn has_end(ends: &[bool], plan: &Plan, node: usize) -> bool
 impl Marks {
     /// The marks of a plan's nodes.
     pub(crate) fn of(alloc: Global, plan: &Plan) -> Result<Marks, AllocError>
-        ensures { IfOk result (λ marks. AreCounts plan.now marks.children.items × AreEnds plan.now marks.ends.items) }
+        ensures { IfOk result (λ marks. AreCounts plan.now marks.children.items × AreEnds plan.now
+            marks.ends.items) }
     {
         let children = child_counts(alloc, plan)?;
         let ends = end_marks(alloc, plan)?;

@@ -1,12 +1,12 @@
 -- Sets of places, kept as numbers in order.
-use Rattle.std.proofs.Common.{◌≡◌, ℕ, BTreeSet, List, Bool, true, false, cond, not, refl, sym, ap, subst, ◌∙◌}
+use Rattle.std.proofs.Common.{◌≡◌, ℕ, BTreeSet, List, [], ◌∷◌, length, Bool, true, false, cond, not, refl, sym, ap, subst, ◌∙◌}
 use Rattle.std.specs.Prelude.{◌||◌, ◌&&◌, IsTrue}
 use Rattle.std.specs.BTreeSet.{IsSubset}
 use Rattle.std.specs.declared.cmp.Ordering.{Ordering}
 use Rattle.std.specs.declared.cmp.Ordering.TheVariants.{Less, Equal, Greater}
 use Rattle.std.specs.List.{list_any}
 use Rattle.std.specs.Ordering.{nat_cmp, eq_by_cmp, is_eq, ordering_then, ordering_reverse}
-use Rattle.std.specs.Cmp.{IsTotalOrder, nat_cmp_total, on_total, then_total}
+use Rattle.std.specs.Cmp.{IsTotalOrder, tied_itself, nat_cmp_total, on_total, then_total}
 use Rattle.std.specs.FinSet as set
 use Rattle.std.specs.FinSet.{contains-from_list, contains-insert, contains-remove, same_set, IsAntisymmetric, nat_cmp-IsAntisymmetric}
 use Rattle.bx_debug.specs.Places.{pair_cmp}
@@ -64,6 +64,12 @@ held_same xs ys is = same_set pair_cmp_total pair_cmp-IsAntisymmetric _ _ (λ q.
 
 pub same_held : (xs ys : List (ℕ × ℕ)) → set.from_list {R = pair_cmp} xs ≡ set.from_list ys → (q : ℕ × ℕ) → list_any (eq_by_cmp pair_cmp q) xs ≡ list_any (eq_by_cmp pair_cmp q) ys
 same_held xs ys is q = sym (held xs q) ∙ ap (λ s. set.contains s q) is ∙ held ys q
+
+-- a set that holds nothing has no key
+pub no_place : (keys : List (ℕ × ℕ)) → set.from_list {R = pair_cmp} keys ≡ set.empty → length keys ≡ 0
+no_place [] e = refl
+no_place (key ∷ keys) e =
+    let no : true ≡ false = ap (λ r. is_eq r || list_any (eq_by_cmp pair_cmp key) keys) (sym (tied_itself pair_cmp_total key)) ∙ same_held (key ∷ keys) [] e key in cc
 
 -- sets are the same where each holds what the other holds
 both_ways : (a b : Bool) → (IsTrue a → IsTrue b) → (IsTrue b → IsTrue a) → a ≡ b

@@ -15,17 +15,20 @@ ghost use Rattle.bx_debug.specs.Stopping.{IsRunOf, TellsWhy};
 /// Whatever the calls on a session were, the world that it shows is the run of the choices before its position, from the start
 /// at which it was opened, and that run applied each of them.
 pub fn every_world_shown_is_a_run()
-    ensures { (image : Loaded) (m f : AtomId) (first : History) (calls : List Call) → opened image m f ≡ Ok first → IsRunOf image first.start (after_calls calls first) }
+    ensures { (image : Loaded) (m f : AtomId) (first : History) (calls : List Call) → opened image m
+        f ≡ Ok first → IsRunOf image first.start (after_calls calls first) }
 {}
 
 /// Stepping back over a choice that was made shows the world of before it.
 pub fn stepping_back_shows_the_world_before()
-    ensures { (choice : Choice) (s t u : History) → s.at ≤ length s.choices → stepped choice s ≡ Ok (t, tt) → back 1 t ≡ Ok (u, tt) → world_of u ≡ world_of s }
+    ensures { (choice : Choice) (s t u : History) → s.at ≤ length s.choices → stepped choice s ≡ Ok
+        (t, tt) → back 1 t ≡ Ok (u, tt) → world_of u ≡ world_of s }
 {}
 
 /// Stepping forward as far as was stepped back leaves the session as it was.
 pub fn forward_undoes_back()
-    ensures { (n : ℕ) (s t : History) → s.at ≤ length s.choices → back n s ≡ Ok (t, tt) → forward n t ≡ Ok (s, tt) }
+    ensures { (n : ℕ) (s t : History) → s.at ≤ length s.choices → back n s ≡ Ok (t, tt) → forward n
+        t ≡ Ok (s, tt) }
 {}
 
 /// What is applied is a beginning of the choices, each of which was enabled.
@@ -44,5 +47,6 @@ pub fn nothing_stops_it_earlier()
 
 /// Why it stopped is so.
 pub fn it_tells_why_it_stopped()
-    ensures { (image : Loaded) (places : PlaceSet) (choices : List Choice) (w : State) → TellsWhy image places choices w (walked image places choices w) }
+    ensures { (image : Loaded) (places : PlaceSet) (choices : List Choice) (w : State) → TellsWhy
+        image places choices w (walked image places choices w) }
 {}

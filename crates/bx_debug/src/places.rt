@@ -40,7 +40,7 @@ impl Places {
     /// Whether no place is in the set.
     #[inline(always)]
     pub(crate) fn is_empty(&self) -> bool
-        ensures { IsTrue result → self.now ≡ set.empty }
+        ensures { IsTrue result ↔ (self.now ≡ set.empty) }
     {
         self.numbers.is_empty()
     }

@@ -31,7 +31,8 @@ pub(crate) fn replace_tails(
     requires choices_from { from ≤ length choices.old.items }
     requires worlds_from { kept_from ≤ length kept.old.items }
     ensures choices { OnOk result (choices.new.items ≡ take from choices.old.items ++ made.now) }
-    ensures worlds { OnOk result (kept.new.items ≡ take kept_from kept.old.items ++ worlds.old.items) }
+    ensures worlds { OnOk result (kept.new.items ≡ take kept_from kept.old.items ++
+        worlds.old.items) }
     ensures choices_kept { OnErr result (choices.new.items ≡ choices.old.items) }
     ensures worlds_kept { OnErr result (kept.new.items ≡ kept.old.items) }
 {

@@ -49,9 +49,18 @@ impl<'a> Model for Session<'a> {
 
     ghost Value = { History };
 
-    ghost coded = { history_code images.the_row.coded (state_code process.the_row.coded tree_code lane.the_row.coded traps.the_row.coded) made.the_row.coded };
+    ghost coded = { history_code images.the_row.coded
+        (state_code process.the_row.coded tree_code lane.the_row.coded traps.the_row.coded)
+        made.the_row.coded };
 
-    ghost view = { λ s. record { image = s.image.now; start = s.start; choices = s.choices.items; at = s.at; places = s.places } };
+    ghost view = { λ s. record {
+      image = s.image.now;
+      start = s.start;
+      choices = s.choices.items;
+      at
+          = s.at;
+      places = s.places;
+    } };
 
     ghost invariant = { λ s. IsSession s.image.now s.start s.choices.items s.at s.world s.kept.items };
 }
@@ -66,7 +75,8 @@ impl<'a> Session<'a> {
         module: AtomId,
         function: AtomId,
     ) -> Result<Session<'a>, Fault>
-        ensures { Gives (IsSome (export image.entry.now «module» function 0)) (λ s. s) result (opened image.entry.now «module» function) }
+        ensures { Gives (IsSome (export image.entry.now «module» function 0)) (λ s. s) result
+            (opened image.entry.now «module» function) }
     {
         let start = RcWorld::start(alloc, image, module, function)?;
         let world = shared(alloc, &start)?;
@@ -158,7 +168,8 @@ impl<'a> Session<'a> {
     /// `Halted` exactly where the world has trapped, else `NotEnabled` exactly where the choice is not enabled; a refused choice
     /// drops nothing. Memory is taken only for a choice that is enabled.
     pub fn step(&mut self, alloc: Global, choice: Choice) -> Result<(), Fault>
-        ensures { Does (refusal (world_of self.old) choice ≡ None) self.old self.new result (stepped choice self.old) }
+        ensures { Does (refusal (world_of self.old) choice ≡ None) self.old self.new result
+            (stepped choice self.old) }
     {
         if let Some(fault) = self.refusal(choice) {
             return Err(fault);
@@ -174,7 +185,8 @@ impl<'a> Session<'a> {
     ///
     /// `BeforeStart` exactly where there are fewer before it. Memory is taken only where it moves.
     pub fn back(&mut self, alloc: Global, count: usize) -> Result<(), Fault>
-        ensures { Does ((0 < count) × (count ≤ self.old.at)) self.old self.new result (back count self.old) }
+        ensures { Does ((0 < count) × (count ≤ self.old.at)) self.old self.new result
+            (back count self.old) }
     {
         if count > self.at {
             return Err(Fault::BeforeStart);
@@ -202,7 +214,8 @@ impl<'a> Session<'a> {
     /// It stops before a choice that is not enabled, behind one that traps, and behind the first run that leaves its process, not
     /// ended, at a place of the set; what was applied before stays. Memory is taken only where a choice is applied.
     pub fn go(&mut self, alloc: Global, choices: &[Choice]) -> Result<Stop, Fault>
-        ensures { Does (GoTakes choices.now self.old) self.old self.new result (Ok (gone choices.now self.old)) }
+        ensures { Does (GoTakes choices.now self.old) self.old self.new result
+            (Ok (gone choices.now self.old)) }
     {
         if let Some(stop) = stop_at_once(choices, &self.world) {
             return Ok(stop);
@@ -218,7 +231,8 @@ impl<'a> Session<'a> {
     ///
     /// Memory is all that it may lack, and none is taken where they do already.
     pub fn set_break(&mut self, _alloc: Global, place: Place) -> Result<(), Fault>
-        ensures { Does (is_set self.old.places place ≡ false) self.old self.new result (Ok (with_break place self.old, tt)) }
+        ensures { Does (is_set self.old.places place ≡ false) self.old self.new result
+            (Ok (with_break place self.old, tt)) }
     {
         self.places.insert(place)?;
         Ok(())
@@ -241,7 +255,8 @@ impl<'a> Session<'a> {
     /// Puts choices that were made, and where they led, in the place of those behind the position.
     fn adopt(&mut self, made: &[Choice], walk: Walk) -> Result<(), AllocError>
         requires some { made.now ≢ [] }
-        requires follows { Follows self.old.image (world_of self.old) (self.old.at % KEPT_EACH) made.now walk.world walk.kept.items }
+        requires follows { Follows self.old.image (world_of self.old) (self.old.at % KEPT_EACH)
+            made.now walk.world walk.kept.items }
         ensures ok { OnOk result (self.new ≡ with_made made.now self.old) }
         ensures err { OnErr result (self.new ≡ self.old) }
     {
@@ -278,7 +293,8 @@ impl<'a> Session<'a> {
     /// The world that so many choices lead to.
     fn world_at(&self, alloc: Global, at: usize) -> Result<RcWorld, AllocError>
         requires { at ≤ length self.now.choices }
-        ensures { IfOk result (λ w. w ≡ led self.now.image (take at self.now.choices) self.now.start) }
+        ensures { IfOk result (λ w. w ≡ led self.now.image (take at self.now.choices)
+            self.now.start) }
     {
         let turns = at / KEPT_EACH;
         let choices = &self.choices[turns * KEPT_EACH..at];

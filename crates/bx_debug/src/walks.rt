@@ -88,7 +88,8 @@ impl Walk {
     /// No choice is applied yet. There is room for the worlds that so many choices may pass.
     fn begun(alloc: Global, world: &RcWorld, since: usize, count: usize) -> Result<Walk, AllocError>
         requires { since < KEPT_EACH }
-        ensures { IfOk result (λ walk. Begins world.now since walk.world walk.applied walk.since walk.kept.items walk.stop) }
+        ensures { IfOk result (λ walk. Begins world.now since walk.world walk.applied walk.since
+            walk.kept.items walk.stop) }
     {
         let world = shared(alloc, world)?;
         let kept = Vec::with_capacity(alloc, count / KEPT_EACH)?;
@@ -169,8 +170,10 @@ pub(crate) fn follow(
     choices: &[Choice],
 ) -> Result<Walk, AllocError>
     requires { since < KEPT_EACH }
-    ensures told { IfOk result (λ walk. walked image.now places.now choices.now world.now ≡ (take walk.applied choices.now, walk.stop)) }
-    ensures way { IfOk result (λ walk. Walks image.now choices.now world.now since walk.applied walk.world walk.since walk.kept.items) }
+    ensures told { IfOk result (λ walk. walked image.now places.now choices.now world.now ≡
+        (take walk.applied choices.now, walk.stop)) }
+    ensures way { IfOk result (λ walk. Walks image.now choices.now world.now since walk.applied
+        walk.world walk.since walk.kept.items) }
 {
     let mut walk = Walk::begun(alloc, world, since, choices.len())?;
     while walk.applied < choices.len() {

@@ -41,7 +41,8 @@ pub(crate) fn command_of(
     image: &Image,
     line: &[u8],
 ) -> Result<Option<Command>, Fault>
-    ensures { Gives ⊤ (λ command. option_map ordered command) result (Ok (ordered_by image.now line.now)) }
+    ensures { Gives ⊤ (λ command. option_map ordered command) result
+        (Ok (ordered_by image.now line.now)) }
 {
     match cut(line, b' ') {
         Some((word, rest)) => about(alloc, image, word, rest),
@@ -64,7 +65,8 @@ fn alone(alloc: Global, word: &[u8]) -> Option<Command>
 
 /// The command of a word, and of what stands behind the space.
 fn about(alloc: Global, image: &Image, word: &[u8], rest: &[u8]) -> Result<Option<Command>, Fault>
-    ensures { Gives ⊤ (λ command. option_map ordered command) result (Ok (about image.now (word.now, rest.now))) }
+    ensures { Gives ⊤ (λ command. option_map ordered command) result
+        (Ok (about image.now (word.now, rest.now))) }
 {
     if word == b"step".as_slice() {
         return Ok(choice_of(rest).map(Command::Step));

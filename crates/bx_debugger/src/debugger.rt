@@ -50,7 +50,8 @@ pub fn debug_text<R: Read, C: Read, W: Write>(
 
 /// A session at the start that was named; `NoEntry` where the module does not export that function of no arguments.
 fn session_at<'a>(alloc: Global, image: &'a Image, start: &Start) -> Result<Session<'a>, Fault>
-    ensures { Gives (IsOk (session_at image.entry.now start.now)) (λ session. session) result (session_at image.entry.now start.now) }
+    ensures { Gives (IsOk (session_at image.entry.now start.now)) (λ session. session) result
+        (session_at image.entry.now start.now) }
 {
     let atoms = image.atoms();
     let (Some(module), Some(function)) = (atoms.find(start.module()), atoms.find(start.function()))

@@ -23,7 +23,8 @@ pub(crate) fn answer_line(
     number: usize,
     line: &[u8],
 ) -> Result<String, Fault>
-    ensures { IfOk result (λ text. (string_bytes text, session.new) ≡ answered number line.now session.old) }
+    ensures { IfOk result (λ text. (string_bytes text, session.new) ≡ answered number line.now
+        session.old) }
 {
     match command_of(alloc, session.image(), line)? {
         Some(command) => reply(alloc, session, number, &command),
@@ -38,7 +39,8 @@ fn reply(
     number: usize,
     command: &Command,
 ) -> Result<String, Fault>
-    ensures { IfOk result (λ text. (string_bytes text, session.new) ≡ replied number (ordered command.now) session.old) }
+    ensures { IfOk result (λ text. (string_bytes text, session.new) ≡ replied number
+        (ordered command.now) session.old) }
 {
     match command {
         Command::Step(choice) => {
@@ -109,7 +111,8 @@ fn refusal_line(alloc: Global, number: usize, fault: &Fault) -> Result<String, F
 
 /// `refused R22 BeforeStart line 5`.
 fn titled_line(alloc: Global, number: usize, refusal: u8, name: &str) -> Result<String, AllocError>
-    ensures { IfOk result (λ text. string_bytes text ≡ refused_text number (Some (refusal, name.now))) }
+    ensures { IfOk result (λ text. string_bytes text ≡ refused_text number
+        (Some (refusal, name.now))) }
 {
     let text = format!(in alloc; "refused R{refusal} {name} line {number}\n")?;
     Ok(text)

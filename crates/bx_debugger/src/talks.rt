@@ -48,9 +48,17 @@ impl<'a> Model for Talk<'a> {
 
     ghost Value = { Hearing };
 
-    ghost coded = { hearing_code (history_code images.the_row.coded (state_code process.the_row.coded tree_code lane.the_row.coded traps.the_row.coded) made.the_row.coded) };
+    ghost coded = { hearing_code (history_code images.the_row.coded
+        (state_code process.the_row.coded tree_code lane.the_row.coded traps.the_row.coded)
+        made.the_row.coded) };
 
-    ghost view = { λ t. record { session = t.session; number = t.number; line = t.line.items; left = t.left } };
+    ghost view = { λ t. record {
+      session = t.session;
+      number = t.number;
+      line = t.line.items;
+      left =
+          t.left;
+    } };
 
     ghost invariant = { λ t. t.number + t.left ≤ 16777217 };
 }
@@ -127,7 +135,8 @@ impl<'a> Talk<'a> {
         writer: &mut W,
     ) -> Result<Next, Failure>
         requires { length bytes.now ≤ self.old.left }
-        ensures { Feeds (W.contents writer.old) (W.contents writer.new) self.old self.new bytes.now result }
+        ensures { Feeds (W.contents writer.old) (W.contents writer.new) self.old self.new bytes.now
+            result }
     {
         for byte in bytes {
             match self.hear(alloc, *byte, writer) {
@@ -142,7 +151,8 @@ impl<'a> Talk<'a> {
     /// Hears one byte, and answers the line where it ends one.
     fn hear<W: Write>(&mut self, alloc: Global, byte: u8, writer: &mut W) -> Result<Next, Failure>
         requires { 0 < self.old.left }
-        ensures { Feeds (W.contents writer.old) (W.contents writer.new) self.old self.new (byte ∷ []) result }
+        ensures { Feeds (W.contents writer.old) (W.contents writer.new) self.old self.new
+            (byte ∷ []) result }
     {
         self.left -= 1;
         if byte != b'\n' {

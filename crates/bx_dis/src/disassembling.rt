@@ -31,7 +31,8 @@ pub fn disassemble_image(
     image: &Image,
     module: AtomId,
 ) -> Result<Option<Code>, Fault>
-    ensures { Gives (ModuleTakes (module_of image.now «module»)) (λ code. code) result (Ok (module_of image.now «module»)) }
+    ensures { Gives (ModuleTakes (module_of image.now «module»)) (λ code. code) result
+        (Ok (module_of image.now «module»)) }
 {
     match image.module(module) {
         Some(unit) => Ok(Some(disassemble(alloc, unit)?)),
@@ -83,7 +84,13 @@ fn function_from(
     from: usize,
 ) -> Result<CodeFunction, AllocError>
     requires { from + head.count ≤ 1000000 }
-    ensures { IfOk result (λ f. f ≡ record { name = head.name; arity = head.arity; entry = head.entry; items = take head.count (drop from (items unit.now)) }) }
+    ensures { IfOk result (λ f. f ≡ record {
+      name = head.name;
+      arity = head.arity;
+      entry =
+          head.entry;
+      items = take head.count (drop from (items unit.now));
+    }) }
 {
     let mut function = CodeFunction::new(alloc, head.name, head.arity, head.entry);
     let mut row = Vec::new(alloc);

@@ -40,7 +40,8 @@ fn add_operand(
     item: Numbered<'_>,
     number: usize,
 ) -> Result<(), AllocError>
-    ensures { OnOk result (row.new.items ≡ row.old.items ++ at_number number (item_of item.entry).operands) }
+    ensures { OnOk result (row.new.items ≡ row.old.items ++ at_number number
+        (item_of item.entry).operands) }
 {
     if let Some(spelt) = item.operand(number) {
         row.push(operand(alloc, spelt)?)?;
@@ -70,7 +71,8 @@ pub(crate) fn add_item(
     number: usize,
 ) -> Result<(), AllocError>
     requires { row.old.items ≡ [] }
-    ensures added { OnOk result (function.new ≡ record function.old { items = function.old.items ++ at_number number (items unit.now) }) }
+    ensures added { OnOk result (function.new ≡ record function.old
+        { items = function.old.items ++ at_number number (items unit.now) }) }
     ensures empty { OnOk result (row.new.items ≡ []) }
 {
     if let Some(item) = unit.item(number) {

@@ -32,7 +32,8 @@ fn report_of<T: Threads + Wait + Sync, G: Gate>(
     workers: u32,
     gate: &G,
 ) -> Result<String, Fault>
-    ensures { Gives ⊤ (λ text. string_bytes text) result (campaign_in workers image.now start.now (schedules plan.now)) }
+    ensures { Gives ⊤ (λ text. string_bytes text) result
+        (campaign_in workers image.now start.now (schedules plan.now)) }
 {
     if workers == 0 || workers > 64 {
         return Err(Fault::Workers);
@@ -91,7 +92,8 @@ pub fn campaign_text<T: Threads + Wait + Sync, R: Read, W: Write>(
 ) -> Result<(), Failure>
     ensures written { (given : List (List ℕ)) → (planned : List ℕ) → map R.remaining listings.old ≡ map (λ text. Some text) given → R.remaining plan.old ≡ Some planned
         → Writes (TakesMemory start.now) (W.contents writer.old) (W.contents writer.new) result (ClearStart start.now given) (campaign_of workers start.now given planned) }
-    ensures unwritten { IfErr result (λ failure. (failure ≡ Failure.Write) ⊎ Keeps (W.contents writer.old) (W.contents writer.new)) }
+    ensures unwritten { IfErr result (λ failure. (failure ≡ Failure.Write) ⊎ Keeps
+        (W.contents writer.old) (W.contents writer.new)) }
 {
     watched_campaign_text(rt, alloc, listings, start, plan, workers, writer, &FreeGate)
 }
@@ -109,7 +111,8 @@ pub fn watched_campaign_text<T: Threads + Wait + Sync, R: Read, W: Write, G: Gat
 ) -> Result<(), Failure>
     ensures written { (given : List (List ℕ)) → (planned : List ℕ) → map R.remaining listings.old ≡ map (λ text. Some text) given → R.remaining plan.old ≡ Some planned
         → Writes (TakesMemory start.now) (W.contents writer.old) (W.contents writer.new) result (ClearStart start.now given) (campaign_of workers start.now given planned) }
-    ensures unwritten { IfErr result (λ failure. (failure ≡ Failure.Write) ⊎ Keeps (W.contents writer.old) (W.contents writer.new)) }
+    ensures unwritten { IfErr result (λ failure. (failure ≡ Failure.Write) ⊎ Keeps
+        (W.contents writer.old) (W.contents writer.new)) }
 {
     let start = match start_of(alloc, start) {
         Ok(start) => start,

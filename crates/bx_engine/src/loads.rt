@@ -35,7 +35,8 @@ pub fn image_of<R: Read>(alloc: Global, listings: &mut [R]) -> Result<Image, Fai
 
 /// The plan in the file of that number, read whole before it is looked at.
 pub fn plan_in<R: Read>(alloc: Global, file: usize, reader: &mut R) -> Result<Plan, Failure>
-    ensures { (text : List ℕ) → R.remaining reader.old ≡ Some text → FileGives (λ plan. schedules plan) file result (plan_in file text) }
+    ensures { (text : List ℕ) → R.remaining reader.old ≡ Some text → FileGives
+        (λ plan. schedules plan) file result (plan_in file text) }
 {
     let text = match read_file(alloc, file, reader) {
         Ok(text) => text,

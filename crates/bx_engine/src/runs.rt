@@ -31,7 +31,8 @@ pub(crate) fn entry_in(image: &Image, start: &Start) -> Option<(AtomId, AtomId)>
 
 /// What comes of each schedule of the plan, in its order.
 fn reported(alloc: Global, image: &Image, start: &Start, plan: &Plan) -> Result<Report, Fault>
-    ensures { Gives ⊤ (λ report. report) result (reported image.now (entry_in image.now start.now) (schedules plan.now)) }
+    ensures { Gives ⊤ (λ report. report) result
+        (reported image.now (entry_in image.now start.now) (schedules plan.now)) }
 {
     match entry_in(image, start) {
         Some((module, function)) => report_alone(alloc, image, module, function, plan),
@@ -41,7 +42,8 @@ fn reported(alloc: Global, image: &Image, start: &Start, plan: &Plan) -> Result<
 
 /// The text of the report of the plan's schedules.
 fn report_of(alloc: Global, image: &Image, start: &Start, plan: &Plan) -> Result<String, Fault>
-    ensures { Gives ⊤ (λ text. string_bytes text) result (report_in image.now start.now (schedules plan.now)) }
+    ensures { Gives ⊤ (λ text. string_bytes text) result
+        (report_in image.now start.now (schedules plan.now)) }
 {
     let report = reported(alloc, image, start, plan)?;
     report_text(alloc, image.atoms(), &report)
@@ -87,7 +89,8 @@ pub fn run_text<R: Read, W: Write>(
 ) -> Result<(), Failure>
     ensures written { (given : List (List ℕ)) → (planned : List ℕ) → map R.remaining listings.old ≡ map (λ text. Some text) given → R.remaining plan.old ≡ Some planned
         → Writes (TakesMemory start.now) (W.contents writer.old) (W.contents writer.new) result (ClearStart start.now given) (run_of start.now given planned) }
-    ensures unwritten { IfErr result (λ failure. (failure ≡ Failure.Write) ⊎ Keeps (W.contents writer.old) (W.contents writer.new)) }
+    ensures unwritten { IfErr result (λ failure. (failure ≡ Failure.Write) ⊎ Keeps
+        (W.contents writer.old) (W.contents writer.new)) }
 {
     let start = match start_of(alloc, start) {
         Ok(start) => start,

@@ -18,7 +18,8 @@ pub(crate) fn read_file<R: Read>(
     file: usize,
     reader: &mut R,
 ) -> Result<Vec<u8>, Failure>
-    ensures { (text : List ℕ) → R.remaining reader.old ≡ Some text → FileGives (λ bytes. bytes.items) file result (sized file text) }
+    ensures { (text : List ℕ) → R.remaining reader.old ≡ Some text → FileGives
+        (λ bytes. bytes.items) file result (sized file text) }
 {
     match read_input(alloc, reader) {
         Ok(bytes) => Ok(bytes),
@@ -39,7 +40,8 @@ fn unit_of(alloc: Global, atoms: &mut Atoms, text: &[u8]) -> Result<Unit, Fault>
 
 /// The numbered code of the text of the file of that number.
 fn unit_in(alloc: Global, atoms: &mut Atoms, file: usize, text: &[u8]) -> Result<Unit, Failure>
-    ensures { FileGives (λ unit. (atoms.new, unit)) file result (in_file file (unit_of atoms.old text.now)) }
+    ensures { FileGives (λ unit. (atoms.new, unit)) file result
+        (in_file file (unit_of atoms.old text.now)) }
 {
     match unit_of(alloc, atoms, text) {
         Ok(unit) => Ok(unit),

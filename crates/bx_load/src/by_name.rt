@@ -36,7 +36,8 @@ impl ByName {
     /// A function more, or another number for one that is there.
     #[tactic(auto, using(crate::proofs::NameTests::same_name))]
     pub fn set(&mut self, function: AtomId, arity: u32, number: u32) -> Result<(), AllocError>
-        ensures { OnOk result ((f : Name) (a : ℕ) → found self.new f a ≡ (if is_atom f function && nat_eq arity a then Some number else found self.old f a)) }
+        ensures { OnOk result ((f : Name) (a : ℕ) → found self.new f a ≡
+            (if is_atom f function && nat_eq arity a then Some number else found self.old f a)) }
     {
         self.numbers.insert((function.0, arity), number)?;
         Ok(())

@@ -19,7 +19,8 @@ use std::alloc::{AllocError, Global};
 /// Puts in a function's entry, where there is none of that name and arity yet.
 #[tactic(auto, using(crate::proofs::ExportSteps::kept_first, crate::proofs::ExportSteps::put_first))]
 fn add_first(entries: &mut ByName, head: &Head) -> Result<(), AllocError>
-    ensures { OnOk result ((f : Name) (a : ℕ) → found entries.new f a ≡ or_else (found entries.old f a) (entry_if f a head.now)) }
+    ensures { OnOk result ((f : Name) (a : ℕ) → found entries.new f a ≡ or_else
+        (found entries.old f a) (entry_if f a head.now)) }
 {
     let known = entries.get(head.name, head.arity);
     if known.is_some() {
@@ -31,7 +32,8 @@ fn add_first(entries: &mut ByName, head: &Head) -> Result<(), AllocError>
 /// The entries of functions; of two with one name and arity, the first counts.
 #[tactic(auto, using(crate::proofs::ExportSteps::all_entries))]
 fn head_entries(alloc: Global, functions: &[Head]) -> Result<ByName, AllocError>
-    ensures { IfOk result (λ entries. (f : Name) (a : ℕ) → found entries f a ≡ head_entry f a functions.now) }
+    ensures { IfOk result (λ entries. (f : Name) (a : ℕ) → found entries f a ≡ head_entry f a
+        functions.now) }
 {
     let mut entries = ByName::new(alloc);
     for function in functions {
@@ -43,14 +45,16 @@ fn head_entries(alloc: Global, functions: &[Head]) -> Result<ByName, AllocError>
 /// The entries of a module's functions.
 #[tactic(auto, using(crate::proofs::FunctionHeads::entry_of_heads))]
 fn entries_of(alloc: Global, unit: &Unit) -> Result<ByName, AllocError>
-    ensures { IfOk result (λ entries. (f : Name) (a : ℕ) → found entries f a ≡ entry_of f a unit.now.functions) }
+    ensures { IfOk result (λ entries. (f : Name) (a : ℕ) → found entries f a ≡ entry_of f a
+        unit.now.functions) }
 {
     head_entries(alloc, unit.functions())
 }
 
 /// Puts in the item at which calls of an exported function begin, where there is one.
 fn add_export(exports: &mut ByName, export: &Export, item: Option<u32>) -> Result<(), AllocError>
-    ensures { OnOk result ((f : Name) (a : ℕ) → found exports.new f a ≡ led item (is_export f a export.now) (found exports.old f a)) }
+    ensures { OnOk result ((f : Name) (a : ℕ) → found exports.new f a ≡ led item
+        (is_export f a export.now) (found exports.old f a)) }
 {
     match item {
         Some(item) => exports.set(export.function, export.arity, item),
@@ -65,7 +69,9 @@ pub(crate) fn exports_of(
     labels: &Labels,
 ) -> Result<Option<ByName>, AllocError>
     requires { (n : ℕ) → leads_to labels.now n ≡ target_in (items unit.now) n }
-    ensures { IfOk result (λ exports. MatchOption exports (lacks_export unit.now ≡ true) (λ table. (lacks_export unit.now ≡ false) × ((f : Name) (a : ℕ) → found table f a ≡ exported_item f a unit.now))) }
+    ensures { IfOk result (λ exports. MatchOption exports (lacks_export unit.now ≡ true)
+        (λ table. (lacks_export unit.now ≡ false) ×
+        ((f : Name) (a : ℕ) → found table f a ≡ exported_item f a unit.now))) }
 {
     let entries = entries_of(alloc, unit)?;
     let mut exports = ByName::new(alloc);

@@ -13,10 +13,12 @@ ghost use Rattle.bx_load.specs.Standing.{Stands, AreLoaded};
 ///
 /// Source: The BEAM Book, "Loading".
 pub fn places_hold_instructions()
-    ensures given { (w : Loaded) (m : Name) (k : ℕ) (p : Place) → place_of w m k ≡ Some p → IsSome (item_at w p) }
+    ensures given { (w : Loaded) (m : Name) (k : ℕ) (p : Place) → place_of w m k ≡ Some p → IsSome
+        (item_at w p) }
     ensures behind { (w : Loaded) (p : Place) → IsSome (item_at w p) → Stands w (after w p) }
     ensures labels { (w : Loaded) (m n : ℕ) (p : Place) → target w m n ≡ Some p → Stands w p }
-    ensures calls { (w : Loaded) (m f : Name) (a : ℕ) (p : Place) → export w m f a ≡ Some p → Stands w p }
+    ensures calls { (w : Loaded) (m f : Name) (a : ℕ) (p : Place) → export w m f a ≡ Some p → Stands
+        w p }
 {}
 
 /// Modules that can be loaded are at most 64, no two have one name, and each export names a function of its module.

@@ -28,8 +28,10 @@ pub struct LoadRefused {
 ///
 /// The atoms are those of the units' listings. Memory is wanting only once there is a module and neither R19 nor R17 holds.
 pub fn load(alloc: Global, atoms: Atoms, units: Vec<Unit>) -> Result<Image, LoadRefused>
-    ensures answer { MatchResult result (λ image. loaded atoms units.items ≡ Ok image) (λ refused. Refuses (TakesMemory units.items) refused.fault (loaded atoms units.items)) }
-    ensures handed_back { IfErr result (λ refused. (refused.atoms ≡ atoms) × (refused.units ≡ units)) }
+    ensures answer { MatchResult result (λ image. loaded atoms units.items ≡ Ok image)
+        (λ refused. Refuses (TakesMemory units.items) refused.fault (loaded atoms units.items)) }
+    ensures handed_back { IfErr result (λ refused. (refused.atoms ≡ atoms) ×
+        (refused.units ≡ units)) }
 {
     let fault = if units.len() > MOST_MODULES {
         Fault::TooManyModules

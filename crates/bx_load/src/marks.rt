@@ -13,7 +13,8 @@ use bx_asm::{Instruction, Unit};
 /// The instruction of that number; none past the last item and at a mark.
 #[inline(always)]
 pub(crate) fn instruction_in(unit: &Unit, number: u32) -> Option<Instruction<'_>>
-    ensures { option_map instr_of result ≡ option_and_then instruction_of (slice_get (items unit.now) number) }
+    ensures { option_map instr_of result ≡ option_and_then instruction_of
+        (slice_get (items unit.now) number) }
 {
     unit.item(number as usize)?.instruction()
 }

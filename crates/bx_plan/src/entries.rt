@@ -49,7 +49,8 @@ pub(crate) fn entry_of(text: &[u8]) -> Option<(Choice, u32)>
 /// How many choices the entries make, with one space between one entry and the next. No number is
 /// past `usize::MAX`.
 pub(crate) fn count_choices(words: &[u8]) -> Option<usize>
-    ensures { result ≡ option_map (λ entries. min (count_of entries) (2 ^ 64 - 1)) (entries_of words.now) }
+    ensures { result ≡ option_map (λ entries. min (count_of entries) (2 ^ 64 - 1))
+        (entries_of words.now) }
 {
     let mut count = 0usize;
     for word in Parts::new(words, b' ') {

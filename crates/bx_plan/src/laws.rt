@@ -14,7 +14,8 @@ ghost use Rattle.bx_plan.specs.Texts.{IsFirstFault, IsPlan};
 /// A number is read where it is spelled in decimal without leading zeros and is not over the limit, and
 /// nowhere else.
 pub fn numbers_are_decimals()
-    ensures { (most n : ℕ) (text : List ℕ) → most < 2 ^ 64 → (number_of most text ≡ Some n) ↔ ((n ≤ most) × (text ≡ decimal n)) }
+    ensures { (most n : ℕ) (text : List ℕ) → most < 2 ^ 64 → (number_of most text ≡ Some n) ↔
+        ((n ≤ most) × (text ≡ decimal n)) }
 {}
 
 /// An entry is read where the text spells it, and nowhere else.
@@ -24,7 +25,8 @@ pub fn entries_are_spelled()
 
 /// Entries are read behind a colon where each stands behind one space, and nowhere else.
 pub fn entries_are_spaced()
-    ensures { (text : List ℕ) (entries : List Entry) → (tail_of text ≡ Some entries) ↔ AreEntries text entries }
+    ensures { (text : List ℕ) (entries : List Entry) → (tail_of text ≡ Some entries) ↔ AreEntries
+        text entries }
 {}
 
 /// A line stands for nothing where it is empty or a comment, and nowhere else.
@@ -34,7 +36,8 @@ pub fn empty_lines_and_comments_are_nothing()
 
 /// A line names a schedule where the grammar has it so, and nowhere else.
 pub fn schedules_are_spelled()
-    ensures { (text : List ℕ) (line : List ℕ × List Entry) → (line_of text ≡ Some (Some line)) ↔ IsSchedule text line }
+    ensures { (text : List ℕ) (line : List ℕ × List Entry) → (line_of text ≡ Some (Some line)) ↔
+        IsSchedule text line }
 {}
 
 /// A text is read as a plan where it is that plan's text, and nowhere else.

@@ -63,7 +63,8 @@ fn is_utf8(bytes: &[u8]) -> bool
 /// The name that the bytes spell.
 #[tactic(auto, using(crate::proofs::Names::name_is_utf8))]
 fn name_of(name: &[u8]) -> Option<&str>
-    ensures { MatchOption result (is_name name.now ≡ false) (λ text. (text.now ≡ name.now) × (is_name name.now ≡ true)) }
+    ensures { MatchOption result (is_name name.now ≡ false)
+        (λ text. (text.now ≡ name.now) × (is_name name.now ≡ true)) }
 {
     if !is_name(name) {
         return None;
@@ -76,7 +77,8 @@ fn name_of(name: &[u8]) -> Option<&str>
 
 /// How many choices the entries behind a colon make, no number past `usize::MAX`.
 fn count_tail(tail: &[u8]) -> Option<usize>
-    ensures { result ≡ option_map (λ entries. min (count_of entries) (2 ^ 64 - 1)) (tail_of tail.now) }
+    ensures { result ≡ option_map (λ entries. min (count_of entries) (2 ^ 64 - 1))
+        (tail_of tail.now) }
 {
     match tail {
         [] => Some(0),
@@ -87,7 +89,9 @@ fn count_tail(tail: &[u8]) -> Option<usize>
 
 /// Reads a line that names a schedule.
 fn heading_of(text: &[u8]) -> Option<Heading<'_>>
-    ensures { MatchOption result (schedule_of text.now ≡ None) (λ heading. (schedule_of text.now ≡ Some (heading.name.now, entries_in heading.tail.now)) × IsHeading heading) }
+    ensures { MatchOption result (schedule_of text.now ≡ None)
+        (λ heading. (schedule_of text.now ≡ Some (heading.name.now, entries_in heading.tail.now)) ×
+        IsHeading heading) }
 {
     let (name, tail) = cut(text, b':')?;
     let name = name_of(name)?;

@@ -105,7 +105,8 @@ impl Model for Plan {
 
     ghost view = { λ p. plan_view p.lines.items p.steps.items };
 
-    ghost invariant = { λ p. IsTree (tree_of (steps_view p.steps.items)) × IsPlanned (plan_view p.lines.items p.steps.items) };
+    ghost invariant = { λ p. IsTree (tree_of (steps_view p.steps.items)) × IsPlanned
+        (plan_view p.lines.items p.steps.items) };
 }
 
 impl Plan {
@@ -118,7 +119,8 @@ impl Plan {
 
     /// The name on the line of this number.
     fn name(&self, number: usize) -> Option<&str>
-        ensures { option_map (λ name. name.now) result ≡ option_map (λ line. line.0) (slice_get self.now.lines number) }
+        ensures { option_map (λ name. name.now) result ≡ option_map (λ line. line.0)
+            (slice_get self.now.lines number) }
     {
         let line = self.lines.get(number)?;
         Some(line.name.as_str())
@@ -127,7 +129,8 @@ impl Plan {
     /// The name of the schedule of this number, from 0; none past the last.
     #[tactic(auto, using(crate::proofs::Looking::name_at))]
     pub fn label(&self, number: usize) -> Option<&str>
-        ensures { option_map (λ name. name.now) result ≡ option_map (λ schedule. schedule.0) (slice_get (schedules self.now) number) }
+        ensures { option_map (λ name. name.now) result ≡ option_map (λ schedule. schedule.0)
+            (slice_get (schedules self.now) number) }
     {
         self.name(number)
     }
@@ -156,7 +159,8 @@ struct Builder<'a> {
 /// the schedules up to it have over 1,000,000 distinct beginnings, the empty one aside. `Memory` only where
 /// a line that names a schedule stands before the first line at fault.
 pub fn read_plan(alloc: Global, text: &[u8]) -> Result<Plan, Fault>
-    ensures { Gives (TakesMemory (parts_of 10 text.now)) (λ plan. schedules plan) result (plan_of text.now) }
+    ensures { Gives (TakesMemory (parts_of 10 text.now)) (λ plan. schedules plan) result
+        (plan_of text.now) }
 {
     let mut builder = Builder::new(alloc);
     let mut number = 0;

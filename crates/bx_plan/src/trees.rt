@@ -42,5 +42,6 @@ impl Model for Growing {
 
     ghost view = { λ g. tree_of (steps_view g.steps.items) };
 
-    ghost invariant = { λ g. IsTree (tree_of (steps_view g.steps.items)) × IsIndexed (tree_of (steps_view g.steps.items)) g.children };
+    ghost invariant = { λ g. IsTree (tree_of (steps_view g.steps.items)) × IsIndexed
+        (tree_of (steps_view g.steps.items)) g.children };
 }

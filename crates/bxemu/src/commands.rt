@@ -165,7 +165,8 @@ fn dis_order<'a>(alloc: Global, values: &ArgMatches<'a>) -> Result<Order<'a>, Er
 
 /// The fault of a command line that lacks a part.
 fn incomplete(alloc: Global) -> Error
-    ensures { (kind_of result ≡ ErrorKind.MissingSubcommand) ⊎ (kind_of result ≡ ErrorKind.OutOfMemory) }
+    ensures { (kind_of result ≡ ErrorKind.MissingSubcommand) ⊎
+        (kind_of result ≡ ErrorKind.OutOfMemory) }
 {
     match incomplete_error(alloc) {
         Ok(error) => error,

@@ -27,7 +27,8 @@ pub fn a_campaign_names_its_parts()
 pub fn a_session_names_its_parts()
     ensures in_order { OrdersDebug (codes "bxemu" ∷ codes "debug" ∷ codes "--start" ∷ codes "m:f" ∷ codes "a.S" ∷ codes "b.S" ∷ [])
         (codes "m:f") (codes "a.S" ∷ codes "b.S" ∷ []) }
-    ensures option_last { OrdersDebug (codes "bxemu" ∷ codes "debug" ∷ codes "a.S" ∷ codes "--start=m:f" ∷ []) (codes "m:f") (codes "a.S" ∷ []) }
+    ensures option_last { OrdersDebug (codes "bxemu" ∷ codes "debug" ∷ codes "a.S" ∷ codes
+        "--start=m:f" ∷ []) (codes "m:f") (codes "a.S" ∷ []) }
     ensures files_only { OrdersDebug (codes "bxemu" ∷ codes "debug" ∷ codes "--start" ∷ codes "m:f" ∷ codes "--" ∷ codes "--plan" ∷ [])
         (codes "m:f") (codes "--plan" ∷ []) }
 {}
@@ -36,5 +37,6 @@ pub fn a_session_names_its_parts()
 pub fn a_dis_names_its_file()
     ensures named { OrdersDis (codes "bxemu" ∷ codes "dis" ∷ codes "a.S" ∷ []) (codes "a.S") }
     ensures dash { OrdersDis (codes "bxemu" ∷ codes "dis" ∷ codes "-" ∷ []) (codes "-") }
-    ensures escaped { OrdersDis (codes "bxemu" ∷ codes "dis" ∷ codes "--" ∷ codes "--start" ∷ []) (codes "--start") }
+    ensures escaped { OrdersDis (codes "bxemu" ∷ codes "dis" ∷ codes "--" ∷ codes "--start" ∷ [])
+        (codes "--start") }
 {}

@@ -83,7 +83,8 @@ where
     O: Write,
     W: Write + IsTerminal,
     ensures few { result ≤ 4 }
-    ensures unwritten { (result ≡ 0) ⊎ (result ≡ 4) ⊎ TellsByLine order.now ⊎ Keeps (O.contents output.old) (O.contents output.new) }
+    ensures unwritten { (result ≡ 0) ⊎ (result ≡ 4) ⊎ TellsByLine order.now ⊎ Keeps
+        (O.contents output.old) (O.contents output.new) }
 {
     match order {
         Order::Run { start, plan, files } => {
@@ -116,7 +117,8 @@ where
     O: Write,
     W: Write,
     ensures few { result ≤ 4 }
-    ensures unwritten { (result ≡ 0) ⊎ (result ≡ 4) ⊎ Keeps (O.contents output.old) (O.contents output.new) }
+    ensures unwritten { (result ≡ 0) ⊎ (result ≡ 4) ⊎ Keeps (O.contents output.old)
+        (O.contents output.new) }
 {
     let names = match names_of(rt.alloc(), files, plan) {
         Ok(names) => names,
@@ -141,7 +143,8 @@ where
     O: Write,
     W: Write + IsTerminal,
     ensures few { result ≤ 4 }
-    ensures unwritten { (result ≡ 0) ⊎ (result ≡ 4) ⊎ Keeps (O.contents output.old) (O.contents output.new) }
+    ensures unwritten { (result ≡ 0) ⊎ (result ≡ 4) ⊎ Keeps (O.contents output.old)
+        (O.contents output.new) }
 {
     let names = match names_of(rt.alloc(), files, plan) {
         Ok(names) => names,
@@ -183,7 +186,8 @@ where
     O: Write,
     W: Write,
     ensures few { result ≤ 4 }
-    ensures unwritten { (result ≡ 0) ⊎ (result ≡ 4) ⊎ Keeps (O.contents output.old) (O.contents output.new) }
+    ensures unwritten { (result ≡ 0) ⊎ (result ≡ 4) ⊎ Keeps (O.contents output.old)
+        (O.contents output.new) }
 {
     let names = match names_of(rt.alloc(), &[], file) {
         Ok(names) => names,
@@ -271,7 +275,8 @@ fn run<R, W>(rt: &R, start: &str, names: &[String], writer: &mut W) -> Result<()
 where
     R: Files + AllocGlobal,
     W: Write,
-    ensures { IfErr result (λ failure. (failure ≡ Failure.Write) ⊎ Keeps (W.contents writer.old) (W.contents writer.new)) }
+    ensures { IfErr result (λ failure. (failure ≡ Failure.Write) ⊎ Keeps (W.contents writer.old)
+        (W.contents writer.new)) }
 {
     let _ = start_of(rt.alloc(), start)?;
     let mut inputs = open_all(rt, names)?;
@@ -294,7 +299,8 @@ fn campaign<R, W>(
 where
     R: Files + Eprint + Clock + AllocGlobal + Threads + Wait + Sync,
     W: Write,
-    ensures { IfErr result (λ failure. (failure ≡ Failure.Write) ⊎ Keeps (W.contents writer.old) (W.contents writer.new)) }
+    ensures { IfErr result (λ failure. (failure ≡ Failure.Write) ⊎ Keeps (W.contents writer.old)
+        (W.contents writer.new)) }
 {
     let _ = start_of(rt.alloc(), start)?;
     let mut inputs = open_all(rt, names)?;
@@ -321,7 +327,8 @@ fn dis<R, W>(rt: &R, names: &[String], writer: &mut W) -> Result<(), Failure>
 where
     R: Files + AllocGlobal,
     W: Write,
-    ensures { IfErr result (λ failure. (failure ≡ Failure.Write) ⊎ Keeps (W.contents writer.old) (W.contents writer.new)) }
+    ensures { IfErr result (λ failure. (failure ≡ Failure.Write) ⊎ Keeps (W.contents writer.old)
+        (W.contents writer.new)) }
 {
     let mut inputs = open_all(rt, names)?;
     match inputs.split_last_mut() {

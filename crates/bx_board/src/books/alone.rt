@@ -20,7 +20,8 @@ impl<'a> Book<'a> {
     /// Runs one chain more, where one is left.
     fn go_on(&mut self, alloc: Global) -> Result<bool, Fault>
         requires { IsIdle self.old }
-        ensures ok { IfOk result (λ more. MatchBool more (GoesOn self.old self.new) ((self.new ≡ self.old) × IsAllDone self.old)) }
+        ensures ok { IfOk result (λ more. MatchBool more (GoesOn self.old self.new)
+            ((self.new ≡ self.old) × IsAllDone self.old)) }
         ensures err { IfErr result (λ fault. fault ≡ Fault.Memory) }
     {
         self.known();
@@ -53,7 +54,8 @@ impl<'a> Book<'a> {
 
     /// Takes back the lease of some worker, where one is held.
     fn take_back(&mut self) -> bool
-        ensures { MatchBool result (TakesBack self.old self.new) ((self.new ≡ self.old) × IsUnheld self.old) }
+        ensures { MatchBool result (TakesBack self.old self.new)
+            ((self.new ≡ self.old) × IsUnheld self.old) }
     {
         let Some((worker, _)) = self.holders.first_key_value() else {
             return false;
@@ -83,7 +85,8 @@ pub fn report_alone(
     function: AtomId,
     plan: &Plan,
 ) -> Result<Report, Fault>
-    ensures { Gives (IsSome (export image.now «module» function 0)) (λ report. report) result (report_from image.now («module», function) (schedules plan.now)) }
+    ensures { Gives (IsSome (export image.now «module» function 0)) (λ report. report) result
+        (report_from image.now («module», function) (schedules plan.now)) }
 {
     let book = Book::new(alloc, image, module, function, plan)?;
     book.finish_alone(alloc)

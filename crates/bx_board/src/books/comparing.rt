@@ -34,7 +34,8 @@ impl<'a> Book<'a> {
     /// Whether a chain's path is that of a piece.
     fn is_at(&self, piece: &Piece<'a>, chain: usize) -> bool
         requires { chain < chain_count self.now.job.chains }
-        ensures { IsTrue result ↔ (chain_path self.now.job.plan self.now.job.chains chain ≡ piece.now.path) }
+        ensures { IsTrue result ↔ (chain_path self.now.job.plan self.now.job.chains chain ≡
+            piece.now.path) }
     {
         let node = self.chains.last(chain);
         same_path(self.plan, node, piece.plan, piece.span.last)
@@ -42,7 +43,8 @@ impl<'a> Book<'a> {
 
     /// Whether a piece is of this campaign's code and start.
     fn is_own(&self, piece: &Piece<'a>) -> bool
-        ensures { IsTrue result ↔ ((self.now.job.image ≡ piece.now.image) × (self.now.job.start ≡ piece.now.start)) }
+        ensures { IsTrue result ↔ ((self.now.job.image ≡ piece.now.image) ×
+            (self.now.job.start ≡ piece.now.start)) }
     {
         self.start == piece.start && self.image.same(piece.image)
     }
@@ -68,7 +70,8 @@ impl<'a> Book<'a> {
 
     /// The chain that a piece is of; none where it is of another campaign's code or start, or its path is no chain's.
     pub(super) fn chain_of(&self, piece: &Piece<'a>) -> Option<usize>
-        ensures { MatchOption result ((n : ℕ) → IsOf self.now.job piece.now n → ⊥) (IsOf self.now.job piece.now) }
+        ensures { MatchOption result ((n : ℕ) → IsOf self.now.job piece.now n → ⊥)
+            (IsOf self.now.job piece.now) }
     {
         if self.is_own(piece) {
             self.chain_at(piece)

@@ -27,7 +27,8 @@ pub(super) fn push_all(ready: &mut Vec<usize>, chains: &[usize])
 impl<'a> Book<'a> {
     /// The chain that a worker holds.
     pub(super) fn held_by(&self, worker: usize) -> Option<usize>
-        ensures { MatchOption result (Holds self.now.state worker → ⊥) (λ n. standing self.now.state n ≡ Slot.Leased worker) }
+        ensures { MatchOption result (Holds self.now.state worker → ⊥)
+            (λ n. standing self.now.state n ≡ Slot.Leased worker) }
     {
         self.holders.get(&worker).copied()
     }
@@ -64,7 +65,8 @@ impl<'a> Book<'a> {
     /// and no time in proportion to the code or the path.
     pub(crate) fn accept(&mut self, worker: usize, chain: usize, piece: Piece<'a>) -> bool
         requires { IsOf self.old.job piece chain }
-        ensures { MatchBool result (Happens self.old (Event.Submit worker chain) self.new) (self.new ≡ self.old) }
+        ensures { MatchBool result (Happens self.old (Event.Submit worker chain) self.new)
+            (self.new ≡ self.old) }
     {
         if let Some(_fault) = self.refusal(worker, chain) {
             return false;
@@ -123,7 +125,8 @@ impl<'a> Book<'a> {
 
     /// Leases no chain from now on. Where that was so, nothing has changed. It takes no memory.
     pub fn stop(&mut self)
-        ensures { MatchBool self.old.state.stopped (self.new ≡ self.old) (Happens self.old Event.Stop self.new) }
+        ensures { MatchBool self.old.state.stopped (self.new ≡ self.old)
+            (Happens self.old Event.Stop self.new) }
     {
         if self.stopped {
             return;

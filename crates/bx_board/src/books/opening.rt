@@ -19,7 +19,8 @@ use std::collections::BTreeMap;
 /// The slots of so many chains, of which the root's alone is done.
 fn slots_of(alloc: Global, root: ArcHold<ArcEnd>, count: usize) -> Result<Vec<Slot>, AllocError>
     requires { 0 < count }
-    ensures { IfOk result (λ slots. slots.items ≡ Slot.Done root ∷ replicate (count - 1) Slot.Waiting) }
+    ensures { IfOk result (λ slots. slots.items ≡ Slot.Done root ∷ replicate (count - 1)
+        Slot.Waiting) }
 {
     let mut slots = Vec::with_capacity(alloc, count)?;
     slots.push_reserved(Slot::Done(root));

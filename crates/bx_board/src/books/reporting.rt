@@ -60,7 +60,8 @@ impl<'a> Book<'a> {
     fn scheduled(&self, alloc: Global, number: usize) -> Result<Scheduled, AllocError>
         requires within { number < length (schedules self.now.job.plan) }
         requires done { IsAllDone self.now }
-        ensures { IfOk result (λ one. option_map (told_alone self.now.job.image self.now.job.start) (slice_get (schedules self.now.job.plan) number) ≡ Some one) }
+        ensures { IfOk result (λ one. option_map (told_alone self.now.job.image self.now.job.start)
+            (slice_get (schedules self.now.job.plan) number) ≡ Some one) }
     {
         let Some(name) = self.plan.label(number) else {
             unreachable!()
@@ -91,7 +92,8 @@ impl<'a> Book<'a> {
     /// `Unfinished` exactly where a chain is not done; the book comes back then, as it was, and also where memory runs out, which it
     /// does only where there is a schedule.
     pub fn finish(self, alloc: Global) -> Result<Report, (Fault, Book<'a>)>
-        ensures ok { IfOk result (λ report. IsAllDone self.entry × (report ≡ report_of self.entry.job)) }
+        ensures ok { IfOk result (λ report. IsAllDone self.entry ×
+            (report ≡ report_of self.entry.job)) }
         ensures err { IfErr result (λ refused. (refused.1 ≡ self.entry)
             × (((refused.0 ≡ Fault.Memory) × IsAllDone self.entry × (0 < length (schedules self.entry.job.plan))) ⊎ ((refused.0 ≡ Fault.Unfinished) × (IsAllDone self.entry → ⊥)))) }
     {

@@ -37,7 +37,8 @@ impl<'a> Builder<'a> {
     /// Reads the line of this number, from 1.
     pub(super) fn read_line(&mut self, number: usize, text: &'a [u8]) -> Result<(), Fault>
         requires { IsBuilding self.old }
-        ensures { Adds (TakesFirst (line_of text.entry.now) ⊥) self.new result (with_read number (so_far self.old) (line_of text.entry.now)) }
+        ensures { Adds (TakesFirst (line_of text.entry.now) ⊥) self.new result
+            (with_read number (so_far self.old) (line_of text.entry.now)) }
     {
         match line_of(text) {
             None => Err(Fault::BadLine { line: number }),
@@ -50,7 +51,9 @@ impl<'a> Builder<'a> {
     fn add(&mut self, number: usize, heading: Heading<'a>) -> Result<(), Fault>
         requires building { IsBuilding self.old }
         requires heading { IsHeading heading }
-        ensures { Adds (length (spread (entries_in heading.entry.tail.now)) ≤ 100000) self.new result (with_schedule number (so_far self.old) (heading.entry.name.now, spread (entries_in heading.entry.tail.now))) }
+        ensures { Adds (length (spread (entries_in heading.entry.tail.now)) ≤ 100000) self.new
+            result (with_schedule number (so_far self.old)
+            (heading.entry.name.now, spread (entries_in heading.entry.tail.now))) }
     {
         if self.names.contains(heading.name) {
             return Err(Fault::NameTwice { line: number });
@@ -69,7 +72,8 @@ impl<'a> Builder<'a> {
     fn push(&mut self, heading: Heading<'a>) -> Result<bool, AllocError>
         requires building { IsBuilding self.old }
         requires heading { IsHeading heading }
-        ensures ok { IfOk result (Pushes self.old self.new (heading.entry.name.now, spread (entries_in heading.entry.tail.now))) }
+        ensures ok { IfOk result (Pushes self.old self.new
+            (heading.entry.name.now, spread (entries_in heading.entry.tail.now))) }
         ensures err { OnErr result (HasRoom self.old self.new) }
     {
         let choices = spread_tail(self.alloc, heading.tail)?;

@@ -85,7 +85,9 @@ impl Growing {
     /// The child to which the choice leads from a node.
     fn child(&self, at: usize, choice: Choice) -> Option<usize>
         requires { at < length self.now.paths }
-        ensures { MatchOption result (has_node self.now.paths (path self.now at ++ choice ∷ []) ≡ false) (λ node. (node < length self.now.paths) × (path self.now node ≡ path self.now at ++ choice ∷ [])) }
+        ensures { MatchOption result (has_node self.now.paths (path self.now at ++ choice ∷ []) ≡
+            false) (λ node. (node < length self.now.paths) ×
+            (path self.now node ≡ path self.now at ++ choice ∷ [])) }
     {
         if let Some(node) = self.next(at, choice) {
             return Some(node);
@@ -95,7 +97,8 @@ impl Growing {
 
     /// The node right behind this one, where it is its child by the choice.
     fn next(&self, at: usize, choice: Choice) -> Option<usize>
-        ensures next { MatchOption result (IsNext self.now at choice → ⊥) (λ node. (node ≡ at + 1) × IsNext self.now at choice) }
+        ensures next { MatchOption result (IsNext self.now at choice → ⊥)
+            (λ node. (node ≡ at + 1) × IsNext self.now at choice) }
         ensures tree { IsTree self.now }
     {
         let step = self.steps.get(at)?;
@@ -110,7 +113,8 @@ impl Growing {
     fn grow(&mut self, at: usize, choice: Choice) -> Result<usize, AllocError>
         requires within { at < length self.old.paths }
         requires new { has_node self.old.paths (path self.old at ++ choice ∷ []) ≡ false }
-        ensures ok { IfOk result (λ node. (node ≡ length self.old.paths) × (self.new ≡ grown self.old at choice)) }
+        ensures ok { IfOk result (λ node. (node ≡ length self.old.paths) ×
+            (self.new ≡ grown self.old at choice)) }
         ensures err { OnErr result (self.new ≡ self.old) }
     {
         let node = self.steps.len() + 1;
