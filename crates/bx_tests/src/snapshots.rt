@@ -3,7 +3,7 @@
 
 use crate::samples::{atom, image, image_of_items};
 use bx_load::Image;
-use bx_proc::Proc;
+use bx_proc::{Proc, Undone};
 use bx_share::{ArcHold, Hold, RcHold};
 use bx_terms::{Fault, Term};
 use bx_world::{Choice, Lanes, World, outcome_text};
@@ -171,6 +171,19 @@ const RECEIVING: (&str, usize) = (
     12,
 );
 
+/// Whether the process's next instruction was run at once.
+fn is_run_at_once(alloc: Global, image: &Image, process: &mut Proc) -> Result<bool, Fault> {
+    let run = match process.free_place() {
+        Some(here) => process.run_from(alloc, image, here),
+        None => process.run_woken(alloc, image),
+    };
+    match run {
+        Ok(()) => Ok(true),
+        Err(Undone::Left) => Ok(false),
+        Err(Undone::Memory) => Err(Fault::Memory),
+    }
+}
+
 /// How many instructions a process runs at once from the start of `f`, in a row, in whose mailbox 1 and 2 are.
 fn run_at_once(alloc: Global, items: &str) -> Result<usize, Fault> {
     let image = image_of_items(alloc, items)?;
@@ -182,7 +195,7 @@ fn run_at_once(alloc: Global, items: &str) -> Result<usize, Fault> {
         }
     }
     for count in 0..MANY {
-        if !process.can_run() || !process.run_alone(alloc, &image)? {
+        if !process.can_run() || !is_run_at_once(alloc, &image, &mut process)? {
             return Ok(count);
         }
     }
