@@ -1,5 +1,5 @@
 -- Frames whose y registers lie in one row.
-use Rattle.std.proofs.Common.{◌≡◌, ℕ, zero, suc, ◌+◌, ◌-◌, ◌<◌, ◌≤◌, List, [], ◌∷◌, ◌++◌, length, get_or, take, drop, reverse, refl, ap, min, sym, ◌∙◌, subst, arith, cond, Bool, true, false, ◌≢◌, length-append, length-drop, length-take-le}
+use Rattle.std.proofs.Common.{◌≡◌, ℕ, zero, suc, ◌+◌, ◌-◌, ◌<◌, ◌≤◌, List, [], ◌∷◌, ◌++◌, length, get_or, take, drop, reverse, refl, ap, min, sym, ◌∙◌, subst, arith, cond, Bool, true, false, length-append, length-drop, length-take-le}
 use Rattle.std.proofs.lemmas.List.{reverse-append, reverse-reverse, length-reverse, get_or-reverse, take_at, drop_at, drop-drop, take-take, take_all, drop_all, drop_min, drop_more, take-append-drop, drop-set-add, take-set-le}
 use Rattle.std.proofs.lemmas.Bool.Decides.{nat_tests}
 use Rattle.std.proofs.lemmas.Option.{slice_get_past}

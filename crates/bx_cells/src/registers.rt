@@ -3,7 +3,7 @@
 ghost use Rattle.std.specs.Prelude.{◌≡◌, ◌≢◌, ◌↔◌, ◌⊎◌, ◌<◌, ◌≤◌, ℕ, [], length, IfOk, OnOk, IfErr, OnErr, IsTrue, None, option_map};
 ghost use Rattle.std.specs.FinMap as map;
 ghost use Rattle.bx_cells.specs.Indexed.{cell_at, indexed};
-ghost use Rattle.bx_cells.specs.Held.{all_held, holding};
+ghost use Rattle.bx_cells.specs.Held.{IsFlat, all_held, holding};
 
 use crate::values::Value;
 use bx_share::same_held;
@@ -64,6 +64,18 @@ impl Registers {
         ensures { option_map (λ v. v.now) result ≡ map.get self.now number }
     {
         cell(&self.cells, number as usize)
+    }
+
+    /// Whether the register of this number holds a value that shares nothing.
+    #[inline(always)]
+    #[tactic(auto, using(crate::proofs::Cells::get_indexed))]
+    pub fn is_flat(&self, number: u16) -> bool
+        ensures { IsTrue result ↔ IsFlat (map.get self.now number) }
+    {
+        match cell(&self.cells, number as usize) {
+            Some(value) => value.is_flat(),
+            None => false,
+        }
     }
 
     /// Puts `value` into the register of this number, or hands it back where memory ran out, and then nothing has

@@ -4,7 +4,7 @@ ghost use Rattle.std.specs.Prelude.{◌≡◌, ◌↔◌, ◌<◌, IfOk, OnErr, 
 ghost use Rattle.bx_cells.specs.Held.{value_height};
 
 use bx_share::Same;
-use bx_terms::{Class, Place, Term};
+use bx_terms::{Class, Place, Term, View};
 use std::alloc::{AllocError, Global};
 
 /// What a register holds, where it holds something.
@@ -32,6 +32,18 @@ impl Value {
             Value::Tag(place) => Value::Tag(*place),
             Value::Trace(class) => Value::Trace(*class),
         })
+    }
+
+    /// Whether it is anything but a tuple and a list cell, whose contents are shared.
+    #[inline(always)]
+    pub fn is_flat(&self) -> bool
+        ensures { IsTrue result ↔ (value_height self.now ≡ 0) }
+    {
+        match self {
+            Value::Term(term) => !matches!(term.view(), View::Tuple(_) | View::Cons(..)),
+            Value::Tag(_) => true,
+            Value::Trace(_) => true,
+        }
     }
 
     /// Whether the two values have the same content.

@@ -19,6 +19,18 @@ impl Proc {
     pub(crate) fn go(&mut self, image: &Image, here: Place, label: u32) -> Result<(), Stop>
         ensures { Turns ⊥ self.old self.new result (goes image.now here label self.old) }
     {
+        let Some(target) = image.target_at_once(here.module, label) else {
+            return self.go_anywhere(image, here, label);
+        };
+        self.place = Some(target);
+        Ok(())
+    }
+
+    /// The same, wherever the label stands. It is the last call of each that makes it, so that none of them needs a frame.
+    #[inline(never)]
+    fn go_anywhere(&mut self, image: &Image, here: Place, label: u32) -> Result<(), Stop>
+        ensures { Turns ⊥ self.old self.new result (goes image.now here label self.old) }
+    {
         let target = image.target(here.module, label);
         if target.is_none() {
             return Err(Stop::Trapped(Trap::BadPlace));
@@ -30,6 +42,26 @@ impl Proc {
     /// `call`, `call_last`, `call_only`.
     #[inline(always)]
     pub(crate) fn call(
+        &mut self,
+        image: &Image,
+        here: Place,
+        kind: CallKind,
+        label: u32,
+    ) -> Result<(), Stop>
+        ensures { Turns ⊥ self.old self.new result
+            (call_row image.now here (after image.now here) kind label self.old) }
+    {
+        let Some(place) = image.target_at_once(here.module, label) else {
+            return self.call_anywhere(image, here, kind, label);
+        };
+        self.prepare(image, here, kind)?;
+        self.place = Some(place);
+        Ok(())
+    }
+
+    /// The same, wherever the label stands.
+    #[inline(never)]
+    fn call_anywhere(
         &mut self,
         image: &Image,
         here: Place,

@@ -53,6 +53,7 @@ fn instructions_by_place(rt: HostRuntime) -> Result<(), Fail> {
     assert!(rt; image.place(n, 9).is_none(), "past the items");
     assert!(rt; image.place(atom(&image, "g"), 3).is_none(), "no module");
     assert!(rt; image.target(1, 4) == at(1, 8));
+    assert!(rt; image.target_at_once(1, 4) == at(1, 8));
     Ok(())
 }
 

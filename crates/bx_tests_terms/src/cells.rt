@@ -24,10 +24,11 @@ fn registers_keep(alloc: Global) -> Result<bool, Fail> {
         .is_ok();
     let twice = registers.set(0, term(1)).is_ok() && registers.set(0, term(2)).is_ok();
     let held = has(&registers, 0, 2) && registers.get(1).is_none() && registers.get(1023).is_none();
+    let flat = registers.is_flat(0) && !registers.is_flat(1) && !registers.is_flat(1023);
     let copy = registers.copy(alloc)?;
     let equal = copy.same(&registers);
     let traced = registers.set(5, Value::Trace(Class::Exit)).is_ok();
-    Ok(empty && last && twice && held && equal && traced && !copy.same(&registers))
+    Ok(empty && last && twice && held && flat && equal && traced && !copy.same(&registers))
 }
 
 #[test]

@@ -1,4 +1,4 @@
-use Rattle.std.proofs.Common.{◌≡◌, ◌+◌, sym, ap, refl, ◌∙◌, arith, drop, reverse}
+use Rattle.std.proofs.Common.{◌+◌, sym, ap, refl, ◌∙◌, arith, drop, reverse}
 use Rattle.bx_cells.specs.Stack.{unwound, caught}
 use Rattle.bx_cells.specs.StackRow.{frames_of}
 use Rattle.bx_cells.proofs.StackRows.{behind_none, turned_below, turned_next, turned_caught, turned_all}
