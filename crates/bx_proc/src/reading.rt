@@ -119,6 +119,7 @@ impl Proc {
         match operand {
             Operand::X(number) => self.flat_in(Register::X(number)),
             Operand::Y(number) => self.flat_in(Register::Y(number)),
+            Operand::Integer(value) => Some(Term::int(value)),
             _ => flat_source(tables.source(operand)),
         }
     }

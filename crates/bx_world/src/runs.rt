@@ -71,13 +71,34 @@ pub fn advance<P: Hold<Proc>, C: Hold<Lanes>>(
     }
     match end.world.hurry(alloc, image, choice) {
         Ok(()) => end.applied += 1,
-        Err(Undone::Left) => advance_whole(alloc, end, image, choice)?,
+        Err(Undone::Left) => advance_anyhow(alloc, end, image, choice)?,
         Err(Undone::Memory) => return Err(Fault::Memory),
     }
     Ok(())
 }
 
-/// The same of a run that has not come to its end, whatever the choice takes.
+/// The same of a run that has not come to its end, whatever the choice takes. The choice is made anew, so that it need not lie
+/// in memory where it is made at once.
+#[inline(always)]
+fn advance_anyhow<P: Hold<Proc>, C: Hold<Lanes>>(
+    alloc: Global,
+    end: &mut RunEnd<P, C>,
+    image: &Image,
+    choice: Choice,
+) -> Result<(), AllocError>
+    requires few { end.old.applied < u64.MAX }
+    requires goes_on { end.old.refused ≡ None }
+    ensures { Moves (AdvanceTakes choice end.old) end.old end.new result
+        (advanced image.now choice end.old) }
+{
+    match choice {
+        Choice::Run(pid) => advance_whole(alloc, end, image, Choice::Run(pid)),
+        Choice::Deliver(from, to) => advance_whole(alloc, end, image, Choice::Deliver(from, to)),
+        Choice::Expire(pid) => advance_whole(alloc, end, image, Choice::Expire(pid)),
+    }
+}
+
+/// The same as a function of its own.
 #[inline(never)]
 fn advance_whole<P: Hold<Proc>, C: Hold<Lanes>>(
     alloc: Global,
