@@ -1,3 +1,4 @@
+pub mod Between
 pub mod Blanking
 pub mod Escapes
 pub mod Exact
@@ -5,9 +6,12 @@ pub mod Failing
 pub mod Faulty
 pub mod FaultsFound
 pub mod Finding
+pub mod FirstFaults
 pub mod FormsBack
+pub mod FormsFail
 pub mod Frame
 pub mod Free
+pub mod Goings
 pub mod Kept
 pub mod KeptTexts
 pub mod Leftover
@@ -29,6 +33,7 @@ pub mod Runs
 pub mod Seams
 pub mod Sentences
 pub mod Spoiling
+pub mod Tells
 pub mod Unclosed
 pub mod Wholes
 pub mod Words

@@ -49,7 +49,7 @@ no_quote (b ∷ bs) e = unlike b e
     unlike : (b : ℕ) → is_quote b ≡ false → b ≢ 34
     unlike b e i = grind (arith, nat_tests)
 
-no_text_is : (p : Place) → NoString p → NoText p
+pub no_text_is : (p : Place) → NoString p → NoText p
 no_text_is p (q, s, n) = (q, (skipped_is_blank p q).0 s, no_quote q.rest n)
 
 texts_are : {p q : Place} {ts : List Tree} → Strings p ts q → Texts p ts q
@@ -88,7 +88,7 @@ same_slash token.open_map = refl
 same_slash token.open_binary = refl
 same_slash (token.mark m) = refl
 
-utf8_named : (t : Token) → is_utf8_name t ≡ true → meant t ≡ token.atom (token.plain (codes "utf8"))
+pub utf8_named : (t : Token) → is_utf8_name t ≡ true → meant t ≡ token.atom (token.plain (codes "utf8"))
 utf8_named (token.atom b) e = ap (λ w. token.atom (token.plain w)) ((bytes_eq-Decides (spelled b) (codes "utf8")).0 e)
 utf8_named (token.text b) e = cc
 utf8_named (token.integer n) e = cc
@@ -214,7 +214,7 @@ pub read_is_sentence : (p : Place) (t : Tree) (q : Place) → form_at p ≡ Ok (
 read_is_sentence p t q h = sentence_is ((forms_are p t q).0 h)
 
 -- what is one by its bytes is read
-abbrev IsBare : Token → Type 0
+abbrev pub IsBare : Token → Type 0
 IsBare (token.atom b) = ⊥
 IsBare (token.text b) = ⊥
 IsBare t = Unit {0}
@@ -241,7 +241,7 @@ text_not b token.open_map k e = cc
 text_not b token.open_binary k e = cc
 text_not b (token.mark m) k e = cc
 
-bare_is : (u v : Token) → IsBare v → meant u ≡ v → u ≡ v
+pub bare_is : (u v : Token) → IsBare v → meant u ≡ v → u ≡ v
 bare_is (token.atom b) v k e = absurd (atom_not (token.plain (spelled b)) v k e)
 bare_is (token.text b) v k e = absurd (text_not (token.plain (spelled b)) v k e)
 bare_is (token.integer n) v k e = e
@@ -337,7 +337,7 @@ sized_back (terms.a_size {m = m} {n = n} {k = k} {i = i} t a j b) l e =
     let second = back_on first.lexeme n first.plain k b in
     record { lexeme = second.lexeme; plain = second.plain; leads = grammar.a_size (token_back l m named.colon e tt t) first.next (token_back first.lexeme n (token.integer i) first.plain tt j) second.next }
 
-utf8_back : (t : Token) → meant t ≡ token.atom (token.plain (codes "utf8")) → is_utf8_name t ≡ true
+pub utf8_back : (t : Token) → meant t ≡ token.atom (token.plain (codes "utf8")) → is_utf8_name t ≡ true
 utf8_back (token.atom b) e = (bytes_eq-Decides (spelled b) (codes "utf8")).1 text
   where
     text : spelled b ≡ codes "utf8"

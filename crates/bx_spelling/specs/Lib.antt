@@ -1,5 +1,6 @@
 pub mod Blanks
 pub mod Characters
+pub mod Faults
 pub mod Lexemes
 pub mod Numerals
 pub mod Quoted

@@ -11,6 +11,7 @@ ghost use Rattle.bx_text.specs.Token.{Token};
 ghost use Rattle.bx_text.specs.Lexing.{token_at, lexeme_at};
 ghost use Rattle.bx_text.specs.Grammar.{SpelledAs};
 ghost use Rattle.bx_spelling.specs.Blanks.{Passes, Spoilt};
+ghost use Rattle.bx_spelling.specs.Faults.{FormFails};
 ghost use Rattle.bx_spelling.specs.Lexemes.{Finds, NoNext, NextFails};
 ghost use Rattle.bx_spelling.specs.Refusals.{Fails};
 ghost use Rattle.bx_spelling.specs.Spelling.{NoToken};
@@ -77,6 +78,12 @@ pub fn forms_are_terms_by_their_bytes()
 /// No form is read exactly where only spaces and comments follow.
 pub fn none_is_blank_by_its_bytes()
     ensures { (p : Place) → (form_at p ≡ Ok None) ↔ OnlyBlanks p }
+{}
+
+/// A form is refused with the first fault in reading order: of the first token that is none, the text's end in the midst of
+/// the form included, or that may not stand where it does, or that would nest brackets deeper than 256, with its line.
+pub fn forms_are_refused_by_their_first_fault()
+    ensures { (p : Place) (f : Fault) → (form_at p ≡ Err f) ↔ FormFails p f }
 {}
 
 /// What is printed of a term, and a full stop behind it, is read as the same term, spans aside: integers of any size,
