@@ -5,6 +5,7 @@ use Rattle.bx_terms.specs.declared.faults.Fault.{Fault}
 use Rattle.bx_terms.specs.declared.faults.Fault.TheVariants.{BadTerm, TooDeep}
 use Rattle.bx_text.specs.Place.{Place}
 use Rattle.bx_text.specs.Named as named
+use Rattle.bx_text.specs.Token as token
 use Rattle.bx_text.specs.Token.{Token, Lexeme}
 use Rattle.bx_text.specs.Lexing.{lexeme_at}
 use Rattle.bx_text.specs.Terms.{passed}
@@ -25,36 +26,39 @@ opening_one a_map a_map e = refl
 opening_one a_binary a_binary e = refl
 opening_one k j e = cc
 
+abbrev pub Opens : Token → Type 0
+Opens token.open_tuple = Unit {0}
+Opens token.open_list = Unit {0}
+Opens token.open_map = Unit {0}
+Opens token.open_binary = Unit {0}
+Opens t = ⊥
+
+pub opens : (k : Bracket) → Opens (opening k)
+opens a_tuple = tt
+opens a_list = tt
+opens a_map = tt
+opens a_binary = tt
+
 no_comma : (k : Bracket) → named.comma ≡ closing k → ⊥
 no_comma a_tuple e = cc
 no_comma k e = cc
 
 meets_one : {w : Wanted} {t : Token} {m n : Move} → Meets w t m → Meets w t n → m ≡ n
 meets_one faults.an_integer faults.an_integer = refl
-meets_one faults.an_integer (faults.a_bracket a_tuple e) = cc
-meets_one faults.an_integer (faults.a_bracket k e) = cc
-meets_one (faults.a_bracket a_tuple e) faults.an_integer = cc
-meets_one (faults.a_bracket k e) faults.an_integer = cc
+meets_one faults.an_integer (faults.a_bracket k e) = absurd (subst Opens (sym e) (opens k))
+meets_one (faults.a_bracket k e) faults.an_integer = absurd (subst Opens (sym e) (opens k))
 meets_one faults.a_float faults.a_float = refl
-meets_one faults.a_float (faults.a_bracket a_tuple e) = cc
-meets_one faults.a_float (faults.a_bracket k e) = cc
-meets_one (faults.a_bracket a_tuple e) faults.a_float = cc
-meets_one (faults.a_bracket k e) faults.a_float = cc
+meets_one faults.a_float (faults.a_bracket k e) = absurd (subst Opens (sym e) (opens k))
+meets_one (faults.a_bracket k e) faults.a_float = absurd (subst Opens (sym e) (opens k))
 meets_one faults.an_atom faults.an_atom = refl
-meets_one faults.an_atom (faults.a_bracket a_tuple e) = cc
-meets_one faults.an_atom (faults.a_bracket k e) = cc
-meets_one (faults.a_bracket a_tuple e) faults.an_atom = cc
-meets_one (faults.a_bracket k e) faults.an_atom = cc
+meets_one faults.an_atom (faults.a_bracket k e) = absurd (subst Opens (sym e) (opens k))
+meets_one (faults.a_bracket k e) faults.an_atom = absurd (subst Opens (sym e) (opens k))
 meets_one faults.a_fun faults.a_fun = refl
-meets_one faults.a_fun (faults.a_bracket a_tuple e) = cc
-meets_one faults.a_fun (faults.a_bracket k e) = cc
-meets_one (faults.a_bracket a_tuple e) faults.a_fun = cc
-meets_one (faults.a_bracket k e) faults.a_fun = cc
+meets_one faults.a_fun (faults.a_bracket k e) = absurd (subst Opens (sym e) (opens k))
+meets_one (faults.a_bracket k e) faults.a_fun = absurd (subst Opens (sym e) (opens k))
 meets_one faults.a_string faults.a_string = refl
-meets_one faults.a_string (faults.a_bracket a_tuple e) = cc
-meets_one faults.a_string (faults.a_bracket k e) = cc
-meets_one (faults.a_bracket a_tuple e) faults.a_string = cc
-meets_one (faults.a_bracket k e) faults.a_string = cc
+meets_one faults.a_string (faults.a_bracket k e) = absurd (subst Opens (sym e) (opens k))
+meets_one (faults.a_bracket k e) faults.a_string = absurd (subst Opens (sym e) (opens k))
 meets_one (faults.a_bracket k {d = d} e) (faults.a_bracket j f) = ap (λ k. faults.inside d (faults.first_in k)) (opening_one k j (sym e ∙ f))
 meets_one faults.another_string faults.another_string = refl
 meets_one (faults.at_once e) (faults.at_once f) = refl

@@ -49,7 +49,7 @@ no_quote (b ∷ bs) e = unlike b e
     unlike : (b : ℕ) → is_quote b ≡ false → b ≢ 34
     unlike b e i = grind (arith, nat_tests)
 
-pub no_text_is : (p : Place) → NoString p → NoText p
+no_text_is : (p : Place) → NoString p → NoText p
 no_text_is p (q, s, n) = (q, (skipped_is_blank p q).0 s, no_quote q.rest n)
 
 texts_are : {p q : Place} {ts : List Tree} → Strings p ts q → Texts p ts q

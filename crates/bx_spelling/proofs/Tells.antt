@@ -14,7 +14,7 @@ use Rattle.bx_spelling.specs.Faults as faults
 use Rattle.bx_spelling.specs.Faults.{Bracket, a_tuple, a_list, a_map, a_binary, opening, closing, Wanted, a_term, first_in, more_in, a_value, a_size, an_encoding, a_name, a_number, the, parts, Move, misplaced, taken, instead, Meets, Does, Refused}
 use Rattle.bx_spelling.proofs.Moving.{stepped}
 use Rattle.bx_spelling.proofs.Sentences.{step, plainly, IsBare, bare_is, utf8_named, utf8_back}
-use Rattle.bx_spelling.proofs.Goings.{Going, Nothing, Here, taking, misplaces, then, next_at, from_token, done_place}
+use Rattle.bx_spelling.proofs.Goings.{Opens, opens, Going, Nothing, Here, taking, misplaces, then, next_at, from_token, done_place}
 
 -- the tokens that are found
 pub data Mark : Token → Type 0 where
@@ -306,22 +306,17 @@ pub no_slash_does : (t : Token) → is_slash t ≡ false → Does an_encoding (m
 no_slash_does t e = inr (λ m u. not_passed is_slash t named.slash refl e (bare_is t named.slash tt (is_encoding u)), refl)
 
 -- a term begins with no mark but `fun`
-opens_none : {t : Token} → Mark t → (k : Bracket) → t ≡ opening k → ⊥
-opens_none comma a_tuple e = cc
-opens_none m a_tuple e = cc
-opens_none m k e = cc
-
 begins_none : {t : Token} {d : ℕ} {m : Move} → Mark t → Meets (a_term d) t m → ⊥
-begins_none close_tuple (faults.a_bracket k e) = opens_none close_tuple k e
-begins_none close_list (faults.a_bracket k e) = opens_none close_list k e
-begins_none close_binary (faults.a_bracket k e) = opens_none close_binary k e
-begins_none comma (faults.a_bracket k e) = opens_none comma k e
-begins_none bar (faults.a_bracket k e) = opens_none bar k e
-begins_none arrow (faults.a_bracket k e) = opens_none arrow k e
-begins_none colon (faults.a_bracket k e) = opens_none colon k e
-begins_none slash (faults.a_bracket k e) = opens_none slash k e
-begins_none full_stop (faults.a_bracket k e) = opens_none full_stop k e
-begins_none parenthesis (faults.a_bracket k e) = opens_none parenthesis k e
+begins_none close_tuple (faults.a_bracket k e) = subst Opens (sym e) (opens k)
+begins_none close_list (faults.a_bracket k e) = subst Opens (sym e) (opens k)
+begins_none close_binary (faults.a_bracket k e) = subst Opens (sym e) (opens k)
+begins_none comma (faults.a_bracket k e) = subst Opens (sym e) (opens k)
+begins_none bar (faults.a_bracket k e) = subst Opens (sym e) (opens k)
+begins_none arrow (faults.a_bracket k e) = subst Opens (sym e) (opens k)
+begins_none colon (faults.a_bracket k e) = subst Opens (sym e) (opens k)
+begins_none slash (faults.a_bracket k e) = subst Opens (sym e) (opens k)
+begins_none full_stop (faults.a_bracket k e) = subst Opens (sym e) (opens k)
+begins_none parenthesis (faults.a_bracket k e) = subst Opens (sym e) (opens k)
 
 plain_mark : {t : Token} → Mark t → meant t ≡ t
 plain_mark close_tuple = refl
