@@ -4,8 +4,6 @@ ghost use Rattle.std.specs.Prelude.{◌≡◌, ◌⊎◌, Ok, Err, IfSome, Match
 ghost use Rattle.bx_terms.specs.Tree.{int};
 ghost use Rattle.bx_asm.specs.Instructed.{source_of};
 ghost use Rattle.bx_asm.specs.declared.instruction.Register.TheVariants.{X, Y};
-ghost use Rattle.bx_cells.specs.declared.values.Value.TheVariants as values;
-ghost use Rattle.bx_proc.specs.Process.{Process};
 ghost use Rattle.bx_proc.specs.Spelled.{spelled_source};
 ghost use Rattle.bx_cells.specs.TopFrame.{y_cell};
 ghost use Rattle.bx_proc.specs.Looking.{tree_of};
@@ -107,31 +105,6 @@ impl Proc {
             Operand::X(number) => self.carried(alloc, Register::X(number)),
             Operand::Y(number) => self.carried(alloc, Register::Y(number)),
             _ => self.value_of(alloc, tables.source(operand)),
-        }
-    }
-
-    /// The term that an operand gives, where it is known to share nothing.
-    #[inline(always)]
-    pub(crate) fn flat(&self, tables: Lookup<'_>, operand: Operand) -> Option<Term>
-        ensures { IfSome result (λ t. value_at (spelled_source tables.entry operand) self.now ≡
-            Ok (values.Term t)) }
-    {
-        match operand {
-            Operand::X(number) => self.flat_in(Register::X(number)),
-            Operand::Y(number) => self.flat_in(Register::Y(number)),
-            Operand::Integer(value) => Some(Term::int(value)),
-            _ => flat_source(tables.source(operand)),
-        }
-    }
-
-    /// The term that a register holds, where it shares nothing.
-    #[inline(always)]
-    fn flat_in(&self, register: Register) -> Option<Term>
-        ensures { IfSome result (λ t. carried_in register self.now ≡ Ok (values.Term t)) }
-    {
-        match self.held(register) {
-            Ok(Value::Term(term)) => flat_copy(term),
-            _ => None,
         }
     }
 
@@ -310,34 +283,6 @@ fn integer_of(term: &Term) -> Option<i64>
 {
     match term.view() {
         View::Int(value) => Some(value),
-        _ => None,
-    }
-}
-
-/// The same term, where it is no tuple and no list cell.
-#[inline(always)]
-fn flat_copy(term: &Term) -> Option<Term>
-    ensures { IfSome result (λ t. t ≡ term.now) }
-{
-    match term.view() {
-        View::Int(value) => Some(Term::int(value)),
-        View::Atom(atom) => Some(Term::atom(atom)),
-        View::Pid(number) => Some(Term::pid(number)),
-        View::Nil => Some(Term::nil()),
-        _ => None,
-    }
-}
-
-/// The term that a source spells, where it spells one that is no tuple and no list cell.
-#[inline(always)]
-fn flat_source(source: Source<'_>) -> Option<Term>
-    ensures { (p : Process) → IfSome result
-        (λ t. value_at (source_of source.entry) p ≡ Ok (values.Term t)) }
-{
-    match source {
-        Source::Integer(value) => Some(Term::int(value)),
-        Source::Atom(atom) => Some(Term::atom(atom)),
-        Source::Nil => Some(Term::nil()),
         _ => None,
     }
 }
