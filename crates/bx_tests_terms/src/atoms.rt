@@ -29,16 +29,32 @@ fn gets(alloc: Global, atoms: &mut Atoms, text: &str, number: u32) -> Result<boo
     Ok(is_named && atoms.text(atom) == Some(text))
 }
 
+/// The first name that does not get its number.
+fn misnamed(alloc: Global, atoms: &mut Atoms) -> Result<Option<&'static str>, Fault> {
+    for (text, number) in &NAMED {
+        if !gets(alloc, atoms, *text, *number)? {
+            return Ok(Some(*text));
+        }
+    }
+    Ok(None)
+}
+
+fn are_unknown(atoms: &Atoms) -> bool {
+    atoms.find("fo").is_none()
+        && atoms.text(AtomId(83)).is_none()
+        && atoms.text(AtomId(u32::MAX)).is_none()
+}
+
+fn names_are_kept(alloc: Global) -> Result<bool, Fault> {
+    let mut atoms = Atoms::new(alloc)?;
+    let is_new = atoms.len() == 80;
+    let wrong = misnamed(alloc, &mut atoms)?;
+    Ok(is_new && wrong.is_none() && atoms.len() == 83 && are_unknown(&atoms))
+}
+
 #[test]
 fn names_and_texts(rt: HostRuntime) -> Result<(), Fail> {
-    let mut atoms = Atoms::new(rt.alloc())?;
-    assert_eq!(rt; atoms.len(), 80);
-    for (text, number) in &NAMED {
-        assert!(rt; gets(rt.alloc(), &mut atoms, *text, *number)?, "{text}");
-    }
-    assert_eq!(rt; atoms.len(), 83);
-    let is_none = atoms.find("fo").is_none() && atoms.text(AtomId(83)).is_none();
-    assert!(rt; is_none && atoms.text(AtomId(u32::MAX)).is_none());
+    assert!(rt; names_are_kept(rt.alloc())?);
     Ok(())
 }
 
@@ -67,89 +83,120 @@ fn is_named(
     })
 }
 
+/// Whether each row is told, in a new table that has three atoms more then.
+fn rows_are_told(alloc: Global) -> Result<bool, Fault> {
+    let mut atoms = Atoms::new(alloc)?;
+    let mut are_told = true;
+    for (character, times, number) in &LENGTHS {
+        are_told &= is_named(alloc, &mut atoms, *character, *times, *number)?;
+    }
+    Ok(are_told && atoms.len() == 83)
+}
+
 #[test]
 fn characters_are_counted(rt: HostRuntime) -> Result<(), Fail> {
-    let mut atoms = Atoms::new(rt.alloc())?;
-    for (character, times, number) in &LENGTHS {
-        let is_right = is_named(rt.alloc(), &mut atoms, *character, *times, *number)?;
-        assert!(rt; is_right, "{times} of {character}");
-    }
-    assert_eq!(rt; atoms.len(), 83);
+    assert!(rt; rows_are_told(rt.alloc())?);
     Ok(())
 }
 
-/// A table that is full.
-fn full(alloc: Global) -> Result<Atoms, Fail> {
-    let mut atoms = Atoms::new(alloc)?;
+/// Whether the next name, which holds its number, gets that number.
+fn takes(alloc: Global, atoms: &mut Atoms, number: u32) -> Result<bool, Fault> {
+    let text = format!(in alloc; "a{number}")?;
+    Ok(atoms.name(alloc, text.as_str())? == AtomId(number))
+}
+
+/// Fills a new table: whether each name gets its number.
+fn fill(alloc: Global, atoms: &mut Atoms) -> Result<bool, Fault> {
     for number in 80..65_536u32 {
-        let text = format!(in alloc; "a{number}")?;
-        if atoms.name(alloc, text.as_str())? != AtomId(number) {
-            return Err(Fail::from("another number"));
+        if !takes(alloc, atoms, number)? {
+            return Ok(false);
         }
     }
-    Ok(atoms)
+    Ok(true)
+}
+
+/// Whether a full table takes no name more, one that is too long among them, and tells those that it has.
+fn is_full(alloc: Global, atoms: &mut Atoms) -> Result<bool, Fault> {
+    let one_more = atoms.name(alloc, "one more");
+    let is_refused = matches!(one_more, Err(Fault::TooManyAtoms { line: None }));
+    let is_kept = is_named(alloc, atoms, 'a', 256, None)?
+        && atoms.name(alloc, "a65535")? == AtomId(65_535);
+    Ok(is_refused && is_kept && atoms.find("one more").is_none())
+}
+
+fn a_table_is_filled(alloc: Global) -> Result<bool, Fault> {
+    let mut atoms = Atoms::new(alloc)?;
+    let is_filled = fill(alloc, &mut atoms)?;
+    Ok(is_filled && is_full(alloc, &mut atoms)? && atoms.len() == 65_536)
 }
 
 #[test]
 fn a_full_table(rt: HostRuntime) -> Result<(), Fail> {
-    let alloc = rt.alloc();
-    let mut atoms = full(alloc)?;
-    let one_more = atoms.name(alloc, "one more");
-    let long = repeated(alloc, 'a', 256)?;
-    let too_long = atoms.name(alloc, long.as_str());
-    assert!(rt; matches!(one_more, Err(Fault::TooManyAtoms { line: None })));
-    assert!(rt; matches!(too_long, Err(Fault::AtomTooLong { line: None })));
-    let is_kept = atoms.name(alloc, "a65535")? == AtomId(65_535) && atoms.len() == 65_536;
-    assert!(rt; is_kept && atoms.find("one more").is_none());
+    assert!(rt; a_table_is_filled(rt.alloc())?);
     Ok(())
 }
 
-/// Whether two tables are the same: new, with a name in one, in both, and with two in another order.
-fn sameness(alloc: Global) -> Result<[bool; 4], Fault> {
-    let mut one = Atoms::new(alloc)?;
-    let mut other = Atoms::new(alloc)?;
-    let new = one.same(&other);
-    one.name(alloc, "foo")?;
-    let differing = one.same(&other);
-    other.name(alloc, "foo")?;
-    let alike = one.same(&other);
-    one.name(alloc, "a")?;
-    one.name(alloc, "b")?;
-    other.name(alloc, "b")?;
-    other.name(alloc, "a")?;
-    Ok([new, differing, alike, one.same(&other)])
+/// A table with these names as well.
+fn named(alloc: Global, names: &[&str]) -> Result<Atoms, Fault> {
+    let mut atoms = Atoms::new(alloc)?;
+    for name in names {
+        atoms.name(alloc, *name)?;
+    }
+    Ok(atoms)
 }
+
+/// Whether two tables with these names are the same.
+fn are_same(alloc: Global, one: &[&str], other: &[&str]) -> Result<bool, Fault> {
+    let one = named(alloc, one)?;
+    Ok(one.same(&named(alloc, other)?))
+}
+
+static TABLES: [(&[&str], &[&str], bool); 4] = [
+    (&[], &[], true),
+    (&["foo"], &[], false),
+    (&["foo"], &["foo"], true),
+    (&["foo", "a", "b"], &["foo", "b", "a"], false),
+];
 
 #[test]
 fn tables_with_the_same_atoms(rt: HostRuntime) -> Result<(), Fail> {
-    assert_eq!(rt; sameness(rt.alloc())?, [true, false, true, false]);
+    for (one, other, want) in &TABLES {
+        assert_eq!(rt; are_same(rt.alloc(), *one, *other)?, *want);
+    }
     Ok(())
+}
+
+static PRINTED: [(&str, &str); 17] = [
+    ("ok", "-ok"),
+    ("a_B9@x", "-a_B9@x"),
+    ("xors", "-xors"),
+    ("else", "-else"),
+    ("", "-''"),
+    ("Ok", "-'Ok'"),
+    ("_a", "-'_a'"),
+    ("@a", "-'@a'"),
+    ("+", "-'+'"),
+    ("a b", "-'a b'"),
+    ("after", "-'after'"),
+    ("xor", "-'xor'"),
+    ("é", "-'é'"),
+    ("it's", "-'it\\'s'"),
+    ("a\\b", "-'a\\\\b'"),
+    ("\n\r\t", "-'\\n\\r\\t'"),
+    ("\u{1}\u{1f}\u{7f}", "-'\\x{1}\\x{1f}\\x{7f}'"),
+];
+
+/// Whether an atom is printed so, after what stands there.
+fn prints(alloc: Global, text: &str, want: &str) -> Result<bool, AllocError> {
+    let mut out = String::from_str(alloc, "-")?;
+    push_atom(alloc, &mut out, text)?;
+    Ok(out.as_str() == want)
 }
 
 #[test]
 fn atoms_in_print(rt: HostRuntime) -> Result<(), Fail> {
-    for (text, want) in [
-        ("ok", "-ok"),
-        ("a_B9@x", "-a_B9@x"),
-        ("xors", "-xors"),
-        ("else", "-else"),
-        ("", "-''"),
-        ("Ok", "-'Ok'"),
-        ("_a", "-'_a'"),
-        ("@a", "-'@a'"),
-        ("+", "-'+'"),
-        ("a b", "-'a b'"),
-        ("after", "-'after'"),
-        ("xor", "-'xor'"),
-        ("é", "-'é'"),
-        ("it's", "-'it\\'s'"),
-        ("a\\b", "-'a\\\\b'"),
-        ("\n\r\t", "-'\\n\\r\\t'"),
-        ("\u{1}\u{1f}\u{7f}", "-'\\x{1}\\x{1f}\\x{7f}'"),
-    ] {
-        let mut out = String::from_str(rt.alloc(), "-")?;
-        push_atom(rt.alloc(), &mut out, text)?;
-        assert_eq!(rt; out.as_str(), want);
+    for (text, want) in &PRINTED {
+        assert!(rt; prints(rt.alloc(), *text, *want)?, "{want}");
     }
     Ok(())
 }

@@ -1,10 +1,12 @@
 //! Guard BIFs and names, with what Erlang/OTP 25 answers: `max(1, 2)` for `("max", 1, 2, ..)`. An integer outside 64 bits, for
 //! which Erlang has a value or `system_limit`, is `IntegerRange` here.
 
+use crate::built::Flat::{Atom, Int};
+use crate::built::{cons, list, tuple, tuple_of};
 use bx_bifs::{Given, Native, guard, guard_decoded, guard_of_one, guard_of_two, is_guard, native};
 use bx_ops::Bif;
-use bx_terms::{AtomId, Atoms, Class, Term, TermRefusal, fixed, print};
-use std::alloc::Global;
+use bx_terms::{AtomId, Atoms, Class, Fault, Term, fixed, print};
+use std::alloc::{AllocError, Global};
 use std::test::Fail;
 
 static OF_TWO_INTEGERS: [(&str, i64, i64, &str); 97] = [
@@ -323,53 +325,50 @@ static ELEMENTS: [(i64, &str); 7] = [
     (9223372036854775807, "badarg badarg badarg badarg"),
 ];
 
-fn cons(alloc: Global, head: Term, tail: Term) -> Result<Term, TermRefusal> {
-    Term::cons(alloc, head, tail).map_err(|refused| refused.0)
-}
+/// The two atoms that the table has beside those that are always there.
+const A: AtomId = AtomId(80);
 
-fn tuple(alloc: Global, elements: Vec<Term>) -> Result<Term, TermRefusal> {
-    Term::tuple(alloc, elements).map_err(|refused| refused.0)
-}
+const B: AtomId = AtomId(81);
 
-fn table_with_a(alloc: Global) -> Result<(Atoms, AtomId), Fail> {
+fn table(alloc: Global) -> Result<Atoms, Fault> {
     let mut atoms = Atoms::new(alloc)?;
-    let a = atoms.name(alloc, "a")?;
-    Ok((atoms, a))
+    atoms.name(alloc, "a")?;
+    atoms.name(alloc, "b")?;
+    Ok(atoms)
 }
 
-fn term_at(alloc: Global, a: AtomId, place: u8) -> Result<Term, Fail> {
-    Ok(match place {
-        0 => Term::int(-1),
-        1 => Term::int(0),
-        2 => Term::atom(fixed::TRUE),
-        3 => Term::atom(fixed::FALSE),
-        4 => Term::atom(a),
-        5 => Term::nil(),
-        6 => cons(alloc, Term::int(1), cons(alloc, Term::int(2), Term::nil())?)?,
-        7 => cons(alloc, Term::int(1), Term::int(2))?,
-        8 => tuple(alloc, Vec::new(alloc))?,
-        _ => tuple(alloc, vec![in alloc; Term::int(1), Term::atom(a)]?)?,
-    })
+fn term_at(alloc: Global, place: u8) -> Result<Term, AllocError> {
+    match place {
+        0 => Ok(Term::int(-1)),
+        1 => Ok(Term::int(0)),
+        2 => Ok(Term::atom(fixed::TRUE)),
+        3 => Ok(Term::atom(fixed::FALSE)),
+        4 => Ok(Term::atom(A)),
+        5 => Ok(Term::nil()),
+        6 => list(alloc, &[Int(1), Int(2)], Term::nil()),
+        7 => list(alloc, &[Int(1)], Term::int(2)),
+        8 => tuple(alloc, &[]),
+        _ => tuple(alloc, &[Int(1), Atom(A)]),
+    }
 }
 
 /// The value, the fault's reason or the trap's name.
-fn push_answer(alloc: Global, out: &mut String, atoms: &Atoms, given: &Given) -> Result<(), Fail> {
+fn text_of(alloc: Global, atoms: &Atoms, given: &Given) -> Result<String, AllocError> {
     match given {
-        Given::Value(term) => {
-            let text = print(alloc, atoms, term)?;
-            out.push_str(text.as_str())?;
-        }
-        Given::Fault(Class::Error, reason) => {
-            let text = print(alloc, atoms, reason)?;
-            out.push_str(text.as_str())?;
-        }
-        Given::Fault(class, _) => {
-            let text = print(alloc, atoms, &Term::atom(class.atom()))?;
-            out.push_str(text.as_str())?;
-        }
-        Given::Trap(kind) => out.push_str(kind.name())?,
+        Given::Value(term) => print(alloc, atoms, term),
+        Given::Fault(Class::Error, reason) => print(alloc, atoms, reason),
+        Given::Fault(class, _) => print(alloc, atoms, &Term::atom(class.atom())),
+        Given::Trap(kind) => String::from_str(alloc, kind.name()),
     }
-    Ok(())
+}
+
+/// What a call by name gives.
+fn answer(alloc: Global, atoms: &Atoms, name: &str, arguments: &[Term]) -> Result<String, Fault> {
+    let Some(name) = atoms.find(name) else {
+        return Ok(String::from_str(alloc, "a name that is not there")?);
+    };
+    let given = guard(alloc, atoms, name, arguments)?;
+    Ok(text_of(alloc, atoms, &given)?)
 }
 
 /// A call by name, whose answer is added to `out` after a space, if something stands there.
@@ -379,102 +378,137 @@ fn push_call(
     atoms: &Atoms,
     name: &str,
     arguments: &[Term],
-) -> Result<(), Fail> {
-    let name = atoms.find(name).ok_or("a name that is not there")?;
-    let given = guard(alloc, atoms, name, arguments)?;
+) -> Result<(), Fault> {
     if !out.is_empty() {
         out.push(' ')?;
     }
-    push_answer(alloc, out, atoms, &given)
+    let answer = answer(alloc, atoms, name, arguments)?;
+    Ok(out.push_str(answer.as_str())?)
+}
+
+fn is_of_two(alloc: Global, name: &str, m: i64, n: i64, want: &str) -> Result<bool, Fault> {
+    let atoms = table(alloc)?;
+    let arguments = [Term::int(m), Term::int(n)];
+    Ok(answer(alloc, &atoms, name, &arguments)?.as_str() == want)
+}
+
+fn is_of_one(alloc: Global, name: &str, n: i64, want: &str) -> Result<bool, Fault> {
+    let atoms = table(alloc)?;
+    Ok(answer(alloc, &atoms, name, &[Term::int(n)])?.as_str() == want)
 }
 
 #[test]
 fn arithmetic_at_the_edges(rt: HostRuntime) -> Result<(), Fail> {
-    let alloc = rt.alloc();
-    let (atoms, _) = table_with_a(alloc)?;
     for (name, m, n, want) in &OF_TWO_INTEGERS {
-        let mut answer = String::new(alloc);
-        let arguments = [Term::int(*m), Term::int(*n)];
-        push_call(alloc, &mut answer, &atoms, *name, &arguments)?;
-        assert_eq!(rt; answer.as_str(), *want, "{name} of {m} and {n}");
+        assert!(rt;
+            is_of_two(rt.alloc(), *name, *m, *n, *want)?,
+            "{name} of {m} and {n}"
+        );
     }
     for (name, n, want) in &OF_ONE_INTEGER {
-        let mut answer = String::new(alloc);
-        push_call(alloc, &mut answer, &atoms, *name, &[Term::int(*n)])?;
-        assert_eq!(rt; answer.as_str(), *want, "{name} of {n}");
+        assert!(rt; is_of_one(rt.alloc(), *name, *n, *want)?, "{name} of {n}");
     }
     Ok(())
 }
 
+fn push_of_one(
+    alloc: Global,
+    out: &mut String,
+    atoms: &Atoms,
+    name: &str,
+    place: u8,
+) -> Result<(), Fault> {
+    let arguments = [term_at(alloc, place)?];
+    push_call(alloc, out, atoms, name, &arguments)
+}
+
+/// Whether a BIF of one argument gives this on the ten terms.
+fn gives_on_terms(alloc: Global, name: &str, want: &str) -> Result<bool, Fault> {
+    let atoms = table(alloc)?;
+    let mut answers = String::new(alloc);
+    for place in 0..10u8 {
+        push_of_one(alloc, &mut answers, &atoms, name, place)?;
+    }
+    Ok(answers.as_str() == want)
+}
+
+fn push_of_two(
+    alloc: Global,
+    out: &mut String,
+    atoms: &Atoms,
+    name: &str,
+    places: (u8, u8),
+) -> Result<(), Fault> {
+    let first = term_at(alloc, places.0)?;
+    let arguments = [first, term_at(alloc, places.1)?];
+    push_call(alloc, out, atoms, name, &arguments)
+}
+
+/// Whether a BIF of two arguments gives this on the pairs.
+fn gives_on_pairs(alloc: Global, name: &str, want: &str) -> Result<bool, Fault> {
+    let atoms = table(alloc)?;
+    let mut answers = String::new(alloc);
+    for places in &PAIRS {
+        push_of_two(alloc, &mut answers, &atoms, name, *places)?;
+    }
+    Ok(answers.as_str() == want)
+}
+
 #[test]
 fn every_guard_bif_on_terms(rt: HostRuntime) -> Result<(), Fail> {
-    let alloc = rt.alloc();
-    let (atoms, a) = table_with_a(alloc)?;
     for (name, want) in &OF_ONE_TERM {
-        let mut answers = String::new(alloc);
-        for place in 0..10u8 {
-            let arguments = [term_at(alloc, a, place)?];
-            push_call(alloc, &mut answers, &atoms, *name, &arguments)?;
-        }
-        assert_eq!(rt; answers.as_str(), *want, "{name}");
+        assert!(rt; gives_on_terms(rt.alloc(), *name, *want)?, "{name}");
     }
     for (name, want) in &OF_TWO_TERMS {
-        let mut answers = String::new(alloc);
-        for (first, second) in &PAIRS {
-            let arguments = [term_at(alloc, a, *first)?, term_at(alloc, a, *second)?];
-            push_call(alloc, &mut answers, &atoms, *name, &arguments)?;
-        }
-        assert_eq!(rt; answers.as_str(), *want, "{name}");
+        assert!(rt; gives_on_pairs(rt.alloc(), *name, *want)?, "{name}");
     }
     Ok(())
 }
 
 /// {{},[],b}.
-fn three(alloc: Global, b: AtomId) -> Result<Term, Fail> {
+fn three(alloc: Global) -> Result<Term, AllocError> {
     let mut elements = Vec::new(alloc);
-    elements.push(tuple(alloc, Vec::new(alloc))?)?;
+    elements.push(tuple(alloc, &[])?)?;
     elements.push(Term::nil())?;
-    elements.push(Term::atom(b))?;
-    Ok(tuple(alloc, elements)?)
+    elements.push(Term::atom(B))?;
+    tuple_of(alloc, elements)
 }
 
-/// What `element` gives at a place of the four terms.
-fn elements_at(
+fn push_element(
     alloc: Global,
+    out: &mut String,
     atoms: &Atoms,
-    a: AtomId,
-    b: AtomId,
     place: i64,
-) -> Result<String, Fail> {
+    term: Term,
+) -> Result<(), Fault> {
+    push_call(alloc, out, atoms, "element", &[Term::int(place), term])
+}
+
+/// What `element` gives at a place of the four terms, after what stands in `out`.
+fn push_elements(alloc: Global, out: &mut String, atoms: &Atoms, place: i64) -> Result<(), Fault> {
+    push_element(alloc, out, atoms, place, term_at(alloc, 8)?)?;
+    push_element(alloc, out, atoms, place, term_at(alloc, 9)?)?;
+    push_element(alloc, out, atoms, place, three(alloc)?)?;
+    push_element(alloc, out, atoms, place, term_at(alloc, 6)?)
+}
+
+fn are_elements(alloc: Global, place: i64, want: &str) -> Result<bool, Fault> {
+    let atoms = table(alloc)?;
     let mut answers = String::new(alloc);
-    for number in 0..4u8 {
-        let term = match number {
-            0 => term_at(alloc, a, 8)?,
-            1 => term_at(alloc, a, 9)?,
-            2 => three(alloc, b)?,
-            _ => term_at(alloc, a, 6)?,
-        };
-        let arguments = [Term::int(place), term];
-        push_call(alloc, &mut answers, atoms, "element", &arguments)?;
-    }
-    Ok(answers)
+    push_elements(alloc, &mut answers, &atoms, place)?;
+    Ok(answers.as_str() == want)
 }
 
 #[test]
 fn elements_by_place(rt: HostRuntime) -> Result<(), Fail> {
-    let alloc = rt.alloc();
-    let mut atoms = Atoms::new(alloc)?;
-    let a = atoms.name(alloc, "a")?;
-    let b = atoms.name(alloc, "b")?;
     for (place, want) in &ELEMENTS {
-        let answers = elements_at(alloc, &atoms, a, b, *place)?;
-        assert_eq!(rt; answers.as_str(), *want, "at {place}");
+        assert!(rt; are_elements(rt.alloc(), *place, *want)?, "at {place}");
     }
     Ok(())
 }
 
 /// A list of as many zeros, before `tail`.
-fn zeros(alloc: Global, count: u32, tail: Term) -> Result<Term, TermRefusal> {
+fn zeros(alloc: Global, count: u32, tail: Term) -> Result<Term, AllocError> {
     let mut list = tail;
     for _ in 0..count {
         list = cons(alloc, Term::int(0), list)?;
@@ -482,10 +516,10 @@ fn zeros(alloc: Global, count: u32, tail: Term) -> Result<Term, TermRefusal> {
     Ok(list)
 }
 
-/// What a BIF of one argument gives on as many zeros before `tail`.
-fn of_zeros(alloc: Global, bif: Bif, count: u32, tail: Term) -> Result<Given, Fail> {
-    let list = zeros(alloc, count, tail)?;
-    Ok(guard_of_one(alloc, bif, &list)?)
+/// What a BIF of one argument gives on 10,000 zeros before `tail`.
+fn of_zeros(alloc: Global, bif: Bif, tail: Term) -> Result<Given, AllocError> {
+    let list = zeros(alloc, 10_000, tail)?;
+    guard_of_one(alloc, bif, &list)
 }
 
 fn is_integer(given: &Given, number: i64) -> bool {
@@ -496,46 +530,57 @@ fn is_atom(given: &Given, atom: AtomId) -> bool {
     given.same(&Given::Value(Term::atom(atom)))
 }
 
+fn is_badarg(given: &Given) -> bool {
+    given.same(&Given::Fault(Class::Error, Term::atom(fixed::BADARG)))
+}
+
 /// Whether it is a value of that height.
 fn is_as_high(given: &Given, height: u32) -> bool {
     matches!(given, Given::Value(term) if term.height() == height)
 }
 
+fn lists_are_measured(alloc: Global) -> Result<bool, AllocError> {
+    let is_length = is_integer(&of_zeros(alloc, Bif::Length, Term::nil())?, 10_000);
+    let is_refused = is_badarg(&of_zeros(alloc, Bif::Length, Term::int(0))?);
+    let is_tail = is_as_high(&of_zeros(alloc, Bif::Tl, Term::nil())?, 9_999);
+    Ok(is_length && is_refused && is_tail)
+}
+
 #[test]
 fn lists_as_high_as_terms_may_be(rt: HostRuntime) -> Result<(), Fail> {
-    let alloc = rt.alloc();
-    let length = of_zeros(alloc, Bif::Length, 10_000, Term::nil())?;
-    let improper = of_zeros(alloc, Bif::Length, 10_000, Term::int(0))?;
-    let tail = of_zeros(alloc, Bif::Tl, 10_000, Term::nil())?;
-    let is_refused = improper.same(&Given::Fault(Class::Error, Term::atom(fixed::BADARG)));
-    assert!(rt; is_integer(&length, 10_000) && is_refused && is_as_high(&tail, 9_999));
+    assert!(rt; lists_are_measured(rt.alloc())?);
     Ok(())
 }
 
 /// What a BIF of two arguments gives on two lists of 10,000 zeros.
-fn of_two_lists(alloc: Global, atoms: &Atoms, bif: Bif) -> Result<Given, Fail> {
+fn of_two_lists(alloc: Global, atoms: &Atoms, bif: Bif) -> Result<Given, AllocError> {
     let list = zeros(alloc, 10_000, Term::nil())?;
     let other = zeros(alloc, 10_000, Term::nil())?;
-    Ok(guard_of_two(alloc, atoms, bif, &list, &other)?)
+    guard_of_two(alloc, atoms, bif, &list, &other)
+}
+
+fn lists_are_compared(alloc: Global, atoms: &Atoms) -> Result<bool, AllocError> {
+    let is_equal = is_atom(&of_two_lists(alloc, atoms, Bif::Equal)?, fixed::TRUE);
+    let is_not_greater = is_atom(&of_two_lists(alloc, atoms, Bif::Greater)?, fixed::FALSE);
+    let is_greatest = is_as_high(&of_two_lists(alloc, atoms, Bif::Max)?, 10_000);
+    Ok(is_equal && is_not_greater && is_greatest)
 }
 
 #[test]
 fn comparisons_as_high_as_terms_may_be(rt: HostRuntime) -> Result<(), Fail> {
-    let alloc = rt.alloc();
-    let atoms = Atoms::new(alloc)?;
-    let equal = of_two_lists(alloc, &atoms, Bif::Equal)?;
-    let greater = of_two_lists(alloc, &atoms, Bif::Greater)?;
-    let greatest = of_two_lists(alloc, &atoms, Bif::Max)?;
-    let are_told = is_atom(&equal, fixed::TRUE) && is_atom(&greater, fixed::FALSE);
-    assert!(rt; are_told && is_as_high(&greatest, 10_000));
+    let atoms = Atoms::new(rt.alloc())?;
+    assert!(rt; lists_are_compared(rt.alloc(), &atoms)?);
     Ok(())
+}
+
+fn of_a_pid(alloc: Global, bif: Bif, want: AtomId) -> Result<bool, AllocError> {
+    Ok(is_atom(&guard_of_one(alloc, bif, &Term::pid(7))?, want))
 }
 
 #[test]
 fn pids_are_a_kind(rt: HostRuntime) -> Result<(), Fail> {
-    let pid = guard_of_one(rt.alloc(), Bif::IsPid, &Term::pid(7))?;
-    let number = guard_of_one(rt.alloc(), Bif::IsNumber, &Term::pid(7))?;
-    assert!(rt; is_atom(&pid, fixed::TRUE) && is_atom(&number, fixed::FALSE));
+    assert!(rt; of_a_pid(rt.alloc(), Bif::IsPid, fixed::TRUE)?);
+    assert!(rt; of_a_pid(rt.alloc(), Bif::IsNumber, fixed::FALSE)?);
     Ok(())
 }
 
@@ -547,31 +592,41 @@ static NO_SUCH_ARITY: [(&str, i64); 5] = [
     ("send", 2),
 ];
 
-/// Whether a call by name of so many integers is of no BIF.
-fn is_undefined(alloc: Global, atoms: &Atoms, name: &str, count: i64) -> Result<bool, Fail> {
-    let mut answer = String::new(alloc);
-    let mut arguments = Vec::new(alloc);
+/// The integers from 0.
+fn integers(alloc: Global, count: i64) -> Result<Vec<Term>, AllocError> {
+    let mut integers = Vec::new(alloc);
     for n in 0..count {
-        arguments.push(Term::int(n))?;
+        integers.push(Term::int(n))?;
     }
-    push_call(alloc, &mut answer, atoms, name, &arguments)?;
-    Ok(answer.as_str() == "undef")
+    Ok(integers)
+}
+
+/// Whether a call by name of so many integers is of no BIF.
+fn is_undefined(alloc: Global, name: &str, count: i64) -> Result<bool, Fault> {
+    let atoms = table(alloc)?;
+    let arguments = integers(alloc, count)?;
+    Ok(answer(alloc, &atoms, name, &arguments)?.as_str() == "undef")
 }
 
 #[test]
 fn another_number_of_arguments(rt: HostRuntime) -> Result<(), Fail> {
-    let (atoms, _) = table_with_a(rt.alloc())?;
     for (name, count) in &NO_SUCH_ARITY {
-        assert!(rt; is_undefined(rt.alloc(), &atoms, *name, *count)?);
+        assert!(rt;
+            is_undefined(rt.alloc(), *name, *count)?,
+            "{name} of {count}"
+        );
     }
     Ok(())
 }
 
+fn decoded(alloc: Global) -> Result<Given, Fault> {
+    let atoms = Atoms::new(alloc)?;
+    guard_decoded(alloc, &atoms, Bif::Abs, &[Term::int(-2)])
+}
+
 #[test]
 fn decoded_calls_are_as_those_by_name(rt: HostRuntime) -> Result<(), Fail> {
-    let (atoms, _) = table_with_a(rt.alloc())?;
-    let given = guard_decoded(rt.alloc(), &atoms, Bif::Abs, &[Term::int(-2)])?;
-    assert!(rt; is_integer(&given, 2));
+    assert!(rt; is_integer(&decoded(rt.alloc())?, 2));
     Ok(())
 }
 
@@ -612,18 +667,21 @@ fn names_of_natives(rt: HostRuntime) -> Result<(), Fail> {
 }
 
 /// Whether no native is told by another module, arity or name.
-fn are_no_natives(atoms: &Atoms, a: AtomId) -> bool {
-    native(atoms, a, fixed::LINK, 1).is_none()
+fn are_no_natives(atoms: &Atoms) -> bool {
+    native(atoms, A, fixed::LINK, 1).is_none()
         && native(atoms, fixed::ERLANG, fixed::LINK, 2).is_none()
         && native(atoms, fixed::ERLANG, fixed::SELF, 0).is_none()
         && native(atoms, fixed::ERLANG, AtomId(70_000), 1).is_none()
 }
 
+fn is_self_alone(atoms: &Atoms) -> bool {
+    let is_self = is_guard(atoms, fixed::SELF, 0) && !is_guard(atoms, fixed::SELF, 1);
+    is_self && !is_guard(atoms, A, 1) && !is_guard(atoms, AtomId(70_000), 1)
+}
+
 #[test]
 fn other_names(rt: HostRuntime) -> Result<(), Fail> {
-    let (atoms, a) = table_with_a(rt.alloc())?;
-    let is_self = is_guard(&atoms, fixed::SELF, 0) && !is_guard(&atoms, fixed::SELF, 1);
-    let is_other = is_guard(&atoms, a, 1) || is_guard(&atoms, AtomId(70_000), 1);
-    assert!(rt; are_no_natives(&atoms, a) && is_self && !is_other);
+    let atoms = table(rt.alloc())?;
+    assert!(rt; are_no_natives(&atoms) && is_self_alone(&atoms));
     Ok(())
 }

@@ -6,6 +6,8 @@ mod atoms;
 #[cfg(test)]
 mod bifs;
 #[cfg(test)]
+mod built;
+#[cfg(test)]
 mod cells;
 #[cfg(test)]
 mod heights;

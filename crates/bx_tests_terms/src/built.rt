@@ -1,0 +1,48 @@
+//! Terms to test with, built in few calls. Want of memory is the only refusal that can come.
+
+use bx_terms::{AtomId, Term};
+use std::alloc::{AllocError, Global};
+
+/// A term that holds no other.
+#[derive(Clone, Copy)]
+pub enum Flat {
+    Int(i64),
+    Atom(AtomId),
+    Pid(u32),
+    Nil,
+}
+
+fn term(flat: Flat) -> Term {
+    match flat {
+        Flat::Int(number) => Term::int(number),
+        Flat::Atom(atom) => Term::atom(atom),
+        Flat::Pid(pid) => Term::pid(pid),
+        Flat::Nil => Term::nil(),
+    }
+}
+
+pub fn cons(alloc: Global, head: Term, tail: Term) -> Result<Term, AllocError> {
+    Term::cons(alloc, head, tail).map_err(|_| AllocError)
+}
+
+/// A list of these, before `tail`.
+pub fn list(alloc: Global, heads: &[Flat], tail: Term) -> Result<Term, AllocError> {
+    let mut list = tail;
+    for head in heads.iter().rev() {
+        list = cons(alloc, term(*head), list)?;
+    }
+    Ok(list)
+}
+
+pub fn tuple_of(alloc: Global, elements: Vec<Term>) -> Result<Term, AllocError> {
+    Term::tuple(alloc, elements).map_err(|_| AllocError)
+}
+
+/// A tuple of these.
+pub fn tuple(alloc: Global, flats: &[Flat]) -> Result<Term, AllocError> {
+    let mut elements = Vec::new(alloc);
+    for element in flats {
+        elements.push(term(*element))?;
+    }
+    tuple_of(alloc, elements)
+}
