@@ -2,7 +2,7 @@
 
 use bx_cells::{Frames, Links, Registers, Value};
 use bx_terms::{AtomId, Class, Place, Term};
-use std::alloc::Global;
+use std::alloc::{AllocError, Global};
 use std::test::Fail;
 
 fn term(number: i64) -> Value {
@@ -16,19 +16,35 @@ fn has(registers: &Registers, number: u16, expected: i64) -> bool {
         .is_some_and(|value| value.same(&term(expected)))
 }
 
-fn registers_keep(alloc: Global) -> Result<bool, Fail> {
-    let mut registers = Registers::new(alloc);
+fn sets(registers: &mut Registers, number: u16, value: Value) -> bool {
+    registers.set(number, value).is_ok()
+}
+
+/// Whether registers that are new hold what they are given, and no other is held.
+fn are_held(registers: &mut Registers) -> bool {
     let empty = registers.get(0).is_none();
-    let last = registers
-        .set(1022, Value::Term(Term::atom(AtomId(7))))
-        .is_ok();
-    let twice = registers.set(0, term(1)).is_ok() && registers.set(0, term(2)).is_ok();
-    let held = has(&registers, 0, 2) && registers.get(1).is_none() && registers.get(1023).is_none();
-    let flat = registers.is_flat(0) && !registers.is_flat(1) && !registers.is_flat(1023);
+    let last = sets(registers, 1022, Value::Term(Term::atom(AtomId(7))));
+    let twice = sets(registers, 0, term(1)) && sets(registers, 0, term(2));
+    let held = has(registers, 0, 2) && registers.get(1).is_none();
+    empty && last && twice && held && registers.get(1023).is_none()
+}
+
+fn are_flat(registers: &Registers) -> bool {
+    registers.is_flat(0) && !registers.is_flat(1) && !registers.is_flat(1023)
+}
+
+/// Whether a copy is the same until the registers change.
+fn are_copied(alloc: Global, registers: &mut Registers) -> Result<bool, AllocError> {
     let copy = registers.copy(alloc)?;
-    let equal = copy.same(&registers);
-    let traced = registers.set(5, Value::Trace(Class::Exit)).is_ok();
-    Ok(empty && last && twice && held && flat && equal && traced && !copy.same(&registers))
+    let equal = copy.same(registers);
+    let traced = sets(registers, 5, Value::Trace(Class::Exit));
+    Ok(equal && traced && !copy.same(registers))
+}
+
+fn registers_keep(alloc: Global) -> Result<bool, AllocError> {
+    let mut registers = Registers::new(alloc);
+    let held = are_held(&mut registers) && are_flat(&registers);
+    Ok(held && are_copied(alloc, &mut registers)?)
 }
 
 #[test]
@@ -37,18 +53,25 @@ fn registers_hold_what_was_put_there(rt: HostRuntime) -> Result<(), Fail> {
     Ok(())
 }
 
+fn two_are_written(registers: &mut Registers) -> bool {
+    let two = registers.set_two(7, term(1), 3, term(2)).is_ok();
+    two && has(registers, 7, 1) && has(registers, 3, 2)
+}
+
+fn one_is_written_twice(registers: &mut Registers) -> bool {
+    registers.set_two(3, term(4), 3, term(5)).is_ok() && has(registers, 3, 5)
+}
+
+fn three_are_written(registers: &mut Registers) -> bool {
+    let three = registers.set_three(term(6), term(7), term(8)).is_ok();
+    three && has(registers, 0, 6) && has(registers, 1, 7) && has(registers, 2, 8)
+}
+
 fn several_are_written(alloc: Global) -> bool {
     let mut registers = Registers::new(alloc);
-    let two = registers.set_two(7, term(1), 3, term(2)).is_ok();
-    let held = has(&registers, 7, 1) && has(&registers, 3, 2);
-    let same = registers.set_two(3, term(4), 3, term(5)).is_ok() && has(&registers, 3, 5);
-    let three = registers.set_three(term(6), term(7), term(8)).is_ok();
-    two && held
-        && same
-        && three
-        && has(&registers, 0, 6)
-        && has(&registers, 1, 7)
-        && has(&registers, 2, 8)
+    two_are_written(&mut registers)
+        && one_is_written_twice(&mut registers)
+        && three_are_written(&mut registers)
 }
 
 #[test]
@@ -66,38 +89,46 @@ fn holds(frames: &Frames, number: u16, expected: i64) -> bool {
     }
 }
 
+fn puts(frames: &mut Frames, number: u16, value: Value) -> bool {
+    frames.set(number, value).is_ok()
+}
+
 /// Whether there is no such y register, to read or to write.
 fn lacks(frames: &mut Frames, number: u16) -> bool {
-    frames.get(number).is_err() && frames.set(number, term(0)).is_err()
+    frames.get(number).is_err() && !puts(frames, number, term(0))
 }
 
-/// Two frames, of two registers with the last one set, and of three that are set.
-fn two_frames(alloc: Global) -> Result<Frames, Fail> {
-    let mut frames = Frames::new(alloc);
+/// Two frames more, of two registers with the last one set, and of three that are set: whether all are.
+fn push_two(frames: &mut Frames) -> Result<bool, AllocError> {
     frames.push(2, None)?;
-    frames.set(1, term(10)).ok().ok_or("a register")?;
+    let mut are_set = puts(frames, 1, term(10));
     frames.push(3, Some(PLACE))?;
     for number in 0..3u16 {
-        frames
-            .set(number, term(number as i64))
-            .ok()
-            .ok_or("a register")?;
+        are_set &= puts(frames, number, term(number as i64));
     }
-    Ok(frames)
+    Ok(are_set)
 }
 
-fn frames_are_kept(alloc: Global) -> Result<bool, Fail> {
+fn are_trimmed(frames: &mut Frames) -> bool {
+    let three = lacks(frames, 3) && frames.top() == Some((3, Some(PLACE)));
+    frames.trim(2);
+    three && frames.top() == Some((1, Some(PLACE))) && holds(frames, 0, 2)
+}
+
+/// Whether a copy is the same until a frame is taken away, under which the first one is.
+fn are_popped(alloc: Global, frames: &mut Frames) -> Result<bool, AllocError> {
+    let copy = frames.copy(alloc)?;
+    let equal = copy.same(frames);
+    frames.pop();
+    let popped = !copy.same(frames) && frames.top() == Some((2, None));
+    Ok(equal && popped && holds(frames, 1, 10))
+}
+
+fn frames_are_kept(alloc: Global) -> Result<bool, AllocError> {
     let mut frames = Frames::new(alloc);
     let none = frames.top().is_none() && lacks(&mut frames, 0);
-    let mut frames = two_frames(alloc)?;
-    let three = lacks(&mut frames, 3) && frames.top() == Some((3, Some(PLACE)));
-    frames.trim(2);
-    let trimmed = frames.top() == Some((1, Some(PLACE))) && holds(&frames, 0, 2);
-    let copy = frames.copy(alloc)?;
-    let equal = copy.same(&frames);
-    frames.pop();
-    let popped = !copy.same(&frames) && frames.top() == Some((2, None));
-    Ok(none && three && trimmed && equal && popped && holds(&frames, 1, 10))
+    let two = push_two(&mut frames)?;
+    Ok(none && two && are_trimmed(&mut frames) && are_popped(alloc, &mut frames)?)
 }
 
 #[test]
@@ -106,20 +137,31 @@ fn frames_are_stacked_trimmed_and_taken_away(rt: HostRuntime) -> Result<(), Fail
     Ok(())
 }
 
-fn tags_are_seen(alloc: Global) -> Result<bool, Fail> {
-    let above = Place { module: 0, item: 4 };
-    let mut frames = Frames::new(alloc);
+const ABOVE: Place = Place { module: 0, item: 4 };
+
+/// A frame with two tags, of which the lower register's is found, from the frame above too.
+fn is_found(frames: &mut Frames) -> Result<bool, AllocError> {
     let none = frames.handler().is_none() && frames.handler_below().is_none();
     frames.push(3, None)?;
-    let last = frames.set(2, Value::Tag(above)).is_ok();
-    let first = frames.set(1, Value::Tag(PLACE)).is_ok();
+    let set = puts(frames, 2, Value::Tag(ABOVE)) && puts(frames, 1, Value::Tag(PLACE));
     frames.push(1, None)?;
-    let below = frames.handler() == Some((1, PLACE)) && frames.handler_below() == Some((1, PLACE));
+    let below = frames.handler_below() == Some((1, PLACE));
+    Ok(none && set && below && frames.handler() == Some((1, PLACE)))
+}
+
+/// A frame more, with a tag of its own, and then the two upper ones cut away.
+fn is_found_above(frames: &mut Frames) -> Result<bool, AllocError> {
     frames.push(1, None)?;
-    let top = frames.set(0, Value::Tag(above)).is_ok() && frames.handler() == Some((0, above));
+    let top = puts(frames, 0, Value::Tag(ABOVE)) && frames.handler() == Some((0, ABOVE));
     let two_below = frames.handler_below() == Some((2, PLACE));
     frames.cut(2);
-    Ok(none && last && first && below && top && two_below && frames.top() == Some((3, None)))
+    Ok(top && two_below && frames.top() == Some((3, None)))
+}
+
+fn tags_are_seen(alloc: Global) -> Result<bool, AllocError> {
+    let mut frames = Frames::new(alloc);
+    let found = is_found(&mut frames)?;
+    Ok(found && is_found_above(&mut frames)?)
 }
 
 #[test]
@@ -128,17 +170,36 @@ fn tags_are_found_from_the_top(rt: HostRuntime) -> Result<(), Fail> {
     Ok(())
 }
 
-fn links_are_kept(alloc: Global) -> Result<bool, Fail> {
-    let mut links = Links::new(alloc);
-    for pid in [5u32, 2, 9, 5] {
-        links.insert(pid)?;
+fn insert_all(links: &mut Links, pids: &[u32]) -> Result<(), AllocError> {
+    for pid in pids {
+        links.insert(*pid)?;
     }
+    Ok(())
+}
+
+fn are_in_order(links: &Links) -> bool {
     let rising = links.as_slice() == [2, 5, 9].as_slice();
-    let told = links.contains(9) && !links.contains(3);
-    let copied = links.same(&links.copy(alloc)?);
-    let but = links.but(alloc, 5)?.as_slice() == [2, 9].as_slice();
+    rising && links.contains(9) && !links.contains(3)
+}
+
+fn is_copied(alloc: Global, links: &Links) -> Result<bool, AllocError> {
+    Ok(links.same(&links.copy(alloc)?))
+}
+
+fn is_but(alloc: Global, links: &Links) -> Result<bool, AllocError> {
+    Ok(links.but(alloc, 5)?.as_slice() == [2, 9].as_slice())
+}
+
+fn is_removed(links: &mut Links) -> bool {
     let removed = links.remove(5) && !links.remove(5);
-    Ok(rising && told && copied && but && removed && links.as_slice() == [2, 9].as_slice())
+    removed && links.as_slice() == [2, 9].as_slice()
+}
+
+fn links_are_kept(alloc: Global) -> Result<bool, AllocError> {
+    let mut links = Links::new(alloc);
+    insert_all(&mut links, &[5, 2, 9, 5])?;
+    let copied = is_copied(alloc, &links)? && is_but(alloc, &links)?;
+    Ok(copied && are_in_order(&links) && is_removed(&mut links))
 }
 
 #[test]

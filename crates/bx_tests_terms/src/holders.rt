@@ -4,7 +4,6 @@ ghost use Rattle.std.specs.Prelude.{◌≡◌, IfOk, OnOk, OnErr};
 
 use bx_share::{ArcHold, Hold, RcHold};
 use std::alloc::{AllocError, Global};
-use std::process::Abort;
 use std::test::Fail;
 
 mod traced;
@@ -33,62 +32,63 @@ fn branched<H: Hold<Traced>>(
     Ok((here, there))
 }
 
-// The number that is shown, and how many copies lie between it and the value that was put.
-fn seen<H: Hold<Traced>>(holder: &H) -> (u64, u32) {
+// Whether that number is shown, and so many copies lie between it and the value that was put.
+fn is_seen<H: Hold<Traced>>(holder: &H, number: u64, copies: u32) -> bool {
     let value = holder.see();
-    (value.number(), value.copies())
+    value.number() == number && value.copies() == copies
 }
 
-fn copies_only_what_is_shared<H: Hold<Traced>>(
-    rt: &impl Abort,
-    alloc: Global,
-) -> Result<(), AllocError> {
+// Whether a value that isn't shared is edited in place, and shared without a copy.
+fn edits_in_place<H: Hold<Traced>>(alloc: Global) -> Result<bool, AllocError> {
     let mut alone = H::put(alloc, Traced::new(7))?;
-    assert_eq!(rt; seen(&alone), (7, 0), "put");
+    let put = is_seen(&alone, 7, 0);
     write(alloc, &mut alone, 8)?;
-    assert_eq!(rt; seen(&alone), (8, 0), "edit of a value that isn't shared");
+    let edited = is_seen(&alone, 8, 0);
     let other = alone.share(alloc)?;
-    assert_eq!(rt; (seen(&alone), seen(&other)), ((8, 0), (8, 0)), "share");
+    Ok(put && edited && is_seen(&alone, 8, 0) && is_seen(&other, 8, 0))
+}
 
+// Whether an edit of a shared value copies it once, and edits do no more once neither is shared.
+fn edits_a_copy<H: Hold<Traced>>(alloc: Global) -> Result<bool, AllocError> {
     let (mut here, mut there) = branched::<H>(alloc, Traced::new(7), 9)?;
-    assert_eq!(rt;
-        (seen(&here), seen(&there)),
-        ((9, 1), (7, 0)),
-        "edit of a shared value"
-    );
+    let shared = is_seen(&here, 9, 1) && is_seen(&there, 7, 0);
     write(alloc, &mut here, 10)?;
     write(alloc, &mut there, 11)?;
-    assert_eq!(rt;
-        (seen(&here), seen(&there)),
-        ((10, 1), (11, 0)),
-        "edits once neither is shared"
-    );
-    Ok(())
+    Ok(shared && is_seen(&here, 10, 1) && is_seen(&there, 11, 0))
 }
 
-// Memory that is refused fails the test, after what is left was looked at.
-fn hands_back_what_is_refused<H: Hold<Traced>>(
-    rt: &impl Abort,
+// Whether two holders of 7 show what an edit of the first did. Memory that is refused is handed on, after they were looked at.
+fn keeps_what_is_refused<H: Hold<Traced>>(
     alloc: Global,
-) -> Result<(), AllocError> {
-    let mut here = match H::put(alloc, Traced::new(7)) {
-        Ok(holder) => holder,
-        Err(refused) => {
-            assert_eq!(rt; refused.value.number(), 7, "a refused put");
-            return Err(AllocError);
-        }
-    };
-    let there = here.share(alloc)?;
-    let written = write(alloc, &mut here, 8);
+    here: &mut H,
+    there: &H,
+) -> Result<bool, AllocError> {
+    let written = write(alloc, here, 8);
     let shown = if written.is_ok() { 8 } else { 7 };
-    assert_eq!(rt; (seen(&here).0, seen(&there).0), (shown, 7), "an edit");
-    written
+    let is_kept = here.see().number() == shown && there.see().number() == 7;
+    if is_kept {
+        written?;
+    }
+    Ok(is_kept)
+}
+
+// The same of a value that is put: where it is refused, it is handed back.
+fn hands_back_what_is_refused<H: Hold<Traced>>(alloc: Global) -> Result<bool, AllocError> {
+    match H::put(alloc, Traced::new(7)) {
+        Ok(mut here) => {
+            let there = here.share(alloc)?;
+            keeps_what_is_refused(alloc, &mut here, &there)
+        }
+        Err(refused) if refused.value.number() == 7 => Err(AllocError),
+        Err(_) => Ok(false),
+    }
 }
 
 #[test]
 fn holders_in_one_thread(rt: HostRuntime) -> Result<(), Fail> {
-    copies_only_what_is_shared::<RcHold<Traced>>(&rt, rt.alloc())?;
-    hands_back_what_is_refused::<RcHold<Traced>>(&rt, rt.alloc())?;
+    assert!(rt; edits_in_place::<RcHold<Traced>>(rt.alloc())?);
+    assert!(rt; edits_a_copy::<RcHold<Traced>>(rt.alloc())?);
+    assert!(rt; hands_back_what_is_refused::<RcHold<Traced>>(rt.alloc())?);
     Ok(())
 }
 
@@ -100,8 +100,9 @@ fn holder_crosses_threads<T: Drop + Send + Sync>(holder: &ArcHold<T>) {
 
 #[test]
 fn holders_for_any_thread(rt: HostRuntime) -> Result<(), Fail> {
-    copies_only_what_is_shared::<ArcHold<Traced>>(&rt, rt.alloc())?;
-    hands_back_what_is_refused::<ArcHold<Traced>>(&rt, rt.alloc())?;
+    assert!(rt; edits_in_place::<ArcHold<Traced>>(rt.alloc())?);
+    assert!(rt; edits_a_copy::<ArcHold<Traced>>(rt.alloc())?);
+    assert!(rt; hands_back_what_is_refused::<ArcHold<Traced>>(rt.alloc())?);
     holder_crosses_threads(&ArcHold::put(rt.alloc(), Traced::new(7)).map_err(AllocError::from)?);
     Ok(())
 }

@@ -19,12 +19,16 @@ static OPCODES: [(u32, &str, usize, Op); 11] = [
     (172, "init_yregs", 1, Op::InitYregs),
 ];
 
+fn is_found(opcode_number: u32, text: &str, arity: usize, op: Op) -> bool {
+    op_by_number(opcode_number) == Some(op)
+        && op_named(text) == Some(op)
+        && op_by_name(text, arity) == Some(op)
+}
+
 /// Whether an opcode is found by its number and its name, and tells both.
 fn is_row(opcode_number: u32, text: &str, arity: usize, op: Op) -> bool {
-    let is_found = op_by_number(opcode_number) == Some(op)
-        && op_named(text) == Some(op)
-        && op_by_name(text, arity) == Some(op);
     let tells = number(op) == opcode_number && name(op) == text && shape(op) == arity;
+    let is_found = is_found(opcode_number, text, arity, op);
     is_found && tells && op_by_name(text, arity + 1).is_none()
 }
 
@@ -57,15 +61,21 @@ fn other_numbers_and_names_are_not_found(rt: HostRuntime) {
     }
 }
 
+fn are_local() -> bool {
+    let others = is_local(Op::Send) || is_local(Op::CallExt) || is_local(Op::CallExtLast);
+    let are_local = is_local(Op::CallOnly) && is_local(Op::LoopRec) && is_local(Op::Wait);
+    are_local && !others && !is_local(Op::CallExtOnly)
+}
+
+fn are_tests() -> bool {
+    let others = is_test(Op::TestHeap) || is_test(Op::SelectVal) || is_test(Op::Jump);
+    let are_tests = is_test(Op::IsNil) && is_test(Op::TestArity) && is_test(Op::IsTaggedTuple);
+    are_tests && !others
+}
+
 #[test]
 fn some_opcodes_are_set_apart(rt: HostRuntime) {
-    for op in [Op::Send, Op::CallExt, Op::CallExtLast, Op::CallExtOnly] {
-        assert!(rt; !is_local(op));
-    }
-    let are_local = is_local(Op::CallOnly) && is_local(Op::LoopRec) && is_local(Op::Wait);
-    let are_tests = is_test(Op::IsNil) && is_test(Op::TestArity) && is_test(Op::IsTaggedTuple);
-    let others = is_test(Op::TestHeap) || is_test(Op::SelectVal) || is_test(Op::Jump);
-    assert!(rt; are_local && are_tests && !others);
+    assert!(rt; are_local() && are_tests());
 }
 
 static BIFS: [(&str, usize, Bif); 9] = [

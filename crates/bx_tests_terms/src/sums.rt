@@ -2,7 +2,8 @@
 
 use bx_bifs::guard_of_integers;
 use bx_ops::Bif;
-use bx_terms::Atoms;
+use bx_terms::{Atoms, Fault};
+use std::alloc::Global;
 use std::test::Fail;
 
 static INTEGERS: [(Bif, i64, i64, Option<i64>); 12] = [
@@ -20,14 +21,15 @@ static INTEGERS: [(Bif, i64, i64, Option<i64>); 12] = [
     (Bif::UnaryMinus, 2, 3, None),
 ];
 
+fn gives(alloc: Global, bif: Bif, m: i64, n: i64, want: Option<i64>) -> Result<bool, Fault> {
+    let atoms = Atoms::new(alloc)?;
+    Ok(guard_of_integers(&atoms, bif, m, n) == want)
+}
+
 #[test]
 fn integers_without_a_term(rt: HostRuntime) -> Result<(), Fail> {
-    let atoms = Atoms::new(rt.alloc())?;
     for (bif, m, n, want) in &INTEGERS {
-        assert!(rt;
-            guard_of_integers(&atoms, *bif, *m, *n) == *want,
-            "{m} and {n}"
-        );
+        assert!(rt; gives(rt.alloc(), *bif, *m, *n, *want)?, "{m} and {n}");
     }
     Ok(())
 }

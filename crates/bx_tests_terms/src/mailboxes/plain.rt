@@ -3,7 +3,7 @@
 use bx_terms::Term;
 use std::alloc::Global;
 
-#[derive(Debug, Drop)]
+#[derive(Drop)]
 pub struct Plain {
     messages: Vec<Term>,
     passed: usize,
