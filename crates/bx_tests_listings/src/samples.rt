@@ -1,6 +1,6 @@
 //! Modules that were written by hand.
 
-use bx_listing::{Listing, read_listing};
+use bx_listing::{Code, Listing, code_of, read_listing};
 use bx_terms::{Atoms, Fault};
 use std::alloc::{AllocError, Global};
 
@@ -27,4 +27,10 @@ pub fn read(alloc: Global, text: &str) -> Result<(Atoms, Listing), Fault> {
     let mut atoms = Atoms::new(alloc)?;
     let listing = read_listing(alloc, &mut atoms, text.as_bytes())?;
     Ok((atoms, listing))
+}
+
+/// The code of a text, whose atoms are in the table then.
+pub fn code(alloc: Global, atoms: &mut Atoms, text: &str) -> Result<Code, Fault> {
+    let listing = read_listing(alloc, atoms, text.as_bytes())?;
+    code_of(alloc, &listing)
 }
