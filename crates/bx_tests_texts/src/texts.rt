@@ -3,7 +3,6 @@
 use bx_terms::Fault;
 use bx_text::{Node, Reader, View, atom_at, next_term};
 use std::alloc::{AllocError, Global};
-use std::process::Abort;
 use std::test::Fail;
 
 /// Writes a node in Erlang's notation, so many levels of it.
@@ -50,29 +49,40 @@ fn show_below(out: &mut String, node: &Node<'_>, levels: u32) -> Result<(), Allo
     show(out, node, levels - 1)
 }
 
-/// A refusal's number and line.
-fn refusal(alloc: Global, fault: Fault) -> Result<String, AllocError> {
+/// The number and the line of a refusal of a text.
+fn number_and_line(fault: &Fault) -> Option<(u8, usize)> {
     match fault {
-        Fault::BadToken { line } => format!(in alloc; "R3 {line}"),
-        Fault::BadTerm { line } => format!(in alloc; "R4 {line}"),
-        Fault::TooDeep { line } => format!(in alloc; "R5 {line}"),
-        Fault::Truncated { line } => format!(in alloc; "R6 {line}"),
-        Fault::NotUtf8 { line } => format!(in alloc; "R7 {line}"),
-        _ => format!(in alloc; "another"),
+        Fault::BadToken { line } => Some((3, *line)),
+        Fault::BadTerm { line } => Some((4, *line)),
+        Fault::TooDeep { line } => Some((5, *line)),
+        Fault::Truncated { line } => Some((6, *line)),
+        Fault::NotUtf8 { line } => Some((7, *line)),
+        _ => None,
     }
+}
+
+/// A refusal's number and line in words.
+fn refusal(alloc: Global, fault: &Fault) -> Result<String, AllocError> {
+    match number_and_line(fault) {
+        Some((number, line)) => format!(in alloc; "R{number} {line}"),
+        None => String::from_str(alloc, "another"),
+    }
+}
+
+/// What a form is, with its end.
+fn shown(alloc: Global, node: &Node<'_>, end: usize) -> Result<String, AllocError> {
+    let mut out = String::new(alloc);
+    show(&mut out, node, 8)?;
+    write!(out, " {end}")?;
+    Ok(out)
 }
 
 /// What the first form of a text is, with its end, or its refusal.
 fn first(alloc: Global, text: &[u8]) -> Result<String, AllocError> {
     match next_term(alloc, text, 0) {
-        Ok(None) => format!(in alloc; "none"),
-        Ok(Some((node, end))) => {
-            let mut out = String::new(alloc);
-            show(&mut out, &node, 8)?;
-            write!(out, " {end}")?;
-            Ok(out)
-        }
-        Err(fault) => refusal(alloc, fault),
+        Ok(None) => String::from_str(alloc, "none"),
+        Ok(Some((node, end))) => shown(alloc, &node, end),
+        Err(fault) => refusal(alloc, &fault),
     }
 }
 
@@ -384,118 +394,191 @@ static ATOMS: [(&[u8], usize, &str); 25] = [
     (b"'\xFF'", 0, "R7 1"),
 ];
 
-/// Asserts what each text's first form is.
-fn check(alloc: Global, rt: &impl Abort, rows: &[(&[u8], &str)]) -> Result<(), Fail> {
-    for (text, wanted) in rows {
-        let found = first(alloc, text)?;
-        assert_eq!(rt; found.as_str(), *wanted, "{text:?}");
+fn is_first(alloc: Global, text: &[u8], wanted: &str) -> Result<bool, AllocError> {
+    Ok(first(alloc, text)?.as_str() == wanted)
+}
+
+/// How many rows of a text and its first form, from the first on, are so.
+fn right_rows(alloc: Global, rows: &[(&[u8], &str)]) -> Result<usize, AllocError> {
+    for (row, (text, wanted)) in rows.iter().enumerate() {
+        if !is_first(alloc, text, wanted)? {
+            return Ok(row);
+        }
     }
-    Ok(())
+    Ok(rows.len())
 }
 
 #[test]
 fn terms(rt: HostRuntime) -> Result<(), Fail> {
-    check(rt.alloc(), &rt, &TERMS)
+    assert_eq!(rt; right_rows(rt.alloc(), &TERMS)?, TERMS.len());
+    Ok(())
 }
 
 #[test]
 fn first_refusals(rt: HostRuntime) -> Result<(), Fail> {
-    check(rt.alloc(), &rt, &FIRST_REFUSALS)
+    assert_eq!(rt;
+        right_rows(rt.alloc(), &FIRST_REFUSALS)?,
+        FIRST_REFUSALS.len()
+    );
+    Ok(())
 }
 
 #[test]
 fn more_refusals(rt: HostRuntime) -> Result<(), Fail> {
-    check(rt.alloc(), &rt, &MORE_REFUSALS)
+    assert_eq!(rt;
+        right_rows(rt.alloc(), &MORE_REFUSALS)?,
+        MORE_REFUSALS.len()
+    );
+    Ok(())
 }
 
 #[test]
 fn last_refusals(rt: HostRuntime) -> Result<(), Fail> {
-    check(rt.alloc(), &rt, &LAST_REFUSALS)
+    assert_eq!(rt;
+        right_rows(rt.alloc(), &LAST_REFUSALS)?,
+        LAST_REFUSALS.len()
+    );
+    Ok(())
+}
+
+fn push_times(text: &mut String, part: &str, count: usize) -> Result<(), AllocError> {
+    for _ in 0..count {
+        text.push_str(part)?;
+    }
+    Ok(())
 }
 
 /// What follows so many times the same text.
 fn nested(alloc: Global, open: &str, count: usize, rest: &str) -> Result<String, AllocError> {
     let mut text = String::new(alloc);
-    for _ in 0..count {
-        text.push_str(open)?;
-    }
+    push_times(&mut text, open, count)?;
     text.push_str(rest)?;
     Ok(text)
 }
 
-fn check_depths(
+fn is_nested(
     alloc: Global,
-    rt: &impl Abort,
-    rows: &[(&str, usize, &str, &str)],
-) -> Result<(), Fail> {
-    for (open, count, rest, wanted) in rows {
-        let text = nested(alloc, open, *count, rest)?;
-        let found = first(alloc, text.as_bytes())?;
-        assert_eq!(rt; found.as_str(), *wanted, "{open} {rest}");
-    }
-    Ok(())
+    open: &str,
+    count: usize,
+    rest: &str,
+    wanted: &str,
+) -> Result<bool, AllocError> {
+    let text = nested(alloc, open, count, rest)?;
+    is_first(alloc, text.as_bytes(), wanted)
+}
+
+/// Whether a list that is as deep as may be is read.
+fn is_deepest_read(alloc: Global) -> Result<bool, AllocError> {
+    let mut text = nested(alloc, "[", 256, "")?;
+    push_times(&mut text, "]", 256)?;
+    text.push_str(".")?;
+    Ok(next_term(alloc, text.as_bytes(), 0).is_ok())
 }
 
 #[test]
 fn depths(rt: HostRuntime) -> Result<(), Fail> {
-    check_depths(rt.alloc(), &rt, &DEPTHS)?;
-    let mut text = nested(rt.alloc(), "[", 256, "")?;
-    for _ in 0..256 {
-        text.push_str("]")?;
+    for (open, count, rest, wanted) in &DEPTHS {
+        assert!(rt;
+            is_nested(rt.alloc(), *open, *count, *rest, *wanted)?,
+            "{open} {rest}"
+        );
     }
-    text.push_str(".")?;
-    assert_eq!(rt; next_term(rt.alloc(), text.as_bytes(), 0).is_ok(), true);
+    assert!(rt; is_deepest_read(rt.alloc())?);
     Ok(())
+}
+
+/// Writes a form with its span, and where it ends.
+fn push_form(out: &mut String, node: &Node<'_>, end: usize) -> Result<(), AllocError> {
+    show(out, node, 8)?;
+    let span = node.span();
+    write!(
+        out,
+        " {}-{} line {}, then {}.",
+        span.from, span.to, span.line, end
+    )
+}
+
+/// Writes the next form, or that there is none: the reader behind it.
+fn push_next<'a>(alloc: Global, out: &mut String, reader: Reader<'a>) -> Result<Reader<'a>, Fault> {
+    match reader.next(alloc)? {
+        Some((node, end)) => {
+            push_form(out, &node, end.line)?;
+            Ok(end)
+        }
+        None => {
+            out.push_str(" end")?;
+            Ok(reader)
+        }
+    }
+}
+
+const FORMS: &[u8] = b"a.\n{b,\n \"c\n\"} .\n% d\n";
+
+fn three_forms(alloc: Global) -> Result<String, Fault> {
+    let mut seen = String::new(alloc);
+    let mut reader = Reader::at(FORMS, 0);
+    for _ in 0..3 {
+        reader = push_next(alloc, &mut seen, reader)?;
+    }
+    Ok(seen)
+}
+
+fn are_three_forms(alloc: Global, wanted: &str) -> Result<bool, Fault> {
+    Ok(three_forms(alloc)?.as_str() == wanted)
+}
+
+fn is_none_behind(alloc: Global) -> Result<bool, Fault> {
+    Ok(next_term(alloc, FORMS, 16)?.is_none())
+}
+
+/// Whether a text whose second form is refused is refused on its third line.
+fn is_refused_behind(alloc: Global) -> bool {
+    match next_term(alloc, b"a.\n\n )", 2) {
+        Err(fault) => number_and_line(&fault) == Some((4, 3)),
+        Ok(_) => false,
+    }
 }
 
 #[test]
 fn forms_in_a_row(rt: HostRuntime) -> Result<(), Fail> {
-    let text = b"a.\n{b,\n \"c\n\"} .\n% d\n";
-    let mut reader = Reader::at(text, 0);
-    let mut seen = String::new(rt.alloc());
-    for _ in 0..3 {
-        match reader.next(rt.alloc())? {
-            Some((node, end)) => {
-                show(&mut seen, &node, 8)?;
-                let span = node.span();
-                write!(
-                    seen,
-                    " {}-{} line {}, then {}.",
-                    span.from, span.to, span.line, end.line
-                )?;
-                reader = end;
-            }
-            None => seen.push_str(" end")?,
-        }
-    }
-    assert_eq!(rt;
-        seen.as_str(),
-        "a 0-1 line 1, then 1.{b,[99,10]} 3-13 line 2, then 4. end"
-    );
-    assert_eq!(rt; next_term(rt.alloc(), text, 16)?.is_none(), true);
-    match next_term(rt.alloc(), b"a.\n\n )", 2) {
-        Err(fault) => assert_eq!(rt; refusal(rt.alloc(), fault)?.as_str(), "R4 3"),
-        Ok(_) => assert!(rt; false),
-    }
+    let wanted = "a 0-1 line 1, then 1.{b,[99,10]} 3-13 line 2, then 4. end";
+    assert!(rt; are_three_forms(rt.alloc(), wanted)?);
+    assert!(rt; is_none_behind(rt.alloc())?);
+    assert!(rt; is_refused_behind(rt.alloc()));
     Ok(())
+}
+
+fn push_span(out: &mut String, node: &Node<'_>) -> Result<(), AllocError> {
+    let span = node.span();
+    write!(out, "{}-{} line {}", span.from, span.to, span.line)
+}
+
+/// Writes the spans of a list's elements and of its tail.
+fn push_spans(out: &mut String, node: &Node<'_>) -> Result<(), AllocError> {
+    let View::List(elements, tail) = node.view() else {
+        return Ok(());
+    };
+    for element in elements {
+        push_span(out, element)?;
+        out.push_str(". ")?;
+    }
+    match tail {
+        Some(tail) => push_span(out, tail),
+        None => Ok(()),
+    }
+}
+
+fn spans(alloc: Global, text: &[u8]) -> Result<String, Fault> {
+    let mut seen = String::new(alloc);
+    if let Some((node, _)) = next_term(alloc, text, 0)? {
+        push_spans(&mut seen, &node)?;
+    }
+    Ok(seen)
 }
 
 #[test]
 fn spans_of_parts(rt: HostRuntime) -> Result<(), Fail> {
-    let found = next_term(rt.alloc(), b"\n[ 'b c' ,\n-12|{ }].", 0)?;
-    let mut seen = String::new(rt.alloc());
-    if let Some((node, _)) = found {
-        if let View::List(elements, tail) = node.view() {
-            for element in elements {
-                let span = element.span();
-                write!(seen, "{}-{} line {}. ", span.from, span.to, span.line)?;
-            }
-            if let Some(tail) = tail {
-                let span = tail.span();
-                write!(seen, "{}-{} line {}", span.from, span.to, span.line)?;
-            }
-        }
-    }
+    let seen = spans(rt.alloc(), b"\n[ 'b c' ,\n-12|{ }].")?;
     assert_eq!(rt; seen.as_str(), "3-8 line 2. 11-14 line 3. 15-18 line 3");
     Ok(())
 }
@@ -503,30 +586,25 @@ fn spans_of_parts(rt: HostRuntime) -> Result<(), Fail> {
 /// What stands as an atom at a place of a text.
 fn atom(alloc: Global, text: &[u8], at: usize) -> Result<String, AllocError> {
     if at > text.len() {
-        return format!(in alloc; "past the end");
+        return String::from_str(alloc, "past the end");
     }
     match atom_at(alloc, text, at) {
-        Ok(Some((name, end))) => {
-            let mut out = name;
-            write!(out, " {end}")?;
-            Ok(out)
-        }
-        Ok(None) => format!(in alloc; "none"),
-        Err(fault) => refusal(alloc, fault),
+        Ok(Some((name, end))) => format!(in alloc; "{name} {end}"),
+        Ok(None) => String::from_str(alloc, "none"),
+        Err(fault) => refusal(alloc, &fault),
     }
 }
 
-fn check_atoms(alloc: Global, rt: &impl Abort, rows: &[(&[u8], usize, &str)]) -> Result<(), Fail> {
-    for (text, at, wanted) in rows {
-        let found = atom(alloc, text, *at)?;
-        assert_eq!(rt; found.as_str(), *wanted, "{text:?} {at}");
-    }
-    Ok(())
+fn is_atom(alloc: Global, text: &[u8], at: usize, wanted: &str) -> Result<bool, AllocError> {
+    Ok(atom(alloc, text, at)?.as_str() == wanted)
 }
 
 #[test]
 fn atoms(rt: HostRuntime) -> Result<(), Fail> {
-    check_atoms(rt.alloc(), &rt, &ATOMS)
+    for (text, at, wanted) in &ATOMS {
+        assert!(rt; is_atom(rt.alloc(), *text, *at, *wanted)?, "{text:?} {at}");
+    }
+    Ok(())
 }
 
 /// Texts of one term each, and whether the terms are the same.
@@ -564,16 +642,23 @@ static PAIRS: [(&[u8], &[u8], bool); 31] = [
     (b"\"ab\".", b"\"ac\".", false),
 ];
 
+/// Whether the first terms of two texts are the same.
+fn are_same(alloc: Global, one: &[u8], other: &[u8]) -> Result<bool, Fault> {
+    let found = next_term(alloc, one, 0)?;
+    let other_found = next_term(alloc, other, 0)?;
+    Ok(match (&found, &other_found) {
+        (Some((node, _)), Some((other_node, _))) => node.same(other_node),
+        _ => false,
+    })
+}
+
 #[test]
 fn sameness_of_terms(rt: HostRuntime) -> Result<(), Fail> {
     for (one, other, wanted) in &PAIRS {
-        let found = next_term(rt.alloc(), one, 0)?;
-        let other_found = next_term(rt.alloc(), other, 0)?;
-        let same = match (&found, &other_found) {
-            (Some((node, _)), Some((other_node, _))) => node.same(other_node),
-            _ => false,
-        };
-        assert_eq!(rt; same, *wanted, "{one:?} {other:?}");
+        assert!(rt;
+            are_same(rt.alloc(), *one, *other)? == *wanted,
+            "{one:?} {other:?}"
+        );
     }
     Ok(())
 }
