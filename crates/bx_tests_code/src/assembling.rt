@@ -130,43 +130,46 @@ fn repeated(
     Ok(out)
 }
 
-/// Whether these items are within the limits.
-fn is_numbered(alloc: Global, items: &str) -> Result<bool, Fault> {
-    Ok(refusal_of_items(alloc, items)? == (0, 0))
-}
-
-/// Whether they are refused as too many, or too long.
-fn is_too_large(alloc: Global, items: &str) -> Result<bool, Fault> {
-    Ok(refusal_of_items(alloc, items)? == (16, 0))
-}
-
 const TUPLE: &str = "{put_tuple2,{x,0},{list,[nil";
+
+/// What is refused as too many, or too long; what is numbered has the number 0.
+const TOO_LARGE: (u8, usize) = (16, 0);
+
+const NUMBERED: (u8, usize) = (0, 0);
+
+/// The refusal of a tuple's list with so many elements behind the first.
+fn refusal_of_list(alloc: Global, times: usize) -> Result<(u8, usize), Fault> {
+    let items = repeated(alloc, TUPLE, ",nil", times, "]}}.")?;
+    refusal_of_items(alloc, items.as_str())
+}
 
 #[test]
 fn the_longest_list(rt: HostRuntime) -> Result<(), Fail> {
-    let most = repeated(rt.alloc(), TUPLE, ",nil", 65_534, "]}}.")?;
-    assert!(rt; is_numbered(rt.alloc(), most.as_str())?);
+    assert!(rt; refusal_of_list(rt.alloc(), 65_534)? == NUMBERED);
     Ok(())
 }
 
 #[test]
 fn a_list_that_is_longer(rt: HostRuntime) -> Result<(), Fail> {
-    let over = repeated(rt.alloc(), TUPLE, ",nil", 65_535, "]}}.")?;
-    assert!(rt; is_too_large(rt.alloc(), over.as_str())?);
+    assert!(rt; refusal_of_list(rt.alloc(), 65_535)? == TOO_LARGE);
     Ok(())
+}
+
+/// The refusal of so many items behind those that the function begins with.
+fn refusal_of_sends(alloc: Global, times: usize) -> Result<(u8, usize), Fault> {
+    let items = repeated(alloc, "", "send. ", times, "")?;
+    refusal_of_items(alloc, items.as_str())
 }
 
 #[test]
 fn as_many_items_as_may_be(rt: HostRuntime) -> Result<(), Fail> {
-    let most = repeated(rt.alloc(), "", "send. ", 999_997, "")?;
-    assert!(rt; is_numbered(rt.alloc(), most.as_str())?);
+    assert!(rt; refusal_of_sends(rt.alloc(), 999_997)? == NUMBERED);
     Ok(())
 }
 
 #[test]
 fn an_item_more(rt: HostRuntime) -> Result<(), Fail> {
-    let over = repeated(rt.alloc(), "", "send. ", 999_998, "")?;
-    assert!(rt; is_too_large(rt.alloc(), over.as_str())?);
+    assert!(rt; refusal_of_sends(rt.alloc(), 999_998)? == TOO_LARGE);
     Ok(())
 }
 
@@ -181,16 +184,20 @@ fn calls(alloc: Global, count: u32) -> Result<String, AllocError> {
     Ok(out)
 }
 
+/// The refusal of so many functions that are called.
+fn refusal_of_calls(alloc: Global, count: u32) -> Result<(u8, usize), Fault> {
+    let items = calls(alloc, count)?;
+    refusal_of_items(alloc, items.as_str())
+}
+
 #[test]
 fn as_many_functions_called_as_may_be(rt: HostRuntime) -> Result<(), Fail> {
-    let most = calls(rt.alloc(), 65_535)?;
-    assert!(rt; is_numbered(rt.alloc(), most.as_str())?);
+    assert!(rt; refusal_of_calls(rt.alloc(), 65_535)? == NUMBERED);
     Ok(())
 }
 
 #[test]
 fn a_function_called_more(rt: HostRuntime) -> Result<(), Fail> {
-    let over = calls(rt.alloc(), 65_536)?;
-    assert!(rt; is_too_large(rt.alloc(), over.as_str())?);
+    assert!(rt; refusal_of_calls(rt.alloc(), 65_536)? == TOO_LARGE);
     Ok(())
 }

@@ -3,7 +3,7 @@
 use crate::samples::{FORMS, atom, image, module, read};
 use bx_asm::assemble;
 use bx_dis::{disassemble, disassemble_image};
-use bx_listing::code_of;
+use bx_listing::{Code, Listing, code_of};
 use bx_load::Image;
 use bx_share::Same;
 use bx_terms::Fault;
@@ -16,20 +16,33 @@ const TWO: &str = "{module,n}. {exports,[{g,1},{h,0},{g,1}]}. {labels,5}.
 {function,g,1,2}. {label,1}. {func_info,{atom,n},{atom,g},1}. {label,2}. {move,{literal,[a|b]},{x,0}}. return.
 {function,h,0,4}. {label,3}. {func_info,{atom,n},{atom,h},0}. {label,4}. {line,[]}. {call_ext,1,{extfunc,n,g,1}}.";
 
-/// Whether the numbered code of that listing is spelled back as the listing's code.
+/// What the numbered code of a listing is spelled back to.
+fn spelled_back(alloc: Global, listing: &Listing) -> Result<Code, Fault> {
+    let unit = assemble(alloc, listing)?;
+    disassemble(alloc, &unit)
+}
+
+/// Whether that is the listing's code.
+fn is_same_code(alloc: Global, listing: &Listing) -> Result<bool, Fault> {
+    let code = code_of(alloc, listing)?;
+    Ok(spelled_back(alloc, listing)?.same(&code))
+}
+
 fn is_spelled_back(alloc: Global, text: &str) -> Result<bool, Fault> {
     let (_, listing) = read(alloc, text)?;
-    let unit = assemble(alloc, &listing)?;
-    let code = code_of(alloc, &listing)?;
-    Ok(disassemble(alloc, &unit)?.same(&code))
+    is_same_code(alloc, &listing)
+}
+
+fn are_forms_spelled_back(alloc: Global) -> Result<bool, Fault> {
+    let forms = module(alloc, FORMS)?;
+    is_spelled_back(alloc, forms.as_str())
 }
 
 #[test]
 fn units_are_spelled_back(rt: HostRuntime) -> Result<(), Fail> {
-    let forms = module(rt.alloc(), FORMS)?;
-    for text in [EMPTY, TWO, forms.as_str()] {
-        assert!(rt; is_spelled_back(rt.alloc(), text)?, "{text}");
-    }
+    assert!(rt; is_spelled_back(rt.alloc(), EMPTY)?);
+    assert!(rt; is_spelled_back(rt.alloc(), TWO)?);
+    assert!(rt; are_forms_spelled_back(rt.alloc())?);
     Ok(())
 }
 
@@ -45,11 +58,25 @@ fn counted(alloc: Global, image: &Image, name: &str) -> Result<Option<(usize, us
     Ok(Some((code.functions().len(), items)))
 }
 
+static MODULES: [(&str, Option<(usize, usize)>); 3] = [
+    ("m", Some((0, 0))),
+    ("n", Some((2, 10))),
+    ("g", None),
+];
+
+/// How many rows, from the first on, are as the image of the two modules has them.
+fn right_rows(alloc: Global) -> Result<usize, Fault> {
+    let image = image(alloc, &[EMPTY, TWO])?;
+    for (row, (name, want)) in MODULES.iter().enumerate() {
+        if counted(alloc, &image, *name)? != *want {
+            return Ok(row);
+        }
+    }
+    Ok(MODULES.len())
+}
+
 #[test]
 fn modules_of_an_image(rt: HostRuntime) -> Result<(), Fail> {
-    let image = image(rt.alloc(), &[EMPTY, TWO])?;
-    for (name, want) in [("m", Some((0, 0))), ("n", Some((2, 10))), ("g", None)] {
-        assert!(rt; counted(rt.alloc(), &image, name)? == want, "{name}");
-    }
+    assert_eq!(rt; right_rows(rt.alloc())?, MODULES.len());
     Ok(())
 }

@@ -43,13 +43,29 @@ pub fn unit(alloc: Global, text: &str) -> Result<(Atoms, Unit), Fault> {
     Ok((atoms, unit))
 }
 
+fn push_unit(
+    alloc: Global,
+    atoms: &mut Atoms,
+    units: &mut Vec<Unit>,
+    text: &str,
+) -> Result<(), Fault> {
+    let unit = next_unit(alloc, atoms, text)?;
+    Ok(units.push(unit)?)
+}
+
+/// The numbered code of these listings, whose atoms are in the table then.
+fn units(alloc: Global, atoms: &mut Atoms, texts: &[&str]) -> Result<Vec<Unit>, Fault> {
+    let mut units = Vec::new(alloc);
+    for text in texts {
+        push_unit(alloc, atoms, &mut units, *text)?;
+    }
+    Ok(units)
+}
+
 /// The image of these listings, or how loading them was refused.
 pub fn loaded(alloc: Global, texts: &[&str]) -> Result<Result<Image, LoadRefused>, Fault> {
     let mut atoms = Atoms::new(alloc)?;
-    let mut units = Vec::new(alloc);
-    for text in texts {
-        units.push(next_unit(alloc, &mut atoms, text)?)?;
-    }
+    let units = units(alloc, &mut atoms, texts)?;
     Ok(load(alloc, atoms, units))
 }
 
