@@ -1,8 +1,8 @@
 -- The command lines of the program, and what each orders, by the meaning that `clap` gives to the
 -- words of simple commands.
-use Rattle.std.specs.Prelude.{◌≡◌, ◌⊎◌, ◌<◌, ◌^◌, ℕ, pos, true, false, List, [], ◌∷◌, Option, Some, None, codes, map}
+use Rattle.std.specs.Prelude.{◌≡◌, ◌≢◌, ◌⊎◌, ◌<◌, ◌^◌, ℕ, pos, true, false, List, [], ◌∷◌, Option, Some, None, codes, map}
 use Rattle.std.specs.Str.Parse.{IsNumeral, signed_digits_value, without_leading_sign}
-use Rattle.clap.specs.Kinds.{HasKind}
+use Rattle.clap.specs.Kinds.{HasKind, IsAmong}
 use Rattle.clap.specs.Faults.{fault_of}
 use Rattle.clap.specs.Values.{kind_of}
 use Rattle.clap.specs.Simple.{App, new_app, new_rule, on_top, subcommand_of, with_rule, with_subcommand}
@@ -10,7 +10,7 @@ use Rattle.clap.specs.Walk.{Row, Rule, Text, all_of, first_of}
 use Rattle.clap.specs.declared.builder.action.ArgAction.TheVariants.{Set, Append}
 use Rattle.clap.specs.declared.builder.value_parser.ValueParser.TheVariants.{Signed}
 use Rattle.clap.specs.declared.error.Error.{Error}
-use Rattle.clap.specs.declared.error.kind.ErrorKind.TheVariants.{OutOfMemory}
+use Rattle.clap.specs.declared.error.kind.ErrorKind.TheVariants.{DisplayHelp, DisplayVersion, MissingSubcommand, OutOfMemory}
 use Rattle.bxemu.specs.declared.commands.Order.{Order}
 use Rattle.bxemu.specs.declared.commands.Order.TheVariants.{Campaign, Debug, Dis, Run}
 
@@ -123,14 +123,32 @@ abbrev pub NamesSession : Option (Text × List Row) → Type 0
 NamesSession None = ⊥
 NamesSession (Some p) = p.0 ≡ codes "debug"
 
--- there is no order with these values, or memory ran out
+-- no order has these values
+abbrev pub IsUnordered : Option (Text × List Row) → Type 0
+IsUnordered named = (order : Order) → Orders named order → ⊥
+
+-- the error tells that a part is missing, of values that no order has, or that memory ran out
 abbrev pub Lacks : Option (Text × List Row) → Error → Type 0
-Lacks named e = (kind_of e ≡ OutOfMemory) ⊎ ((order : Order) → Orders named order → ⊥)
+Lacks named e = (kind_of e ≡ OutOfMemory) ⊎ ((kind_of e ≡ MissingSubcommand) × IsUnordered named)
 
 -- the words order nothing: by the rules of `clap`, or since no order has their values
 abbrev pub OrdersNothing : List Text → Error → Type 0
 OrdersNothing words e =
     HasKind (fault_of program words) e ⊎ Lacks (subcommand_of program words) e
+
+-- a help may be what the words ask for
+abbrev pub MayAskHelp : List Text → Type 0
+MayAskHelp words =
+    IsAmong DisplayHelp (fault_of program words) ⊎ IsAmong DisplayVersion (fault_of program words)
+
+-- the words are at fault, or no order has their values
+abbrev pub IsMistaken : List Text → Type 0
+IsMistaken words = (fault_of program words ≢ []) ⊎ IsUnordered (subcommand_of program words)
+
+-- the status of such words: 2 for a mistake, 3 for want of memory, and 0 or 4 only for a help
+abbrev pub RefusesWords : List Text → ℕ → Type 0
+RefusesWords words status = (status ≡ 2) ⊎ (status ≡ 3)
+    ⊎ (MayAskHelp words × ((status ≡ 0) ⊎ (status ≡ 4)))
 
 -- the words order a run with these parts, and have no fault
 abbrev pub OrdersRun : List Text → Text → Text → List Text → Type 0

@@ -1,5 +1,7 @@
 -- The status that a run ends with.
-use Rattle.std.specs.Prelude.{ℕ, Result, Ok, Err}
+use Rattle.std.specs.Prelude.{◌≡◌, ◌⊎◌, ℕ, Result, Ok, Err}
+use Rattle.clap.specs.declared.error.kind.ErrorKind.{ErrorKind}
+use Rattle.clap.specs.declared.error.kind.ErrorKind.TheVariants.{DisplayHelp, DisplayVersion, OutOfMemory}
 use Rattle.bx_engine.specs.FaultLines.{status_of}
 use Rattle.bx_engine.specs.declared.failures.Failure.{Failure}
 
@@ -7,3 +9,9 @@ use Rattle.bx_engine.specs.declared.failures.Failure.{Failure}
 abbrev pub status_after : {A : Type 0} → Result A Failure → ℕ
 status_after (Ok done) = 0
 status_after (Err failure) = status_of failure
+
+-- by the kind of what `clap` answered in place of an order: 3 for want of memory, 0 or 4 for a help, and else 2
+abbrev pub EndsByKind : ErrorKind → ℕ → Type 0
+EndsByKind kind status = ((kind ≡ OutOfMemory) × (status ≡ 3))
+    ⊎ (((kind ≡ DisplayHelp) ⊎ (kind ≡ DisplayVersion)) × ((status ≡ 0) ⊎ (status ≡ 4)))
+    ⊎ (status ≡ 2)

@@ -5,8 +5,8 @@ ghost use Rattle.std.specs.IoError.{error_kind};
 ghost use Rattle.std.specs.declared.io.ErrorKind.TheVariants.{OutOfMemory};
 ghost use Rattle.clap.specs.Words.{kind_of, subcommand_of};
 ghost use Rattle.bx_terms.specs.declared.faults.Fault.TheVariants.{Memory};
-ghost use Rattle.bxemu.specs.CommandLines.{NamesSession, TellsByLine, program};
-ghost use Rattle.bxemu.specs.Statuses.{status_after};
+ghost use Rattle.bxemu.specs.CommandLines.{IsMistaken, NamesSession, RefusesWords, TellsByLine, program};
+ghost use Rattle.bxemu.specs.Statuses.{EndsByKind, status_after};
 
 use crate::commands::{Order, command_of};
 use crate::progress::Progress;
@@ -40,7 +40,8 @@ where
 }
 
 /// Does what the words of a command line order, and gives the status to end with. Where it is none of 0 and 4, nothing was
-/// written to `output`, unless the words order a session, whose answers go out line by line.
+/// written to `output`, unless the words order a session, whose answers go out line by line. Words that order nothing end with
+/// 2, or 3 where memory ran out, unless a help was asked for; words that cannot be read with 2, or 3 likewise.
 fn status_of_words<R, I, O, W>(
     rt: &R,
     words: &io::Result<Vec<String>>,
@@ -57,6 +58,10 @@ where
     ensures unwritten { (result ≡ 0) ⊎ (result ≡ 4)
         ⊎ IsOkAnd words.now (λ words. NamesSession (subcommand_of program (map string_bytes words.items)))
         ⊎ Keeps (O.contents output.old) (O.contents output.new) }
+    ensures refused { IfOk words.now (λ words. IsMistaken (map string_bytes words.items)
+        → RefusesWords (map string_bytes words.items) result) }
+    ensures unread { IfErr words.now (λ error. (error_kind error ≡ OutOfMemory → result ≡ 3)
+        × (error_kind error ≢ OutOfMemory → result ≡ 2)) }
 {
     let words = match words {
         Ok(words) => words,
@@ -235,6 +240,7 @@ fn explain<R: Print + Eprint, W: Write>(rt: &R, error: &Error, errors: &mut W) -
     ensures mistake { kind_of error.now ≢ ErrorKind.OutOfMemory
         → kind_of error.now ≢ ErrorKind.DisplayHelp
         → kind_of error.now ≢ ErrorKind.DisplayVersion → result ≡ 2 }
+    ensures by_kind { EndsByKind (kind_of error.now) result }
     ensures few { result ≤ 4 }
 {
     if error.kind() == ErrorKind::OutOfMemory {

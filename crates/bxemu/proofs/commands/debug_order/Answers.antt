@@ -1,18 +1,18 @@
-use Rattle.std.proofs.Common.{◌∙◌, codes, inr, refl, sym, ap, map, Some}
+use Rattle.std.proofs.Common.{◌∙◌, codes, refl, sym, ap, map, Some}
 use Rattle.clap.specs.Words.{found_of, rows_of}
 use Rattle.clap.proofs.WalkLemmas.{first_value-rows, raw_values-rows}
-use Rattle.bxemu.proofs.CommandLemmas.{debug_lacks_files, debug_lacks_start}
+use Rattle.bxemu.proofs.CommandLemmas.{lacking, debug_lacks_files, debug_lacks_start}
 use Rattle.bxemu.proofs.commands.debug_order.Goals as goal
 
 pub returns-in_default-clause-err : goal.returns-in_default-clause-err
 returns-in_default-clause-err c =
     let found = found_of c.args.values.now in
-    inr (debug_lacks_start (rows_of found) (sym (first_value-rows found (codes "start")) ∙ sym c.in_default.ensures))
+    lacking (Some (codes "debug", rows_of found)) c.incomplete.result c.incomplete.ensures (debug_lacks_start (rows_of found) (sym (first_value-rows found (codes "start")) ∙ sym c.in_default.ensures))
 
 pub returns-in_default-get_raw-clause-err : goal.returns-in_default-get_raw-clause-err
 returns-in_default-get_raw-clause-err c =
     let found = found_of c.args.values.now in
-    inr (debug_lacks_files (rows_of found) (sym (raw_values-rows found (codes "FILES")) ∙ sym c.in_default-get_raw.ensures))
+    lacking (Some (codes "debug", rows_of found)) c.incomplete-in_default-get_raw.result c.incomplete-in_default-get_raw.ensures (debug_lacks_files (rows_of found) (sym (raw_values-rows found (codes "FILES")) ∙ sym c.in_default-get_raw.ensures))
 
 pub returns-clause-ok : goal.returns-clause-ok
 returns-clause-ok c =
