@@ -145,7 +145,7 @@ MayAskHelp words =
 abbrev pub IsMistaken : List Text → Type 0
 IsMistaken words = (fault_of program words ≢ []) ⊎ IsUnordered (subcommand_of program words)
 
--- the status of such words: 2 for a mistake, 3 for want of memory, and 0 or 4 only for a help
+-- the status of such words: 2 or 3, and 0 or 4 only where they may ask for a help
 abbrev pub RefusesWords : List Text → ℕ → Type 0
 RefusesWords words status = (status ≡ 2) ⊎ (status ≡ 3)
     ⊎ (MayAskHelp words × ((status ≡ 0) ⊎ (status ≡ 4)))

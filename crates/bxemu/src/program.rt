@@ -41,7 +41,7 @@ where
 
 /// Does what the words of a command line order, and gives the status to end with. Where it is none of 0 and 4, nothing was
 /// written to `output`, unless the words order a session, whose answers go out line by line. Words that order nothing end with
-/// 2, or 3 where memory ran out, unless a help was asked for; words that cannot be read with 2, or 3 likewise.
+/// 2 or 3, unless they may ask for a help; words that cannot be read with 3 where memory ran out, and else with 2.
 fn status_of_words<R, I, O, W>(
     rt: &R,
     words: &io::Result<Vec<String>>,
