@@ -8,3 +8,4 @@ pub mod Replaying
 pub mod Moving
 pub mod Lawful
 pub mod Stopped
+pub mod Unbroken

@@ -230,12 +230,9 @@ breaks_at_none : (p : ℕ) (place : Option Place) → break_at set.empty p place
 breaks_at_none p None = refl
 breaks_at_none p (Some place) = if_false (is_set set.empty place) (Some (Break p place)) None (set_nowhere place)
 
-breaks_none : (choice : Choice) (w : State) → break_behind set.empty choice w ≡ None
+pub breaks_none : (choice : Choice) (w : State) → break_behind set.empty choice w ≡ None
 breaks_none (Run p) w = breaks_at_none p (place_in p w)
 breaks_none other w = refl
-
-pub breaks_nowhere : (places : PlaceSet) (choice : Choice) (w : State) → places ≡ set.empty → None ≡ break_behind places choice w
-breaks_nowhere places choice w none = sym (ap (λ (ps : PlaceSet). break_behind ps choice w) none ∙ breaks_none choice w)
 
 -- a choice that is not refused is applied
 open_to : (choice : Choice) (trap : Option (Trap × ℕ)) (able : Bool) → (if is_some trap then Some faults.Halted else if able then None else Some faults.NotEnabled) ≡ None

@@ -22,6 +22,11 @@ abbrev pub halted : Option (Trap × ℕ) → Option Stop
 halted None = None
 halted (Some trap) = Some (Trapped trap.0 trap.1)
 
+-- why a run went no further: a choice was refused, or the world has trapped
+abbrev pub ended_by : Option Choice → Option (Trap × ℕ) → Option Stop
+ended_by (Some choice) trap = Some (NotEnabled choice)
+ended_by None trap = halted trap
+
 -- why a choice is not applied: the world has trapped, else the choice is not enabled
 abbrev pub stop_before : Choice → State → Option Stop
 stop_before choice w = else_stop (halted w.trap) (if can w choice then None else Some (NotEnabled choice))

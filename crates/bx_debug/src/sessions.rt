@@ -12,7 +12,7 @@ ghost use Rattle.bx_debug.specs.Sessions.{back, behind, forward, gone, GoTakes, 
 use crate::places::Places;
 use crate::rows::replace_tails;
 use crate::stops::{Stop, refusal, stop_at_once};
-use crate::walks::{KEPT_EACH, Walk, follow, replay, shared};
+use crate::walks::{KEPT_EACH, Walk, follow, into_world, replay, shared};
 use bx_load::Image;
 use bx_share::{Same, same_rows};
 use bx_terms::{AtomId, Fault, Place};
@@ -256,7 +256,7 @@ impl<'a> Session<'a> {
     fn adopt(&mut self, made: &[Choice], walk: Walk) -> Result<(), AllocError>
         requires some { made.now ≢ [] }
         requires follows { Follows self.old.image (world_of self.old) (self.old.at % KEPT_EACH)
-            made.now walk.world walk.kept.items }
+            made.now walk.end.world walk.kept.items }
         ensures ok { OnOk result (self.new ≡ with_made made.now self.old) }
         ensures err { OnErr result (self.new ≡ self.old) }
     {
@@ -271,7 +271,7 @@ impl<'a> Session<'a> {
             &mut kept,
         )?;
         self.at = self.choices.len();
-        self.world = walk.world;
+        self.world = into_world(walk.end);
         Ok(())
     }
 

@@ -3,14 +3,19 @@
 ghost use Rattle.std.specs.Prelude.{◌≡◌, ◌↔◌, if◌then◌else◌, IfOk, IsTrue, Some, None};
 ghost use Rattle.bx_world.specs.Choosing.{refusal};
 ghost use Rattle.bx_world.specs.Enabled.{can};
-ghost use Rattle.bx_debug.specs.Going.{break_at, break_behind, halted, stop_at_once, stop_before, stop_behind};
+ghost use Rattle.bx_debug.specs.Going.{break_at, break_behind, ended_by, halted, stop_at_once, stop_before, stop_behind};
 ghost use Rattle.bx_debug.specs.Leading.{Chooses};
 
 use crate::places::Places;
 use bx_load::Image;
+use bx_proc::Proc;
+use bx_share::RcHold;
 use bx_terms::{Fault, Place, Trap};
-use bx_world::{Choice, RcWorld};
+use bx_world::{Choice, Lanes, RcWorld, RunEnd};
 use std::alloc::{AllocError, Global};
+
+/// Where choices have led in a world that stays in one thread.
+pub(crate) type RcEnd = RunEnd<RcHold<Proc>, RcHold<Lanes>>;
 
 /// Why no more choices were applied.
 #[derive(Clone, Copy, Debug, PartialEq, Eq)]
@@ -36,7 +41,7 @@ impl Stop {
 
 /// That the world has trapped, if it has.
 #[inline(always)]
-fn halted(world: &RcWorld) -> Option<Stop>
+pub(crate) fn halted(world: &RcWorld) -> Option<Stop>
     ensures { result ≡ halted world.now.trap }
 {
     match world.trap() {
@@ -95,6 +100,16 @@ fn refused(choice: Choice, world: &RcWorld) -> Option<Stop>
     Some(Stop::NotEnabled(choice))
 }
 
+/// Why a run went no further, if it did not: a choice was refused, or the world has trapped.
+pub(crate) fn ended_by(end: &RcEnd) -> Option<Stop>
+    ensures { result ≡ ended_by end.now.refused end.now.world.trap }
+{
+    match end.refused {
+        Some(choice) => Some(Stop::NotEnabled(choice)),
+        None => halted(&end.world),
+    }
+}
+
 /// Applies a choice, or tells why it is not applied.
 #[inline(always)]
 pub(crate) fn choose(
@@ -128,9 +143,6 @@ pub(crate) fn stop_behind(places: &Places, choice: Choice, world: &RcWorld) -> O
 fn break_behind(places: &Places, choice: Choice, world: &RcWorld) -> Option<Stop>
     ensures { result ≡ break_behind places.now choice world.now }
 {
-    if places.is_empty() {
-        return None;
-    }
     let Choice::Run(pid) = choice else {
         return None;
     };

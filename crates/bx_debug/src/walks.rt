@@ -1,14 +1,15 @@
 //! Choices applied one after another, in a world that is shared with others until it changes.
 
 ghost use Rattle.std.specs.Prelude.{◌≡◌, ℕ, ◌+◌, ◌-◌, ◌∷◌, ◌++◌, ◌<◌, ◌≤◌, [], true, length, take, None, IfOk, OnOk};
+ghost use Rattle.std.specs.FinSet as set;
 ghost use Rattle.bx_world.specs.World.{State};
 ghost use Rattle.bx_debug.specs.Going.{walked};
 ghost use Rattle.bx_debug.specs.Leading.{all_enabled, led, Begins, Leads, Reaches, Walks};
 
 use crate::places::Places;
-use crate::stops::{Stop, choose, stop_behind};
+use crate::stops::{RcEnd, Stop, choose, ended_by, halted, stop_behind};
 use bx_load::Image;
-use bx_world::{Choice, RcWorld};
+use bx_world::{Choice, RcWorld, RunEnd, advance};
 use std::alloc::{AllocError, Global};
 
 /// How many choices lie between one world that is kept and the next.
@@ -71,10 +72,66 @@ fn stretch(
     Ok((past, None))
 }
 
+/// The same where no run breaks off. Once a choice was refused or the world has trapped nothing changes any more, so why it
+/// stopped is looked at behind the last one.
+fn stretch_unbroken(
+    alloc: Global,
+    image: &Image,
+    end: &mut RcEnd,
+    choices: &[Choice],
+    first: usize,
+    past: usize,
+) -> Result<(usize, Option<Stop>), AllocError>
+    requires ordered { first < past }
+    requires within { past ≤ length choices.now }
+    ensures between { IfOk result (λ reached. (first ≤ reached.0) × (reached.0 ≤ past)) }
+    ensures whole { IfOk result (λ reached. reached.1 ≡ None → reached.0 ≡ past) }
+    ensures way { IfOk result (λ reached. (from : State)
+        → Leads image.now set.empty choices.now from first end.old.world None
+        → Reaches image.now set.empty choices.now from first past reached.0 end.new.world reached.1) }
+{
+    if let Some(stop) = halted(&end.world) {
+        return Ok((first, Some(stop)));
+    }
+    end.applied = 0;
+    end.refused = None;
+    for at in first..past {
+        if let Err(_) = advance(alloc, end, image, choices[at]) {
+            return Err(AllocError);
+        }
+    }
+    Ok((first + end.applied as usize, ended_by(end)))
+}
+
+/// The one or the other of both, by whether some place is set.
+fn stretch_by_places(
+    alloc: Global,
+    image: &Image,
+    places: &Places,
+    end: &mut RcEnd,
+    choices: &[Choice],
+    first: usize,
+    past: usize,
+) -> Result<(usize, Option<Stop>), AllocError>
+    requires ordered { first < past }
+    requires within { past ≤ length choices.now }
+    ensures between { IfOk result (λ reached. (first ≤ reached.0) × (reached.0 ≤ past)) }
+    ensures whole { IfOk result (λ reached. reached.1 ≡ None → reached.0 ≡ past) }
+    ensures way { IfOk result (λ reached. (from : State)
+        → Leads image.now places.now choices.now from first end.old.world None
+        → Reaches image.now places.now choices.now from first past reached.0 end.new.world reached.1) }
+{
+    if places.is_empty() {
+        return stretch_unbroken(alloc, image, end, choices, first, past);
+    }
+    stretch(alloc, image, places, &mut end.world, choices, first, past)
+}
+
 /// What came of choices that were applied in order.
 #[derive(Drop)]
 pub(crate) struct Walk {
-    pub(crate) world: RcWorld,
+    /// Where they led. How many were applied, and whether one was refused, is known of the last stretch alone.
+    pub(crate) end: RcEnd,
     /// How many were applied.
     pub(crate) applied: usize,
     /// How many were made behind the last world that was kept.
@@ -88,13 +145,17 @@ impl Walk {
     /// No choice is applied yet. There is room for the worlds that so many choices may pass.
     fn begun(alloc: Global, world: &RcWorld, since: usize, count: usize) -> Result<Walk, AllocError>
         requires { since < KEPT_EACH }
-        ensures { IfOk result (λ walk. Begins world.now since walk.world walk.applied walk.since
+        ensures { IfOk result (λ walk. Begins world.now since walk.end.world walk.applied walk.since
             walk.kept.items walk.stop) }
     {
         let world = shared(alloc, world)?;
         let kept = Vec::with_capacity(alloc, count / KEPT_EACH)?;
         Ok(Walk {
-            world,
+            end: RunEnd {
+                world,
+                applied: 0,
+                refused: None,
+            },
             applied: 0,
             since,
             kept,
@@ -114,21 +175,21 @@ impl Walk {
         requires open { self.old.applied < length choices.now }
         requires since { self.old.since < KEPT_EACH }
         ensures way { IfOk result (λ stop. (from : State) (since : ℕ)
-            → Walks image.now choices.now from since self.old.applied self.old.world self.old.since self.old.kept.items
-            → Leads image.now places.now choices.now from self.old.applied self.old.world None
-            → Walks image.now choices.now from since self.new.applied self.new.world self.new.since self.new.kept.items
-            × Leads image.now places.now choices.now from self.new.applied self.new.world stop) }
+            → Walks image.now choices.now from since self.old.applied self.old.end.world self.old.since self.old.kept.items
+            → Leads image.now places.now choices.now from self.old.applied self.old.end.world None
+            → Walks image.now choices.now from since self.new.applied self.new.end.world self.new.since self.new.kept.items
+            × Leads image.now places.now choices.now from self.new.applied self.new.end.world stop) }
         ensures further { IfOk result (λ stop. stop ≡ None → self.old.applied < self.new.applied) }
         ensures since { OnOk result (self.new.since < KEPT_EACH) }
         ensures stop { self.new.stop ≡ self.old.stop }
     {
         let left = (choices.len() - self.applied).min(KEPT_EACH - self.since);
         let past = self.applied + left;
-        let (reached, stop) = stretch(
+        let (reached, stop) = stretch_by_places(
             alloc,
             image,
             places,
-            &mut self.world,
+            &mut self.end,
             choices,
             self.applied,
             past,
@@ -141,22 +202,34 @@ impl Walk {
     fn count(&mut self, alloc: Global, reached: usize) -> Result<(), AllocError>
         requires applied { self.old.applied ≤ reached }
         requires since { self.old.since + (reached - self.old.applied) ≤ KEPT_EACH }
-        ensures world { self.new.world ≡ self.old.world }
+        ensures world { self.new.end.world ≡ self.old.end.world }
         ensures stop { self.new.stop ≡ self.old.stop }
         ensures applied { OnOk result (self.new.applied ≡ reached) }
         ensures between { OnOk result (self.old.since + (reached - self.old.applied) < KEPT_EACH
             → (self.new.since ≡ self.old.since + (reached - self.old.applied)) × (self.new.kept.items ≡ self.old.kept.items)) }
         ensures kept { OnOk result (self.old.since + (reached - self.old.applied) ≡ KEPT_EACH
-            → (self.new.since ≡ 0) × (self.new.kept.items ≡ self.old.kept.items ++ self.old.world ∷ [])) }
+            → (self.new.since ≡ 0) × (self.new.kept.items ≡ self.old.kept.items ++ self.old.end.world ∷ [])) }
     {
         self.since += reached - self.applied;
         self.applied = reached;
         if self.since == KEPT_EACH {
-            self.kept.push(shared(alloc, &self.world)?)?;
+            self.kept.push(shared(alloc, &self.end.world)?)?;
             self.since = 0;
         }
         Ok(())
     }
+}
+
+/// The world that choices have led to.
+pub(crate) fn into_world(end: RcEnd) -> RcWorld
+    ensures { result ≡ end.world }
+{
+    let RunEnd {
+        world,
+        applied: _,
+        refused: _,
+    } = end;
+    world
 }
 
 /// Applies choices in order, up to the first that stops them: one that is not applied, one that traps, and a run that leaves
@@ -173,7 +246,7 @@ pub(crate) fn follow(
     ensures told { IfOk result (λ walk. walked image.now places.now choices.now world.now ≡
         (take walk.applied choices.now, walk.stop)) }
     ensures way { IfOk result (λ walk. Walks image.now choices.now world.now since walk.applied
-        walk.world walk.since walk.kept.items) }
+        walk.end.world walk.since walk.kept.items) }
 {
     let mut walk = Walk::begun(alloc, world, since, choices.len())?;
     while walk.applied < choices.len() {

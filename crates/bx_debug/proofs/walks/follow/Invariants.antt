@@ -8,8 +8,8 @@ abbrev pub invariant-loop-walk : goal.invariant-loop-walk
 invariant-loop-walk l = record {
   unstopped : l.walk.stop ≡ Done;
   few : l.walk.since < 64;
-  leads : Leads l.image l.places l.choices l.fn.world l.walk.applied l.walk.world None;
-  way : Walks l.image l.choices l.fn.world l.fn.since l.walk.applied l.walk.world l.walk.since l.walk.kept.items;
+  leads : Leads l.image l.places l.choices l.fn.world l.walk.applied l.walk.end.world None;
+  way : Walks l.image l.choices l.fn.world l.fn.since l.walk.applied l.walk.end.world l.walk.since l.walk.kept.items;
 }
 
 -- the choices that are left

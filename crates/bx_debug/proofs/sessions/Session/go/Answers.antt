@@ -17,7 +17,7 @@ returns-in_err-walk c =
 pub adopt-requires-clause-follows : goal.adopt-requires-clause-follows
 adopt-requires-clause-follows c =
     follows_there c.args.self.now c.self.inside.image.now c.self.inside.start c.self.inside.choices.items c.self.inside.at c.self.inside.world c.self.inside.kept.items c.self.inside.places
-    (take c.in_ok-walk.walk.applied c.args.choices.now) c.in_ok-walk.walk.world c.in_ok-walk.walk.kept.items c.self.view_is c.self.invariant c.in_ok-walk.ensures.way.follows
+    (take c.in_ok-walk.walk.applied c.args.choices.now) c.in_ok-walk.walk.end.world c.in_ok-walk.walk.kept.items c.self.view_is c.self.invariant c.in_ok-walk.ensures.way.follows
 
 pub returns-in_err-adopt : goal.returns-in_err-adopt
 returns-in_err-adopt c =

@@ -20,15 +20,15 @@ pub returns-clause-way : goal.returns-clause-way
 returns-clause-way c = λ from since walk lead.
     let old = c.args.self.now in
     let new = c.count.new.self in
-    let there = c.stretch.new.world in
+    let there = c.stretch_by_places.new.end.world in
     let reached = c.in_ok-reached.reached in
     let counted = c.in_ok-count.ensures in
     let far = c.in_ok-reached.ensures.way from lead in
     let few : old.since + (reached - old.applied) ≤ 64 = omega (arith, c.in_ok-reached.ensures.between, c.min-left.ensures) in
-    let on = walks_further c.args.image.now c.args.choices.now from since old.applied old.world old.since old.kept.items reached there new.since new.kept.items
+    let on = walks_further c.args.image.now c.args.choices.now from since old.applied old.end.world old.since old.kept.items reached there new.since new.kept.items
     walk far.further far.leads.within far.leads.made far.leads.shown few counted.between counted.kept in (
-      subst (λ n. Walks c.args.image.now c.args.choices.now from since n new.world new.since new.kept.items) (sym counted.applied)
+      subst (λ n. Walks c.args.image.now c.args.choices.now from since n new.end.world new.since new.kept.items) (sym counted.applied)
           (subst (λ (w : State). Walks c.args.image.now c.args.choices.now from since reached w new.since new.kept.items) (sym counted.world) on),
-      subst (λ n. Leads c.args.image.now c.args.places.now c.args.choices.now from n new.world c.in_ok-reached.stop) (sym counted.applied)
+      subst (λ n. Leads c.args.image.now c.args.places.now c.args.choices.now from n new.end.world c.in_ok-reached.stop) (sym counted.applied)
           (subst (λ (w : State). Leads c.args.image.now c.args.places.now c.args.choices.now from reached w c.in_ok-reached.stop) (sym counted.world) far.leads),
     )

@@ -1,0 +1,120 @@
+-- Choices given one after another to a run, where no place is set: none is looked behind, and why it went no further is known
+-- at the end.
+use Rattle.std.proofs.Common.{◌≡◌, ℕ, ◌+◌, ◌<◌, ◌≤◌, ◌⊎◌, inl, inr, List, length, get_or, Bool, true, false, Option, Some, None, refl, sym, ap, ◌∙◌, subst, arith}
+use Rattle.std.specs.Prelude.{◌||◌, if◌then◌else◌, is_some}
+use Rattle.std.specs.FinSet as set
+use Rattle.bx_terms.specs.declared.kinds.Trap.{Trap}
+use Rattle.bx_load.specs.Image.{Loaded}
+use Rattle.bx_world.specs.declared.choices.Choice.{Choice}
+use Rattle.bx_world.specs.World.{State}
+use Rattle.bx_world.specs.Enabled.{can}
+use Rattle.bx_world.specs.Choosing.{chosen}
+use Rattle.bx_world.specs.Running.{Ended, advanced}
+use Rattle.bx_debug.specs.Going.{break_behind, ended_by, else_stop, halted, stop_before, stop_behind}
+use Rattle.bx_debug.specs.Leading.{Chooses, Leads}
+use Rattle.bx_debug.specs.declared.stops.Stop.{Stop}
+use Rattle.bx_debug.specs.declared.stops.Stop.TheVariants.{NotEnabled, Trapped}
+use Rattle.bx_debug.proofs.Walking.{breaks_none, leads_before, leads_behind, leads_on}
+
+-- why it went no further
+abbrev pub why : Ended → Option Stop
+why end = ended_by end.refused end.world.trap
+
+-- a run that was begun behind so many choices and was given those up to another number: it applied all of them, unless it ended
+pub record Given (first at : ℕ) (end : Ended) : Type 0 where
+  pub before : first + end.applied ≤ at
+  pub whole : why end ≡ None → first + end.applied ≡ at
+
+-- nothing was given to it yet
+pub given_none : (first : ℕ) (w : State) → Given first first (record { world = w; applied = 0; refused = None })
+given_none first w = record { before = omega arith; whole = λ _. omega arith }
+
+-- a choice more: it has ended, and stays so; or it applies the choice; or it refuses it
+abbrev More : Choice → Ended → Ended → Ended → Ended → Option Stop → Option Stop → Type 0
+More choice end next other new stop refusal =
+    ((found : Stop) × (stop ≡ Some found) × (new ≡ end))
+    ⊎ (((stop ≡ None) × (refusal ≡ None) × (new ≡ next)) ⊎ ((stop ≡ None) × (refusal ≡ Some (NotEnabled choice)) × (new ≡ other)))
+
+more_of : (choice : Choice) (refused : Option Choice) (trap : Option (Trap × ℕ)) (able : Bool) (end next other : Ended)
+    → More choice end next other (if is_some refused || is_some trap then end else if able then next else other) (ended_by refused trap)
+    (else_stop (halted trap) (if able then None else Some (NotEnabled choice)))
+more_of choice (Some c) trap able end next other = inl (NotEnabled c, refl, refl)
+more_of choice None (Some t) able end next other = inl (Trapped t.0 t.1, refl, refl)
+more_of choice None None true end next other = inr (inl (refl, refl, refl))
+more_of choice None None false end next other = inr (inr (refl, refl, refl))
+
+abbrev behind_it : Loaded → Choice → Ended → Ended
+behind_it image choice end = record { world = chosen image choice end.world; applied = end.applied + 1; refused = None }
+
+abbrev refusing : Choice → Ended → Ended
+refusing choice end = record end { refused = Some choice }
+
+more : (image : Loaded) (choice : Choice) (end : Ended)
+    → More choice end (behind_it image choice end) (refusing choice end) (advanced image choice end) (why end) (stop_before choice end.world)
+more image choice end = more_of choice end.refused end.world.trap (can end.world choice) end (behind_it image choice end) (refusing choice end)
+
+no_stop : {A : Type 0} (stop : Option Stop) (found : Stop) → stop ≡ Some found → stop ≡ None → A
+no_stop stop found is none = let no : Some found ≡ None = sym is ∙ none in cc
+
+pub given_on : (image : Loaded) (choice : Choice) (first at : ℕ) (end : Ended) → Given first at end → Given first (at + 1) (advanced image choice end)
+given_on image choice first at end given =
+    let before = given.before in
+    elim (more image choice end) [
+      | inl stays ↦ subst (λ (e : Ended). Given first (at + 1) e) (sym stays.2) (record { before = omega arith; whole = λ none. no_stop (why end) stays.0 stays.1 none })
+      | inr goes ↦ elim goes [
+        | inl applies ↦
+            let count = given.whole applies.0 in
+            subst (λ (e : Ended). Given first (at + 1) e) (sym applies.2) (record { before = omega arith; whole = λ _. omega arith })
+        | inr refuses ↦ subst (λ (e : Ended). Given first (at + 1) e) (sym refuses.2) (record { before = omega arith; whole = λ none. cc })
+      ]
+    ]
+
+-- the walk of all choices, as far as the run has come
+abbrev pub Unbroken : Loaded → List Choice → State → ℕ → Ended → Type 0
+Unbroken image choices from first end = Leads image set.empty choices from (first + end.applied) end.world (why end)
+
+-- whether a world has trapped
+trapped_or_not : (trap : Option (Trap × ℕ)) → (halted trap ≡ None) ⊎ ((found : Stop) × (halted trap ≡ Some found))
+trapped_or_not None = inl refl
+trapped_or_not (Some t) = inr (Trapped t.0 t.1, refl)
+
+-- a choice is applied, which stops the walk where it traps
+leads_applied : (image : Loaded) (choices : List Choice) (from : State) (i : ℕ) (here : State) (choice : Choice) → i < length choices → choice ≡ get_or choices i choice → stop_before choice here ≡ None
+    → Leads image set.empty choices from i here None → Leads image set.empty choices from (i + 1) (chosen image choice here) (halted (chosen image choice here).trap)
+leads_applied image choices from i here choice short is free lead =
+    let next = chosen image choice here in
+    elim (trapped_or_not next.trap) [
+      | inl free_there ↦
+          let on = leads_on image set.empty choices from i here choice next short is (free, refl) (ap (λ (s : Option Stop). else_stop s (break_behind set.empty choice next)) free_there ∙ breaks_none choice next) lead in
+          subst (λ (s : Option Stop). Leads image set.empty choices from (i + 1) next s) (sym free_there) on
+      | inr trapped ↦
+          let behind = leads_behind image set.empty choices from i here choice next trapped.0 short is (free, refl) (ap (λ (s : Option Stop). else_stop s (break_behind set.empty choice next)) trapped.1) lead in
+          subst (λ (s : Option Stop). Leads image set.empty choices from (i + 1) next s) (sym trapped.1) behind
+    ]
+
+-- the run is given a choice more
+pub unbroken_on : (image : Loaded) (choices : List Choice) (from : State) (first at : ℕ) (end : Ended) (choice : Choice) → at < length choices → choice ≡ get_or choices at choice → Given first at end
+    → Unbroken image choices from first end → Unbroken image choices from first (advanced image choice end)
+unbroken_on image choices from first at end choice short is given so_far =
+    elim (more image choice end) [
+      | inl stays ↦ subst (λ (e : Ended). Unbroken image choices from first e) (sym stays.2) so_far
+      | inr goes ↦ elim goes [
+        | inl applies ↦
+            let count : first + end.applied ≡ at = given.whole applies.0 in
+            let lead : Leads image set.empty choices from at end.world None = subst (λ (s : Option Stop). Leads image set.empty choices from at end.world s) applies.0 (subst (λ (n : ℕ). Leads image set.empty choices from n end.world (why end)) count so_far) in
+            let there : at + 1 ≡ first + (end.applied + 1) = omega arith in
+            let on = subst (λ (n : ℕ). Leads image set.empty choices from n (chosen image choice end.world) (halted (chosen image choice end.world).trap)) there (leads_applied image choices from at end.world choice short is applies.1 lead) in
+            subst (λ (e : Ended). Unbroken image choices from first e) (sym applies.2) on
+        | inr refuses ↦
+            let count : first + end.applied ≡ at = given.whole refuses.0 in
+            let lead : Leads image set.empty choices from at end.world None = subst (λ (s : Option Stop). Leads image set.empty choices from at end.world s) refuses.0 (subst (λ (n : ℕ). Leads image set.empty choices from n end.world (why end)) count so_far) in
+            let before = leads_before image set.empty choices from at end.world choice end.world (NotEnabled choice) short is (refuses.1, refl) lead in
+            subst (λ (e : Ended). Unbroken image choices from first e) (sym refuses.2) (subst (λ (n : ℕ). Leads image set.empty choices from n end.world (Some (NotEnabled choice))) (sym count) before)
+      ]
+    ]
+
+-- in a world that has trapped the walk stops before its next choice
+pub leads_nowhere : (image : Loaded) (choices : List Choice) (from : State) (i : ℕ) (here : State) (choice : Choice) (stop : Stop) → i < length choices → choice ≡ get_or choices i choice → halted here.trap ≡ Some stop
+    → Leads image set.empty choices from i here None → Leads image set.empty choices from i here (Some stop)
+leads_nowhere image choices from i here choice stop short is trapped lead =
+    leads_before image set.empty choices from i here choice here stop short is (ap (λ (s : Option Stop). else_stop s (if can here choice then None else Some (NotEnabled choice))) trapped, refl) lead
