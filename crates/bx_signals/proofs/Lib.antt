@@ -1,4 +1,5 @@
 pub mod Turned
+pub mod Handing
 pub mod Lines
 pub mod Maps
 pub mod Listed

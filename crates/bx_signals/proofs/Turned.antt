@@ -1,5 +1,5 @@
 -- A queue whose first two signals lie beside those behind them.
-use Rattle.std.proofs.Common.{◌≡◌, ◌<◌, ◌-◌, List, [], ◌∷◌, length, take, suc, refl, sym, ap, ◌∙◌, arith}
+use Rattle.std.proofs.Common.{◌≡◌, ◌<◌, ◌-◌, List, ◌∷◌, length, take, suc, sym, ap, ◌∙◌, arith}
 use Rattle.std.specs.Prelude.{Option, Some, None}
 use Rattle.bx_signals.specs.Waiting.{front}
 use Rattle.bx_signals.specs.Turns.{in_turn, IsInTurn}

@@ -1,4 +1,5 @@
 pub mod Waiting
 pub mod Turns
 pub mod Channels
+pub mod Handing
 pub mod Rows

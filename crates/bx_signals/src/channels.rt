@@ -2,12 +2,15 @@
 
 ghost use Rattle.std.specs.Prelude.{◌≡◌, ◌≢◌, ◌↔◌, ◌++◌, ◌∷◌, ◌<◌, ◌≤◌, [], length, IfErr, IfOk, IsTrue, OnOk, OnErr, option_map, is_some};
 ghost use Rattle.std.specs.FinMap as map;
+ghost use Rattle.bx_mail.specs.Mail.{added};
+ghost use Rattle.bx_signals.specs.Handing.{message_of, Hands};
 ghost use Rattle.bx_signals.specs.Waiting.{first, rest, front};
 ghost use Rattle.bx_signals.specs.Channels.{waiting, with_waiting, put, taken, taken_back, put_to_all, taken_back_all, pairs};
 ghost use Rattle.bx_signals.specs.Rows.{rows_map, queue_at, rows_pairs, AllRising, CoversAll};
 
 use crate::row::{Row, covers, lines_of};
 use crate::signal::Signal;
+use bx_mail::Mailbox;
 use bx_terms::Term;
 use std::alloc::{AllocError, Global};
 use std::marker::Model;
@@ -107,6 +110,16 @@ impl Channels {
         ensures left { self.new ≡ taken (from, to) self.old }
     {
         take_in(&mut self.rows, from as usize, to)
+    }
+
+    /// Moves the signal that waits first in that channel into a mailbox, where it is a message, and tells whether it is one. Where
+    /// it is none, and where memory ran out, nothing has changed.
+    #[inline(always)]
+    pub fn hand(&mut self, from: u32, to: u32, mailbox: &mut Mailbox) -> Result<bool, AllocError>
+        ensures { Hands added (message_of (first (waiting self.old (from, to)))) mailbox.old mailbox.new
+            (self.new ≡ taken (from, to) self.old) (self.new ≡ self.old) result }
+    {
+        hand_in(&mut self.rows, from as usize, to, mailbox)
     }
 
     /// Takes back the signal that was put last into that channel.
@@ -260,6 +273,46 @@ fn take_from(rows: &mut Vec<Row>, from: usize, to: u32) -> Option<Signal>
     ensures left { rows_map 0 rows.new.items ≡ taken (from, to) (rows_map 0 rows.old.items) }
 {
     rows[from].take(to)
+}
+
+#[inline(always)]
+fn hand_in(
+    rows: &mut Vec<Row>,
+    from: usize,
+    to: u32,
+    mailbox: &mut Mailbox,
+) -> Result<bool, AllocError>
+    requires rising { AllRising rows.old.items }
+    ensures rising { AllRising rows.new.items }
+    ensures length { length rows.new.items ≡ length rows.old.items }
+    ensures handed { Hands added (message_of (first (waiting (rows_map 0 rows.old.items) (from, to))))
+        mailbox.old mailbox.new
+        (rows_map 0 rows.new.items ≡ taken (from, to) (rows_map 0 rows.old.items))
+        (rows_map 0 rows.new.items ≡ rows_map 0 rows.old.items) result }
+{
+    if from >= rows.len() {
+        return Ok(false);
+    }
+    hand_from(rows, from, to, mailbox)
+}
+
+#[inline(always)]
+fn hand_from(
+    rows: &mut Vec<Row>,
+    from: usize,
+    to: u32,
+    mailbox: &mut Mailbox,
+) -> Result<bool, AllocError>
+    requires from { from < length rows.old.items }
+    requires rising { AllRising rows.old.items }
+    ensures rising { AllRising rows.new.items }
+    ensures length { length rows.new.items ≡ length rows.old.items }
+    ensures handed { Hands added (message_of (first (waiting (rows_map 0 rows.old.items) (from, to))))
+        mailbox.old mailbox.new
+        (rows_map 0 rows.new.items ≡ taken (from, to) (rows_map 0 rows.old.items))
+        (rows_map 0 rows.new.items ≡ rows_map 0 rows.old.items) result }
+{
+    rows[from].hand(to, mailbox)
 }
 
 fn take_back_in(rows: &mut Vec<Row>, from: usize, to: u32)

@@ -1,9 +1,12 @@
 //! The signals of one channel.
 
 ghost use Rattle.std.specs.Prelude.{◌≡◌, ◌↔◌, ◌++◌, ◌∷◌, ◌≤◌, [], length, IfErr, IsTrue, OnErr, OnOk, option_map};
+ghost use Rattle.bx_mail.specs.Mail.{added};
+ghost use Rattle.bx_signals.specs.Handing.{message_of, Hands};
 ghost use Rattle.bx_signals.specs.Waiting.{first, rest, front};
 
 use crate::signal::Signal;
+use bx_mail::Mailbox;
 use bx_share::Same;
 use std::alloc::{AllocError, Global};
 use std::collections::VecDeque;
@@ -105,6 +108,33 @@ impl Queue {
             self.second = self.more.pop_front();
         }
         first
+    }
+
+    /// Moves the first signal into a mailbox, where it is a message, and tells whether it is one. Where it is none, and where
+    /// memory ran out, nothing has changed.
+    #[inline(always)]
+    pub(crate) fn hand(&mut self, mailbox: &mut Mailbox) -> Result<bool, AllocError>
+        ensures { Hands added (message_of (first self.old)) mailbox.old mailbox.new
+            (self.new ≡ rest self.old) (self.new ≡ self.old) result }
+    {
+        match self.first.take() {
+            Some(Signal::Message(message)) => {
+                if let Err(message) = mailbox.add(message) {
+                    self.first = Some(Signal::Message(message));
+                    return Err(AllocError);
+                }
+            }
+            other => {
+                self.first = other;
+                return Ok(false);
+            }
+        }
+        self.first = self.second.take();
+        let behind = &mut self.more;
+        if !behind.is_empty() {
+            self.second = behind.pop_front();
+        }
+        Ok(true)
     }
 
     /// Takes the last signal out.

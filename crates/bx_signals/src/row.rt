@@ -1,11 +1,14 @@
 //! The channels of one sender.
 
 ghost use Rattle.std.specs.Prelude.{◌≡◌, ◌≢◌, ◌↔◌, ◌++◌, ◌∷◌, [], IfOk, IfErr, OnOk, OnErr, IsTrue, option_map, slice_get};
+ghost use Rattle.bx_mail.specs.Mail.{added};
+ghost use Rattle.bx_signals.specs.Handing.{message_of, Hands};
 ghost use Rattle.bx_signals.specs.Waiting.{first, rest, front};
 ghost use Rattle.bx_signals.specs.Rows.{queue_in, IsRising, IsPlaceOf, IsGapOf, Replaced, SameRow, Covers, or_empty, row_pairs};
 
 use crate::queue::Queue;
 use crate::signal::Signal;
+use bx_mail::Mailbox;
 use std::alloc::{AllocError, Global};
 use std::marker::Model;
 
@@ -101,6 +104,24 @@ impl Row {
                 take_at(&mut self.lines, at, to)
             }
             Err(_) => None,
+        }
+    }
+
+    /// Moves the first signal to that receiver into a mailbox, where it is a message, and tells whether it is one. Where it is
+    /// none, and where memory ran out, nothing has changed.
+    #[inline(always)]
+    pub(crate) fn hand(&mut self, to: u32, mailbox: &mut Mailbox) -> Result<bool, AllocError>
+        ensures rising { IsRising self.new }
+        ensures handed { Hands added (message_of (first (queue_in self.old to))) mailbox.old mailbox.new
+            (Replaced self.old self.new to (rest (queue_in self.old to))) (SameRow self.old self.new)
+            result }
+    {
+        match place_near(&self.lines, self.near, to) {
+            Ok(at) => {
+                self.near = at;
+                hand_at(&mut self.lines, at, to, mailbox)
+            }
+            Err(_) => Ok(false),
         }
     }
 
@@ -285,6 +306,23 @@ fn take_at(lines: &mut Vec<(u32, Queue)>, at: usize, to: u32) -> Option<Signal>
     ensures left { Replaced lines.old.items lines.new.items to (rest (queue_in lines.old.items to)) }
 {
     lines[at].1.take()
+}
+
+#[inline(always)]
+fn hand_at(
+    lines: &mut Vec<(u32, Queue)>,
+    at: usize,
+    to: u32,
+    mailbox: &mut Mailbox,
+) -> Result<bool, AllocError>
+    requires rising { IsRising lines.old.items }
+    requires place { IsPlaceOf lines.old.items to at }
+    ensures rising { IsRising lines.new.items }
+    ensures handed { Hands added (message_of (first (queue_in lines.old.items to))) mailbox.old
+        mailbox.new (Replaced lines.old.items lines.new.items to (rest (queue_in lines.old.items to)))
+        (SameRow lines.old.items lines.new.items) result }
+{
+    lines[at].1.hand(mailbox)
 }
 
 fn take_back_at(lines: &mut Vec<(u32, Queue)>, at: usize, to: u32)

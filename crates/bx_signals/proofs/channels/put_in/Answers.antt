@@ -1,4 +1,4 @@
-use Rattle.std.proofs.Common.{◌≡◌, ◌++◌, ◌∷◌, [], Result, Ok, Err, sym, ap, ◌∙◌, List}
+use Rattle.std.proofs.Common.{◌≡◌, ◌++◌, ◌∷◌, [], Result, Ok, Err}
 use Rattle.std.specs.Prelude.{OnOk, IfErr, slice_set}
 use Rattle.bx_signals.specs.Channels.{put}
 use Rattle.bx_signals.specs.Rows.{queue_in, Replaced, SameRow, rows_map}

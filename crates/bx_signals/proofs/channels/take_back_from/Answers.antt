@@ -1,4 +1,3 @@
-use Rattle.std.proofs.Common.{◌≡◌, sym, ap, ◌∙◌}
 use Rattle.bx_signals.specs.Waiting.{front}
 use Rattle.bx_signals.proofs.Maps.{set_row_by}
 use Rattle.bx_signals.proofs.channels.take_back_from.Goals as goal

@@ -1,4 +1,4 @@
-use Rattle.std.proofs.Common.{◌≡◌, sym, ap, ◌∙◌}
+use Rattle.std.proofs.Common.{sym, ap, ◌∙◌}
 use Rattle.bx_signals.specs.Waiting.{first, rest}
 use Rattle.bx_signals.proofs.Maps.{set_row_by, row_waits}
 use Rattle.bx_signals.proofs.channels.take_from.Goals as goal

@@ -1,4 +1,4 @@
-use Rattle.std.proofs.Common.{◌≡◌, ◌≢◌, [], true, false, sym, ap, ◌∙◌}
+use Rattle.std.proofs.Common.{◌≡◌, ◌≢◌, [], true, false, sym, ◌∙◌}
 use Rattle.bx_signals.proofs.Lines.{queue_is, queue_missed}
 use Rattle.bx_signals.proofs.row.holds.Goals as goal
 

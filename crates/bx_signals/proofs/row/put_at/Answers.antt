@@ -1,4 +1,4 @@
-use Rattle.std.proofs.Common.{◌≡◌, ◌++◌, ◌∷◌, [], Result, Ok, Err, refl, sym, ap, ◌∙◌, List}
+use Rattle.std.proofs.Common.{◌≡◌, ◌++◌, ◌∷◌, [], Result, Ok, Err, refl, sym, ap, ◌∙◌}
 use Rattle.std.specs.Prelude.{OnOk, IfErr, slice_set}
 use Rattle.bx_signals.specs.Rows.{queue_in, Replaced, SameRow}
 use Rattle.bx_signals.specs.declared.signal.Signal.{Signal}

@@ -1,5 +1,5 @@
-use Rattle.std.proofs.Common.{◌≡◌, refl, sym, ap, ◌∙◌}
-use Rattle.bx_signals.specs.Waiting.{first, rest, front}
+use Rattle.std.proofs.Common.{refl, sym, ap, ◌∙◌}
+use Rattle.bx_signals.specs.Waiting.{first, rest}
 use Rattle.bx_signals.proofs.Lines.{set_to, queue_is}
 use Rattle.bx_signals.proofs.row.take_at.Goals as goal
 

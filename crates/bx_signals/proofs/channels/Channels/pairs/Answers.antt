@@ -1,6 +1,6 @@
 use Rattle.std.proofs.Common.{◌≡◌, ◌≢◌, ◌++◌, [], List, ℕ, sym, ap, subst, ◌∙◌}
 use Rattle.bx_signals.specs.Channels.{pairs}
-use Rattle.bx_signals.specs.Rows.{rows_map, rows_pairs}
+use Rattle.bx_signals.specs.Rows.{rows_pairs}
 use Rattle.bx_signals.proofs.Listed.{pairs_listed}
 use Rattle.bx_signals.proofs.Paired.{on_err}
 use Rattle.bx_signals.proofs.channels.Channels.pairs.Goals as goal

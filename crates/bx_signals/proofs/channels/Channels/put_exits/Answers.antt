@@ -1,4 +1,4 @@
-use Rattle.std.proofs.Common.{◌≡◌, ap, ◌∙◌, refl, get_or, take}
+use Rattle.std.proofs.Common.{ap, ◌∙◌, refl, get_or, take}
 use Rattle.bx_signals.specs.Channels.{put, taken_back_all}
 use Rattle.bx_signals.specs.declared.signal.Signal.TheVariants.{LinkExit}
 use Rattle.bx_signals.proofs.Maps.{put_further, all_taken_back}

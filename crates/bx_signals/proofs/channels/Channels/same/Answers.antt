@@ -1,5 +1,5 @@
-use Rattle.std.proofs.Common.{◌≡◌, List, true, false, refl, sym, ap, subst, ◌∙◌}
-use Rattle.bx_signals.specs.Rows.{Row, CoversAll, rows_map}
+use Rattle.std.proofs.Common.{◌≡◌, List, true, false, refl, sym, subst, ◌∙◌}
+use Rattle.bx_signals.specs.Rows.{Row, CoversAll}
 use Rattle.bx_signals.specs.declared.signal.Signal.{Signal}
 use Rattle.bx_signals.proofs.Maps.{covers_both, covers_same}
 use Rattle.bx_signals.proofs.channels.Channels.same.Goals as goal

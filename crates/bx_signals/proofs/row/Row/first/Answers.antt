@@ -1,4 +1,4 @@
-use Rattle.std.proofs.Common.{◌≡◌, subst, sym, ap, ◌∙◌}
+use Rattle.std.proofs.Common.{subst, sym, ap, ◌∙◌}
 use Rattle.bx_signals.specs.Waiting.{first}
 use Rattle.bx_signals.specs.Rows.{Row, queue_in, IsGapOf, IsPlaceOf, IsRising}
 use Rattle.bx_signals.specs.declared.signal.Signal.{Signal}

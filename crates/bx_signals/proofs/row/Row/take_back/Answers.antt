@@ -1,6 +1,5 @@
-use Rattle.std.proofs.Common.{◌≡◌, subst, sym, ap, ◌∙◌}
-use Rattle.bx_signals.specs.Waiting.{first}
-use Rattle.bx_signals.specs.Rows.{Row, IsGapOf, IsPlaceOf, IsRising}
+use Rattle.std.proofs.Common.{subst, ◌∙◌}
+use Rattle.bx_signals.specs.Rows.{Row, IsGapOf}
 use Rattle.bx_signals.specs.declared.signal.Signal.{Signal}
 use Rattle.bx_signals.proofs.Lines.{nothing_before}
 use Rattle.bx_signals.proofs.row.Row.take_back.Goals as goal
