@@ -129,6 +129,9 @@ impl Queue {
                 return Ok(false);
             }
         }
+        if self.second.is_none() {
+            return Ok(true);
+        }
         self.first = self.second.take();
         let behind = &mut self.more;
         if !behind.is_empty() {
