@@ -13,4 +13,5 @@ pub mod Keeping
 pub mod KeptRows
 pub mod Awake
 pub mod OnItsWay
+pub mod Hearing
 pub mod Unsent

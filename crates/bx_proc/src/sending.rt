@@ -6,46 +6,35 @@ ghost use Rattle.bx_asm.specs.declared.instruction.Register.TheVariants.{X};
 ghost use Rattle.bx_proc.specs.declared.parts.Answer.TheVariants as answers;
 ghost use Rattle.bx_proc.specs.declared.parts.Effect.TheVariants as effects;
 ghost use Rattle.bx_proc.specs.Reading.{term_in};
-ghost use Rattle.bx_proc.specs.Sending.{Sends, SendsNothing, StandsAtSend};
+ghost use Rattle.bx_proc.specs.Sending.{Addresses, AddressesNone, StandsAtSend};
 ghost use Rattle.bx_proc.specs.Stepping.{settled};
 
 use crate::process::Proc;
 use bx_asm::Register;
 use bx_cells::Value;
 use bx_load::Image;
-use bx_ops::Op;
 use bx_terms::{Place, Term, View};
 
 /// A message that a process is about to send.
 #[derive(Clone, Copy, Debug)]
 pub struct Sending<'a> {
-    /// Where its `send` stands.
-    pub here: Place,
     /// The pid of the receiver.
     pub to: u32,
     pub message: &'a Term,
 }
 
 impl Proc {
-    /// What the process sends where it is ready, without a fault pending, and stands at a `send` of a term to a pid; `None`
-    /// exactly where it does not.
+    /// What the process sends where it stands at a `send`: the term in x1 to the pid in x0. `None` exactly where one of them
+    /// is not there.
     #[inline(always)]
-    #[tactic(auto, using(crate::proofs::Unsent::is_not_free, crate::proofs::Unsent::stands_nowhere, crate::proofs::Unsent::nothing_there, crate::proofs::Unsent::other_there, crate::proofs::Unsent::no_receiver, crate::proofs::Unsent::no_message))]
-    pub fn sending(&self, image: &Image) -> Option<Sending<'_>>
-        ensures { MatchOption result (SendsNothing image.now self.now)
-            (λ s. Sends image.now s.here s.to s.message.now self.now) }
+    #[tactic(auto, using(crate::proofs::Unsent::no_receiver, crate::proofs::Unsent::no_message))]
+    pub fn sending(&self) -> Option<Sending<'_>>
+        ensures { MatchOption result (AddressesNone self.now)
+            (λ s. Addresses s.to s.message.now self.now) }
     {
-        if !self.is_free() {
-            return None;
-        }
-        let here = self.place?;
-        let item = image.item(here)?;
-        let Op::Send = item.op() else {
-            return None;
-        };
         let to = self.pid_held()?;
         match self.term(Register::X(1)) {
-            Ok(message) => Some(Sending { here, to, message }),
+            Ok(message) => Some(Sending { to, message }),
             Err(_) => None,
         }
     }

@@ -3,13 +3,17 @@
 ghost use Rattle.std.specs.Prelude.{◌≡◌, ◌≢◌, [], false, Ok, OnOk, IfErr};
 ghost use Rattle.bx_terms.specs.Outcomes.{Does, Gives};
 ghost use Rattle.bx_cells.specs.Links.{IsRising, among, unlinked};
+ghost use Rattle.bx_signals.specs.Channels.{taken, waiting};
+ghost use Rattle.bx_signals.specs.Handing.{Hands, message_of};
+ghost use Rattle.bx_signals.specs.Waiting.{first};
 ghost use Rattle.bx_proc.specs.Process.{can_expire};
 ghost use Rattle.bx_proc.specs.Signals.{with_message, with_link, without_link, expired};
 
 use crate::parts::Status;
 use crate::process::Proc;
+use bx_signals::Channels;
 use bx_terms::{Fault, Term};
-use std::alloc::Global;
+use std::alloc::{AllocError, Global};
 
 impl Proc {
     /// Whether exit signals become messages.
@@ -66,6 +70,18 @@ impl Proc {
         ensures err { IfErr result (λ m. (m ≡ message) × (self.new ≡ self.old)) }
     {
         self.mailbox.add(message)
+    }
+
+    /// The signal that waits first from that process to this one, of pid `pid`, arrives where it is a message; the answer is
+    /// whether it is one. Where it is none, and where memory ran out, nothing has changed.
+    #[inline(always)]
+    #[tactic(auto, using(crate::proofs::Hearing::heard))]
+    pub fn hear(&mut self, channels: &mut Channels, from: u32, pid: u32) -> Result<bool, AllocError>
+        ensures { Hands (λ p message. with_message message p)
+            (message_of (first (waiting channels.old (from, pid)))) self.old self.new
+            (channels.new ≡ taken (from, pid) channels.old) (channels.new ≡ channels.old) result }
+    {
+        channels.hand(from, pid, &mut self.mailbox)
     }
 
     /// One link more. Memory is all that it may lack, and only for a link that is not there; then nothing has changed.
