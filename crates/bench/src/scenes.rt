@@ -78,9 +78,11 @@ impl Scene {
         Ok(())
     }
 
-    pub fn apply_all(&mut self, alloc: Global, choices: &[Choice]) -> Result<(), Fault> {
-        for choice in choices {
-            self.apply(alloc, *choice)?;
+    /// Makes the choices of a lap so many times in a snapshot.
+    pub fn go_laps(&self, alloc: Global, lap: &[Choice], times: u32) -> Result<(), Fault> {
+        let mut other = self.world.snapshot(alloc)?;
+        for _ in 0..times {
+            apply_all(alloc, &self.program, &mut other, lap)?;
         }
         Ok(())
     }
@@ -94,4 +96,16 @@ impl Scene {
         let mut other = self.world.snapshot(alloc)?;
         other.apply(alloc, self.program.image(), choice)
     }
+}
+
+fn apply_all(
+    alloc: Global,
+    program: &Program,
+    world: &mut RcWorld,
+    choices: &[Choice],
+) -> Result<(), Fault> {
+    for choice in choices {
+        world.apply(alloc, program.image(), *choice)?;
+    }
+    Ok(())
 }
