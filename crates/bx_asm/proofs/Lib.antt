@@ -8,3 +8,4 @@ pub mod Growth
 pub mod Growing
 pub mod Units
 pub mod SameCode
+pub mod SpelledAlike

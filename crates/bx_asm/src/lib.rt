@@ -1,6 +1,7 @@
 //! Numbered code: a listing as opcode numbers with operands, and the tables that the operands name.
 #![tactic(auto)]
 
+mod apart;
 mod assembling;
 mod decoding;
 mod instruction;

@@ -6,6 +6,7 @@ ghost use Rattle.bx_asm.specs.Drafts.{Grows, all_items, head_of, at_number};
 ghost use Rattle.bx_asm.specs.Limits.{first, register_fault, register_faults, count};
 ghost use Rattle.bx_asm.specs.Numbered.{item_of};
 
+use crate::apart::copy_items;
 use crate::lookup::{Lookup, Named};
 use crate::numbered::Numbered;
 use crate::numbering::Draft;
@@ -94,6 +95,24 @@ impl Unit {
             heads,
             items,
             named: Named { literals, imports },
+        })
+    }
+
+    /// The same code, whose literals share nothing with this unit's: a copy of a literal of the one counts nothing that a copy
+    /// of the other's does.
+    pub fn apart(&self, alloc: Global) -> Result<Unit, AllocError>
+        ensures { IfOk result (λ u. u ≡ self.now) }
+    {
+        let exports = Vec::from_slice(alloc, &self.exports)?;
+        let heads = Vec::from_slice(alloc, &self.heads)?;
+        let items = copy_items(alloc, &self.items)?;
+        let named = self.named.apart(alloc)?;
+        Ok(Unit {
+            name: self.name,
+            exports,
+            heads,
+            items,
+            named,
         })
     }
 

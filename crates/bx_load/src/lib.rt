@@ -1,6 +1,7 @@
 //! Loaded code: the modules of a program, the places in them, and where calls and jumps lead.
 #![tactic(auto)]
 
+mod apart;
 mod behind;
 mod by_name;
 mod exports;
