@@ -12,23 +12,38 @@ use bx_terms::{Term, View};
 use smallvec::SmallVec;
 use std::alloc::{AllocError, Global};
 
+/// Takes so much of the room that is left, as where memory runs out once there is less.
+fn take_room(room: &mut usize, count: usize) -> Result<(), AllocError> {
+    let Some(left) = room.checked_sub(count) else {
+        return Err(AllocError);
+    };
+    *room = left;
+    Ok(())
+}
+
 #[cycle(apart)]
-fn term_apart(alloc: Global, term: &Term) -> Result<Term, AllocError>
+fn term_apart(alloc: Global, room: &mut usize, term: &Term) -> Result<Term, AllocError>
     ensures { IfOk result (λ t. t ≡ term.now) }
 {
     match term.view() {
-        View::Tuple(elements) => tuple_apart(alloc, elements),
-        View::Cons(head, tail) => cell_apart(alloc, head, tail),
+        View::Tuple(elements) => tuple_apart(alloc, room, elements),
+        View::Cons(head, tail) => cell_apart(alloc, room, head, tail),
         _ => term.copy(alloc),
     }
 }
 
 #[cycle(apart)]
-fn cell_apart(alloc: Global, head: &Term, tail: &Term) -> Result<Term, AllocError>
+fn cell_apart(
+    alloc: Global,
+    room: &mut usize,
+    head: &Term,
+    tail: &Term,
+) -> Result<Term, AllocError>
     ensures { IfOk result (λ t. t ≡ cons head.now tail.now) }
 {
-    let head = term_apart(alloc, head)?;
-    let tail = term_apart(alloc, tail)?;
+    take_room(room, 1)?;
+    let head = term_apart(alloc, room, head)?;
+    let tail = term_apart(alloc, room, tail)?;
     match Term::cons(alloc, head, tail) {
         Ok(cell) => Ok(cell),
         Err(_) => Err(AllocError),
@@ -36,10 +51,10 @@ fn cell_apart(alloc: Global, head: &Term, tail: &Term) -> Result<Term, AllocErro
 }
 
 #[cycle(apart)]
-fn tuple_apart(alloc: Global, elements: &[Term]) -> Result<Term, AllocError>
+fn tuple_apart(alloc: Global, room: &mut usize, elements: &[Term]) -> Result<Term, AllocError>
     ensures { IfOk result (λ t. t ≡ tuple (listed elements.now)) }
 {
-    let elements = terms_apart(alloc, elements)?;
+    let elements = terms_apart(alloc, room, elements)?;
     match Term::tuple(alloc, elements) {
         Ok(tuple) => Ok(tuple),
         Err(_) => Err(AllocError),
@@ -48,12 +63,13 @@ fn tuple_apart(alloc: Global, elements: &[Term]) -> Result<Term, AllocError>
 
 #[cycle(apart)]
 #[tactic(auto, using(std::proofs::lemmas::List::take_more, bx_terms::proofs::Rows::nodes_at))]
-fn terms_apart(alloc: Global, terms: &[Term]) -> Result<Vec<Term>, AllocError>
+fn terms_apart(alloc: Global, room: &mut usize, terms: &[Term]) -> Result<Vec<Term>, AllocError>
     ensures { IfOk result (λ row. row.items ≡ terms.now) }
 {
+    take_room(room, terms.len())?;
     let mut row = Vec::with_capacity(alloc, terms.len())?;
     for at in 0..terms.len() {
-        let term = term_apart(alloc, &terms[at])?;
+        let term = term_apart(alloc, room, &terms[at])?;
         row.push(term)?;
     }
     Ok(row)
@@ -61,11 +77,11 @@ fn terms_apart(alloc: Global, terms: &[Term]) -> Result<Vec<Term>, AllocError>
 
 impl Named {
     /// The same tables, whose literals are cells of their own.
-    pub(crate) fn apart(&self, alloc: Global) -> Result<Named, AllocError>
+    pub(crate) fn apart(&self, alloc: Global, room: &mut usize) -> Result<Named, AllocError>
         ensures literals { IfOk result (λ n. n.literals.items ≡ self.now.literals.items) }
         ensures imports { IfOk result (λ n. n.imports.keys ≡ self.now.imports.keys) }
     {
-        let literals = terms_apart(alloc, &self.literals)?;
+        let literals = terms_apart(alloc, room, &self.literals)?;
         let imports = self.imports.clone()?;
         Ok(Named { literals, imports })
     }
@@ -84,11 +100,13 @@ fn copy_item(alloc: Global, item: &NumberedItem) -> Result<NumberedItem, AllocEr
 #[tactic(auto, using(crate::proofs::SpelledAlike::spelled_more))]
 pub(crate) fn copy_items(
     alloc: Global,
+    room: &mut usize,
     items: &[NumberedItem],
 ) -> Result<Vec<NumberedItem>, AllocError>
     ensures { IfOk result (λ copies. (t : Tables) → map (spelled_item t) copies.items
         ≡ map (spelled_item t) items.now) }
 {
+    take_room(room, items.len())?;
     let mut copies = Vec::with_capacity(alloc, items.len())?;
     for at in 0..items.len() {
         let copy = copy_item(alloc, &items[at])?;

@@ -100,13 +100,16 @@ impl Unit {
 
     /// The same code, whose literals share nothing with this unit's: a copy of a literal of the one counts nothing that a copy
     /// of the other's does.
-    pub fn apart(&self, alloc: Global) -> Result<Unit, AllocError>
+    ///
+    /// It may hold as many items, literals, and list cells and elements of these, as there is room, which it takes. Past that
+    /// it answers as where memory runs out.
+    pub fn apart(&self, alloc: Global, room: &mut usize) -> Result<Unit, AllocError>
         ensures { IfOk result (λ u. u ≡ self.now) }
     {
         let exports = Vec::from_slice(alloc, &self.exports)?;
         let heads = Vec::from_slice(alloc, &self.heads)?;
-        let items = copy_items(alloc, &self.items)?;
-        let named = self.named.apart(alloc)?;
+        let items = copy_items(alloc, room, &self.items)?;
+        let named = self.named.apart(alloc, room)?;
         Ok(Unit {
             name: self.name,
             exports,

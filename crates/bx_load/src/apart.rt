@@ -8,12 +8,17 @@ use std::alloc::{AllocError, Global};
 
 /// The same modules, whose literals share nothing with these.
 #[tactic(auto, using(std::proofs::lemmas::List::take_more))]
-pub(crate) fn units_apart(alloc: Global, units: &[Unit]) -> Result<Vec<Unit>, AllocError>
+pub(crate) fn units_apart(
+    alloc: Global,
+    room: usize,
+    units: &[Unit],
+) -> Result<Vec<Unit>, AllocError>
     ensures { IfOk result (λ copies. copies.items ≡ units.now) }
 {
+    let mut room = room;
     let mut copies = Vec::with_capacity(alloc, units.len())?;
     for at in 0..units.len() {
-        let copy = units[at].apart(alloc)?;
+        let copy = units[at].apart(alloc, &mut room)?;
         copies.push(copy)?;
     }
     Ok(copies)
