@@ -7,7 +7,8 @@ ghost use Rattle.bx_board.specs.Machine.{Holds};
 
 use crate::books::Book;
 use crate::slots::{Counts, Event};
-use crate::working::{Lease, Piece, work};
+use crate::working::{Lease, Piece, work_over};
+use bx_load::Image;
 use bx_terms::Fault;
 use std::alloc::Global;
 use std::marker::{Brand, Model, PhantomData};
@@ -27,6 +28,9 @@ pub trait Gate: Sync {
     /// Called once by a campaign, when its workers have ended.
     fn ended(&self) {}
 }
+
+/// How many items, literals, and list cells and elements of these a worker's own code may hold: some ten megabytes.
+const MOST_COPIED: usize = 100_000;
 
 /// A gate that does nothing.
 #[derive(Clone, Copy, Debug, PartialEq, Eq)]
@@ -104,6 +108,12 @@ impl<'a, J: Campaign> Shelf<'a, J> {
         self.book.counts()
     }
 
+    fn code(&self) -> &'a Image
+        ensures { result.now ≡ J.job.image }
+    {
+        self.book.code()
+    }
+
     /// A lease, with its chain's number.
     fn take(&mut self, alloc: Global, worker: usize) -> Result<Option<(usize, Lease<'a>)>, Fault>
         ensures ok { IfOk result (λ found. Takes self.old worker found self.new) }
@@ -169,12 +179,15 @@ impl<'a, J: Campaign> Board<'a, J> {
     ) -> Result<(), Fault>
         ensures { IfErr result (λ fault. fault ≡ Fault.Memory) }
     {
+        let shared = self.code(rt);
+        let own = own_code(alloc, shared);
+        let code = own.as_ref().unwrap_or(shared);
         for _ in rt.forever() {
             let Some((chain, lease)) = self.next(rt, alloc, worker)? else {
                 return Ok(());
             };
             gate.leased(worker);
-            match work(alloc, lease) {
+            match work_over(alloc, code, lease) {
                 Ok(piece) => {
                     gate.worked(worker, &piece);
                     if !self.hand_in(rt, worker, chain, piece) {
@@ -188,6 +201,13 @@ impl<'a, J: Campaign> Board<'a, J> {
             }
         }
         unreachable!()
+    }
+
+    /// The campaign's code.
+    fn code<R: Wait>(&self, rt: &R) -> &'a Image
+        ensures { result.now ≡ J.job.image }
+    {
+        self.shelf.lock(rt).code()
     }
 
     /// The next lease, with its chain's number. After none was to be had a worker waits only where nothing is free and
@@ -229,4 +249,12 @@ impl<'a, J: Campaign> Board<'a, J> {
         self.shelf.lock(rt).give_back(worker);
         self.changed.notify_all();
     }
+}
+
+/// A worker's own code, so that workers who copy one literal do not wait for its count; none where the code is large, or
+/// memory is short, and then the worker does with the code that all share.
+fn own_code(alloc: Global, code: &Image) -> Option<Image>
+    ensures { IfSome result (λ own. own ≡ code.now) }
+{
+    code.apart(alloc, MOST_COPIED).ok()
 }

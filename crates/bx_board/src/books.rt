@@ -74,6 +74,13 @@ impl<'a> Book<'a> {
         let _plan = &self.plan;
     }
 
+    /// The code that is run.
+    pub(crate) fn code(&self) -> &'a Image
+        ensures { result.now ≡ self.now.job.image }
+    {
+        self.image
+    }
+
     /// Whether leasing was stopped.
     pub(crate) fn is_stopped(&self) -> bool
         ensures { result ≡ self.now.state.stopped }

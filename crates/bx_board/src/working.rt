@@ -205,6 +205,20 @@ pub fn work<'a>(alloc: Global, lease: Lease<'a>) -> Result<Piece<'a>, (Fault, Le
     ensures ok { IfOk result (λ piece. piece ≡ lease.entry) }
     ensures err { IfErr result (λ refused. (refused.0 ≡ Fault.Memory) × (refused.1 ≡ lease.entry)) }
 {
+    let code = lease.image;
+    work_over(alloc, code, lease)
+}
+
+/// The same over code that equals the lease's, as a worker's own.
+pub(crate) fn work_over<'a>(
+    alloc: Global,
+    code: &Image,
+    lease: Lease<'a>,
+) -> Result<Piece<'a>, (Fault, Lease<'a>)>
+    requires { code.now ≡ lease.image }
+    ensures ok { IfOk result (λ piece. piece ≡ lease.entry) }
+    ensures err { IfErr result (λ refused. (refused.0 ≡ Fault.Memory) × (refused.1 ≡ lease.entry)) }
+{
     let Lease {
         image,
         start,
@@ -212,7 +226,7 @@ pub fn work<'a>(alloc: Global, lease: Lease<'a>) -> Result<Piece<'a>, (Fault, Le
         span,
         from,
     } = lease;
-    let end = match run_chain(alloc, image, start, plan, span, from.see()) {
+    let end = match run_chain(alloc, code, start, plan, span, from.see()) {
         Ok(end) => end,
         Err(fault) => return Err((
             fault,

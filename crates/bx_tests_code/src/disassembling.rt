@@ -80,3 +80,15 @@ fn modules_of_an_image(rt: HostRuntime) -> Result<(), Fail> {
     assert_eq!(rt; right_rows(rt.alloc())?, MODULES.len());
     Ok(())
 }
+
+/// Whether the image of the two modules is the same apart.
+fn is_same_apart(alloc: Global) -> Result<bool, Fault> {
+    let image = image(alloc, &[EMPTY, TWO])?;
+    Ok(image.apart(alloc, 1000)?.same(&image))
+}
+
+#[test]
+fn an_image_apart(rt: HostRuntime) -> Result<(), Fail> {
+    assert!(rt; is_same_apart(rt.alloc())?);
+    Ok(())
+}

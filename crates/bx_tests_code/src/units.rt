@@ -195,3 +195,18 @@ fn sameness_of_units(rt: HostRuntime) -> Result<(), Fail> {
     }
     Ok(())
 }
+
+/// Whether the unit of the sample is the same apart, where there is so much room.
+fn is_same_apart(alloc: Global, room: usize) -> Result<bool, Fault> {
+    let (_, unit) = of_items(alloc, FORMS)?;
+    let mut room = room;
+    Ok(unit.apart(alloc, &mut room)?.same(&unit))
+}
+
+// The sample has 78 items and 3 literals, with a list cell, two elements and one more list cell in them: 85 in all.
+#[test]
+fn a_unit_apart(rt: HostRuntime) -> Result<(), Fail> {
+    assert!(rt; is_same_apart(rt.alloc(), 85)?);
+    assert!(rt; is_same_apart(rt.alloc(), 84) == Err(Fault::Memory));
+    Ok(())
+}
