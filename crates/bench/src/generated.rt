@@ -13,9 +13,12 @@ const HEAD: &str = "{module,m}.\n{exports,[{f,0}]}.\n{attributes,[]}.\n{labels,9
 /// How many items, or rows of them, stand behind each label.
 const ROWS: u32 = 6;
 
-/// Items. A capital letter stands for a random part: S for a source, D for a destination, R for a
+/// Items. A capital letter stands for a random part: S for a source, V for a value, D for a destination, R for a
 /// register, Y for a y register, F for a label, N for a small number, K for a kind of terms, C for
 /// a comparison, B for a BIF of two arguments.
+///
+/// What builds a term takes at most one register, so that no loop doubles what is written out of a term, and worlds
+/// can be compared at any time.
 const ITEMS: [&str; 50] = [
     "{move,S,D}",
     "{move,S,D}",
@@ -31,10 +34,10 @@ const ITEMS: [&str; 50] = [
     "{get_hd,R,D}",
     "{get_tl,R,D}",
     "{get_tuple_element,R,N,D}",
-    "{put_list,S,S,D}",
+    "{put_list,V,S,D}",
     "{put_list,S,nil,D}",
-    "{put_tuple2,D,{list,[S,S]}}",
-    "{put_tuple2,D,{list,[{atom,a},S,S]}}",
+    "{put_tuple2,D,{list,[S,V]}}",
+    "{put_tuple2,D,{list,[{atom,a},V,S]}}",
     "{gc_bif,B,F,2,[S,S],D}",
     "{gc_bif,B,{f,0},2,[S,S],D}",
     "{gc_bif,length,{f,0},2,[S],D}",
@@ -81,6 +84,8 @@ const SOURCES: [&str; 8] = [
     "{atom,a}",
     "nil",
 ];
+
+const VALUES: [&str; 3] = ["{integer,2}", "{atom,a}", "nil"];
 
 const REGISTERS: [&str; 6] = ["{x,0}", "{x,1}", "{x,2}", "{x,3}", "{y,0}", "{y,2}"];
 
@@ -157,6 +162,7 @@ fn push_item(rng: &mut Pcg32, text: &mut String, item: &str) -> Result<(), Troub
 fn drawn(rng: &mut Pcg32, letter: char) -> Option<&'static str> {
     let parts: &'static [&'static str] = match letter {
         'S' => &SOURCES,
+        'V' => &VALUES,
         'D' | 'R' => &REGISTERS,
         'Y' => &YS,
         'F' => &LABELS,

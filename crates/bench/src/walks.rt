@@ -13,10 +13,6 @@ use std::alloc::Global;
 /// The most choices in one world.
 const LONGEST: u32 = 200;
 
-/// Among how many first choices of a world those that are refused are compared. A term that shares a part takes as long to
-/// compare as it is written out, which a loop that puts a pair of the same term may double at each turn.
-const COMPARED: u32 = 40;
-
 /// What became of choices.
 #[derive(Clone, Copy, Drop)]
 struct Tally {
@@ -28,7 +24,7 @@ struct Tally {
 }
 
 /// Makes so many choices, each listing's until its world is quiet or has trapped. A choice that is
-/// refused must leave the world as it was, and must be one that is not enabled; worlds are compared among their first choices.
+/// refused must be one that is not enabled, and must leave the world the same as a snapshot before it.
 pub fn measure(rt: &HostRuntime, rounds: u32) -> Result<(), Trouble> {
     let mut seen = Tally {
         applied: 0,
@@ -50,7 +46,7 @@ fn told(rt: &HostRuntime, seen: Tally) -> Result<(), Trouble> {
     tally(rt, seen.worlds, "worlds")?;
     tally(rt, seen.trapped, "of them trapped")?;
     tally(rt, seen.applied, "choices applied")?;
-    tally(rt, seen.refused, "choices refused")?;
+    tally(rt, seen.refused, "choices refused, each compared")?;
     tally(rt, seen.unread, "listings refused")
 }
 
@@ -70,8 +66,8 @@ fn walk_in(alloc: Global, program: &Program, number: u32, seen: &mut Tally) -> R
     let mut rng = Pcg32::new(u64::from(number), 11);
     let mut world = program.begin(alloc)?;
     seen.worlds = seen.worlds.saturating_add(1);
-    for made in 0..LONGEST {
-        if !go_on(alloc, program, &mut rng, &mut world, seen, made < COMPARED)? {
+    for _ in 0..LONGEST {
+        if !go_on(alloc, program, &mut rng, &mut world, seen)? {
             break;
         }
     }
@@ -85,7 +81,6 @@ fn go_on(
     rng: &mut Pcg32,
     world: &mut RcWorld,
     seen: &mut Tally,
-    young: bool,
 ) -> Result<bool, Trouble> {
     let Some(choice) = draw(alloc, rng, world)? else {
         return Ok(false);
@@ -94,7 +89,7 @@ fn go_on(
         world.apply(alloc, program.image(), choice)?;
         seen.applied = seen.applied.saturating_add(1);
     } else {
-        refuse(alloc, program, world, choice, young)?;
+        refuse(alloc, program, world, choice)?;
         seen.refused = seen.refused.saturating_add(1);
     }
     if world.trap().is_some() {
@@ -122,20 +117,19 @@ fn draw(alloc: Global, rng: &mut Pcg32, world: &RcWorld) -> Result<Option<Choice
     }
 }
 
-/// Makes a choice that is not enabled; a young world is compared with what it was.
+/// Makes a choice that is not enabled, and compares the world with what it was.
 fn refuse(
     alloc: Global,
     program: &Program,
     world: &mut RcWorld,
     choice: Choice,
-    young: bool,
 ) -> Result<(), Trouble> {
     let before = world.snapshot(alloc)?;
     match world.apply(alloc, program.image(), choice) {
         Err(Fault::NotEnabled) => {}
         _ => return Err(Trouble::Wrong),
     }
-    if !young || world.same(&before) {
+    if world.same(&before) {
         Ok(())
     } else {
         Err(Trouble::Wrong)
