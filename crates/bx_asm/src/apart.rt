@@ -33,12 +33,7 @@ fn term_apart(alloc: Global, room: &mut usize, term: &Term) -> Result<Term, Allo
 }
 
 #[cycle(apart)]
-fn cell_apart(
-    alloc: Global,
-    room: &mut usize,
-    head: &Term,
-    tail: &Term,
-) -> Result<Term, AllocError>
+fn cell_apart(alloc: Global, room: &mut usize, head: &Term, tail: &Term) -> Result<Term, AllocError>
     ensures { IfOk result (λ t. t ≡ cons head.now tail.now) }
 {
     take_room(room, 1)?;
