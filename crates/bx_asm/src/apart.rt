@@ -1,7 +1,7 @@
 //! Terms and tables that share nothing counted with those that they equal: threads that copy from the one and from the other
 //! never wait for one count.
 
-ghost use Rattle.std.specs.Prelude.{◌≡◌, IfOk, map};
+ghost use Rattle.std.specs.Prelude.{◌≡◌, ◌+◌, ◌<◌, IfOk, OnErr, OnOk, map};
 ghost use Rattle.bx_terms.specs.Tree.{cons, tuple, listed};
 ghost use Rattle.bx_asm.specs.Operands.{Tables};
 ghost use Rattle.bx_asm.specs.Spelling.{spelled_item};
@@ -13,7 +13,11 @@ use smallvec::SmallVec;
 use std::alloc::{AllocError, Global};
 
 /// Takes so much of the room that is left, as where memory runs out once there is less.
-fn take_room(room: &mut usize, count: usize) -> Result<(), AllocError> {
+fn take_room(room: &mut usize, count: usize) -> Result<(), AllocError>
+    ensures taken { OnOk result (room.new + count ≡ room.old) }
+    ensures short { OnErr result (room.old < count) }
+    ensures kept { OnErr result (room.new ≡ room.old) }
+{
     let Some(left) = room.checked_sub(count) else {
         return Err(AllocError);
     };
