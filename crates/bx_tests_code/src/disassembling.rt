@@ -81,14 +81,16 @@ fn modules_of_an_image(rt: HostRuntime) -> Result<(), Fail> {
     Ok(())
 }
 
-/// Whether the image of the two modules is the same apart.
-fn is_same_apart(alloc: Global) -> Result<bool, Fault> {
+/// Whether the image of the two modules is the same apart, where there is so much room.
+fn is_same_apart(alloc: Global, room: usize) -> Result<bool, Fault> {
     let image = image(alloc, &[EMPTY, TWO])?;
-    Ok(image.apart(alloc, 1000)?.same(&image))
+    Ok(image.apart(alloc, room)?.same(&image))
 }
 
+// The two have ten items, and one literal with one list cell.
 #[test]
 fn an_image_apart(rt: HostRuntime) -> Result<(), Fail> {
-    assert!(rt; is_same_apart(rt.alloc())?);
+    assert!(rt; is_same_apart(rt.alloc(), 12)?);
+    assert!(rt; is_same_apart(rt.alloc(), 11) == Err(Fault::Memory));
     Ok(())
 }
