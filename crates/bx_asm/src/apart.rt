@@ -86,9 +86,14 @@ impl Named {
     }
 }
 
-fn copy_item(alloc: Global, item: &NumberedItem) -> Result<NumberedItem, AllocError>
+fn copy_item(
+    alloc: Global,
+    room: &mut usize,
+    item: &NumberedItem,
+) -> Result<NumberedItem, AllocError>
     ensures { IfOk result (λ copy. (t : Tables) → spelled_item t copy ≡ spelled_item t item.now) }
 {
+    take_room(room, item.operands.as_slice().len())?;
     Ok(NumberedItem {
         number: item.number,
         operands: SmallVec::from_slice(alloc, item.operands.as_slice())?,
@@ -108,7 +113,7 @@ pub(crate) fn copy_items(
     take_room(room, items.len())?;
     let mut copies = Vec::with_capacity(alloc, items.len())?;
     for at in 0..items.len() {
-        let copy = copy_item(alloc, &items[at])?;
+        let copy = copy_item(alloc, room, &items[at])?;
         copies.push(copy)?;
     }
     Ok(copies)

@@ -101,8 +101,8 @@ impl Unit {
     /// The same code, whose literals share nothing with this unit's: a copy of a literal of the one counts nothing that a copy
     /// of the other's does.
     ///
-    /// It may hold as many items, literals, and list cells and elements of these, as there is room, which it takes. Past that
-    /// it answers as where memory runs out.
+    /// It may hold as many items, operands, literals, and list cells and elements of these, as there is room, which it takes.
+    /// Past that it answers as where memory runs out.
     pub fn apart(&self, alloc: Global, room: &mut usize) -> Result<Unit, AllocError>
         ensures { IfOk result (λ u. u ≡ self.now) }
     {

@@ -29,8 +29,9 @@ pub trait Gate: Sync {
     fn ended(&self) {}
 }
 
-/// How many items, literals, and list cells and elements of these a worker's own code may hold: some ten megabytes.
-const MOST_COPIED: usize = 100_000;
+/// How many items, operands, literals, and list cells and elements of these a worker's own code may hold: at most some
+/// fifteen megabytes.
+const MOST_COPIED: usize = 200_000;
 
 /// A gate that does nothing.
 #[derive(Clone, Copy, Debug, PartialEq, Eq)]

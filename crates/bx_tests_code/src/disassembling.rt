@@ -87,10 +87,10 @@ fn is_same_apart(alloc: Global, room: usize) -> Result<bool, Fault> {
     Ok(image.apart(alloc, room)?.same(&image))
 }
 
-// The two have ten items, and one literal with one list cell.
+// The two have ten items with 15 operands, and one literal with one list cell.
 #[test]
 fn an_image_apart(rt: HostRuntime) -> Result<(), Fail> {
-    assert!(rt; is_same_apart(rt.alloc(), 12)?);
-    assert!(rt; is_same_apart(rt.alloc(), 11) == Err(Fault::Memory));
+    assert!(rt; is_same_apart(rt.alloc(), 27)?);
+    assert!(rt; is_same_apart(rt.alloc(), 26) == Err(Fault::Memory));
     Ok(())
 }

@@ -196,17 +196,20 @@ fn sameness_of_units(rt: HostRuntime) -> Result<(), Fail> {
     Ok(())
 }
 
-/// Whether the unit of the sample is the same apart, where there is so much room.
-fn is_same_apart(alloc: Global, room: usize) -> Result<bool, Fault> {
-    let (_, unit) = of_items(alloc, FORMS)?;
+/// Whether the unit of these items is the same apart, where there is so much room.
+fn is_same_apart(alloc: Global, items: &str, room: usize) -> Result<bool, Fault> {
+    let (_, unit) = of_items(alloc, items)?;
     let mut room = room;
     Ok(unit.apart(alloc, &mut room)?.same(&unit))
 }
 
-// The sample has 78 items and 3 literals, with a list cell, two elements and one more list cell in them: 85 in all.
+// With the three before them, five items with seven operands, and a literal with one list cell: 14 in all.
+const SMALL: &str = "{move,{literal,[a|b]},{x,0}}. return.";
+
 #[test]
 fn a_unit_apart(rt: HostRuntime) -> Result<(), Fail> {
-    assert!(rt; is_same_apart(rt.alloc(), 85)?);
-    assert!(rt; is_same_apart(rt.alloc(), 84) == Err(Fault::Memory));
+    assert!(rt; is_same_apart(rt.alloc(), FORMS, 1000)?);
+    assert!(rt; is_same_apart(rt.alloc(), SMALL, 14)?);
+    assert!(rt; is_same_apart(rt.alloc(), SMALL, 13) == Err(Fault::Memory));
     Ok(())
 }
