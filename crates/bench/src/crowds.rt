@@ -1,11 +1,11 @@
 //! What choices cost among many processes: a message that goes round a ring, and sends over many
 //! channels.
 
-use crate::figures::{Watch, figure};
+use crate::figures::{Watch, beyond, both, figure};
 use crate::scenes::{Scene, Step};
 use crate::trouble::Trouble;
 use bx_terms::Fault;
-use bx_world::Choice::{Deliver, Run};
+use bx_world::Choice::Deliver;
 use std::alloc::Global;
 
 /// How many processes stand in the ring.
@@ -39,15 +39,25 @@ const SENDERS: u32 = 1024;
 /// To how many processes each of them sends in turn, itself among them where it is one.
 const CHANNELS: u32 = 101;
 
-/// A module `m` whose `h/0` takes a list of processes, and sends to each in turn for ever; and the
-/// beginning of `f/0`.
-const SENDERS_HEAD: &str = "{module,m}.\n{exports,[{f,0},{h,0}]}.\n{attributes,[]}.\n{labels,10}.\n\
+/// How many choices a process makes for each of these, its send left out.
+const BESIDE: u32 = 4;
+
+/// How many choices a process makes to take a message.
+const TAKE: u32 = 3;
+
+/// A module `m` whose `h/0` takes a list of processes, and for ever takes all its messages and goes
+/// through the list, up to where it may send to each.
+const SENDERS_HEAD: &str = "{module,m}.\n{exports,[{f,0},{h,0}]}.\n{attributes,[]}.\n{labels,11}.\n\
     {function,h,0,5}.\n{label,4}.\n{func_info,{atom,m},{atom,h},0}.\n{label,5}.\n\
     {loop_rec,{f,7},{x,0}}.\n\
-    remove_message.\n{move,{x,0},{x,4}}.\n{label,6}.\n{move,{x,4},{x,3}}.\n{label,3}.\n\
+    remove_message.\n{move,{x,0},{x,4}}.\n\
+    {label,6}.\n{loop_rec,{f,10},{x,0}}.\nremove_message.\n{jump,{f,6}}.\n\
+    {label,10}.\n{move,{x,4},{x,3}}.\n{label,3}.\n\
     {test,is_nonempty_list,{f,6},[{x,3}]}.\n{get_list,{x,3},{x,0},{x,3}}.\n\
-    {move,{atom,a},{x,1}}.\nsend.\n\
-    {jump,{f,3}}.\n{label,7}.\n{wait,{f,5}}.\n\
+    {move,{atom,a},{x,1}}.\n";
+
+/// The rest of it, and the beginning of `f/0`.
+const SENDERS_REST: &str = "{jump,{f,3}}.\n{label,7}.\n{wait,{f,5}}.\n\
     {function,f,0,2}.\n{label,1}.\n{func_info,{atom,m},{atom,f},0}.\n{label,2}.\n\
     {move,nil,{x,5}}.\n{move,nil,{x,6}}.\n";
 
@@ -84,12 +94,12 @@ const RING_STEPS: [Step; 3] = [
     },
 ];
 
-/// Each has sent once to each of 101, which is still to be delivered.
-const SENDERS_STEPS: [Step; 4] = [
+/// Each has the list, no message, and the first of the list before it.
+const SENDERS_STEPS: [Step; 3] = [
     Step::Runs {
         from: 0,
         past: 1,
-        times: 2 + 10 * (SENDERS - 1) + CHANNELS + 4,
+        times: 2 + 10 * (SENDERS - 1) + CHANNELS + 5,
     },
     Step::Deliveries {
         from: 0,
@@ -99,12 +109,7 @@ const SENDERS_STEPS: [Step; 4] = [
     Step::Runs {
         from: 1,
         past: SENDERS,
-        times: 4,
-    },
-    Step::Runs {
-        from: 0,
-        past: SENDERS,
-        times: 5 * CHANNELS + 2,
+        times: 5,
     },
 ];
 
@@ -140,60 +145,81 @@ fn go_round(alloc: Global, ring: &mut Scene) -> Result<(), Fault> {
     Ok(())
 }
 
-/// So many turns of 1,024 processes, each of which sends to 101 processes; in each channel one
-/// message waits.
+/// So many turns of 1,024 processes, in each of which every process sends to 101 in a row, and then
+/// all that it sent is delivered: what this takes beyond the same turns without sends.
 pub fn senders(rt: &HostRuntime, turns: u32) -> Result<(), Trouble> {
-    let parts = [
-        (SENDERS_HEAD, 1),
-        (BORN_LISTED, CHANNELS),
-        (BORN, SENDERS - 1 - CHANNELS),
-        (SENDERS_END, 1),
-    ];
-    let mut crowd = Scene::led(rt.alloc(), &parts, &SENDERS_STEPS)?;
-    take_turns(rt, &mut crowd, turns)
-}
-
-fn take_turns(rt: &HostRuntime, crowd: &mut Scene, turns: u32) -> Result<(), Trouble> {
-    let mut took: Option<u128> = Some(0);
-    for _ in 0..turns {
-        took = both(took, turn(rt, crowd)?);
-    }
+    let without = took(rt, turns, false)?;
+    let with = took(rt, turns, true)?;
     figure(
         rt,
         "1024 senders with 100 channels each",
         u64::from(turns.saturating_mul(SENDERS * CHANNELS)),
         "a send and its delivery",
-        took,
+        beyond(with, without),
     )
 }
 
-/// How many nanoseconds the sends and deliveries of one turn took, in which each process sends once
-/// to each of its 101.
-fn turn(rt: &HostRuntime, crowd: &mut Scene) -> Result<Option<u128>, Fault> {
+/// The nanoseconds of so many turns, behind a first one in which channels and mailboxes get room.
+fn took(rt: &HostRuntime, turns: u32, sends: bool) -> Result<Option<u128>, Fault> {
+    let parts = [
+        (SENDERS_HEAD, 1),
+        ("send.\n", u32::from(sends)),
+        (SENDERS_REST, 1),
+        (BORN_LISTED, CHANNELS),
+        (BORN, SENDERS - 1 - CHANNELS),
+        (SENDERS_END, 1),
+    ];
+    let mut crowd = Scene::led(rt.alloc(), &parts, &SENDERS_STEPS)?;
+    take_turns(rt, &mut crowd, turns, sends)
+}
+
+fn take_turns(
+    rt: &HostRuntime,
+    crowd: &mut Scene,
+    turns: u32,
+    sends: bool,
+) -> Result<Option<u128>, Fault> {
+    let _ = turn(rt, crowd, sends)?;
     let mut took: Option<u128> = Some(0);
-    for sent in 0..CHANNELS {
-        crowd.run_each(rt.alloc(), 0, SENDERS, 3)?;
-        let watch = Watch::start(rt);
-        send_each(rt.alloc(), crowd, CHANNELS - sent)?;
-        took = both(took, watch.nanos(rt));
-        crowd.run_each(rt.alloc(), 0, SENDERS, 1)?;
+    for _ in 0..turns {
+        took = both(took, turn(rt, crowd, sends)?);
+    }
+    Ok(took)
+}
+
+/// How many nanoseconds a turn took. Then its messages are taken.
+fn turn(rt: &HostRuntime, crowd: &mut Scene, sends: bool) -> Result<Option<u128>, Fault> {
+    let watch = Watch::start(rt);
+    if sends {
+        crowd.run_each(rt.alloc(), 0, SENDERS, (BESIDE + 1) * CHANNELS)?;
+        deliver_all(rt.alloc(), crowd)?;
+    } else {
+        crowd.run_each(rt.alloc(), 0, SENDERS, BESIDE * CHANNELS)?;
+    }
+    let took = watch.nanos(rt);
+    crowd.run_each(rt.alloc(), 0, SENDERS, 1)?;
+    if sends {
+        crowd.run_each(rt.alloc(), 1, CHANNELS + 1, TAKE * SENDERS)?;
     }
     crowd.run_each(rt.alloc(), 0, SENDERS, 2)?;
     Ok(took)
 }
 
-/// Each process sends to that one, and the first that waits in the channel is delivered.
-fn send_each(alloc: Global, crowd: &mut Scene, to: u32) -> Result<(), Fault> {
+/// What each process sent is delivered.
+fn deliver_all(alloc: Global, crowd: &mut Scene) -> Result<(), Fault> {
     for pid in 0..SENDERS {
-        crowd.apply(alloc, Run(pid))?;
-        if pid != to {
-            crowd.apply(alloc, Deliver(pid, to))?;
-        }
+        deliver_from(alloc, crowd, pid)?;
     }
     Ok(())
 }
 
-/// Two times together, where both were taken.
-fn both(one: Option<u128>, other: Option<u128>) -> Option<u128> {
-    Some(one?.saturating_add(other?))
+/// What a process sent to others is delivered, in the order in which it was sent.
+fn deliver_from(alloc: Global, crowd: &mut Scene, pid: u32) -> Result<(), Fault> {
+    for sent in 0..CHANNELS {
+        let to = CHANNELS - sent;
+        if to != pid {
+            crowd.apply(alloc, Deliver(pid, to))?;
+        }
+    }
+    Ok(())
 }

@@ -26,6 +26,16 @@ impl Watch {
     }
 }
 
+/// Two times together, where both were taken.
+pub fn both(one: Option<u128>, other: Option<u128>) -> Option<u128> {
+    Some(one?.saturating_add(other?))
+}
+
+/// What the first takes beyond the second, where both were taken.
+pub fn beyond(went: Option<u128>, alone: Option<u128>) -> Option<u128> {
+    Some(went?.saturating_sub(alone?))
+}
+
 /// Tells what one of so many took.
 pub fn figure<R: Eprint>(
     rt: &R,

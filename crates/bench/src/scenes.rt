@@ -1,8 +1,11 @@
 //! Worlds in which choices are made, and timed.
 
 use crate::programs::Program;
+use bx_load::Image;
+use bx_proc::Proc;
+use bx_share::RcHold;
 use bx_terms::Fault;
-use bx_world::{Choice, RcWorld};
+use bx_world::{Choice, Lanes, RcWorld, RunEnd, advance};
 use std::alloc::Global;
 
 /// What leads to where a measure begins.
@@ -14,19 +17,23 @@ pub enum Step {
     Deliveries { from: u32, to: u32, past: u32 },
 }
 
-/// A program, and a world of it.
+/// A program, and where choices have led in it.
 #[derive(Drop)]
 pub struct Scene {
     program: Program,
-    world: RcWorld,
+    end: RunEnd<RcHold<Proc>, RcHold<Lanes>>,
 }
 
 impl Scene {
     /// The start of the program of a listing in parts.
     fn of(alloc: Global, parts: &[(&str, u32)]) -> Result<Scene, Fault> {
         let program = Program::of_parts(alloc, parts)?;
-        let world = program.begin(alloc)?;
-        Ok(Scene { program, world })
+        let end = RunEnd {
+            world: program.begin(alloc)?,
+            applied: 0,
+            refused: None,
+        };
+        Ok(Scene { program, end })
     }
 
     /// Where these steps lead from the start.
@@ -53,8 +60,10 @@ impl Scene {
         Ok(())
     }
 
+    /// Makes a choice, as a schedule does. It must be enabled.
+    #[inline(always)]
     pub fn apply(&mut self, alloc: Global, choice: Choice) -> Result<(), Fault> {
-        self.world.apply(alloc, self.program.image(), choice)
+        make(alloc, &mut self.end, self.program.image(), choice)
     }
 
     pub fn run(&mut self, alloc: Global, pid: u32, times: u32) -> Result<(), Fault> {
@@ -78,34 +87,43 @@ impl Scene {
         Ok(())
     }
 
-    /// Makes the choices of a lap so many times in a snapshot.
-    pub fn go_laps(&self, alloc: Global, lap: &[Choice], times: u32) -> Result<(), Fault> {
-        let mut other = self.world.snapshot(alloc)?;
+    /// Makes the choices of a lap so many times.
+    pub fn go_laps(&mut self, alloc: Global, lap: &[Choice], times: u32) -> Result<(), Fault> {
         for _ in 0..times {
-            apply_all(alloc, &self.program, &mut other, lap)?;
+            self.apply_all(alloc, lap)?;
+        }
+        Ok(())
+    }
+
+    fn apply_all(&mut self, alloc: Global, choices: &[Choice]) -> Result<(), Fault> {
+        for choice in choices {
+            self.apply(alloc, *choice)?;
         }
         Ok(())
     }
 
     pub fn snapshot(&self, alloc: Global) -> Result<RcWorld, Fault> {
-        self.world.snapshot(alloc)
+        self.end.world.snapshot(alloc)
     }
 
     /// Makes a choice in a snapshot.
     pub fn try_out(&self, alloc: Global, choice: Choice) -> Result<(), Fault> {
-        let mut other = self.world.snapshot(alloc)?;
+        let mut other = self.end.world.snapshot(alloc)?;
         other.apply(alloc, self.program.image(), choice)
     }
 }
 
-fn apply_all(
+#[inline(always)]
+fn make(
     alloc: Global,
-    program: &Program,
-    world: &mut RcWorld,
-    choices: &[Choice],
+    end: &mut RunEnd<RcHold<Proc>, RcHold<Lanes>>,
+    image: &Image,
+    choice: Choice,
 ) -> Result<(), Fault> {
-    for choice in choices {
-        world.apply(alloc, program.image(), *choice)?;
+    end.applied = 0;
+    advance(alloc, end, image, choice)?;
+    match end.refused {
+        None => Ok(()),
+        Some(_) => Err(Fault::NotEnabled),
     }
-    Ok(())
 }

@@ -1,6 +1,6 @@
 //! What sessions cost: choices beside the same in a world alone, and steps back at two depths.
 
-use crate::figures::{Watch, figure};
+use crate::figures::{Watch, beyond, figure};
 use crate::programs::{HEAD, Program};
 use crate::trouble::Trouble;
 use bx_debug::Session;
@@ -52,10 +52,6 @@ fn go(rt: &HostRuntime, program: &Program, row: &[Choice]) -> Result<(), Trouble
         "for 64 choices",
         beyond(went, alone),
     )
-}
-
-fn beyond(went: Option<u128>, alone: Option<u128>) -> Option<u128> {
-    Some(went?.saturating_sub(alone?))
 }
 
 /// The nanoseconds of these choices in a session.

@@ -1,14 +1,19 @@
 //! What sends, deliveries and snapshots cost.
 
-use crate::figures::{Watch, figure};
+use crate::figures::{Watch, both, figure};
 use crate::programs::HEAD;
 use crate::scenes::{Scene, Step};
 use crate::trouble::Trouble;
+use bx_terms::Fault;
 use bx_world::Choice;
 use bx_world::Choice::{Deliver, Run};
 
-/// A process with a child, whose pid is in `{x,3}`.
-const CHILD: &str = "{move,{atom,m},{x,0}}. {move,{atom,f},{x,1}}. {move,nil,{x,2}}.\n\
+/// A process with a child that takes its messages, whose pid is in `{x,3}`.
+const PAIR: &str = "{module,m}.\n{exports,[{f,0},{h,0}]}.\n{attributes,[]}.\n{labels,9}.\n\
+    {function,h,0,5}. {label,4}. {func_info,{atom,m},{atom,h},0}. {label,5}.\n\
+    {loop_rec,{f,6},{x,0}}. remove_message. {jump,{f,5}}. {label,6}. {wait,{f,5}}.\n\
+    {function,f,0,2}. {label,1}. {func_info,{atom,m},{atom,f},0}. {label,2}.\n\
+    {move,{atom,m},{x,0}}. {move,{atom,h},{x,1}}. {move,nil,{x,2}}.\n\
     {call_ext,3,{extfunc,erlang,spawn,3}}. {move,{x,0},{x,3}}.\n";
 
 /// A process with a child, over and over.
@@ -20,8 +25,11 @@ const PLAIN: &str = "{label,3}. {move,{x,3},{x,0}}. {move,{integer,1},{x,1}}. {j
 
 const SENDS: &str = "{label,3}. {move,{x,3},{x,0}}. {move,{integer,1},{x,1}}. send. {jump,{f,3}}.";
 
-/// After so many laps the world is that of the beginning again, so that no mailbox grows for ever.
+/// After so many laps the child takes its messages, so that its mailbox does not grow for ever.
 const LAPS: u32 = 1000;
+
+/// How many choices the child makes to take a message.
+const TAKE: u32 = 3;
 
 const PLAIN_LAP: [Choice; 3] = [Run(0), Run(0), Run(0)];
 
@@ -30,43 +38,51 @@ const SENDS_LAP: [Choice; 5] = [Run(0), Run(0), Run(0), Deliver(0, 1), Run(0)];
 /// So many laps of sends to a child, each with its delivery; of the same without the sends; and
 /// snapshots.
 pub fn measure(rt: &HostRuntime, rounds: u32) -> Result<(), Trouble> {
-    laps(rt, rounds, "two moves and a jump", PLAIN, &PLAIN_LAP)?;
+    laps(rt, rounds, "two moves and a jump", PLAIN, &PLAIN_LAP, 0)?;
     laps(
         rt,
         rounds,
         "the same with a send and its delivery",
         SENDS,
         &SENDS_LAP,
+        LAPS * TAKE,
     )?;
     of_ten(rt, rounds)
 }
 
-/// Makes the choices of a lap so many times, in a world whose process 0 has a child.
+/// Makes the choices of a lap so many times, in a world whose process 0 has a child, which makes so
+/// many after each 1,000 laps.
 fn laps(
     rt: &HostRuntime,
     rounds: u32,
     name: &str,
     items: &str,
     lap: &[Choice],
+    taking: u32,
 ) -> Result<(), Trouble> {
-    let parts = [(HEAD, 1), (CHILD, 1), (items, 1)];
-    let pair = Scene::led(rt.alloc(), &parts, &[runs(5)])?;
-    go_laps(rt, rounds / LAPS, name, &pair, lap)
+    let mut pair = Scene::led(rt.alloc(), &[(PAIR, 1), (items, 1)], &[runs(5)])?;
+    let turns = rounds / LAPS;
+    let took = turned(rt, turns, &mut pair, lap, taking)?;
+    let laps = u64::from(turns).saturating_mul(u64::from(LAPS));
+    figure(rt, name, laps, "a lap", took)
 }
 
-fn go_laps(
+/// The nanoseconds of the laps of so many turns.
+fn turned(
     rt: &HostRuntime,
     turns: u32,
-    name: &str,
-    pair: &Scene,
+    pair: &mut Scene,
     lap: &[Choice],
-) -> Result<(), Trouble> {
-    let watch = Watch::start(rt);
+    taking: u32,
+) -> Result<Option<u128>, Fault> {
+    let mut took: Option<u128> = Some(0);
     for _ in 0..turns {
+        let watch = Watch::start(rt);
         pair.go_laps(rt.alloc(), lap, LAPS)?;
+        took = both(took, watch.nanos(rt));
+        pair.run(rt.alloc(), 1, taking)?;
     }
-    let laps = u64::from(turns).saturating_mul(u64::from(LAPS));
-    figure(rt, name, laps, "a lap", watch.nanos(rt))
+    Ok(took)
 }
 
 /// So many runs of process 0.

@@ -14,7 +14,7 @@ none_free ss zero h = refl
 none_free ss (suc n) h = let e : None ≡ Some h.0 = h.2 in cc
 
 -- there is a free slot: the first of them, or a new one
-opened : (ss ss0 : List Slot) (first last saved free : Option ℕ) (passed len at : ℕ) (mail : Mail) → Joined ss first last saved free passed len mail → Opened ss ss0 free at → length ss0 < 2 ^ 63 → Joined ss0 first last saved (Some at) passed len mail
+opened : (ss ss0 : List Slot) (first last saved free : Option ℕ) (passed len at : ℕ) (mail : Mail) → Joined ss first last saved free passed len mail → Opened ss ss0 free at → length ss0 < 2 ^ 32 → Joined ss0 first last saved (Some at) passed len mail
 opened ss ss0 first last saved None passed len at mail j o bound =
     let n : j.spare ≡ 0 = none_free ss j.spare j.frees in
     let wide : List Slot = ss ++ vacant None ∷ [] in
@@ -27,7 +27,7 @@ opened ss ss0 first last saved None passed len at mail j o bound =
       spare = suc zero;
       others = omega (arith, j.others, n, length-append ss (vacant None ∷ []));
       frees = (length ss, None, refl, get_end ss (vacant None), refl);
-      bounded = subst (λ l. length l < 2 ^ 63) o.1 bound;
+      bounded = subst (λ l. length l < 2 ^ 32) o.1 bound;
     } in
     subst (λ l. Joined l first last saved (Some at) passed len mail) (sym o.1) (subst (λ x. Joined wide first last saved (Some x) passed len mail) (sym o.0) k)
 opened ss ss0 first last saved (Some free) passed len at mail j o bound =
@@ -138,13 +138,13 @@ add_linked ss ss1 ss2 first first' None saved passed len at mail message j e r =
 add_linked ss ss1 ss2 first first' (Some l) saved passed len at mail message j e r =
     add_behind ss ss2 first first' saved passed len at l mail message j r.0 (r.1 ∙ ap (λ k. slice_set k l (record { message = message_in (slice_get k l); next = Some at })) e)
 
-pub add_joined : (ss ss0 ss1 ss2 : List Slot) (first first' last saved free free' : Option ℕ) (passed len at : ℕ) (mail : Mail) (message : Tree) → Joined ss first last saved free passed len mail → Opened ss ss0 free at → length ss0 < 2 ^ 63 → free' ≡ next_in (slice_get ss0 at) → ss1 ≡ slice_set ss0 at (full message None) → Relinked ss1 ss2 first first' last (Some at) → Joined ss2 first' (Some at) saved free' passed (len + 1) (added mail message)
+pub add_joined : (ss ss0 ss1 ss2 : List Slot) (first first' last saved free free' : Option ℕ) (passed len at : ℕ) (mail : Mail) (message : Tree) → Joined ss first last saved free passed len mail → Opened ss ss0 free at → length ss0 < 2 ^ 32 → free' ≡ next_in (slice_get ss0 at) → ss1 ≡ slice_set ss0 at (full message None) → Relinked ss1 ss2 first first' last (Some at) → Joined ss2 first' (Some at) saved free' passed (len + 1) (added mail message)
 add_joined ss ss0 ss1 ss2 first first' last saved free free' passed len at mail message j o bound n e r =
     subst (λ x. Joined ss2 first' (Some at) saved x passed (len + 1) (added mail message)) (sym n)
     (add_linked ss0 ss1 ss2 first first' last saved passed len at mail message (opened ss ss0 first last saved free passed len at mail j o bound) e r)
 
-pub opened_within : (ss ss0 : List Slot) (first last saved free : Option ℕ) (passed len at : ℕ) (mail : Mail) → Joined ss first last saved free passed len mail → Opened ss ss0 free at → length ss0 < 2 ^ 63 → (next : Option ℕ) × (slice_get ss0 at ≡ Some (vacant next))
+pub opened_within : (ss ss0 : List Slot) (first last saved free : Option ℕ) (passed len at : ℕ) (mail : Mail) → Joined ss first last saved free passed len mail → Opened ss ss0 free at → length ss0 < 2 ^ 32 → (next : Option ℕ) × (slice_get ss0 at ≡ Some (vacant next))
 opened_within ss ss0 first last saved free passed len at mail j o bound = at_free ss0 first last saved passed len at mail (opened ss ss0 first last saved free passed len at mail j o bound)
 
-pub opened_joined : (ss ss0 : List Slot) (first last saved free : Option ℕ) (passed len at : ℕ) (mail : Mail) → Joined ss first last saved free passed len mail → Opened ss ss0 free at → length ss0 < 2 ^ 63 → Joined ss0 first last saved (Some at) passed len mail
+pub opened_joined : (ss ss0 : List Slot) (first last saved free : Option ℕ) (passed len at : ℕ) (mail : Mail) → Joined ss first last saved free passed len mail → Opened ss ss0 free at → length ss0 < 2 ^ 32 → Joined ss0 first last saved (Some at) passed len mail
 opened_joined ss ss0 first last saved free passed len at mail j o bound = opened ss ss0 first last saved free passed len at mail j o bound

@@ -34,7 +34,7 @@ pub record Joined (slots : List Slot) (first last saved free : Option ℕ) (pass
   pub spare : ℕ
   pub others : spare + len ≡ length slots
   pub frees : Frees slots spare free
-  pub bounded : length slots < 2 ^ 63
+  pub bounded : length slots < 2 ^ 32
 
 -- the messages, as the links and the counts part them
 abbrev pub parted : List Slot → Option ℕ → Option ℕ → ℕ → ℕ → Mail

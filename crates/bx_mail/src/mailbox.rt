@@ -15,12 +15,12 @@ use std::marker::Model;
 #[derive(Debug, Drop)]
 pub struct Mailbox {
     slots: Slots,
-    first: Option<usize>,
-    last: Option<usize>,
+    first: Option<u32>,
+    last: Option<u32>,
     /// The slot of the last message that was passed over.
-    saved: Option<usize>,
+    saved: Option<u32>,
     /// The first of the free slots.
-    free: Option<usize>,
+    free: Option<u32>,
     /// How many messages were passed over.
     passed: usize,
     /// How many messages there are.

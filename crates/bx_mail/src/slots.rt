@@ -14,7 +14,7 @@ use std::mem;
 pub struct Slot {
     pub message: Option<Term>,
     /// The number of the slot that comes next.
-    pub next: Option<usize>,
+    pub next: Option<u32>,
 }
 
 impl Clone for Slot {
@@ -60,21 +60,21 @@ impl Slots {
     }
 
     /// The message in the slot that `link` names.
-    pub(crate) fn message_of(&self, link: Option<usize>) -> Option<&Term>
+    pub(crate) fn message_of(&self, link: Option<u32>) -> Option<&Term>
         ensures { option_map (λ m. m.now) result ≡ message_of self.now link }
     {
-        self.slots.get(link?)?.message.as_ref()
+        self.slots.get(link? as usize)?.message.as_ref()
     }
 
     /// The link in the slot that `link` names.
-    pub(crate) fn next_of(&self, link: Option<usize>) -> Option<usize>
+    pub(crate) fn next_of(&self, link: Option<u32>) -> Option<u32>
         ensures { result ≡ next_of self.now link }
     {
-        self.slots.get(link?)?.next
+        self.slots.get(link? as usize)?.next
     }
 
     /// The link in the slot that `behind` names, or `first` where it names none.
-    pub(crate) fn link_behind(&self, first: Option<usize>, behind: Option<usize>) -> Option<usize>
+    pub(crate) fn link_behind(&self, first: Option<u32>, behind: Option<u32>) -> Option<u32>
         ensures { result ≡ link_behind self.now first behind }
     {
         match behind {
@@ -87,27 +87,27 @@ impl Slots {
     #[inline(always)]
     pub(crate) fn relink(
         &mut self,
-        first: &mut Option<usize>,
-        behind: Option<usize>,
-        to: Option<usize>,
+        first: &mut Option<u32>,
+        behind: Option<u32>,
+        to: Option<u32>,
     )
         requires { (at : ℕ) → behind ≡ Some at → at < length self.old }
         ensures { Relinked self.old self.new first.old first.new behind to }
     {
         match behind {
             None => *first = to,
-            Some(at) => self.slots[at].next = to,
+            Some(at) => self.slots[at as usize].next = to,
         }
     }
 
     /// Empties a slot, and puts it before the free slots. The answer is its message, and the link that it had.
-    pub(crate) fn empty(&mut self, at: usize, free: Option<usize>) -> (Option<Term>, Option<usize>)
+    pub(crate) fn empty(&mut self, at: u32, free: Option<u32>) -> (Option<Term>, Option<u32>)
         requires { at < length self.old }
         ensures message { result.0 ≡ message_in (slice_get self.old at) }
         ensures next { result.1 ≡ next_in (slice_get self.old at) }
         ensures emptied { self.new ≡ slice_set self.old at (vacant free) }
     {
-        let slot = &mut self.slots[at];
+        let slot = &mut self.slots[at as usize];
         let Slot { message, next } = mem::replace(
             slot,
             Slot {
@@ -120,28 +120,24 @@ impl Slots {
 
     /// Puts a message into a slot, with no slot next. The answer is the link that the slot had.
     #[inline(always)]
-    pub(crate) fn fill(&mut self, at: usize, message: Term) -> Option<usize>
+    pub(crate) fn fill(&mut self, at: u32, message: Term) -> Option<u32>
         requires { at < length self.old }
         ensures next { result ≡ next_in (slice_get self.old at) }
         ensures filled { self.new ≡ slice_set self.old at (full message None) }
     {
-        let slot = &mut self.slots[at];
-        let old = mem::replace(
-            slot,
-            Slot {
-                message: Some(message),
-                next: None,
-            },
-        );
-        old.next
+        let slot = &mut self.slots[at as usize];
+        let next = slot.next;
+        slot.message = Some(message);
+        slot.next = None;
+        next
     }
 
     /// The number of a free slot: the first of them, or else a new one.
     #[inline(always)]
-    pub(crate) fn open(&mut self, free: Option<usize>) -> Result<usize, AllocError>
-        requires { length self.old < 2 ^ 63 }
+    pub(crate) fn open(&mut self, free: Option<u32>) -> Result<u32, AllocError>
+        requires { length self.old < 2 ^ 32 }
         ensures ok { IfOk result (λ at. Opened self.old self.new free at) }
-        ensures bounded { OnOk result (length self.new < 2 ^ 63) }
+        ensures bounded { OnOk result (length self.new < 2 ^ 32) }
         ensures err { OnErr result (self.new ≡ self.old) }
     {
         if let Some(at) = free {
@@ -150,21 +146,24 @@ impl Slots {
         self.open_new()
     }
 
-    /// The number of a new slot.
+    /// The number of a new slot. There may be so many as 32 bits number, which take 128 GiB.
     #[cold]
     #[inline(never)]
-    fn open_new(&mut self) -> Result<usize, AllocError>
-        requires { length self.old < 2 ^ 63 }
+    fn open_new(&mut self) -> Result<u32, AllocError>
+        requires { length self.old < 2 ^ 32 }
         ensures ok { IfOk result (λ at. Opened self.old self.new None at) }
-        ensures bounded { OnOk result (length self.new < 2 ^ 63) }
+        ensures bounded { OnOk result (length self.new < 2 ^ 32) }
         ensures err { OnErr result (self.new ≡ self.old) }
     {
         let at = self.slots.len();
+        if at >= u32::MAX as usize {
+            return Err(AllocError);
+        }
         self.slots.push(Slot {
             message: None,
             next: None,
         })?;
-        Ok(at)
+        Ok(at as u32)
     }
 
     /// The same slots.
@@ -179,9 +178,9 @@ impl Slots {
 /// Whether so many slots hold the same messages, from where two links lead.
 pub(crate) fn same_row(
     slots: &Slots,
-    first: Option<usize>,
+    first: Option<u32>,
     others: &Slots,
-    other_first: Option<usize>,
+    other_first: Option<u32>,
     count: usize,
 ) -> bool
     ensures { IsTrue result ↔ (row slots.now count first ≡ row others.now count other_first) }
@@ -202,10 +201,10 @@ pub(crate) fn same_row(
 
 /// Which slot is the last, once the one between `before` and `next` is taken out.
 pub(crate) fn last_behind(
-    before: Option<usize>,
-    next: Option<usize>,
-    last: Option<usize>,
-) -> Option<usize>
+    before: Option<u32>,
+    next: Option<u32>,
+    last: Option<u32>,
+) -> Option<u32>
     ensures { result ≡ last_behind before next last }
 {
     match next {

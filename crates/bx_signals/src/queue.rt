@@ -1,26 +1,33 @@
 //! The signals of one channel.
 
-ghost use Rattle.std.specs.Prelude.{◌≡◌, ◌↔◌, ◌++◌, ◌∷◌, ◌≤◌, [], length, IfErr, IsTrue, OnErr, OnOk, option_map};
+ghost use Rattle.std.specs.Prelude.{◌≡◌, ◌≢◌, ◌↔◌, ◌++◌, ◌∷◌, ◌≤◌, [], length, IfOk, IfErr, IsTrue, OnErr, OnOk, Some, option_map, slice_get};
+ghost use Rattle.std.specs.VecDeque.{deque_len, deque_capacity};
 ghost use Rattle.bx_mail.specs.Mail.{added};
 ghost use Rattle.bx_signals.specs.Handing.{message_of, Hands};
 ghost use Rattle.bx_signals.specs.Waiting.{first, rest, front};
 
 use crate::signal::Signal;
 use bx_mail::Mailbox;
-use bx_share::Same;
+use bx_share::same_held;
+use bx_terms::Term;
 use std::alloc::{AllocError, Global};
 use std::collections::VecDeque;
 use std::marker::Model;
 use std::mem;
 
-/// Signals in the order in which they were put. The first two lie in the queue itself, so that one which gets empty over and
-/// over takes memory but once.
+/// Signals in the order in which they were put.
 #[derive(Debug, Drop)]
 pub(crate) struct Queue {
-    first: Option<Signal>,
-    second: Option<Signal>,
-    /// Those behind the first two.
-    more: VecDeque<Signal>,
+    held: Held,
+}
+
+/// One signal lies in the queue itself, so that one which gets empty over and over takes no memory. Once there were two they
+/// lie in a row apart.
+#[derive(Debug, Drop)]
+pub enum Held {
+    Nothing,
+    One(Signal),
+    Row(Box<VecDeque<Signal>>),
 }
 
 impl Model for Queue {
@@ -28,16 +35,13 @@ impl Model for Queue {
     ghost use Rattle.std.specs.Coded.{coded_list};
     ghost use Rattle.bx_signals.specs.declared.signal.Signal.{Signal};
     ghost use Rattle.bx_signals.specs.contracts.signal.Signal as signal;
+    ghost use Rattle.bx_signals.specs.Turns.{in_turn};
 
     ghost Value = { List Signal };
 
     ghost coded = { coded_list signal.the_row.coded };
 
-    ghost use Rattle.bx_signals.specs.Turns.{in_turn, IsInTurn};
-
-    ghost view = { λ a. in_turn a.first a.second a.more.items };
-
-    ghost invariant = { λ a. IsInTurn a.first a.second a.more.items };
+    ghost view = { λ a. in_turn a.held };
 }
 
 impl Clone for Queue {
@@ -46,46 +50,103 @@ impl Clone for Queue {
     ghost is_clone = { λ s t. t ≡ s };
 
     fn clone(&self) -> Result<Queue, AllocError> {
-        let first = self.first.clone()?;
-        let second = self.second.clone()?;
-        let more = self.more.clone()?;
-        Ok(Queue {
-            first,
-            second,
-            more,
-        })
+        let held = match &self.held {
+            Held::Nothing => Held::Nothing,
+            Held::One(first) => Held::One(first.clone()?),
+            Held::Row(signals) => Held::Row(signals.clone()?),
+        };
+        Ok(Queue { held })
     }
 }
 
 impl Queue {
     /// No signal.
-    pub(crate) fn new(alloc: Global) -> Queue
+    pub(crate) fn new() -> Queue
         ensures { result ≡ [] }
     {
         Queue {
-            first: None,
-            second: None,
-            more: VecDeque::new(alloc),
+            held: Held::Nothing,
         }
     }
 
-    /// Puts a signal last, or hands it back where memory ran out, and then nothing has changed. No memory is taken for the
-    /// first two.
+    /// Puts a signal last, or hands it back where memory ran out, and then nothing has changed. The first takes none.
     #[inline(always)]
-    pub(crate) fn put(&mut self, signal: Signal) -> Result<(), Signal>
+    pub(crate) fn put(&mut self, alloc: Global, signal: Signal) -> Result<(), Signal>
         ensures ok { OnOk result (self.new ≡ self.old ++ signal ∷ []) }
         ensures err { IfErr result (λ s. (s ≡ signal) × (self.new ≡ self.old)) }
-        ensures memory { OnErr result (2 ≤ length self.old) }
+        ensures memory { OnErr result (self.old ≢ []) }
     {
-        if self.first.is_none() {
-            self.first = Some(signal);
+        if let Held::Nothing = &self.held {
+            self.held = Held::One(signal);
             return Ok(());
         }
-        if self.second.is_none() {
-            self.second = Some(signal);
-            return Ok(());
+        self.put_behind(alloc, signal)
+    }
+
+    /// The same where others wait, or waited.
+    #[inline(never)]
+    fn put_behind(&mut self, alloc: Global, signal: Signal) -> Result<(), Signal>
+        ensures ok { OnOk result (self.new ≡ self.old ++ signal ∷ []) }
+        ensures err { IfErr result (λ s. (s ≡ signal) × (self.new ≡ self.old)) }
+        ensures memory { OnErr result (self.old ≢ []) }
+    {
+        match mem::replace(&mut self.held, Held::Nothing) {
+            Held::Nothing => {
+                self.held = Held::One(signal);
+                Ok(())
+            }
+            Held::One(first) => self.put_second(alloc, first, signal),
+            Held::Row(signals) => self.put_last(signals, signal),
         }
-        put_behind(&mut self.more, signal)
+    }
+
+    /// Keeps a signal, and puts a second behind it, in a row apart.
+    #[cold]
+    #[inline(never)]
+    fn put_second(&mut self, alloc: Global, first: Signal, second: Signal) -> Result<(), Signal>
+        ensures ok { OnOk result (self.new ≡ first ∷ second ∷ []) }
+        ensures err { IfErr result (λ s. (s ≡ second) × (self.new ≡ first ∷ [])) }
+    {
+        let Ok(mut signals) = room(alloc) else {
+            self.held = Held::One(first);
+            return Err(second);
+        };
+        signals.push_back_reserved(first);
+        signals.push_back_reserved(second);
+        self.held = Held::Row(signals);
+        Ok(())
+    }
+
+    /// Keeps a row of signals, and puts one behind them.
+    #[inline(never)]
+    fn put_last(&mut self, signals: Box<VecDeque<Signal>>, signal: Signal) -> Result<(), Signal>
+        ensures ok { OnOk result (self.new ≡ signals.value.items ++ signal ∷ []) }
+        ensures err { IfErr result (λ s. (s ≡ signal) × (self.new ≡ signals.value.items)) }
+        ensures memory { OnErr result (signals.value.items ≢ []) }
+    {
+        let mut signals = signals;
+        let put = signals.push_back(signal);
+        if let Err(failed) = put {
+            return self.put_alone(signals, failed.value);
+        }
+        self.held = Held::Row(signals);
+        Ok(())
+    }
+
+    /// Keeps a row that cannot grow, or, where nothing waits in it, the signal without a row.
+    #[cold]
+    #[inline(never)]
+    fn put_alone(&mut self, signals: Box<VecDeque<Signal>>, signal: Signal) -> Result<(), Signal>
+        ensures ok { OnOk result (self.new ≡ signals.value.items ++ signal ∷ []) }
+        ensures err { IfErr result (λ s. (s ≡ signal) × (self.new ≡ signals.value.items)) }
+        ensures memory { OnErr result (signals.value.items ≢ []) }
+    {
+        if !signals.is_empty() {
+            self.held = Held::Row(signals);
+            return Err(signal);
+        }
+        self.held = Held::One(signal);
+        Ok(())
     }
 
     /// The signal that was put first.
@@ -93,7 +154,11 @@ impl Queue {
     pub(crate) fn first(&self) -> Option<&Signal>
         ensures { option_map (λ s. s.now) result ≡ first self.now }
     {
-        self.first.as_ref()
+        match &self.held {
+            Held::Nothing => None,
+            Held::One(first) => Some(first),
+            Held::Row(signals) => signals.front(),
+        }
     }
 
     /// Takes the first signal out.
@@ -102,11 +167,22 @@ impl Queue {
         ensures given { result ≡ first self.old }
         ensures left { self.new ≡ rest self.old }
     {
-        let second = self.second.take();
-        let first = mem::replace(&mut self.first, second);
-        if !self.more.is_empty() {
-            self.second = self.more.pop_front();
+        match mem::replace(&mut self.held, Held::Nothing) {
+            Held::Nothing => None,
+            Held::One(first) => Some(first),
+            Held::Row(signals) => self.take_of(signals),
         }
+    }
+
+    /// Takes the first of a row of signals out, and keeps the others.
+    #[inline(never)]
+    fn take_of(&mut self, signals: Box<VecDeque<Signal>>) -> Option<Signal>
+        ensures given { result ≡ first signals.value.items }
+        ensures left { self.new ≡ rest signals.value.items }
+    {
+        let mut signals = signals;
+        let first = signals.pop_front();
+        self.held = Held::Row(signals);
         first
     }
 
@@ -117,43 +193,75 @@ impl Queue {
         ensures { Hands added (message_of (first self.old)) mailbox.old mailbox.new
             (self.new ≡ rest self.old) (self.new ≡ self.old) result }
     {
-        match self.first.take() {
-            Some(Signal::Message(message)) => {
+        if let Held::One(_) = &self.held {
+            let Held::One(first) = mem::replace(&mut self.held, Held::Nothing) else {
+                unreachable!() // it was seen
+            };
+            return self.hand_only(first, mailbox);
+        }
+        self.hand_any(mailbox)
+    }
+
+    /// The same, however many wait.
+    #[inline(never)]
+    fn hand_any(&mut self, mailbox: &mut Mailbox) -> Result<bool, AllocError>
+        ensures { Hands added (message_of (first self.old)) mailbox.old mailbox.new
+            (self.new ≡ rest self.old) (self.new ≡ self.old) result }
+    {
+        match mem::replace(&mut self.held, Held::Nothing) {
+            Held::Nothing => Ok(false),
+            Held::One(first) => self.hand_only(first, mailbox),
+            Held::Row(signals) => self.hand_of(signals, mailbox),
+        }
+    }
+
+    /// Hands the only signal on, where it is a message, or keeps it.
+    #[inline(always)]
+    fn hand_only(&mut self, first: Signal, mailbox: &mut Mailbox) -> Result<bool, AllocError>
+        requires { self.old ≡ [] }
+        ensures { Hands added (message_of (Some first)) mailbox.old mailbox.new (self.new ≡ [])
+            (self.new ≡ first ∷ []) result }
+    {
+        match first {
+            Signal::Message(message) => {
                 if let Err(message) = mailbox.add(message) {
-                    self.first = Some(Signal::Message(message));
+                    self.held = Held::One(Signal::Message(message));
                     return Err(AllocError);
                 }
+                Ok(true)
             }
             other => {
-                self.first = other;
-                return Ok(false);
+                self.held = Held::One(other);
+                Ok(false)
             }
         }
-        if self.second.is_none() {
-            return Ok(true);
-        }
-        self.first = self.second.take();
-        let behind = &mut self.more;
-        if !behind.is_empty() {
-            self.second = behind.pop_front();
-        }
-        Ok(true)
+    }
+
+    /// Hands the first of a row of signals on, where it is a message, and keeps the others, or keeps them all.
+    #[inline(never)]
+    fn hand_of(
+        &mut self,
+        signals: Box<VecDeque<Signal>>,
+        mailbox: &mut Mailbox,
+    ) -> Result<bool, AllocError>
+        ensures { Hands added (message_of (first signals.value.items)) mailbox.old mailbox.new
+            (self.new ≡ rest signals.value.items) (self.new ≡ signals.value.items) result }
+    {
+        let mut signals = signals;
+        let handed = hand_first(&mut signals, mailbox);
+        self.held = Held::Row(signals);
+        handed
     }
 
     /// Takes the last signal out.
-    #[tactic(auto, using(crate::proofs::Turned::front_behind))]
     pub(crate) fn take_back(&mut self)
         ensures { self.new ≡ front self.old }
     {
-        if !self.more.is_empty() {
-            let _ = self.more.pop_back();
-            return;
+        match mem::replace(&mut self.held, Held::Nothing) {
+            Held::Nothing => {}
+            Held::One(_last) => {}
+            Held::Row(signals) => self.held = Held::Row(without_last(signals)),
         }
-        if self.second.is_some() {
-            self.second = None;
-            return;
-        }
-        self.first = None;
     }
 
     /// Whether no signal waits.
@@ -161,43 +269,91 @@ impl Queue {
     pub(crate) fn is_empty(&self) -> bool
         ensures { IsTrue result ↔ (self.now ≡ []) }
     {
-        self.first.is_none()
+        match &self.held {
+            Held::Nothing => true,
+            Held::Row(signals) => signals.is_empty(),
+            _ => false,
+        }
+    }
+
+    /// How many signals wait.
+    fn len(&self) -> usize
+        ensures { result ≡ length self.now }
+    {
+        match &self.held {
+            Held::Nothing => 0,
+            Held::One(_) => 1,
+            Held::Row(signals) => signals.len(),
+        }
+    }
+
+    /// The signal before which so many were put.
+    fn get(&self, at: usize) -> Option<&Signal>
+        ensures { option_map (λ s. s.now) result ≡ slice_get self.now at }
+    {
+        match (&self.held, at) {
+            (Held::One(first), 0) => Some(first),
+            (Held::Row(signals), _) => signals.get(at),
+            _ => None,
+        }
     }
 
     /// Whether both hold the same signals in the same order.
     pub(crate) fn same(&self, other: &Queue) -> bool
         ensures { IsTrue result ↔ (self.now ≡ other.now) }
     {
-        self.first.same(&other.first)
-            && self.second.same(&other.second)
-            && same_signals(&self.more, &other.more)
-    }
-}
-
-/// Puts a signal last, or hands it back where memory ran out.
-#[cold]
-#[inline(never)]
-fn put_behind(more: &mut VecDeque<Signal>, signal: Signal) -> Result<(), Signal>
-    ensures ok { OnOk result (more.new.items ≡ more.old.items ++ signal ∷ []) }
-    ensures err { IfErr result (λ s. (s ≡ signal) × (more.new.items ≡ more.old.items)) }
-{
-    match more.push_back(signal) {
-        Ok(()) => Ok(()),
-        Err(failed) => Err(failed.value),
-    }
-}
-
-#[tactic(auto, using(bx_share::specs::Rows::same_so_far, bx_share::specs::Rows::same_whole))]
-fn same_signals(xs: &VecDeque<Signal>, ys: &VecDeque<Signal>) -> bool
-    ensures { IsTrue result ↔ (xs.now.items ≡ ys.now.items) }
-{
-    if xs.len() != ys.len() {
-        return false;
-    }
-    for at in 0..xs.len() {
-        if !xs[at].same(&ys[at]) {
+        if self.len() != other.len() {
             return false;
         }
+        for at in 0..self.len() {
+            if !same_held(self.get(at), other.get(at)) {
+                return false;
+            }
+        }
+        true
     }
-    true
+}
+
+/// Moves the first of a row of signals into a mailbox, where it is a message, and tells whether it is one. Where it is none,
+/// and where memory ran out, nothing has changed.
+fn hand_first(signals: &mut VecDeque<Signal>, mailbox: &mut Mailbox) -> Result<bool, AllocError>
+    ensures { Hands added (message_of (first signals.old.items)) mailbox.old mailbox.new
+        (signals.new.items ≡ rest signals.old.items) (signals.new.items ≡ signals.old.items) result }
+{
+    match signals.pop_front() {
+        Some(Signal::Message(message)) => {
+            if let Err(message) = mailbox.add(message) {
+                signals.push_front_reserved(Signal::Message(message));
+                return Err(AllocError);
+            }
+            Ok(true)
+        }
+        Some(other) => {
+            signals.push_front_reserved(other);
+            Ok(false)
+        }
+        None => Ok(false),
+    }
+}
+
+/// A row of signals but its last.
+fn without_last(signals: Box<VecDeque<Signal>>) -> Box<VecDeque<Signal>>
+    ensures { result.value.items ≡ front signals.value.items }
+{
+    let mut signals = signals;
+    let _ = signals.pop_back();
+    signals
+}
+
+/// A row without signals, with room for some.
+fn room(alloc: Global) -> Result<Box<VecDeque<Signal>>, AllocError>
+    ensures empty { IfOk result (λ row. row.value.items ≡ []) }
+    ensures room { IfOk result (λ row. 2 ≤ deque_capacity row.value) }
+    ensures none { IfOk result (λ row. deque_len row.value ≡ 0) }
+{
+    let signals = VecDeque::with_capacity(alloc, 4)?;
+    match Box::new(alloc, signals) {
+        Ok(row) => Ok(row),
+        Err(_failed) => Err(AllocError),
+    }
 }

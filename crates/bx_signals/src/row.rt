@@ -70,14 +70,14 @@ impl Row {
         let at = match place_near(&self.lines, self.near, to) {
             Ok(at) => at,
             Err(at) => {
-                if let Err(_refused) = open_at(alloc, &mut self.lines, at, to) {
+                if let Err(_refused) = open_at(&mut self.lines, at, to) {
                     return Err(signal);
                 }
                 at
             }
         };
         self.near = at;
-        put_at(&mut self.lines, at, to, signal)
+        put_at(alloc, &mut self.lines, at, to, signal)
     }
 
     /// The first signal to that receiver.
@@ -268,33 +268,34 @@ fn place_of(lines: &[(u32, Queue)], to: u32) -> Result<usize, usize>
 /// Makes room for a queue of a receiver that has none.
 #[cold]
 #[inline(never)]
-fn open_at(
-    alloc: Global,
-    lines: &mut Vec<(u32, Queue)>,
-    at: usize,
-    to: u32,
-) -> Result<(), AllocError>
+fn open_at(lines: &mut Vec<(u32, Queue)>, at: usize, to: u32) -> Result<(), AllocError>
     requires rising { IsRising lines.old.items }
     requires gap { IsGapOf lines.old.items to at }
     ensures there { OnOk result (IsPlaceOf lines.new.items to at) }
     ensures rising { IsRising lines.new.items }
     ensures kept { SameRow lines.old.items lines.new.items }
 {
-    match lines.insert(at, (to, Queue::new(alloc))) {
+    match lines.insert(at, (to, Queue::new())) {
         Ok(()) => Ok(()),
         Err(_failed) => Err(AllocError),
     }
 }
 
 #[inline(always)]
-fn put_at(lines: &mut Vec<(u32, Queue)>, at: usize, to: u32, signal: Signal) -> Result<(), Signal>
+fn put_at(
+    alloc: Global,
+    lines: &mut Vec<(u32, Queue)>,
+    at: usize,
+    to: u32,
+    signal: Signal,
+) -> Result<(), Signal>
     requires rising { IsRising lines.old.items }
     requires place { IsPlaceOf lines.old.items to at }
     ensures rising { IsRising lines.new.items }
     ensures ok { OnOk result (Replaced lines.old.items lines.new.items to (queue_in lines.old.items to ++ signal ∷ [])) }
     ensures err { IfErr result (λ s. (s ≡ signal) × SameRow lines.old.items lines.new.items) }
 {
-    lines[at].1.put(signal)
+    lines[at].1.put(alloc, signal)
 }
 
 #[inline(always)]

@@ -8,8 +8,28 @@ use std::test::Fail;
 const SHOWS: &str =
     "{label,5}. {loop_rec,{f,6},{x,0}}. {call_ext_only,1,{extfunc,erlang,display,1}}. {label,6}. {wait,{f,5}}.";
 
+/// Shows each message, in the order in which they come.
+const SHOWS_ALL: &str =
+    "{label,5}. {loop_rec,{f,6},{x,0}}. remove_message. {call_ext,1,{extfunc,erlang,display,1}}. {jump,{f,5}}. {label,6}. {wait,{f,5}}.";
+
+/// Four messages to the process in x0.
+const SENDS_FOUR: &str =
+    "{move,{x,0},{x,8}}. {move,{atom,a},{x,1}}. send. {move,{x,8},{x,0}}. {move,{atom,b},{x,1}}. send. {move,{x,8},{x,0}}. {move,{atom,c},{x,1}}. send. {move,{x,8},{x,0}}. {move,{atom,d},{x,1}}. send. return.";
+
 /// What process 0 does once it has spawned process 1 in four runs, the child, the choices and the report.
-const SIGNALS: [(&str, &str, &str, &str); 15] = [
+const SIGNALS: [(&str, &str, &str, &str); 17] = [
+    (
+        SENDS_FOUR,
+        SHOWS_ALL,
+        "r0*16 d0>1 d0>1 d0>1 d0>1 r1*16",
+        "applied 36\nstate open r0 r1\nprocess <0.0.0> ready\nprocess <0.1.0> ready\noutput <0.1.0> a\noutput <0.1.0> b\noutput <0.1.0> c\noutput <0.1.0> d\nend\n",
+    ),
+    (
+        SENDS_FOUR,
+        SHOWS_ALL,
+        "r0*13 d0>1 d0>1 r0*3 d0>1 r1*4 d0>1 r1*12",
+        "applied 36\nstate open r0 r1\nprocess <0.0.0> ready\nprocess <0.1.0> ready\noutput <0.1.0> a\noutput <0.1.0> b\noutput <0.1.0> c\noutput <0.1.0> d\nend\n",
+    ),
     (
         "{move,{atom,a},{x,1}}. send. return.",
         SHOWS,
