@@ -85,12 +85,7 @@ impl Slots {
 
     /// Makes the link in the slot that `behind` names, or `first` where it names none, lead to `to`.
     #[inline(always)]
-    pub(crate) fn relink(
-        &mut self,
-        first: &mut Option<u32>,
-        behind: Option<u32>,
-        to: Option<u32>,
-    )
+    pub(crate) fn relink(&mut self, first: &mut Option<u32>, behind: Option<u32>, to: Option<u32>)
         requires { (at : ℕ) → behind ≡ Some at → at < length self.old }
         ensures { Relinked self.old self.new first.old first.new behind to }
     {
@@ -200,11 +195,7 @@ pub(crate) fn same_row(
 }
 
 /// Which slot is the last, once the one between `before` and `next` is taken out.
-pub(crate) fn last_behind(
-    before: Option<u32>,
-    next: Option<u32>,
-    last: Option<u32>,
-) -> Option<u32>
+pub(crate) fn last_behind(before: Option<u32>, next: Option<u32>, last: Option<u32>) -> Option<u32>
     ensures { result ≡ last_behind before next last }
 {
     match next {
