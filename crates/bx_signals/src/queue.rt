@@ -4,6 +4,7 @@ ghost use Rattle.std.specs.Prelude.{◌≡◌, ◌≢◌, ◌↔◌, ◌++◌, �
 ghost use Rattle.std.specs.VecDeque.{deque_len, deque_capacity};
 ghost use Rattle.bx_mail.specs.Mail.{added};
 ghost use Rattle.bx_signals.specs.Handing.{message_of, Hands};
+ghost use Rattle.bx_signals.specs.Turns.{in_turn};
 ghost use Rattle.bx_signals.specs.Waiting.{first, rest, front};
 
 use crate::signal::Signal;
@@ -53,7 +54,7 @@ impl Clone for Queue {
         let held = match &self.held {
             Held::Nothing => Held::Nothing,
             Held::One(first) => Held::One(first.clone()?),
-            Held::Row(signals) => Held::Row(signals.clone()?),
+            Held::Row(signals) => copied(signals)?,
         };
         Ok(Queue { held })
     }
@@ -343,6 +344,16 @@ fn without_last(signals: Box<VecDeque<Signal>>) -> Box<VecDeque<Signal>>
     let mut signals = signals;
     let _ = signals.pop_back();
     signals
+}
+
+/// The same signals, in a row only where there are some.
+fn copied(signals: &Box<VecDeque<Signal>>) -> Result<Held, AllocError>
+    ensures { IfOk result (λ held. in_turn held ≡ signals.now.value.items) }
+{
+    if signals.is_empty() {
+        return Ok(Held::Nothing);
+    }
+    Ok(Held::Row(signals.clone()?))
 }
 
 /// A row without signals, with room for some.
