@@ -76,13 +76,13 @@ status_sync = search (term_sync, sendable) depth 30
 parts_send : AllSend ((shape inside.the_type).fields)
 parts_send = (
   registers_send,
-  (place_send, (place_send, (status_send, (fault_send, (asked_send, (search sendable, (mailbox_send, (links.the_send, (place_send, (frames_send, tt)))))))))),
+  (search sendable, (place_send, (status_send, (fault_send, (asked_send, (place_send, (place_send, (mailbox_send, (links.the_send, (frames_send, tt)))))))))),
 )
 
 parts_sync : AllSync ((shape inside.the_type).fields)
 parts_sync = (
   registers_sync,
-  (place_sync, (place_sync, (status_sync, (fault_sync, (asked_sync, (search sendable, (mailbox_sync, (links.the_sync, (place_sync, (frames_sync, tt)))))))))),
+  (search sendable, (place_sync, (status_sync, (fault_sync, (asked_sync, (place_sync, (place_sync, (mailbox_sync, (links.the_sync, (frames_sync, tt)))))))))),
 )
 
 pub process_send : IsSend process.the_row

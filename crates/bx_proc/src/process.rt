@@ -15,24 +15,25 @@ use std::marker::Model;
 
 /// A process.
 ///
-/// What each run looks at stands first, so that it lies together in memory.
+/// What each run looks at stands first, so that it lies together in memory. Before `place` and `cp` stands what takes a byte or
+/// two, so that each of them lies on a multiple of eight bytes, and in one line of the cache.
 ///
 /// Source: The BEAM Book, "The Process".
 #[derive(Debug, Drop)]
 pub struct Proc {
     pub(crate) x: Registers,
+    pub(crate) trap_exit: bool,
     pub(crate) place: Option<Place>,
-    /// Of a process that waits for a time: where it goes on when that is over.
-    pub(crate) expires: Option<Place>,
     pub(crate) status: Status,
     pub(crate) fault: Option<Pending>,
     /// What it asked for and was not answered yet.
     pub(crate) asked: Option<Native>,
-    pub(crate) trap_exit: bool,
-    pub(crate) mailbox: Mailbox,
-    pub(crate) links: Links,
     /// The continuation pointer.
     pub(crate) cp: Option<Place>,
+    /// Of a process that waits for a time: where it goes on when that is over.
+    pub(crate) expires: Option<Place>,
+    pub(crate) mailbox: Mailbox,
+    pub(crate) links: Links,
     pub(crate) frames: Frames,
 }
 
