@@ -1,6 +1,6 @@
 //! How much faster a campaign is with more workers.
 
-use crate::figures::Watch;
+use crate::figures::{Rounds, Watch, faster};
 use crate::plans::{HEAD, JUMP, PROCESSES, START, plan_of};
 use crate::programs::Program;
 use crate::trouble::Trouble;
@@ -44,6 +44,9 @@ const COPY_MADE: [(&str, u32); 3] = [
     ),
 ];
 
+/// How often each campaign is run by each number of workers, in turn.
+const ROUNDS: u32 = 7;
+
 /// How long a campaign took, and its report's text.
 #[derive(Drop)]
 struct Taken {
@@ -76,7 +79,6 @@ fn compare_all<R: Threads + Wait + Clock + Eprint + AllocGlobal + Sync>(
     compare(rt, plan, "copies of a tuple made before", &COPY_MADE)
 }
 
-/// Times a campaign by 1, 2 and 4 workers, and sees that their reports are the same bytes.
 fn compare<R: Threads + Wait + Clock + Eprint + AllocGlobal + Sync>(
     rt: &R,
     plan: &Plan,
@@ -87,29 +89,40 @@ fn compare<R: Threads + Wait + Clock + Eprint + AllocGlobal + Sync>(
     by_workers(rt, plan, name, &program)
 }
 
+/// Times a campaign by 1, 2 and 4 workers in turn, and sees that their reports are the same bytes.
 fn by_workers<R: Threads + Wait + Clock + Eprint + AllocGlobal + Sync>(
     rt: &R,
     plan: &Plan,
     name: &str,
     program: &Program,
 ) -> Result<(), Trouble> {
-    let alone = timed(rt, program, plan, 1)?;
-    for workers in [2, 4] {
-        share(rt, plan, name, program, &alone, workers)?;
+    let mut by_one = Rounds::new(rt.alloc());
+    let mut by_two = Rounds::new(rt.alloc());
+    let mut by_four = Rounds::new(rt.alloc());
+    for _ in 0..ROUNDS {
+        let alone = timed(rt, program, plan, 1)?;
+        by_two.push(shared(rt, program, plan, &alone, 2)?)?;
+        by_four.push(shared(rt, program, plan, &alone, 4)?)?;
+        by_one.push(alone.nanos)?;
     }
-    Ok(())
+    faster(rt, name, "2 workers", &mut by_one, &mut by_two)?;
+    faster(rt, name, "4 workers", &mut by_one, &mut by_four)
 }
 
-fn share<R: Threads + Wait + Clock + Eprint + AllocGlobal + Sync>(
+/// The nanoseconds by so many workers, whose report is that of one.
+fn shared<R: Threads + Wait + Clock + AllocGlobal + Sync>(
     rt: &R,
-    plan: &Plan,
-    name: &str,
     program: &Program,
+    plan: &Plan,
     alone: &Taken,
     workers: u32,
-) -> Result<(), Trouble> {
+) -> Result<Option<u128>, Trouble> {
     let shared = timed(rt, program, plan, workers)?;
-    beside(rt, name, workers, alone, &shared)
+    if alone.text == shared.text {
+        Ok(shared.nanos)
+    } else {
+        Err(Trouble::Wrong)
+    }
 }
 
 fn timed<R: Threads + Wait + Clock + AllocGlobal + Sync>(
@@ -125,40 +138,4 @@ fn timed<R: Threads + Wait + Clock + AllocGlobal + Sync>(
     let nanos = watch.nanos(rt);
     let text = report_text(rt.alloc(), image.atoms(), &report)?;
     Ok(Taken { nanos, text })
-}
-
-/// Tells how much faster so many workers were than one.
-fn beside<R: Eprint>(
-    rt: &R,
-    name: &str,
-    workers: u32,
-    alone: &Taken,
-    shared: &Taken,
-) -> Result<(), Trouble> {
-    let (Some(one), Some(all)) = (alone.nanos, shared.nanos) else {
-        return Err(Trouble::Machine);
-    };
-    if alone.text == shared.text {
-        faster(rt, name, workers, one, all)
-    } else {
-        Err(Trouble::Wrong)
-    }
-}
-
-fn faster<R: Eprint>(
-    rt: &R,
-    name: &str,
-    workers: u32,
-    one: u128,
-    all: u128,
-) -> Result<(), Trouble> {
-    let hundredths = one.saturating_mul(100).checked_div(all).unwrap_or(0);
-    let whole = hundredths / 100;
-    let rest = hundredths % 100;
-    let micros = one / 1000;
-    let shared = all / 1000;
-    eprintln!(rt;
-        "{name}: {micros} us by 1 worker, {shared} us by {workers}, {whole}.{rest:02} times as fast"
-    )?;
-    Ok(())
 }

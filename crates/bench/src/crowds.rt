@@ -1,7 +1,7 @@
 //! What choices cost among many processes: a message that goes round a ring, and sends over many
 //! channels.
 
-use crate::figures::{Watch, beyond, both, figure};
+use crate::figures::{Rounds, Watch, figure_beyond, figure_of};
 use crate::scenes::{Scene, Step};
 use crate::trouble::Trouble;
 use bx_terms::Fault;
@@ -121,17 +121,23 @@ pub fn ring(rt: &HostRuntime, rounds: u32) -> Result<(), Trouble> {
 }
 
 fn go_rounds(rt: &HostRuntime, ring: &mut Scene, rounds: u32) -> Result<(), Trouble> {
-    let watch = Watch::start(rt);
+    let mut took = Rounds::new(rt.alloc());
     for _ in 0..rounds {
-        go_round(rt.alloc(), ring)?;
+        took.push(round_timed(rt, ring)?)?;
     }
-    figure(
+    figure_of(
         rt,
         "a ring of 1000 processes",
-        u64::from(rounds.saturating_mul(RING * (STEPS + 1))),
+        u64::from(RING * (STEPS + 1)),
         "a choice",
-        watch.nanos(rt),
+        &mut took,
     )
+}
+
+fn round_timed(rt: &HostRuntime, ring: &mut Scene) -> Result<Option<u128>, Fault> {
+    let watch = Watch::start(rt);
+    go_round(rt.alloc(), ring)?;
+    Ok(watch.nanos(rt))
 }
 
 /// The message goes once round the ring.
@@ -146,21 +152,14 @@ fn go_round(alloc: Global, ring: &mut Scene) -> Result<(), Fault> {
 }
 
 /// So many turns of 1,024 processes, in each of which every process sends to 101 in a row, and then
-/// all that it sent is delivered: what this takes beyond the same turns without sends.
+/// all that it sent is delivered, in turn with as many without sends.
 pub fn senders(rt: &HostRuntime, turns: u32) -> Result<(), Trouble> {
-    let without = took(rt, turns, false)?;
-    let with = took(rt, turns, true)?;
-    figure(
-        rt,
-        "1024 senders with 100 channels each",
-        u64::from(turns.saturating_mul(SENDERS * CHANNELS)),
-        "a send and its delivery",
-        beyond(with, without),
-    )
+    let mut sending = crowd(rt.alloc(), true)?;
+    let mut plain = crowd(rt.alloc(), false)?;
+    in_turn(rt, turns, &mut sending, &mut plain)
 }
 
-/// The nanoseconds of so many turns, behind a first one in which channels and mailboxes get room.
-fn took(rt: &HostRuntime, turns: u32, sends: bool) -> Result<Option<u128>, Fault> {
+fn crowd(alloc: Global, sends: bool) -> Result<Scene, Fault> {
     let parts = [
         (SENDERS_HEAD, 1),
         ("send.\n", u32::from(sends)),
@@ -169,22 +168,31 @@ fn took(rt: &HostRuntime, turns: u32, sends: bool) -> Result<Option<u128>, Fault
         (BORN, SENDERS - 1 - CHANNELS),
         (SENDERS_END, 1),
     ];
-    let mut crowd = Scene::led(rt.alloc(), &parts, &SENDERS_STEPS)?;
-    take_turns(rt, &mut crowd, turns, sends)
+    Scene::led(alloc, &parts, &SENDERS_STEPS)
 }
 
-fn take_turns(
+/// Behind a first turn, in which channels and mailboxes get room.
+fn in_turn(
     rt: &HostRuntime,
-    crowd: &mut Scene,
     turns: u32,
-    sends: bool,
-) -> Result<Option<u128>, Fault> {
-    let _ = turn(rt, crowd, sends)?;
-    let mut took: Option<u128> = Some(0);
+    sending: &mut Scene,
+    plain: &mut Scene,
+) -> Result<(), Trouble> {
+    let _ = turn(rt, sending, true)?;
+    let mut with = Rounds::new(rt.alloc());
+    let mut without = Rounds::new(rt.alloc());
     for _ in 0..turns {
-        took = both(took, turn(rt, crowd, sends)?);
+        with.push(turn(rt, sending, true)?)?;
+        without.push(turn(rt, plain, false)?)?;
     }
-    Ok(took)
+    figure_beyond(
+        rt,
+        "1024 senders with 100 channels each",
+        u64::from(SENDERS * CHANNELS),
+        "a send and its delivery",
+        &mut with,
+        &mut without,
+    )
 }
 
 /// How many nanoseconds a turn took. Then its messages are taken.

@@ -1,6 +1,6 @@
 //! Measures of `bxemu`, on standard error. Without arguments it does nothing.
 //!
-//! `bench listing ITEMS`, `bench choices ROUNDS`, `bench mailbox ROUNDS`, `bench worlds ROUNDS`,
+//! `bench listing ITEMS`, `bench choices ROUNDS`, `bench mailbox ROUNDS`, `bench worlds LAPS`,
 //! `bench ring ROUNDS`, `bench senders TURNS`, `bench session CHOICES`, `bench campaign SCHEDULES`,
 //! `bench units SCHEDULES`; over a listing in a file `bench program CHOICES FILE` and
 //! `bench forms ROUNDS FILE`; at random `bench fuzz ROUNDS`, `bench walk CHOICES`,

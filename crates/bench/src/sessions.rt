@@ -1,6 +1,6 @@
 //! What sessions cost: choices beside the same in a world alone, and steps back at two depths.
 
-use crate::figures::{Watch, beyond, figure};
+use crate::figures::{Rounds, Watch, figure_beyond, figure_of};
 use crate::programs::{HEAD, Program};
 use crate::trouble::Trouble;
 use bx_debug::Session;
@@ -8,50 +8,50 @@ use bx_terms::Fault;
 use bx_world::Choice;
 use std::alloc::Global;
 
-/// How often a step back is taken at each depth.
-const STEPS: u32 = 1000;
+/// How often each measure is taken, in turn with what it is compared with.
+const ROUNDS: u32 = 60;
+
+/// How many steps back are timed together.
+const STEPS: u32 = 200;
 
 /// The depth that a step back is compared at: as many choices are made again from 100,000.
 const SHALLOW: [Choice; 160] = [Choice::Run(0); 160];
 
-/// Makes so many choices in a session, and steps back and forward at two depths.
+/// Makes so many choices in a session, and steps back and forward at two depths. In the first round
+/// a session's memory is new, and in the others it was in use before.
 pub fn measure(rt: &HostRuntime, choices: u32) -> Result<(), Trouble> {
     let parts = [(HEAD, 1), ("{label,3}. {jump,{f,3}}.", 1)];
     let program = Program::of_parts(rt.alloc(), &parts)?;
     let row = row_of(rt.alloc(), choices)?;
-    turns(rt, &program, &row)
-}
-
-fn turns(rt: &HostRuntime, program: &Program, row: &[Choice]) -> Result<(), Trouble> {
-    for _turn in 0..3 {
-        turn(rt, program, row)?;
-    }
-    Ok(())
+    take(rt, &program, &row)
 }
 
 fn row_of(alloc: Global, choices: u32) -> Result<Vec<Choice>, Fault> {
     Ok(vec![in alloc; Choice::Run(0); choices as usize]?)
 }
 
-fn turn(rt: &HostRuntime, program: &Program, row: &[Choice]) -> Result<(), Trouble> {
-    go(rt, program, row)?;
-    back(rt, program, "back 1 and forward 1 at 160 choices", &SHALLOW)?;
-    back(rt, program, "back 1 and forward 1 at all choices", row)
+fn take(rt: &HostRuntime, program: &Program, row: &[Choice]) -> Result<(), Trouble> {
+    go(rt, program, row, "go beyond the same alone, first", 1)?;
+    go(rt, program, row, "go beyond the same alone", ROUNDS)?;
+    back(rt, program, row)
 }
 
 /// What choices cost in a session beyond what they cost alone.
-fn go(rt: &HostRuntime, program: &Program, row: &[Choice]) -> Result<(), Trouble> {
-    let watch = Watch::start(rt);
-    let applied = program.replay(rt.alloc(), row)?;
-    let alone = watch.nanos(rt);
-    let went = gone(rt, program, row)?;
-    figure(
-        rt,
-        "go beyond the same alone",
-        applied / 64,
-        "for 64 choices",
-        beyond(went, alone),
-    )
+fn go(
+    rt: &HostRuntime,
+    program: &Program,
+    row: &[Choice],
+    name: &str,
+    rounds: u32,
+) -> Result<(), Trouble> {
+    let mut with = Rounds::new(rt.alloc());
+    let mut without = Rounds::new(rt.alloc());
+    for _ in 0..rounds {
+        with.push(gone(rt, program, row)?)?;
+        without.push(alone(rt, program, row)?)?;
+    }
+    let parts = row.len() as u64 / 64;
+    figure_beyond(rt, name, parts, "for 64 choices", &mut with, &mut without)
 }
 
 /// The nanoseconds of these choices in a session.
@@ -70,20 +70,16 @@ fn go_timed(
     Ok(watch.nanos(rt))
 }
 
+/// The nanoseconds of these choices in a world alone.
+fn alone(rt: &HostRuntime, program: &Program, row: &[Choice]) -> Result<Option<u128>, Fault> {
+    let watch = Watch::start(rt);
+    let _ = program.replay(rt.alloc(), row)?;
+    Ok(watch.nanos(rt))
+}
+
 /// A session at the start of a program.
 fn opened(alloc: Global, program: &Program) -> Result<Session<'_>, Fault> {
     Session::new(alloc, program.image(), program.module(), program.start())
-}
-
-fn back(rt: &HostRuntime, program: &Program, name: &str, row: &[Choice]) -> Result<(), Trouble> {
-    let mut session = behind(rt.alloc(), program, row)?;
-    step(rt, name, &mut session)
-}
-
-fn step(rt: &HostRuntime, name: &str, session: &mut Session<'_>) -> Result<(), Trouble> {
-    let watch = Watch::start(rt);
-    steps(rt.alloc(), session)?;
-    figure(rt, name, u64::from(STEPS), "a pair", watch.nanos(rt))
 }
 
 /// A session in which these choices were made.
@@ -91,6 +87,38 @@ fn behind<'a>(alloc: Global, program: &'a Program, row: &[Choice]) -> Result<Ses
     let mut session = opened(alloc, program)?;
     let _ = session.go(alloc, row)?;
     Ok(session)
+}
+
+fn back(rt: &HostRuntime, program: &Program, row: &[Choice]) -> Result<(), Trouble> {
+    let mut shallow = behind(rt.alloc(), program, &SHALLOW)?;
+    let mut deep = behind(rt.alloc(), program, row)?;
+    in_turn(rt, &mut shallow, &mut deep)
+}
+
+fn in_turn(
+    rt: &HostRuntime,
+    shallow: &mut Session<'_>,
+    deep: &mut Session<'_>,
+) -> Result<(), Trouble> {
+    let mut above = Rounds::new(rt.alloc());
+    let mut below = Rounds::new(rt.alloc());
+    for _ in 0..ROUNDS {
+        above.push(stepped(rt, shallow)?)?;
+        below.push(stepped(rt, deep)?)?;
+    }
+    pairs(rt, "back 1 and forward 1 at 160 choices", &mut above)?;
+    pairs(rt, "back 1 and forward 1 at all choices", &mut below)
+}
+
+fn pairs(rt: &HostRuntime, name: &str, rounds: &mut Rounds) -> Result<(), Trouble> {
+    figure_of(rt, name, u64::from(STEPS), "a pair", rounds)
+}
+
+/// The nanoseconds of so many pairs of a step back and one forward.
+fn stepped(rt: &HostRuntime, session: &mut Session<'_>) -> Result<Option<u128>, Fault> {
+    let watch = Watch::start(rt);
+    steps(rt.alloc(), session)?;
+    Ok(watch.nanos(rt))
 }
 
 fn steps(alloc: Global, session: &mut Session<'_>) -> Result<(), Fault> {

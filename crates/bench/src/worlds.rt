@@ -1,6 +1,6 @@
 //! What sends, deliveries and snapshots cost.
 
-use crate::figures::{Watch, both, figure};
+use crate::figures::{Rounds, Watch, figure_beyond, figure_of};
 use crate::programs::HEAD;
 use crate::scenes::{Scene, Step};
 use crate::trouble::Trouble;
@@ -25,7 +25,7 @@ const PLAIN: &str = "{label,3}. {move,{x,3},{x,0}}. {move,{integer,1},{x,1}}. {j
 
 const SENDS: &str = "{label,3}. {move,{x,3},{x,0}}. {move,{integer,1},{x,1}}. send. {jump,{f,3}}.";
 
-/// After so many laps the child takes its messages, so that its mailbox does not grow for ever.
+/// How many laps are timed together. Behind them the child takes its messages, so that its mailbox does not grow for ever.
 const LAPS: u32 = 1000;
 
 /// How many choices the child makes to take a message.
@@ -35,53 +35,55 @@ const PLAIN_LAP: [Choice; 3] = [Run(0), Run(0), Run(0)];
 
 const SENDS_LAP: [Choice; 5] = [Run(0), Run(0), Run(0), Deliver(0, 1), Run(0)];
 
-/// So many laps of sends to a child, each with its delivery; of the same without the sends; and
-/// snapshots.
-pub fn measure(rt: &HostRuntime, rounds: u32) -> Result<(), Trouble> {
-    laps(rt, rounds, "two moves and a jump", PLAIN, &PLAIN_LAP, 0)?;
-    laps(
-        rt,
-        rounds,
-        "the same with a send and its delivery",
-        SENDS,
-        &SENDS_LAP,
-        LAPS * TAKE,
-    )?;
+/// So many laps of sends to a child, each with its delivery, in turn with as many without the sends;
+/// and snapshots.
+pub fn measure(rt: &HostRuntime, laps: u32) -> Result<(), Trouble> {
+    let rounds = laps / LAPS;
+    sends(rt, rounds)?;
     of_ten(rt, rounds)
 }
 
-/// Makes the choices of a lap so many times, in a world whose process 0 has a child, which makes so
-/// many after each 1,000 laps.
-fn laps(
-    rt: &HostRuntime,
-    rounds: u32,
-    name: &str,
-    items: &str,
-    lap: &[Choice],
-    taking: u32,
-) -> Result<(), Trouble> {
-    let mut pair = Scene::led(rt.alloc(), &[(PAIR, 1), (items, 1)], &[runs(5)])?;
-    let turns = rounds / LAPS;
-    let took = turned(rt, turns, &mut pair, lap, taking)?;
-    let laps = u64::from(turns).saturating_mul(u64::from(LAPS));
-    figure(rt, name, laps, "a lap", took)
+fn sends(rt: &HostRuntime, rounds: u32) -> Result<(), Trouble> {
+    let mut sending = Scene::led(rt.alloc(), &[(PAIR, 1), (SENDS, 1)], &[runs(5)])?;
+    let mut plain = Scene::led(rt.alloc(), &[(PAIR, 1), (PLAIN, 1)], &[runs(5)])?;
+    in_turn(rt, rounds, &mut sending, &mut plain)
 }
 
-/// The nanoseconds of the laps of so many turns.
-fn turned(
+fn in_turn(
     rt: &HostRuntime,
-    turns: u32,
+    rounds: u32,
+    sending: &mut Scene,
+    plain: &mut Scene,
+) -> Result<(), Trouble> {
+    let mut with = Rounds::new(rt.alloc());
+    let mut without = Rounds::new(rt.alloc());
+    for _ in 0..rounds {
+        with.push(lapped(rt, sending, &SENDS_LAP, LAPS * TAKE)?)?;
+        without.push(lapped(rt, plain, &PLAIN_LAP, 0)?)?;
+    }
+    let laps = u64::from(LAPS);
+    figure_of(rt, "two moves and a jump", laps, "a lap", &mut without)?;
+    figure_beyond(
+        rt,
+        "a send and its delivery",
+        laps,
+        "a lap",
+        &mut with,
+        &mut without,
+    )
+}
+
+/// The nanoseconds of a round of laps, behind which the child makes so many choices.
+fn lapped(
+    rt: &HostRuntime,
     pair: &mut Scene,
     lap: &[Choice],
     taking: u32,
 ) -> Result<Option<u128>, Fault> {
-    let mut took: Option<u128> = Some(0);
-    for _ in 0..turns {
-        let watch = Watch::start(rt);
-        pair.go_laps(rt.alloc(), lap, LAPS)?;
-        took = both(took, watch.nanos(rt));
-        pair.run(rt.alloc(), 1, taking)?;
-    }
+    let watch = Watch::start(rt);
+    pair.go_laps(rt.alloc(), lap, LAPS)?;
+    let took = watch.nanos(rt);
+    pair.run(rt.alloc(), 1, taking)?;
     Ok(took)
 }
 
@@ -106,29 +108,45 @@ fn of_both(rt: &HostRuntime, rounds: u32, ten: &Scene) -> Result<(), Trouble> {
 }
 
 fn snapshots(rt: &HostRuntime, rounds: u32, ten: &Scene) -> Result<(), Trouble> {
-    let watch = Watch::start(rt);
+    let mut took = Rounds::new(rt.alloc());
     for _ in 0..rounds {
-        let _ = ten.snapshot(rt.alloc())?;
+        took.push(snapshots_timed(rt, ten)?)?;
     }
-    figure(
+    figure_of(
         rt,
         "ten processes",
-        u64::from(rounds),
+        u64::from(LAPS),
         "a snapshot",
-        watch.nanos(rt),
+        &mut took,
     )
 }
 
-fn tries(rt: &HostRuntime, rounds: u32, ten: &Scene) -> Result<(), Trouble> {
+fn snapshots_timed(rt: &HostRuntime, ten: &Scene) -> Result<Option<u128>, Fault> {
     let watch = Watch::start(rt);
-    for _ in 0..rounds {
-        ten.try_out(rt.alloc(), Run(1))?;
+    for _ in 0..LAPS {
+        let _ = ten.snapshot(rt.alloc())?;
     }
-    figure(
+    Ok(watch.nanos(rt))
+}
+
+fn tries(rt: &HostRuntime, rounds: u32, ten: &Scene) -> Result<(), Trouble> {
+    let mut took = Rounds::new(rt.alloc());
+    for _ in 0..rounds {
+        took.push(tries_timed(rt, ten)?)?;
+    }
+    figure_of(
         rt,
         "ten processes",
-        u64::from(rounds),
+        u64::from(LAPS),
         "a snapshot and a choice in it",
-        watch.nanos(rt),
+        &mut took,
     )
+}
+
+fn tries_timed(rt: &HostRuntime, ten: &Scene) -> Result<Option<u128>, Fault> {
+    let watch = Watch::start(rt);
+    for _ in 0..LAPS {
+        ten.try_out(rt.alloc(), Run(1))?;
+    }
+    Ok(watch.nanos(rt))
 }
