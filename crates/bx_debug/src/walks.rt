@@ -44,6 +44,7 @@ pub(crate) fn replay(
 
 /// Applies the choices of a row from one number up to another, in order, as far as nothing stops them: before which number
 /// it stopped, and why, if not all were applied or one of them stops those behind it.
+#[inline(never)]
 fn stretch(
     alloc: Global,
     image: &Image,
@@ -74,6 +75,7 @@ fn stretch(
 
 /// The same where no run breaks off. Once a choice was refused or the world has trapped nothing changes any more, so why it
 /// stopped is looked at behind the last one.
+#[inline(never)]
 fn stretch_unbroken(
     alloc: Global,
     image: &Image,
