@@ -143,7 +143,8 @@ impl Proc {
 }
 
 impl Copied for Proc {
-    /// The same process. Terms are shared.
+    /// The same process. Terms are shared. It is inlined, so that a copy is made where it stays.
+    #[inline(always)]
     fn copy(&self, alloc: Global) -> Result<Proc, AllocError> {
         let fault = match &self.fault {
             Some(fault) => Some(fault.copy(alloc)?),

@@ -67,6 +67,12 @@ fn own<T: Copied>(alloc: Global, inner: &mut Arc<T>) -> Result<(), AllocError>
 fn part<T: Copied>(alloc: Global, inner: &mut Arc<T>) -> Result<(), AllocError>
     ensures { arc_value inner.new ≡ arc_value inner.old }
 {
-    *inner = Arc::new(alloc, inner.copy(alloc)?)?;
-    Ok(())
+    let copy = inner.copy(alloc)?;
+    match Arc::new(alloc, copy) {
+        Ok(other) => {
+            *inner = other;
+            Ok(())
+        }
+        Err(_) => Err(AllocError),
+    }
 }

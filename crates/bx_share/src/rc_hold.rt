@@ -66,6 +66,12 @@ fn own<T: Copied>(alloc: Global, inner: &mut Rc<T>) -> Result<(), AllocError>
 fn part<T: Copied>(alloc: Global, inner: &mut Rc<T>) -> Result<(), AllocError>
     ensures { inner.new.value ≡ inner.old.value }
 {
-    *inner = Rc::new(alloc, inner.copy(alloc)?)?;
-    Ok(())
+    let copy = inner.copy(alloc)?;
+    match Rc::new(alloc, copy) {
+        Ok(other) => {
+            *inner = other;
+            Ok(())
+        }
+        Err(_) => Err(AllocError),
+    }
 }
