@@ -1,5 +1,6 @@
 pub mod Leads
 pub mod Keeping
+pub mod Behind
 pub mod Applies
 pub mod Sets
 pub mod Sameness

@@ -1,17 +1,19 @@
 -- Sessions whose position moves, and to which choices are added.
-use Rattle.std.proofs.Common.{◌≡◌, ℕ, ◌+◌, ◌-◌, ◌*◌, ◌/◌, ◌%◌, ◌<◌, ◌≤◌, List, [], ◌++◌, length, take, drop, true, Option, None, refl, sym, ap, ◌∙◌, subst, arith, inl, inr, Some, Result, Ok, Err}
+use Rattle.std.proofs.Common.{◌≡◌, ◌≢◌, ℕ, ◌+◌, ◌-◌, ◌*◌, ◌/◌, ◌%◌, ◌<◌, ◌≤◌, List, [], ◌∷◌, ◌++◌, length, take, drop, true, Option, None, refl, sym, ap, ◌∙◌, subst, arith, inl, inr, Some, Result, Ok, Err, length-append}
 use Rattle.std.specs.Prelude.{slice_index_or, IfOk}
 use Rattle.std.proofs.lemmas.List.{take_all, length-take-le}
 use Rattle.bx_load.specs.Image.{Loaded}
 use Rattle.bx_world.specs.declared.choices.Choice.{Choice}
 use Rattle.bx_world.specs.World.{State}
+use Rattle.bx_world.specs.Choosing.{refusal}
 use Rattle.bx_world.specs.Running.{Ended, ran, unchosen}
-use Rattle.bx_debug.specs.Leading.{led, all_enabled, AreKept, Follows, IsSession}
+use Rattle.bx_debug.specs.Leading.{led, all_enabled, AreKept, Follows, IsSession, Tracks}
 use Rattle.bx_debug.specs.Places.{PlaceSet}
-use Rattle.bx_debug.specs.Sessions.{History, world_of, with_made, went, gone, GoTakes}
+use Rattle.bx_debug.specs.Sessions.{History, world_of, with_made, went, gone, or_refused, stepped, GoTakes}
 use Rattle.bx_debug.specs.Going.{stop_at_once, walked}
 use Rattle.bx_debug.specs.declared.stops.Stop.{Stop}
-use Rattle.bx_debug.proofs.Walking.{walked_none, walked_some}
+use Rattle.bx_debug.proofs.Behind.{behind_first, closed}
+use Rattle.bx_debug.proofs.Walking.{one_applied, unrefused, walked_none, walked_some}
 use Rattle.bx_debug.proofs.Leads.{led-append, enabled_both, enabled_more, enabled_take, ran_all}
 use Rattle.bx_debug.proofs.Keeping.{below, between, none_kept, kept_joined}
 
@@ -76,31 +78,41 @@ made_again image start choices kept rounds to found made before within is =
           ∙ ap (λ (cs : List Choice). led image cs start) parts,
     )
 
--- a session whose tail was replaced
-pub session_adopted : (h : History) (image : Loaded) (start : State) (choices : List Choice) (at : ℕ) (here : State) (kept : List State) (places : PlaceSet) (made : List Choice) (there : State) (tail : List State)
+-- what an index says of the place where a tail begins
+pub rounds_of : (at : ℕ) → at ≡ 64 * (at / 64) + at % 64
+rounds_of at = omega arith
+
+-- the choices behind the position make way for those that were put behind all
+choices_of : (choices cs choices' given : List Choice) (at applied : ℕ) → at ≤ length choices → cs ≡ choices ++ take applied given → choices' ≡ take at cs ++ drop (length choices) cs
+    → choices' ≡ take at choices ++ take applied given
+choices_of choices cs choices' given at applied within put are =
+    let tail : drop (length choices) cs ≡ take applied given = ap (drop (length choices)) put ∙ behind_first choices (take applied given) in
+    closed choices cs choices' at within (put ∙ ap (λ zs. choices ++ zs) (sym tail)) are ∙ ap (λ zs. take at choices ++ zs) tail
+
+-- choices that were made from the position on stand in the place of those behind it
+pub session_made : (image : Loaded) (start : State) (choices : List Choice) (at : ℕ) (here : State) (kept : List State) (given : List Choice) (applied now : ℕ) (there : State) (cs : List Choice) (ks : List State)
     (choices' : List Choice) (at' : ℕ) (kept' : List State)
-    → record { image = image; start = start; choices = choices; at = at; places = places } ≡ h
-    → IsSession image start choices at here kept → Follows h.image (world_of h) (h.at % 64) made there tail
-    → choices' ≡ take at choices ++ made → at' ≡ length choices' → kept' ≡ take (at / 64) kept ++ tail
+    → IsSession image start choices at here kept → Tracks image given here (at % 64) applied there now choices kept cs ks
+    → choices' ≡ take at cs ++ drop (length choices) cs → at' ≡ length choices' → kept' ≡ take (at / 64) ks ++ drop (length kept) ks
     → IsSession image start choices' at' there kept'
-session_adopted h image start choices at here kept places made there tail choices' at' kept' view_is s f choices_are at_is kept_are =
-    let inside : Follows image ((ran image (take at choices) (unchosen start)).world) (at % 64) made there tail =
-    subst (λ (g : History). Follows g.image (world_of g) (g.at % 64) made there tail) (sym view_is) f in
-    let from_here : Follows image here (at % 64) made there tail =
-    subst (λ (w : State). Follows image w (at % 64) made there tail) (world_shown image start choices at here kept s) inside in
-    let joined = session_joined image start choices at (at / 64) (at % 64) here kept made there tail s (omega arith) (omega arith) from_here in
-    let end_is : length (take at choices ++ made) ≡ at' = sym (at_is ∙ ap length choices_are) in
-    subst (λ (ks : List State). IsSession image start choices' at' there ks) (sym kept_are)
+session_made image start choices at here kept given applied now there cs ks choices' at' kept' s track choices_are at_is kept_are =
+    let made = take applied given in
+    let tail = drop (length kept) ks in
+    let parts = rounds_of at in
+    let ahead = s.snapshots.ahead in
+    let within = s.within in
+    let rounds_kept : at / 64 ≤ length kept = omega arith in
+    let choices_now : choices' ≡ take at choices ++ made = choices_of choices cs choices' given at applied within track.made choices_are in
+    let kept_now : kept' ≡ take (at / 64) kept ++ tail = closed kept ks kept' (at / 64) rounds_kept track.kept kept_are in
+    let joined = session_joined image start choices at (at / 64) (at % 64) here kept made there tail s parts (omega arith) track.walks.follows in
+    let end_is : length (take at choices ++ made) ≡ at' = sym (at_is ∙ ap length choices_now) in
+    subst (λ (ks : List State). IsSession image start choices' at' there ks) (sym kept_now)
     (subst (λ n. IsSession image start choices' n there (take (at / 64) kept ++ tail)) end_is
-    (subst (λ (cs : List Choice). IsSession image start cs (length (take at choices ++ made)) there (take (at / 64) kept ++ tail)) (sym choices_are) joined))
+    (subst (λ (cs : List Choice). IsSession image start cs (length (take at choices ++ made)) there (take (at / 64) kept ++ tail)) (sym choices_now) joined))
 
 pub shown_there : (h : History) (image : Loaded) (start : State) (choices : List Choice) (at : ℕ) (here : State) (kept : List State) (places : PlaceSet)
     → record { image = image; start = start; choices = choices; at = at; places = places } ≡ h → IsSession image start choices at here kept → here ≡ world_of h
 shown_there h image start choices at here kept places view_is s = sym (world_shown image start choices at here kept s) ∙ ap world_of view_is
-
--- what an index says of the place where a tail begins
-pub rounds_of : (at : ℕ) → at ≡ 64 * (at / 64) + at % 64
-rounds_of at = omega arith
 
 -- the world that so many choices lead to, made again from the nearest one that is kept
 pub again : (h : History) (image : Loaded) (start : State) (choices : List Choice) (at : ℕ) (here : State) (kept : List State) (places : PlaceSet) (to : ℕ) (found : State)
@@ -140,22 +152,44 @@ pub goes_on : (h : History) (w : State) (choices : List Choice) (why : Option St
 goes_on h w choices why shown is found =
     walked_some h.image h.places choices (world_of h) (subst (λ (v : State). stop_at_once choices v ≡ None) shown (sym is ∙ found))
 
-pub follows_there : (h : History) (image : Loaded) (start : State) (choices : List Choice) (at : ℕ) (here : State) (kept : List State) (places : PlaceSet) (made : List Choice) (there : State) (tail : List State)
-    → record { image = image; start = start; choices = choices; at = at; places = places } ≡ h → IsSession image start choices at here kept → Follows image here (at % 64) made there tail
-    → Follows h.image (world_of h) (h.at % 64) made there tail
-follows_there h image start choices at here kept places made there tail view_is s f =
-    subst (λ (g : History). Follows g.image (world_of g) (g.at % 64) made there tail) view_is
-    (subst (λ (w : State). Follows image w (at % 64) made there tail) (sym (world_shown image start choices at here kept s)) f)
+-- where choices of which one is applied at least lead
+some_made : (h : History) (made choices' : List Choice) (at' : ℕ) → made ≢ [] → h.at ≤ length h.choices → choices' ≡ take h.at h.choices ++ made → at' ≡ length choices'
+    → with_made made h ≡ record h { choices = choices'; at = at' }
+some_made h [] choices' at' some within are end = absurd (some refl)
+some_made h (choice ∷ more) choices' at' some within are end =
+    let long : length (take h.at h.choices ++ choice ∷ more) ≡ h.at + length (choice ∷ more) =
+    length-append (take h.at h.choices) (choice ∷ more) ∙ ap (λ n. n + length (choice ∷ more)) (length-take-le h.at h.choices within) in
+    let end_is : at' ≡ h.at + length (choice ∷ more) = end ∙ ap length are ∙ long in
+    λ i. record h { choices = sym are i; at = sym end_is i }
 
 -- where a session goes
-pub gone_is : (h : History) (image : Loaded) (start : State) (choices : List Choice) (at : ℕ) (here : State) (kept : List State) (places : PlaceSet) (given made : List Choice) (stop : Stop)
-    → record { image = image; start = start; choices = choices; at = at; places = places } ≡ h → IsSession image start choices at here kept → walked image places given here ≡ (made, stop)
-    → gone given h ≡ (with_made made h, stop)
-gone_is h image start choices at here kept places given made stop view_is s told =
-    let there : walked h.image h.places given (world_of h) ≡ (made, stop) =
+pub session_gone : (h : History) (image : Loaded) (start : State) (choices : List Choice) (at : ℕ) (here : State) (kept : List State) (places : PlaceSet) (given : List Choice) (applied now : ℕ) (there : State)
+    (cs : List Choice) (ks : List State) (choices' : List Choice) (at' : ℕ) (stop : Stop)
+    → record { image = image; start = start; choices = choices; at = at; places = places } ≡ h → IsSession image start choices at here kept
+    → Tracks image given here (at % 64) applied there now choices kept cs ks → walked image places given here ≡ (take applied given, stop) → GoTakes given h
+    → choices' ≡ take at cs ++ drop (length choices) cs → at' ≡ length choices'
+    → gone given h ≡ (record { image = image; start = start; choices = choices'; at = at'; places = places }, stop)
+session_gone h image start choices at here kept places given applied now there cs ks choices' at' stop view_is s track told takes choices_are at_is =
+    let made = take applied given in
+    let inside : History = record { image = image; start = start; choices = choices; at = at; places = places } in
+    let there_told : walked h.image h.places given (world_of h) ≡ (made, stop) =
     subst (λ (g : History). walked g.image g.places given (world_of g) ≡ (made, stop)) view_is
     (subst (λ (w : State). walked image places given w ≡ (made, stop)) (sym (world_shown image start choices at here kept s)) told) in
-    ap (went h) there
+    let some : made ≢ [] = λ none. takes (ap (λ (k : List Choice × Stop). k.0) there_told ∙ none) in
+    let now_is : with_made made inside ≡ record inside { choices = choices'; at = at' } =
+    some_made inside made choices' at' some s.within (choices_of choices cs choices' given at applied s.within track.made choices_are) at_is in
+    ap (went h) there_told ∙ (λ i. ((ap (with_made made) (sym view_is) ∙ now_is) i, stop))
+
+-- one choice that is not refused
+pub step_takes : (h : History) (choice : Choice) → refusal (world_of h) choice ≡ None → GoTakes (choice ∷ []) h
+step_takes h choice free = walked_some h.image h.places (choice ∷ []) (world_of h) (unrefused choice (world_of h) free)
+
+pub stepped_is : (h new : History) (choice : Choice) (stop : Stop) → refusal (world_of h) choice ≡ None → gone (choice ∷ []) h ≡ (new, stop) → stepped choice h ≡ Ok (new, tt)
+stepped_is h new choice stop free is =
+    let walk = walked h.image h.places (choice ∷ []) (world_of h) in
+    let one : walk.0 ≡ choice ∷ [] = one_applied h.image h.places choice (world_of h) walk.0 walk.1 free refl in
+    let made : with_made (choice ∷ []) h ≡ new = sym (ap (λ cs. with_made cs h) one) ∙ ap (λ (k : History × Stop). k.0) is in
+    ap (λ why. or_refused why (with_made (choice ∷ []) h)) free ∙ (λ i. Ok (made i, tt))
 
 pub if_ok_led : {E : Type 0} (r : Result State E) (one other : State) → one ≡ other → IfOk r (λ w. w ≡ one) → IfOk r (λ w. w ≡ other)
 if_ok_led (Ok w) one other same h = h ∙ same

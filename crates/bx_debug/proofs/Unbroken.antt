@@ -10,8 +10,8 @@ use Rattle.bx_world.specs.World.{State}
 use Rattle.bx_world.specs.Enabled.{can}
 use Rattle.bx_world.specs.Choosing.{chosen}
 use Rattle.bx_world.specs.Running.{Ended, advanced}
-use Rattle.bx_debug.specs.Going.{break_behind, ended_by, else_stop, halted, stop_before, stop_behind}
-use Rattle.bx_debug.specs.Leading.{Chooses, Leads}
+use Rattle.bx_debug.specs.Going.{break_behind, ended_by, else_stop, halted, stop_before}
+use Rattle.bx_debug.specs.Leading.{Leads}
 use Rattle.bx_debug.specs.declared.stops.Stop.{Stop}
 use Rattle.bx_debug.specs.declared.stops.Stop.TheVariants.{NotEnabled, Trapped}
 use Rattle.bx_debug.proofs.Walking.{breaks_none, leads_before, leads_behind, leads_on}

@@ -15,11 +15,12 @@ use Rattle.bx_world.specs.declared.choices.Choice.TheVariants.{Run}
 use Rattle.bx_world.specs.Seen.{place_in}
 use Rattle.bx_debug.specs.Places.{PlaceSet, is_set, numbers, pair_cmp}
 use Rattle.bx_debug.specs.Going.{break_at, break_behind, halted, else_stop, stop_at_once, stop_before, stop_behind, unless_stopped, resumed, behind_choice, walked}
-use Rattle.bx_debug.specs.Leading.{led, all_enabled, AreKept, Chooses, Leads, Walks}
+use Rattle.bx_debug.specs.Leading.{led, all_enabled, AreKept, Chooses, Leads, Tracks, Walks}
 use Rattle.bx_debug.specs.declared.stops.Stop.{Stop}
 use Rattle.bx_debug.specs.declared.stops.Stop.TheVariants.{Break, Done, NotEnabled}
 use Rattle.bx_debug.proofs.Leads.{led-append, enabled_both}
 use Rattle.bx_debug.proofs.Keeping.{below, between, none_kept, kept_on, kept_here}
+use Rattle.bx_debug.proofs.Behind.{grown, taken_on}
 
 able_of : (choice : Choice) (trap : Option (Trap × ℕ)) (able : Bool) → else_stop (halted trap) (if able then None else Some (NotEnabled choice)) ≡ None → able ≡ true
 able_of choice None true is = refl
@@ -146,6 +147,42 @@ walks_further image choices from since applied here now kept reached next now' k
           record { within = within; follows = record { made = made; shown = shown; snapshots = on }; count = omega arith }
     ]
 
+-- a walk of no choice, behind which the rows are as they were
+pub tracks_none : (image : Loaded) (choices : List Choice) (from here : State) (since applied now : ℕ) (made cs : List Choice) (kept ks : List State) → since < 64
+    → here ≡ from → applied ≡ 0 → now ≡ since → cs ≡ made → ks ≡ kept → Tracks image choices from since applied here now made kept cs ks
+tracks_none image choices from here since applied now made cs kept ks few shown none count choices_are kept_are =
+    let begun : Tracks image choices from since 0 from since made kept made kept = record {
+      made = sym (append-nil made);
+      kept = sym (append-nil kept) ∙ ap (λ zs. kept ++ zs) (sym (drop_all (length kept) kept (omega arith)));
+      walks = subst (λ zs. Walks image choices from since 0 from since zs) (sym (drop_all (length kept) kept (omega arith))) (walks_none image choices from since few);
+    } in
+    subst (λ cs. Tracks image choices from since applied here now made kept cs ks) (sym choices_are)
+    (subst (λ ks. Tracks image choices from since applied here now made kept made ks) (sym kept_are)
+    (subst (λ n. Tracks image choices from since applied here n made kept made kept) (sym count)
+    (subst (λ n. Tracks image choices from since n here since made kept made kept) (sym none)
+    (subst (λ (w : State). Tracks image choices from since 0 w since made kept made kept) (sym shown) begun))))
+
+-- choices more were applied and counted, and put behind the rows
+pub tracks_further : (image : Loaded) (choices : List Choice) (from : State) (since applied : ℕ) (here : State) (now : ℕ) (made : List Choice) (kept : List State) (cs : List Choice) (ks : List State)
+    (reached : ℕ) (next : State) (now' : ℕ) (cs' : List Choice) (ks' : List State)
+    → Tracks image choices from since applied here now made kept cs ks → applied ≤ reached → reached ≤ length choices → all_enabled image (take reached choices) from ≡ true → next ≡ led image (take reached choices) from
+    → now + (reached - applied) ≤ 64
+    → (now + (reached - applied) < 64 → (now' ≡ now + (reached - applied)) × (ks' ≡ ks)) → (now + (reached - applied) ≡ 64 → (now' ≡ 0) × (ks' ≡ ks ++ next ∷ []))
+    → cs' ≡ cs ++ take (reached - applied) (drop applied choices)
+    → Tracks image choices from since reached next now' made kept cs' ks'
+tracks_further image choices from since applied here now made kept cs ks reached next now' cs' ks' track more within able shown few less full added =
+    let tail : List State → List State = drop (length kept) in
+    let whole : ks' ≡ kept ++ tail ks' = elim (below (now + (reached - applied)) 64) [
+      | inl fewer ↦ (less fewer).1 ∙ track.kept ∙ ap (λ zs. kept ++ tail zs) (sym (less fewer).1)
+      | inr least ↦ (grown kept ks ks' (next ∷ []) track.kept (full (omega arith)).1).0
+    ] in
+    record {
+      made = taken_on made choices cs cs' applied reached more track.made added;
+      kept = whole;
+      walks = walks_further image choices from since applied here now (tail ks) reached next now' (tail ks') track.walks more within able shown few
+          (λ h. ((less h).0, ap tail (less h).1)) (λ h. ((full h).0, (grown kept ks ks' (next ∷ []) track.kept (full h).1).1));
+    }
+
 -- the walk goes on behind a choice that was applied
 pub told_on : (image : Loaded) (places : PlaceSet) (choices : List Choice) (from : State) (i : ℕ) (here : State) (choice : Choice) (next next' : State)
     → i < length choices → choice ≡ get_or choices i choice → Chooses image choice here next None → next' ≡ next → stop_behind places choice next' ≡ None
@@ -241,13 +278,16 @@ open_to choice None true is = refl
 open_to choice None false is = cc
 open_to choice (Some t) able is = cc
 
+pub unrefused : (choice : Choice) (w : State) → refusal w choice ≡ None → stop_before choice w ≡ None
+unrefused choice w free = open_to choice w.trap (can w choice) free
+
 first_unless : (choice : Choice) (stop : Option Stop) → (behind_choice choice (unless_stopped stop ([], Done))).0 ≡ choice ∷ []
 first_unless choice (Some stop) = refl
 first_unless choice None = refl
 
 pub one_applied : (image : Loaded) (places : PlaceSet) (choice : Choice) (w : State) (made : List Choice) (stop : Stop) → refusal w choice ≡ None → walked image places (choice ∷ []) w ≡ (made, stop) → made ≡ choice ∷ []
 one_applied image places choice w made stop free told =
-    let unstopped : stop_before choice w ≡ None = open_to choice w.trap (can w choice) free in
+    let unstopped : stop_before choice w ≡ None = unrefused choice w free in
     sym (ap (λ (k : List Choice × Stop). k.0) told)
     ∙ ap (λ (k : List Choice × Stop). k.0) (open_here (stop_before choice w) _ unstopped)
     ∙ first_unless choice (stop_behind places choice (chosen image choice w))

@@ -1,5 +1,5 @@
 -- Where choices lead that are enabled, each where it is applied; and the worlds that are kept on the way.
-use Rattle.std.specs.Prelude.{◌≡◌, ℕ, ◌+◌, ◌-◌, ◌*◌, ◌<◌, ◌≤◌, Bool, true, ◌&&◌, List, [], ◌∷◌, length, take, drop, slice_index_or, Option, None, Some}
+use Rattle.std.specs.Prelude.{◌≡◌, ℕ, ◌+◌, ◌-◌, ◌*◌, ◌<◌, ◌≤◌, Bool, true, ◌&&◌, List, [], ◌∷◌, ◌++◌, length, take, drop, slice_index_or, Option, None, Some}
 use Rattle.bx_load.specs.Image.{Loaded}
 use Rattle.bx_world.specs.declared.choices.Choice.{Choice}
 use Rattle.bx_world.specs.World.{State}
@@ -43,6 +43,13 @@ pub record Walks (image : Loaded) (choices : List Choice) (from : State) (since 
   pub follows : Follows image from since (take applied choices) here kept
   pub count : 64 * length kept + now ≡ since + applied
 
+-- a walk whose choices, and the worlds that it kept, stand behind those that were there before
+pub record Tracks (image : Loaded) (choices : List Choice) (from : State) (since applied : ℕ) (here : State) (now : ℕ)
+    (choices_before : List Choice) (kept_before : List State) (choices_now : List Choice) (kept_now : List State) : Type 0 where
+  pub made : choices_now ≡ choices_before ++ take applied choices
+  pub kept : kept_now ≡ kept_before ++ drop (length kept_before) kept_now
+  pub walks : Walks image choices from since applied here now (drop (length kept_before) kept_now)
+
 -- so many choices are applied, and lead here; the walk of all of them goes on from here, unless it is stopped
 pub record Leads (image : Loaded) (places : PlaceSet) (choices : List Choice) (from : State) (applied : ℕ) (here : State) (stop : Option Stop) : Type 0 where
   pub within : applied ≤ length choices
@@ -58,11 +65,10 @@ pub record Reaches (image : Loaded) (places : PlaceSet) (choices : List Choice) 
   pub leads : Leads image places choices from reached here stop
 
 -- a walk of no choice
-pub record Begins (from : State) (since : ℕ) (here : State) (applied now : ℕ) (kept : List State) (stop : Stop) : Type 0 where
+pub record Begins (from : State) (since : ℕ) (here : State) (applied now : ℕ) (stop : Stop) : Type 0 where
   pub shown : here ≡ from
   pub none : applied ≡ 0
   pub count : now ≡ since
-  pub empty : kept ≡ []
   pub unstopped : stop ≡ Done
 
 -- one choice: it is applied, or the world stays as it was and the walk stops

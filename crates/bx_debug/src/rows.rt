@@ -1,47 +1,82 @@
-//! Rows whose tails are replaced, whole or not at all.
+//! The rows of a session: what is made is put behind what was there, and takes the place of the tail once all of it stands.
 
-ghost use Rattle.std.specs.Prelude.{◌≡◌, ◌+◌, ◌≤◌, ◌++◌, length, take, vec_capacity, OnErr, OnOk};
+ghost use Rattle.std.specs.Prelude.{◌≡◌, ◌+◌, ◌/◌, ◌≤◌, ◌++◌, [], length, take, drop, vec_capacity, OnOk};
 
 use bx_world::{Choice, RcWorld};
-use std::alloc::AllocError;
+use std::alloc::{AllocError, Global};
 
-/// Makes room for so many items from a place of the row on.
-fn make_room<T>(row: &mut Vec<T>, from: usize, more: usize) -> Result<(), AllocError>
-    requires { from ≤ length row.old.items }
-    ensures items { row.new.items ≡ row.old.items }
-    ensures room { OnOk result (from + more ≤ vec_capacity row.new) }
-{
-    let tail = row.len() - from;
-    if more <= tail {
-        return Ok(());
-    }
-    row.reserve(more - tail)
+/// How many choices lie between one world that is kept and the next.
+pub(crate) const KEPT_EACH: usize = 64;
+
+/// Choices in order, and the worlds that are kept behind each 64th.
+#[derive(Drop)]
+pub(crate) struct Rows {
+    pub(crate) choices: Vec<Choice>,
+    pub(crate) kept: Vec<RcWorld>,
 }
 
-/// Puts choices, and the worlds that are kept behind them, in the place of those from a place of each row on. Where memory
-/// runs out, neither has changed.
-pub(crate) fn replace_tails(
-    choices: &mut Vec<Choice>,
-    from: usize,
-    made: &[Choice],
-    kept: &mut Vec<RcWorld>,
-    kept_from: usize,
-    worlds: &mut Vec<RcWorld>,
-) -> Result<(), AllocError>
-    requires choices_from { from ≤ length choices.old.items }
-    requires worlds_from { kept_from ≤ length kept.old.items }
-    ensures choices { OnOk result (choices.new.items ≡ take from choices.old.items ++ made.now) }
-    ensures worlds { OnOk result (kept.new.items ≡ take kept_from kept.old.items ++
-        worlds.old.items) }
-    ensures choices_kept { OnErr result (choices.new.items ≡ choices.old.items) }
-    ensures worlds_kept { OnErr result (kept.new.items ≡ kept.old.items) }
-{
-    make_room(choices, from, made.len())?;
-    make_room(kept, kept_from, worlds.len())?;
-    choices.truncate(from);
-    kept.truncate(kept_from);
-    let (Ok(()), Ok(())) = (choices.extend_from_slice(made), kept.append(worlds)) else {
-        unreachable!() // there is room
-    };
-    Ok(())
+/// How long both rows are.
+#[derive(Clone, Copy)]
+pub(crate) struct Ends {
+    choices: usize,
+    kept: usize,
+}
+
+impl Rows {
+    /// No choice was made.
+    pub(crate) fn new(alloc: Global) -> Rows
+        ensures choices { result.choices.items ≡ [] }
+        ensures kept { result.kept.items ≡ [] }
+    {
+        Rows {
+            choices: Vec::new(alloc),
+            kept: Vec::new(alloc),
+        }
+    }
+
+    /// Where both rows end.
+    pub(crate) fn ends(&self) -> Ends
+        ensures choices { result.choices ≡ length self.now.choices.items }
+        ensures kept { result.kept ≡ length self.now.kept.items }
+    {
+        Ends {
+            choices: self.choices.len(),
+            kept: self.kept.len(),
+        }
+    }
+
+    /// Makes room for so many choices more, and for the worlds that they may pass.
+    pub(crate) fn make_room(&mut self, count: usize) -> Result<(), AllocError>
+        ensures choices { self.new.choices.items ≡ self.old.choices.items }
+        ensures kept { self.new.kept.items ≡ self.old.kept.items }
+        ensures for_choices { OnOk result (length self.old.choices.items + count ≤ vec_capacity self.new.choices) }
+        ensures for_worlds { OnOk result (length self.old.kept.items + (count / KEPT_EACH + 1) ≤ vec_capacity self.new.kept) }
+    {
+        self.choices.reserve(count)?;
+        self.kept.reserve(count / KEPT_EACH + 1)
+    }
+
+    /// Cuts off what was put behind these ends.
+    pub(crate) fn cut(&mut self, ends: Ends)
+        ensures choices { self.new.choices.items ≡ take ends.choices self.old.choices.items }
+        ensures kept { self.new.kept.items ≡ take ends.kept self.old.kept.items }
+    {
+        self.choices.truncate(ends.choices);
+        self.kept.truncate(ends.kept);
+    }
+
+    /// Takes out the choices from a number on up to these ends, and the worlds that are kept behind them.
+    pub(crate) fn close(&mut self, from: usize, ends: Ends)
+        requires choices_from { from ≤ ends.choices }
+        requires choices_past { ends.choices ≤ length self.old.choices.items }
+        requires kept_from { from / KEPT_EACH ≤ ends.kept }
+        requires kept_past { ends.kept ≤ length self.old.kept.items }
+        ensures choices { self.new.choices.items ≡
+            take from self.old.choices.items ++ drop ends.choices self.old.choices.items }
+        ensures kept { self.new.kept.items ≡
+            take (from / KEPT_EACH) self.old.kept.items ++ drop ends.kept self.old.kept.items }
+    {
+        self.choices.drain(from..ends.choices);
+        self.kept.drain(from / KEPT_EACH..ends.kept);
+    }
 }

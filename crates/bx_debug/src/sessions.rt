@@ -10,9 +10,9 @@ ghost use Rattle.bx_debug.specs.Places.{is_set};
 ghost use Rattle.bx_debug.specs.Sessions.{back, behind, forward, gone, GoTakes, opened, stepped, with_break, with_made, without_break, world_of};
 
 use crate::places::Places;
-use crate::rows::replace_tails;
+use crate::rows::{KEPT_EACH, Rows};
 use crate::stops::{Stop, refusal, stop_at_once};
-use crate::walks::{KEPT_EACH, Walk, follow, into_world, replay, shared};
+use crate::walks::{follow, into_world, replay, shared};
 use bx_load::Image;
 use bx_share::{Same, same_rows};
 use bx_terms::{AtomId, Fault, Place};
@@ -29,10 +29,9 @@ use std::marker::Model;
 pub struct Session<'a> {
     image: &'a Image,
     start: RcWorld,
-    choices: Vec<Choice>,
+    rows: Rows,
     at: usize,
     world: RcWorld,
-    kept: Vec<RcWorld>,
     places: Places,
 }
 
@@ -56,13 +55,13 @@ impl<'a> Model for Session<'a> {
     ghost view = { λ s. record {
       image = s.image.now;
       start = s.start;
-      choices = s.choices.items;
+      choices = s.rows.choices.items;
       at
           = s.at;
       places = s.places;
     } };
 
-    ghost invariant = { λ s. IsSession s.image.now s.start s.choices.items s.at s.world s.kept.items };
+    ghost invariant = { λ s. IsSession s.image.now s.start s.rows.choices.items s.at s.world s.rows.kept.items };
 }
 
 impl<'a> Session<'a> {
@@ -83,10 +82,9 @@ impl<'a> Session<'a> {
         Ok(Session {
             image,
             start,
-            choices: Vec::new(alloc),
+            rows: Rows::new(alloc),
             at: 0,
             world,
-            kept: Vec::new(alloc),
             places: Places::new(alloc),
         })
     }
@@ -105,7 +103,7 @@ impl<'a> Session<'a> {
         ensures at { result ≡ self.now.at }
         ensures within { result ≤ length self.now.choices }
     {
-        let _ = &self.choices;
+        let _ = &self.rows;
         self.at
     }
 
@@ -113,21 +111,21 @@ impl<'a> Session<'a> {
     pub fn len(&self) -> usize
         ensures { result ≡ length self.now.choices }
     {
-        self.choices.len()
+        self.rows.choices.len()
     }
 
     /// Whether no choice was made.
     pub fn is_empty(&self) -> bool
         ensures { IsTrue result ↔ (self.now.choices ≡ []) }
     {
-        self.choices.is_empty()
+        self.rows.choices.is_empty()
     }
 
     /// The choices in order, those behind the position included.
     pub fn choices(&self) -> &[Choice]
         ensures { result.now ≡ self.now.choices }
     {
-        &self.choices
+        &self.rows.choices
     }
 
     /// The loaded code.
@@ -151,7 +149,7 @@ impl<'a> Session<'a> {
     {
         self.at == other.at
             && self.places.same(&other.places)
-            && same_rows(&self.choices, &other.choices)
+            && same_rows(&self.rows.choices, &other.rows.choices)
             && self.start.same(&other.start)
             && self.image.same(other.image)
     }
@@ -174,10 +172,7 @@ impl<'a> Session<'a> {
         if let Some(fault) = self.refusal(choice) {
             return Err(fault);
         }
-        let nowhere = Places::new(alloc);
-        let since = self.at % KEPT_EACH;
-        let walk = follow(alloc, self.image, &nowhere, &self.world, since, &[choice])?;
-        self.adopt(&[choice], walk)?;
+        self.make(alloc, &[choice])?;
         Ok(())
     }
 
@@ -202,7 +197,7 @@ impl<'a> Session<'a> {
         ensures { Does ((0 < count) × (count ≤ length self.old.choices - self.old.at)) self.old self.new result
             (forward count self.old) }
     {
-        if count > self.choices.len() - self.at {
+        if count > self.rows.choices.len() - self.at {
             return Err(Fault::AfterEnd);
         }
         self.move_to(alloc, self.at + count)?;
@@ -220,11 +215,7 @@ impl<'a> Session<'a> {
         if let Some(stop) = stop_at_once(choices, &self.world) {
             return Ok(stop);
         }
-        let since = self.at % KEPT_EACH;
-        let walk = follow(alloc, self.image, &self.places, &self.world, since, choices)?;
-        let stop = walk.stop;
-        self.adopt(&choices[..walk.applied], walk)?;
-        Ok(stop)
+        Ok(self.make(alloc, choices)?)
     }
 
     /// Lets runs break off at a place, whichever it is.
@@ -252,27 +243,26 @@ impl<'a> Session<'a> {
         refusal(choice, &self.world)
     }
 
-    /// Puts choices that were made, and where they led, in the place of those behind the position.
-    fn adopt(&mut self, made: &[Choice], walk: Walk) -> Result<(), AllocError>
-        requires some { made.now ≢ [] }
-        requires follows { Follows self.old.image (world_of self.old) (self.old.at % KEPT_EACH)
-            made.now walk.end.world walk.kept.items }
-        ensures ok { OnOk result (self.new ≡ with_made made.now self.old) }
+    /// Makes choices of which one is applied at least, and drops those behind the position: why no more were.
+    fn make(&mut self, alloc: Global, choices: &[Choice]) -> Result<Stop, AllocError>
+        requires { GoTakes choices.now self.old }
+        ensures ok { IfOk result (λ stop. gone choices.now self.old ≡ (self.new, stop)) }
         ensures err { OnErr result (self.new ≡ self.old) }
     {
-        let mut kept = walk.kept;
-        let turns = self.at / KEPT_EACH;
-        replace_tails(
-            &mut self.choices,
-            self.at,
-            made,
-            &mut self.kept,
-            turns,
-            &mut kept,
+        let ends = self.rows.ends();
+        let walk = follow(
+            alloc,
+            self.image,
+            &self.places,
+            &self.world,
+            self.at % KEPT_EACH,
+            choices,
+            &mut self.rows,
         )?;
-        self.at = self.choices.len();
+        self.rows.close(self.at, ends);
+        self.at = self.rows.choices.len();
         self.world = into_world(walk.end);
-        Ok(())
+        Ok(walk.stop)
     }
 
     /// Moves the position, making again the choices behind the nearest world that was kept before it.
@@ -297,11 +287,11 @@ impl<'a> Session<'a> {
             self.now.start) }
     {
         let turns = at / KEPT_EACH;
-        let choices = &self.choices[turns * KEPT_EACH..at];
+        let choices = &self.rows.choices[turns * KEPT_EACH..at];
         replay(
             alloc,
             self.image,
-            nearest(&self.start, &self.kept, turns),
+            nearest(&self.start, &self.rows.kept, turns),
             choices,
         )
     }

@@ -1,19 +1,18 @@
 //! Choices applied one after another, in a world that is shared with others until it changes.
 
-ghost use Rattle.std.specs.Prelude.{◌≡◌, ℕ, ◌+◌, ◌-◌, ◌∷◌, ◌++◌, ◌<◌, ◌≤◌, [], true, length, take, None, IfOk, OnOk};
+ghost use Rattle.std.specs.Prelude.{◌≡◌, ℕ, ◌+◌, ◌-◌, ◌∷◌, ◌++◌, ◌<◌, ◌≤◌, List, [], true, length, take, None, IfOk, OnErr, OnOk};
 ghost use Rattle.std.specs.FinSet as set;
+ghost use Rattle.bx_world.specs.declared.choices.Choice.{Choice as Made};
 ghost use Rattle.bx_world.specs.World.{State};
 ghost use Rattle.bx_debug.specs.Going.{walked};
-ghost use Rattle.bx_debug.specs.Leading.{all_enabled, led, Begins, Leads, Reaches, Walks};
+ghost use Rattle.bx_debug.specs.Leading.{all_enabled, led, Begins, Leads, Reaches, Tracks};
 
 use crate::places::Places;
+use crate::rows::{KEPT_EACH, Rows};
 use crate::stops::{RcEnd, Stop, choose, ended_by, halted, stop_behind};
 use bx_load::Image;
 use bx_world::{Choice, RcWorld, RunEnd, advance};
 use std::alloc::{AllocError, Global};
-
-/// How many choices lie between one world that is kept and the next.
-pub(crate) const KEPT_EACH: usize = 64;
 
 /// An equal world, which shares all that it can.
 pub(crate) fn shared(alloc: Global, world: &RcWorld) -> Result<RcWorld, AllocError>
@@ -129,7 +128,7 @@ fn stretch_by_places(
     stretch(alloc, image, places, &mut end.world, choices, first, past)
 }
 
-/// What came of choices that were applied in order.
+/// What came of choices that were applied in order, beside the rows that they were put behind.
 #[derive(Drop)]
 pub(crate) struct Walk {
     /// Where they led. How many were applied, and whether one was refused, is known of the last stretch alone.
@@ -138,20 +137,17 @@ pub(crate) struct Walk {
     pub(crate) applied: usize,
     /// How many were made behind the last world that was kept.
     since: usize,
-    /// The worlds behind each 64th.
-    pub(crate) kept: Vec<RcWorld>,
     pub(crate) stop: Stop,
 }
 
 impl Walk {
-    /// No choice is applied yet. There is room for the worlds that so many choices may pass.
-    fn begun(alloc: Global, world: &RcWorld, since: usize, count: usize) -> Result<Walk, AllocError>
+    /// No choice is applied yet.
+    fn begun(alloc: Global, world: &RcWorld, since: usize) -> Result<Walk, AllocError>
         requires { since < KEPT_EACH }
         ensures { IfOk result (λ walk. Begins world.now since walk.end.world walk.applied walk.since
-            walk.kept.items walk.stop) }
+            walk.stop) }
     {
         let world = shared(alloc, world)?;
-        let kept = Vec::with_capacity(alloc, count / KEPT_EACH)?;
         Ok(Walk {
             end: RunEnd {
                 world,
@@ -160,30 +156,35 @@ impl Walk {
             },
             applied: 0,
             since,
-            kept,
             stop: Stop::Done,
         })
     }
 
-    /// Applies choices up to where the next world is kept, or up to the last one, as far as nothing stops them: why it
-    /// stopped, if it did.
+    /// Applies choices up to where the next world is kept, or up to the last one, as far as nothing stops them, and puts them
+    /// and that world behind the rows: why it stopped, if it did.
     fn turn(
         &mut self,
         alloc: Global,
         image: &Image,
         places: &Places,
         choices: &[Choice],
+        rows: &mut Rows,
     ) -> Result<Option<Stop>, AllocError>
         requires open { self.old.applied < length choices.now }
         requires since { self.old.since < KEPT_EACH }
-        ensures way { IfOk result (λ stop. (from : State) (since : ℕ)
-            → Walks image.now choices.now from since self.old.applied self.old.end.world self.old.since self.old.kept.items
+        ensures way { IfOk result (λ stop. (from : State) (since : ℕ) (made : List Made) (kept : List State)
+            → Tracks image.now choices.now from since self.old.applied self.old.end.world self.old.since
+            made kept rows.old.choices.items rows.old.kept.items
             → Leads image.now places.now choices.now from self.old.applied self.old.end.world None
-            → Walks image.now choices.now from since self.new.applied self.new.end.world self.new.since self.new.kept.items
+            → Tracks image.now choices.now from since self.new.applied self.new.end.world self.new.since
+            made kept rows.new.choices.items rows.new.kept.items
             × Leads image.now places.now choices.now from self.new.applied self.new.end.world stop) }
         ensures further { IfOk result (λ stop. stop ≡ None → self.old.applied < self.new.applied) }
         ensures since { OnOk result (self.new.since < KEPT_EACH) }
         ensures stop { self.new.stop ≡ self.old.stop }
+        ensures choices_before { OnErr result (take (length rows.old.choices.items) rows.new.choices.items
+            ≡ rows.old.choices.items) }
+        ensures kept_before { OnErr result (rows.new.kept.items ≡ rows.old.kept.items) }
     {
         let left = (choices.len() - self.applied).min(KEPT_EACH - self.since);
         let past = self.applied + left;
@@ -196,26 +197,34 @@ impl Walk {
             self.applied,
             past,
         )?;
-        self.count(alloc, reached)?;
+        rows.choices
+            .extend_from_slice(&choices[self.applied..reached])?;
+        self.count(alloc, reached, &mut rows.kept)?;
         Ok(stop)
     }
 
     /// Counts the choices that were applied up to that number, and keeps the world behind each 64th.
-    fn count(&mut self, alloc: Global, reached: usize) -> Result<(), AllocError>
+    fn count(
+        &mut self,
+        alloc: Global,
+        reached: usize,
+        kept: &mut Vec<RcWorld>,
+    ) -> Result<(), AllocError>
         requires applied { self.old.applied ≤ reached }
         requires since { self.old.since + (reached - self.old.applied) ≤ KEPT_EACH }
         ensures world { self.new.end.world ≡ self.old.end.world }
         ensures stop { self.new.stop ≡ self.old.stop }
         ensures applied { OnOk result (self.new.applied ≡ reached) }
         ensures between { OnOk result (self.old.since + (reached - self.old.applied) < KEPT_EACH
-            → (self.new.since ≡ self.old.since + (reached - self.old.applied)) × (self.new.kept.items ≡ self.old.kept.items)) }
+            → (self.new.since ≡ self.old.since + (reached - self.old.applied)) × (kept.new.items ≡ kept.old.items)) }
         ensures kept { OnOk result (self.old.since + (reached - self.old.applied) ≡ KEPT_EACH
-            → (self.new.since ≡ 0) × (self.new.kept.items ≡ self.old.kept.items ++ self.old.end.world ∷ [])) }
+            → (self.new.since ≡ 0) × (kept.new.items ≡ kept.old.items ++ self.old.end.world ∷ [])) }
+        ensures before { OnErr result (kept.new.items ≡ kept.old.items) }
     {
         self.since += reached - self.applied;
         self.applied = reached;
         if self.since == KEPT_EACH {
-            self.kept.push(shared(alloc, &self.end.world)?)?;
+            kept.push(shared(alloc, &self.end.world)?)?;
             self.since = 0;
         }
         Ok(())
@@ -235,7 +244,8 @@ pub(crate) fn into_world(end: RcEnd) -> RcWorld
 }
 
 /// Applies choices in order, up to the first that stops them: one that is not applied, one that traps, and a run that leaves
-/// its process at a place of the set. `since` choices were made behind the last world that was kept.
+/// its process at a place of the set. `since` choices were made behind the last world that was kept. What was applied, and
+/// the worlds that are kept on the way, are put behind the rows; where memory runs out, these are as they were.
 pub(crate) fn follow(
     alloc: Global,
     image: &Image,
@@ -243,18 +253,30 @@ pub(crate) fn follow(
     world: &RcWorld,
     since: usize,
     choices: &[Choice],
+    rows: &mut Rows,
 ) -> Result<Walk, AllocError>
     requires { since < KEPT_EACH }
     ensures told { IfOk result (λ walk. walked image.now places.now choices.now world.now ≡
         (take walk.applied choices.now, walk.stop)) }
-    ensures way { IfOk result (λ walk. Walks image.now choices.now world.now since walk.applied
-        walk.end.world walk.since walk.kept.items) }
+    ensures way { IfOk result (λ walk. Tracks image.now choices.now world.now since walk.applied
+        walk.end.world walk.since rows.old.choices.items rows.old.kept.items rows.new.choices.items rows.new.kept.items) }
+    ensures choices_as_before { OnErr result (rows.new.choices.items ≡ rows.old.choices.items) }
+    ensures kept_as_before { OnErr result (rows.new.kept.items ≡ rows.old.kept.items) }
 {
-    let mut walk = Walk::begun(alloc, world, since, choices.len())?;
+    rows.make_room(choices.len())?;
+    let ends = rows.ends();
+    let mut walk = Walk::begun(alloc, world, since)?;
     while walk.applied < choices.len() {
-        if let Some(stop) = walk.turn(alloc, image, places, choices)? {
-            walk.stop = stop;
-            return Ok(walk);
+        match walk.turn(alloc, image, places, choices, rows) {
+            Ok(None) => {}
+            Ok(Some(stop)) => {
+                walk.stop = stop;
+                return Ok(walk);
+            }
+            Err(refused) => {
+                rows.cut(ends);
+                return Err(refused);
+            }
         }
     }
     Ok(walk)
