@@ -182,9 +182,9 @@ impl Walk {
         ensures further { IfOk result (λ stop. stop ≡ None → self.old.applied < self.new.applied) }
         ensures since { OnOk result (self.new.since < KEPT_EACH) }
         ensures stop { self.new.stop ≡ self.old.stop }
-        ensures choices_before { OnErr result (take (length rows.old.choices.items) rows.new.choices.items
-            ≡ rows.old.choices.items) }
-        ensures kept_before { OnErr result (rows.new.kept.items ≡ rows.old.kept.items) }
+        ensures choices_before { OnErr result (rows.new.choices.items ≡ rows.old.choices.items) }
+        ensures kept_before { OnErr result (take (length rows.old.kept.items) rows.new.kept.items
+            ≡ rows.old.kept.items) }
     {
         let left = (choices.len() - self.applied).min(KEPT_EACH - self.since);
         let past = self.applied + left;
@@ -197,9 +197,9 @@ impl Walk {
             self.applied,
             past,
         )?;
-        rows.choices
-            .extend_from_slice(&choices[self.applied..reached])?;
+        let first = self.applied;
         self.count(alloc, reached, &mut rows.kept)?;
+        rows.choices.extend_from_slice(&choices[first..reached])?;
         Ok(stop)
     }
 

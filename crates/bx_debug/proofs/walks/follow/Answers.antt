@@ -1,4 +1,4 @@
-use Rattle.std.proofs.Common.{◌≡◌, Option, length, take, ap, ◌∙◌, subst}
+use Rattle.std.proofs.Common.{◌≡◌, Option, length, take, drop, ap, ◌∙◌, subst}
 use Rattle.bx_debug.specs.Leading.{Leads}
 use Rattle.bx_debug.specs.declared.stops.Stop.{Stop}
 use Rattle.bx_debug.proofs.Behind.{still_begins}
@@ -18,13 +18,13 @@ returns-in-Ok-Some-clause-way c =
     let here = c.loop-walk.invariant in
     (c.in-Ok-Some.ensures.way c.args.world.now c.args.since c.args.rows.now.choices.items c.args.rows.now.kept.items here.way here.leads).0
 
-pub returns-in-Err-clause-choices_as_before : goal.returns-in-Err-clause-choices_as_before
-returns-in-Err-clause-choices_as_before c =
-    let before = c.args.rows.now.choices.items in
-    let cut_at : c.ends-ends.result.choices ≡ length before = c.ends-ends.ensures.choices ∙ ap length c.in_ok-make_room.ensures.choices in
-    c.cut.ensures.choices
-    ∙ ap (λ n. take n c.turn.new.rows.choices.items) cut_at
-    ∙ still_begins before (take c.loop-walk.walk.applied c.args.choices.now) c.loop-walk.rows.choices.items c.turn.new.rows.choices.items c.loop-walk.invariant.way.made c.in-Err.ensures.choices_before
+pub returns-in-Err-clause-kept_as_before : goal.returns-in-Err-clause-kept_as_before
+returns-in-Err-clause-kept_as_before c =
+    let before = c.args.rows.now.kept.items in
+    let cut_at : c.ends-ends.result.kept ≡ length before = c.ends-ends.ensures.kept ∙ ap length c.in_ok-make_room.ensures.kept in
+    c.cut.ensures.kept
+    ∙ ap (λ n. take n c.turn.new.rows.kept.items) cut_at
+    ∙ still_begins before (drop (length before) c.loop-walk.rows.kept.items) c.loop-walk.rows.kept.items c.turn.new.rows.kept.items c.loop-walk.invariant.way.kept c.in-Err.ensures.kept_before
 
 pub loop-walk-preserved : goal.loop-walk-preserved
 loop-walk-preserved c =
