@@ -1,6 +1,6 @@
 -- Proper lists before other terms and as tuples, tuples as lists, and how high these get.
 use Rattle.std.proofs.Common.{◌≡◌, ℕ, zero, suc, ◌+◌, ◌<◌, ◌≤◌, pos, List, [], ◌∷◌, length, get_or, drop, Option, Some, None, refl, sym, ap, subst, ◌∙◌, arith}
-use Rattle.std.specs.Prelude.{option_map, slice_set}
+use Rattle.std.specs.Prelude.{option_map, slice_set, IsSome, OnErr, Result, Ok, Err}
 use Rattle.std.proofs.lemmas.List.{drop_more}
 use Rattle.bx_terms.specs.declared.kinds.Trap.TheVariants.{TermHeight}
 use Rattle.bx_terms.specs.Tree.{Tree, int, atom, pid, nil, cons, tuple, listed, height, highest}
@@ -43,6 +43,25 @@ counted_some (Some ts) n e = (ts, refl, some_of n (length ts) e)
 
 counted : (l : Tree) (n : ℕ) → Some n ≡ length_of l → (ts : List Tree) × (elements l ≡ Some ts) × (n ≡ length ts)
 counted l n e = counted_some (elements l) n (e ∙ counted_elements l)
+
+-- and what has no length has no elements
+pub no_elements : (l : Tree) → None ≡ length_of l → None ≡ elements l
+no_elements l e = go (elements l) (e ∙ counted_elements l)
+  where
+    go : (o : Option (List Tree)) → ◌≡◌ {A = Option ℕ} None (option_map length o) → None ≡ o
+    go None h = refl
+    go (Some ts) h = cc
+
+some_elements : (l : Tree) (n : ℕ) → Some n ≡ length_of l → IsSome (elements l)
+some_elements l n e = go (elements l) (e ∙ counted_elements l)
+  where
+    go : (o : Option (List Tree)) → Some n ≡ option_map length o → IsSome o
+    go None h = cc
+    go (Some ts) h = refl
+
+pub proper_on_err : {X E : Type 0} (r : Result X E) (l : Tree) (n : ℕ) → Some n ≡ length_of l → OnErr r (IsSome (elements l))
+proper_on_err (Ok x) l n e = tt
+proper_on_err (Err x) l n e = some_elements l n e
 
 one_listed : (t u : Tree) (o : Option (List Tree)) (ts : List Tree) → ((us : List Tree) → o ≡ Some us → u ≡ listed us) → option_map (λ us. t ∷ us) o ≡ Some ts → cons t u ≡ listed ts
 one_listed t u None ts rest e = cc

@@ -1,6 +1,7 @@
 -- Kinds of terms, and truth values.
 -- Source: Erlang Reference Manual, "Data Types"; "Expressions", "Boolean Expressions".
 use Rattle.std.specs.Prelude.{Bool, true, false, ◌==◌, Option, Some, None, is_some, if◌then◌else◌}
+use Rattle.bx_terms.specs.declared.atom_table.AtomId.{AtomId}
 use Rattle.bx_terms.specs.declared.fixed.TheConstants.{TRUE, FALSE}
 use Rattle.bx_terms.specs.Tree.{Tree, int, atom, pid, tuple, nil, cons}
 
@@ -11,6 +12,11 @@ is_integer t = false
 abbrev pub is_atom : Tree → Bool
 is_atom (atom a) = true
 is_atom t = false
+
+-- one atom alone
+abbrev pub is_the_atom : AtomId → Tree → Bool
+is_the_atom a (atom b) = b == a.0
+is_the_atom a t = false
 
 abbrev pub is_pid : Tree → Bool
 is_pid (pid p) = true

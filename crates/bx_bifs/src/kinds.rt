@@ -1,9 +1,9 @@
 //! Kinds of terms, and truth values.
 
 ghost use Rattle.std.specs.Prelude.{◌≡◌};
-ghost use Rattle.bx_bifs.specs.Kinds.{is_atom as atom_kind, is_integer as integer_kind, is_list as list_kind, is_pid as pid_kind, is_tuple as tuple_kind, truth as truth_of};
+ghost use Rattle.bx_bifs.specs.Kinds.{is_atom as atom_kind, is_integer as integer_kind, is_list as list_kind, is_pid as pid_kind, is_tuple as tuple_kind, is_the_atom, truth as truth_of};
 
-use bx_terms::{Term, View, fixed};
+use bx_terms::{AtomId, Term, View, fixed};
 
 /// Whether a term is an atom.
 #[inline(always)]
@@ -11,6 +11,17 @@ pub fn is_atom(term: &Term) -> bool
     ensures { result ≡ atom_kind term.now }
 {
     matches!(term.view(), View::Atom(_))
+}
+
+/// Whether a term is that atom.
+#[inline(always)]
+pub fn is_the_atom(atom: AtomId, term: &Term) -> bool
+    ensures { result ≡ is_the_atom atom term.now }
+{
+    match term.view() {
+        View::Atom(id) => id == atom,
+        _ => false,
+    }
 }
 
 /// Whether a term is an integer.

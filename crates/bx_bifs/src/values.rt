@@ -2,7 +2,7 @@
 //!
 //! Source: module `erlang` of the ERTS Reference Manual; Erlang Reference Manual, "Expressions", for `++`.
 
-ghost use Rattle.std.specs.Prelude.{◌≡◌, ◌+◌, ◌≤◌, ◌↔◌, length, Some, IfOk, IsTrue, MatchResult, option_map, slice_set};
+ghost use Rattle.std.specs.Prelude.{◌≡◌, ◌+◌, ◌≤◌, ◌↔◌, length, Some, IfOk, OnErr, IsSome, IsTrue, MatchResult, option_map, slice_set};
 ghost use Rattle.bx_terms.specs.Built.{IsWithinHeight};
 ghost use Rattle.bx_terms.specs.Tree.{tuple, listed, height};
 ghost use Rattle.bx_bifs.specs.Given.{TakesMemory};
@@ -61,7 +61,7 @@ fn join(alloc: Global, list: &Term, count: u32, rest: &Term) -> Result<Given, Al
     ensures { MatchResult result (λ given. given ≡ appended list.now rest.now)
         (λ _. TakesMemory (appended list.now rest.now)) }
 {
-    let Some(terms) = elements(alloc, list)? else {
+    let Some(terms) = gather(alloc, list)? else {
         return Ok(badarg());
     };
     let rest = rest.copy(alloc)?;
@@ -92,7 +92,7 @@ fn tuple_from(alloc: Global, list: &Term) -> Result<Given, AllocError>
     ensures { MatchResult result (λ given. given ≡ tupled list.now)
         (λ _. TakesMemory (tupled list.now)) }
 {
-    let Some(terms) = elements(alloc, list)? else {
+    let Some(terms) = gather(alloc, list)? else {
         return Ok(badarg());
     };
     let tuple = tuple_of(alloc, terms)?;
@@ -155,9 +155,21 @@ fn put_at(alloc: Global, elements: &[Term], place: i64, term: &Term) -> Result<G
     Ok(Given::Value(tuple))
 }
 
-/// The elements of a proper list, and `None` for any other term.
+/// The elements of a proper list, and `None` for any other term. Memory is taken only for a proper list.
+pub fn elements(alloc: Global, list: &Term) -> Result<Option<Vec<Term>>, AllocError>
+    ensures ok { IfOk result
+        (λ found. option_map (λ v. v.items) found ≡ elements_of list.now) }
+    ensures err { OnErr result (IsSome (elements_of list.now)) }
+{
+    match length(list) {
+        None => Ok(None),
+        Some(_) => gather(alloc, list),
+    }
+}
+
+/// The same of a list whose length is known.
 #[tactic(auto, using(crate::proofs::Building::one_more, crate::proofs::Building::at_start, crate::proofs::Building::at_end))]
-fn elements(alloc: Global, list: &Term) -> Result<Option<Vec<Term>>, AllocError>
+fn gather(alloc: Global, list: &Term) -> Result<Option<Vec<Term>>, AllocError>
     ensures { IfOk result (λ found. option_map (λ v. v.items) found ≡ elements_of list.now) }
 {
     let mut terms = Vec::new(alloc);

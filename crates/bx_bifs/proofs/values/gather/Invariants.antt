@@ -1,7 +1,7 @@
 use Rattle.std.proofs.Common.{◌≡◌}
 use Rattle.bx_bifs.specs.Values.{elements}
 use Rattle.bx_bifs.proofs.Building.{before}
-use Rattle.bx_bifs.proofs.values.elements.Given as goal
+use Rattle.bx_bifs.proofs.values.gather.Given as goal
 
 -- the elements taken so far, before those of the rest, are all
 abbrev pub invariant-loop-head : goal.invariant-loop-head
