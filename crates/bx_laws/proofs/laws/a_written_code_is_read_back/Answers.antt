@@ -1,5 +1,0 @@
-use Rattle.bx_laws.proofs.WrittenCode.{written_is_read_back}
-use Rattle.bx_laws.proofs.laws.a_written_code_is_read_back.Goals as goal
-
-pub returns : goal.returns
-returns c = written_is_read_back

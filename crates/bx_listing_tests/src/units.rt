@@ -1,0 +1,216 @@
+//! Numbered code. What is expected was read off the texts by hand; items count from 0.
+
+use crate::samples::FORMS;
+use bx_asm::{Head, Instruction, Key, Register, Source, Unit};
+use bx_share::Same;
+use bx_terms::{Atoms, Fault};
+use bxemu_testkit::{module, unit};
+use std::alloc::Global;
+use std::test::Fail;
+
+fn of_items(alloc: Global, items: &str) -> Result<(Atoms, Unit), Fault> {
+    let text = module(alloc, items)?;
+    unit(alloc, text.as_str())
+}
+
+/// Whether the unit is `m` with `f/0`, which is exported.
+fn has_its_heads(atoms: &Atoms, unit: &Unit) -> bool {
+    let Some(name) = atoms.find("f") else {
+        return false;
+    };
+    let head = Head {
+        name,
+        arity: 0,
+        entry: 2,
+        count: 78,
+    };
+    atoms.text(unit.name()) == Some("m")
+        && unit.exports().len() == 1
+        && unit.exports()[0].function == name
+        && unit.functions() == [head].as_slice()
+}
+
+#[test]
+fn heads_of_a_unit(rt: HostRuntime) -> Result<(), Fail> {
+    let (atoms, unit) = of_items(rt.alloc(), FORMS)?;
+    assert!(rt; has_its_heads(&atoms, &unit));
+    Ok(())
+}
+
+/// Items of the sample, each with its opcode's number and how many operands it has, as `genop.tab` and the listing have them.
+const NUMBERS: [(usize, u32, usize); 15] = [
+    (0, 1, 1),
+    (1, 2, 3),
+    (2, 1, 1),
+    (3, 153, 1),
+    (4, 3, 0),
+    (5, 4, 2),
+    (8, 7, 2),
+    (9, 8, 3),
+    (10, 78, 2),
+    (11, 9, 2),
+    (12, 10, 4),
+    (13, 11, 5),
+    (15, 13, 3),
+    (16, 13, 5),
+    (77, 1, 1),
+];
+
+fn is_numbered(unit: &Unit, item: usize, number: u32, operands: usize) -> bool {
+    match unit.item(item) {
+        Some(numbered) => numbered.number == number && numbered.len() == operands,
+        None => false,
+    }
+}
+
+/// How many rows from the first on are as the unit has them.
+fn right_rows(unit: &Unit, rows: &[(usize, u32, usize)]) -> usize {
+    for (row, (item, number, operands)) in rows.iter().enumerate() {
+        if !is_numbered(unit, *item, *number, *operands) {
+            return row;
+        }
+    }
+    rows.len()
+}
+
+#[test]
+fn numbers_of_items(rt: HostRuntime) -> Result<(), Fail> {
+    let (_, unit) = of_items(rt.alloc(), FORMS)?;
+    assert_eq!(rt; right_rows(&unit, &NUMBERS), NUMBERS.len());
+    Ok(())
+}
+
+/// Whether the item of that number is a label or a line, or else an instruction.
+fn is_mark_or_decodes(unit: &Unit, number: usize) -> bool {
+    match unit.item(number) {
+        Some(item) => item.instruction().is_some() != item.is_mark(),
+        None => false,
+    }
+}
+
+/// How many items from the first on are a label, a line or an instruction.
+fn told_items(unit: &Unit) -> usize {
+    for number in 0..unit.item_count() {
+        if !is_mark_or_decodes(unit, number) {
+            return number;
+        }
+    }
+    unit.item_count()
+}
+
+#[test]
+fn every_item_decodes(rt: HostRuntime) -> Result<(), Fail> {
+    let (_, unit) = of_items(rt.alloc(), FORMS)?;
+    assert_eq!(rt; told_items(&unit), 78);
+    Ok(())
+}
+
+fn selects_values(atoms: &Atoms, unit: &Unit) -> bool {
+    let Some(a) = atoms.find("a") else {
+        return false;
+    };
+    let Some(item) = unit.item(3) else {
+        return false;
+    };
+    match item.instruction() {
+        Some(Instruction::SelectVal { pairs, .. }) => {
+            pairs.label(Key::Atom(a)) == Some(2)
+                && pairs.label(Key::Integer(7)) == Some(1)
+                && pairs.label(Key::Integer(2)).is_none()
+        }
+        _ => false,
+    }
+}
+
+#[test]
+fn pairs_of_values(rt: HostRuntime) -> Result<(), Fail> {
+    let items = "{select_val,{x,0},{f,1},{list,[{atom,a},{f,2},{integer,7},{f,1}]}}.";
+    let (atoms, unit) = of_items(rt.alloc(), items)?;
+    assert!(rt; selects_values(&atoms, &unit));
+    Ok(())
+}
+
+fn selects_sizes(unit: &Unit) -> bool {
+    let Some(item) = unit.item(3) else {
+        return false;
+    };
+    match item.instruction() {
+        Some(Instruction::SelectTupleArity { pairs, .. }) => {
+            pairs.label(Key::Size(2)) == Some(1) && pairs.label(Key::Integer(2)).is_none()
+        }
+        _ => false,
+    }
+}
+
+#[test]
+fn pairs_of_sizes(rt: HostRuntime) -> Result<(), Fail> {
+    let (_, unit) = of_items(
+        rt.alloc(),
+        "{select_tuple_arity,{x,0},{f,2},{list,[2,{f,1}]}}.",
+    )?;
+    assert!(rt; selects_sizes(&unit));
+    Ok(())
+}
+
+fn builds_of_two(unit: &Unit) -> bool {
+    let Some(item) = unit.item(3) else {
+        return false;
+    };
+    match item.instruction() {
+        Some(Instruction::PutTuple2 { elements, .. }) => {
+            matches!(elements.get(0), Some(Source::Register(Register::X(7))))
+                && matches!(elements.get(1), Some(Source::Literal(_)))
+                && elements.get(2).is_none()
+        }
+        _ => false,
+    }
+}
+
+#[test]
+fn elements_of_a_tuple(rt: HostRuntime) -> Result<(), Fail> {
+    let items = "{put_tuple2,{x,0},{list,[{x,7},{literal,[]}]}}.";
+    let (_, unit) = of_items(rt.alloc(), items)?;
+    assert!(rt; builds_of_two(&unit));
+    Ok(())
+}
+
+/// Whether the code of two modules with these items is the same.
+fn are_same(alloc: Global, one: &str, other: &str) -> Result<bool, Fault> {
+    let (_, one) = of_items(alloc, one)?;
+    let (_, other) = of_items(alloc, other)?;
+    Ok(one.same(&other))
+}
+
+const SAMENESS: [(&str, &str, bool); 5] = [
+    (FORMS, FORMS, true),
+    ("return.", "return. % once\n", true),
+    ("return.", "return. return.", false),
+    ("{move,{x,1},{x,0}}.", "{move,{y,1},{x,0}}.", false),
+    ("{call,0,{f,2}}.", "{call_only,0,{f,2}}.", false),
+];
+
+#[test]
+fn sameness_of_units(rt: HostRuntime) -> Result<(), Fail> {
+    for (one, other, want) in SAMENESS {
+        assert!(rt; are_same(rt.alloc(), one, other)? == want);
+    }
+    Ok(())
+}
+
+/// Whether the unit of these items is the same apart, where there is so much room.
+fn is_same_apart(alloc: Global, items: &str, room: usize) -> Result<bool, Fault> {
+    let (_, unit) = of_items(alloc, items)?;
+    let mut room = room;
+    Ok(unit.apart(alloc, &mut room)?.same(&unit))
+}
+
+// With the three before them, five items with seven operands, and a literal with one list cell: 14 in all.
+const SMALL: &str = "{move,{literal,[a|b]},{x,0}}. return.";
+
+#[test]
+fn a_unit_apart(rt: HostRuntime) -> Result<(), Fail> {
+    assert!(rt; is_same_apart(rt.alloc(), FORMS, 1000)?);
+    assert!(rt; is_same_apart(rt.alloc(), SMALL, 14)?);
+    assert!(rt; is_same_apart(rt.alloc(), SMALL, 13) == Err(Fault::Memory));
+    Ok(())
+}

@@ -1,0 +1,48 @@
+//! What the report says of a process that runs these items.
+
+use bx_engine::run_text;
+use bxemu_testkit::module;
+use std::alloc::{AllocError, Global};
+use std::test::Fail;
+
+/// The report of so many runs of the process that begins at these items.
+pub fn report_of(alloc: Global, items: &str, runs: u32) -> Result<String, Fail> {
+    let listing = module(alloc, items)?;
+    let plan = format!(in alloc; "a: r0*{runs}")?;
+    let mut readers = [listing.as_bytes()];
+    let mut plan = plan.as_bytes();
+    let mut written = Vec::new(alloc);
+    match run_text(alloc, &mut readers, "m:f", &mut plan, &mut written) {
+        Ok(()) => Ok(String::from_utf8(written).ok().ok_or("text")?),
+        Err(_) => Ok(String::from_str(alloc, "refused")?),
+    }
+}
+
+/// The report of a process that ended with this reason, after so many runs.
+pub fn ended(alloc: Global, runs: u32, reason: &str) -> Result<String, AllocError> {
+    format!(in alloc;
+        "schedule a\napplied {runs}\nstate quiet\nprocess <0.0.0> ended {reason}\nend\n"
+    )
+}
+
+/// The report of a process whose last run was this trap.
+fn trapped(alloc: Global, runs: u32, trap: &str) -> Result<String, AllocError> {
+    format!(in alloc;
+        "schedule a\napplied {runs}\nstate trapped {trap} <0.0.0>\nprocess <0.0.0> ready\nend\n"
+    )
+}
+
+/// How many rows of items, runs and a reason, from the first on, end the process so.
+pub fn right_ends(alloc: Global, rows: &[(&str, u32, &str)]) -> Result<usize, Fail> {
+    for (number, (items, runs, reason)) in rows.iter().enumerate() {
+        if report_of(alloc, items, *runs)?.as_str() != ended(alloc, *runs, reason)?.as_str() {
+            return Ok(number);
+        }
+    }
+    Ok(rows.len())
+}
+
+/// Whether the last of so many runs of these items is that trap.
+pub fn is_trapped(alloc: Global, items: &str, runs: u32, trap: &str) -> Result<bool, Fail> {
+    Ok(report_of(alloc, items, runs)?.as_str() == trapped(alloc, runs, trap)?.as_str())
+}

@@ -1,5 +1,0 @@
-use Rattle.bx_spelling.proofs.Spoiling.{blanks_fail}
-use Rattle.bx_spelling.proofs.laws.comments_are_refused_by_their_bytes.Goals as goal
-
-pub returns : goal.returns
-returns c = blanks_fail

@@ -1,5 +1,0 @@
-use Rattle.bx_spelling.proofs.KeptTexts.{kept_texts_stand}
-use Rattle.bx_spelling.proofs.laws.kept_texts_are_terms_by_their_bytes.Goals as goal
-
-pub returns : goal.returns
-returns c = kept_texts_stand

@@ -1,5 +1,0 @@
-use Rattle.bx_spelling.proofs.Sentences.{none_is_blank}
-use Rattle.bx_spelling.proofs.laws.none_is_blank_by_its_bytes.Goals as goal
-
-pub returns : goal.returns
-returns c = none_is_blank

@@ -1,5 +1,0 @@
-use Rattle.bx_spelling.proofs.ReadBack.{read_back}
-use Rattle.bx_spelling.proofs.laws.what_is_printed_is_read_back.Goals as goal
-
-pub returns : goal.returns
-returns c = read_back

@@ -1,0 +1,90 @@
+-- Which form is refused, and with which fault.
+use Rattle.std.proofs.Common.{◌≡◌, ℕ, Bool, true, false, cond, List, [], ◌∷◌, Option, Some, Result, Ok, Err, refl, sym, ap, ◌∙◌, subst, ◌↔◌}
+use Rattle.bx_terms.specs.Outcomes.{◌>>=◌}
+use Rattle.bx_terms.specs.declared.faults.Fault.{Fault}
+use Rattle.bx_terms.specs.declared.faults.Fault.TheVariants.{BadTerm}
+use Rattle.bx_text.specs.Place.{Place}
+use Rattle.bx_text.specs.Blank.{skip}
+use Rattle.bx_text.specs.Named as named
+use Rattle.bx_text.specs.Token.{Lexeme}
+use Rattle.bx_text.specs.Lexing.{lexeme_from, lexeme_at}
+use Rattle.bx_text.specs.Tree.{Tree}
+use Rattle.bx_text.specs.Terms.{is_stop, term_at}
+use Rattle.bx_text.specs.Forms.{stopped, form_by, form_on, form_at}
+use Rattle.bx_text_laws.specs.Terms.{OnlyBlanks}
+use Rattle.bx_text_laws.specs.Faults.{Wanted, a_term, the, misplaced, taken, Refused, FormFails}
+use Rattle.bx_text_laws.proofs.Sentences.{none_is_blank}
+use Rattle.bx_text_laws.proofs.Goings.{Going, goes, fails, Nothing, Ends, by_token, its_own, both_ways, then, next_at, from_token}
+use Rattle.bx_text_laws.proofs.Tells.{seen, stop_tells}
+use Rattle.bx_text_laws.proofs.FirstFaults.{terms_go}
+
+-- an answer of one fault
+one_fault : {A : Type 0} (r : Result A Fault) (g f : Fault) → r ≡ Err g → (r ≡ Err f) ↔ (f ≡ g)
+one_fault {A = A} r g f e = (λ h. same (sym h ∙ e), λ s. e ∙ ap (λ g. Err g) (sym s))
+  where
+    same : ◌≡◌ {A = Result A Fault} (Err f) (Err g) → f ≡ g
+    same h = cc
+
+turned : {A B : Type 0} → A ↔ B → B ↔ A
+turned h = (h.1, h.0)
+
+nothing_wanted : {p : Place} {f : Fault} → Refused [] p f → ⊥
+nothing_wanted r = elim r [ ]
+
+-- the full stop
+stop_goes : (t : Tree) (p : Place) (f : Fault) → ((lexeme_at p >>= stopped t) ≡ Err f) ↔ Refused (the named.full_stop ∷ []) p f
+stop_goes t p f = by (lexeme_at p) refl
+  where
+    by_stop : (m : Lexeme) (b : Bool) → lexeme_at p ≡ Ok m → is_stop m.token ≡ b → (cond {A = Result (Option (Tree × Place)) Fault} b (Ok (Some (t, m.after))) (Err (BadTerm m.line)) ≡ Err f) ↔ Refused (the named.full_stop ∷ []) p f
+    by_stop m true n e = (λ h. cc, λ r. absurd (nothing_wanted ((by_token (the named.full_stop) [] p f m (taken []) n (stop_tells.yes m.token (seen p m n) e)).0 r)))
+    by_stop m false n e =
+        both_ways (one_fault (Err (BadTerm m.line)) (BadTerm m.line) f refl)
+        (turned (by_token (the named.full_stop) [] p f m misplaced n (stop_tells.other m.token (seen p m n) tt e)))
+
+    by : (r : Result Lexeme Fault) → lexeme_at p ≡ r → ((r >>= stopped t) ≡ Err f) ↔ Refused (the named.full_stop ∷ []) p f
+    by (Err g) e = both_ways (one_fault (Err g) g f refl) (turned (its_own (the named.full_stop) [] p g f e))
+    by (Ok m) e = by_stop m (is_stop m.token) e refl
+
+-- a term and its full stop
+abbrev Sentence : ℕ → List Wanted
+Sentence d = a_term d ∷ the named.full_stop ∷ []
+
+by_term : (d : ℕ) (p : Place) (f : Fault) {r : Result (Tree × Place) Fault} → Going Nothing Ends (a_term d ∷ []) p p r → ((r >>= λ x. lexeme_at x.1 >>= stopped x.0) ≡ Err f) ↔ Refused (Sentence d) p f
+by_term d p f (goes {x = x} q a c h) =
+    let there = h (the named.full_stop ∷ []) tt f in
+    both_ways (stop_goes x.0 x.1 f) (turned (subst (λ q. Refused (Sentence d) p f ↔ Refused (the named.full_stop ∷ []) q f) (sym a) there))
+by_term d p f (fails {g = g} h) = both_ways (one_fault (Err g) g f refl) (turned (h (the named.full_stop ∷ []) tt f))
+
+sentence_goes : (d : ℕ) (p : Place) (f : Fault) → ((lexeme_at p >>= form_by d) ≡ Err f) ↔ Refused (Sentence d) p f
+sentence_goes d p f = subst (λ r. (r ≡ Err f) ↔ Refused (Sentence d) p f) (sym (split (lexeme_at p))) (by_term d p f first)
+  where
+    first : Going Nothing Ends (a_term d ∷ []) p p (lexeme_at p >>= term_at d)
+    first = then (a_term d ∷ []) (term_at d) (next_at p) (λ l q n c. from_token q l n (terms_go d q l n))
+
+    split : (r : Result Lexeme Fault) → (r >>= form_by d) ≡ (r >>= term_at d >>= λ x. lexeme_at x.1 >>= stopped x.0)
+    split (Ok l) = refl
+    split (Err g) = refl
+
+-- a form
+blank_or : (p : Place) (f : Fault) → form_at p ≡ Err f → OnlyBlanks p → ⊥
+blank_or p f h b = let no = sym h ∙ (none_is_blank p).1 b in cc
+
+at_once : (p : Place) (f : Fault) → (OnlyBlanks p → ⊥) → (form_at p ≡ Err f) ↔ ((lexeme_at p >>= form_by 256) ≡ Err f)
+at_once p f some = by (skip p) refl
+  where
+    by_rest : (q : Place) (cs : List ℕ) → skip p ≡ Ok q → q.rest ≡ cs → (form_on 256 cs q ≡ Err f) ↔ ((lexeme_from q >>= form_by 256) ≡ Err f)
+    by_rest q [] s e = absurd (some ((none_is_blank p).0 (ap (λ r. r >>= λ q. form_on 256 q.rest q) s ∙ ap (λ cs. form_on 256 cs q) e)))
+    by_rest q (c ∷ cs) s e = (λ h. h, λ h. h)
+
+    by : (r : Result Place Fault) → skip p ≡ r → ((r >>= λ q. form_on 256 q.rest q) ≡ Err f) ↔ ((r >>= lexeme_from >>= form_by 256) ≡ Err f)
+    by (Err g) s = both_ways (one_fault (Err g) g f refl) (turned (one_fault (Err g) g f refl))
+    by (Ok q) s = by_rest q q.rest s refl
+
+pub forms_fail : (p : Place) (f : Fault) → (form_at p ≡ Err f) ↔ FormFails p f
+forms_fail p f = (out, back)
+  where
+    out : form_at p ≡ Err f → FormFails p f
+    out h = let some = blank_or p f h in (some, (sentence_goes 256 p f).0 ((at_once p f some).0 h))
+
+    back : FormFails p f → form_at p ≡ Err f
+    back (some, r) = (at_once p f some).1 ((sentence_goes 256 p f).1 r)

@@ -1,0 +1,49 @@
+-- What was taken at a place is a spelling, and what is spelled is taken.
+use Rattle.std.proofs.Common.{◌≡◌, ℕ, ◌+◌, ◌≤◌, Bool, true, false, cond, eqb, List, [], ◌∷◌, ◌++◌, drop, length, Result, Ok, refl, sym, ap, subst, arith, drop_at, le_of_eq}
+use Rattle.bx_terms.specs.declared.faults.Fault.{Fault}
+use Rattle.bx_text.specs.Place.{Place, after}
+use Rattle.bx_text.specs.Token.{Token}
+use Rattle.bx_text.specs.Lexing.{token_at}
+use Rattle.bx_text.proofs.Outcomes.{ok_same}
+use Rattle.bx_text_laws.specs.Spelling.{Spelling, MayFollow, Begins}
+use Rattle.bx_text_laws.specs.Tokens.{lines, Stands, meant}
+
+abbrev pub on : List ℕ → ℕ → ℕ → Place
+on bs at line = record { rest = bs; at = at; line = line }
+
+-- the bytes that were taken
+abbrev pub Spelled : Place → Token × Place → Type 0
+Spelled p x = (bytes : List ℕ) × Begins p.rest bytes (meant x.0) x.1.rest × Stands p bytes x.1
+
+-- a token is taken, and as much of the text at least as up to this rest; if just so much, it is t
+abbrev pub Found : Place → Token → List ℕ → Type 0
+Found p t rest = (x : Token × Place) × (token_at p ≡ Ok x) × (length x.1.rest ≤ length rest) × (length x.1.rest ≡ length rest → meant x.0 ≡ t)
+
+-- bytes with no line feed
+pub spelled_on : (bytes rest : List ℕ) (at line n : ℕ) (u : Token) (x : Token × Place) → Spelling bytes (meant u) → MayFollow (meant u) rest → lines bytes ≡ 0 → n ≡ length bytes
+    → ◌≡◌ {A = Result (Token × Place) Fault} (Ok (u, after (on (bytes ++ rest) at line) n)) (Ok x) → Spelled (on (bytes ++ rest) at line) x
+spelled_on bytes rest at line n u x s f l e h =
+    subst (Spelled (on (bytes ++ rest) at line)) (ok_same (u, after (on (bytes ++ rest) at line) n) x h)
+    (bytes, (ap (λ ys. bytes ++ ys) (sym gone), s, subst (MayFollow (meant u)) (sym gone) f), (ap (λ m. at + m) e, lined))
+  where
+    gone : drop n (bytes ++ rest) ≡ rest
+    gone = drop_at bytes rest n (sym e)
+
+    lined : line ≡ line + lines bytes
+    lined = omega (arith, l)
+
+pub found_exact : (p q : Place) (u t : Token) (rest : List ℕ) → token_at p ≡ Ok (u, q) → q.rest ≡ rest → meant u ≡ t → Found p t rest
+found_exact p q u t rest h e m = ((u, q), h, le_of_eq (ap length e), λ _. m)
+
+-- one of two, by a test
+pub pick : {K R X : Type 0} (read : K → Result X Fault) (x : X) (t : Bool) (k l : K) → (t ≡ true → read k ≡ Ok x → R) → (t ≡ false → read l ≡ Ok x → R) → read (cond t k l) ≡ Ok x → R
+pick read x true k l f g h = f refl h
+pick read x false k l f g h = g refl h
+
+pub lines-append : (xs ys : List ℕ) → lines (xs ++ ys) ≡ lines xs + lines ys
+lines-append [] ys = omega arith
+lines-append (x ∷ xs) ys = by_feed (eqb x 10) (lines (xs ++ ys)) (lines xs) (lines ys) (lines-append xs ys)
+  where
+    by_feed : (t : Bool) (a b c : ℕ) → a ≡ b + c → cond t (1 + a) a ≡ cond t (1 + b) b + c
+    by_feed true a b c e = omega arith
+    by_feed false a b c e = e

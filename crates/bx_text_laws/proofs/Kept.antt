@@ -1,0 +1,58 @@
+-- What is kept as it was written stands in each text where what follows does not go on in it.
+use Rattle.std.proofs.Common.{◌≡◌, ℕ, ◌+◌, List, [], ◌++◌, length, refl, sym, ap, ◌∙◌, subst, arith}
+use Rattle.bx_text.specs.declared.node.Span.{Span}
+use Rattle.bx_text.specs.declared.node.Sort.{Sort}
+use Rattle.bx_text.specs.Place.{Place}
+use Rattle.bx_text.specs.Token.{Lexeme}
+use Rattle.bx_text.specs.Terms.{taken}
+use Rattle.bx_text.specs.Tree.{Tree, other}
+use Rattle.bx_text_laws.specs.Blanks.{nothing}
+use Rattle.bx_text_laws.specs.Shown.{StandsAs}
+use Rattle.bx_text_laws.specs.Terms as terms
+use Rattle.bx_text_laws.specs.Terms.{Stood, Term}
+use Rattle.bx_text_laws.proofs.Frame.{on}
+use Rattle.bx_text_laws.proofs.Moving.{Run, Closes, taken_is}
+use Rattle.bx_text_laws.proofs.Moved.{TermFrom, term_run}
+
+-- the text that is kept is that from the first token on
+abbrev TakenAs : Tree → Lexeme → Place → Type 0
+TakenAs (other s k w) l q = w ≡ taken l q
+TakenAs t l q = Unit {0}
+
+term_taken : {d : ℕ} {l : Lexeme} {t : Tree} {q : Place} → Term d l t q → TakenAs t l q
+term_taken (terms.an_integer t) = tt
+term_taken (terms.an_atom t) = tt
+term_taken (terms.texts t s) = tt
+term_taken (terms.empty_tuple t a z) = tt
+term_taken (terms.a_tuple t a w z) = tt
+term_taken (terms.empty_list t a z) = tt
+term_taken (terms.a_list t a w z) = tt
+term_taken (terms.a_list_with_tail t a w b c u y z) = tt
+term_taken (terms.a_float t w) = refl
+term_taken (terms.an_empty_map t a z w) = refl
+term_taken (terms.a_map t a r z w) = refl
+term_taken (terms.an_empty_binary t a z w) = refl
+term_taken (terms.a_binary t a r z w) = refl
+term_taken (terms.a_fun t a x b y c z e o h j r) = refl
+
+-- the place of the first token itself
+beginning : (p : Place) (l : Lexeme) → Stood p l → (q : Place) × Stood q l × (l.begin ≡ q.rest) × (l.from ≡ q.at)
+beginning p l (q, (blank, e, b, n, s), longest, from_is, line_is, begin_is) =
+    (q, (q, ([], refl, nothing, n, (omega arith, omega arith)), longest, from_is, line_is, begin_is), begin_is, from_is)
+
+pub kept_moves : (d : ℕ) (k : Sort) (w : List ℕ) → StandsAs d k w → (rest : List ℕ) → Closes rest → (at line : ℕ)
+    → (m : Lexeme) × (s : Span) × (q : Place) × Stood (on (w ++ rest) at line) m × Term d m (other s k w) q × (q.rest ≡ rest)
+kept_moves d k w (p, l, s, q, st, t) rest c at line = by_place (beginning p l st)
+  where
+    by_place : ((b : Place) × Stood b l × (l.begin ≡ b.rest) × (l.from ≡ b.at)) → (m : Lexeme) × (s : Span) × (q : Place) × Stood (on (w ++ rest) at line) m × Term d m (other s k w) q × (q.rest ≡ rest)
+    by_place (b, stood, begin_is, from_is) = by_run (run.again rest c (on (w ++ rest) at line) (ap (λ ws. ws ++ rest) (sym text_is)))
+      where
+        run : Run b q Closes (TermFrom d (other s k w))
+        run = term_run t b stood
+
+        text_is : run.text ≡ w
+        text_is = sym (taken_is l q [] run.text q.rest (begin_is ∙ run.rest) (omega (arith, from_is, run.size))) ∙ sym (term_taken t)
+
+        by_run : ((r : Place) × TermFrom d (other s k w) (on (w ++ rest) at line) r × (r.rest ≡ rest) × (r.at ≡ at + length run.text))
+            → (m : Lexeme) × (s : Span) × (q : Place) × Stood (on (w ++ rest) at line) m × Term d m (other s k w) q × (q.rest ≡ rest)
+        by_run (r, (m, u, there, term, (z, is)), left, size) = (m, z, r, there, subst (λ u. Term d m u r) is term, left)

@@ -1,0 +1,383 @@
+-- What is printed of an integer or an atom is taken as the same one, where a delimiter follows.
+use Rattle.std.proofs.Common.{◌≡◌, ◌≢◌, ℕ, zero, suc, ◌+◌, ◌*◌, ◌/◌, ◌%◌, ◌≤◌, ◌<◌, Bool, true, false, cond, not, eqb, ◌&&◌, ◌||◌, ℤ, pos, negsuc, neg_ℤ, List, [], ◌∷◌, ◌++◌, take, drop, length, Ok, refl, sym, ap, ◌∙◌, subst, arith, codes, append_assoc, append-nil, drop_at, take_at, length-append, inl, chars, IsUtf8, bytes_eq, encode_utf8_all}
+use Rattle.std.specs.Prelude.{nat_lt}
+use Rattle.std.specs.List.{list_all, prefix_len, flat_map, AllByRecursion}
+use Rattle.std.specs.Char.{encode_utf8}
+use Rattle.std.specs.Fmt.{digits, digits_onto, digit_glyph}
+use Rattle.std.specs.Str.{all_scalars}
+use Rattle.std.proofs.lemmas.Bool.{eqb-true, eqb-false, and_parts, and_from}
+use Rattle.std.proofs.lemmas.Bool.Decides.{nat_tests}
+use Rattle.std.proofs.lemmas.Slice.Eq.{bytes_eq-Decides}
+use Rattle.std.proofs.lemmas.Str.{encode_ascii, encodes-append, encodes-chars, scalars-chars}
+use Rattle.std.proofs.Math.Utf8.{low_scalar}
+use Rattle.bx_terms.specs.Outcomes.{◌>>=◌}
+use Rattle.bx_terms.specs.AtomText.{is_name_byte, begins_lower, is_reserved, reserved_words, is_bare, by_code, printed_atom}
+use Rattle.bx_terms.specs.AtomText as atoms
+use Rattle.bx_text.specs.Bytes.{is_digit, is_space}
+use Rattle.bx_text.specs.Number.{number}
+use Rattle.bx_text.specs.Place.{Place, after}
+use Rattle.bx_text.specs.Named as named
+use Rattle.bx_text.specs.Token as token
+use Rattle.bx_text.specs.Token.{Token, Body, spelled}
+use Rattle.bx_text.specs.Lexing.{token_at, number_by, fraction_len, name_len, word, behind}
+use Rattle.bx_text.specs.Printed.{digits_within, whole_decimal, integer_text}
+use Rattle.bx_text_laws.specs.Characters.{IsSmall, IsNameCharacter}
+use Rattle.bx_text_laws.specs.Numerals.{Digit, Numeral, one_digit, digit_more}
+use Rattle.bx_text_laws.specs.Quoted as quoted
+use Rattle.bx_text_laws.specs.Quoted.{Quoted, Named, IsOther, line_feed, carriage_return, tab}
+use Rattle.bx_text_laws.specs.Spelling.{Minus, no_minus, a_minus, InUtf8}
+use Rattle.bx_text_laws.specs.Tokens.{meant}
+use Rattle.bx_text_laws.proofs.Frame.{on}
+use Rattle.bx_text_laws.proofs.Runs.{run_append, digits_of}
+use Rattle.bx_text_laws.proofs.NumbersFound.{first_number, digits_on}
+use Rattle.bx_text_laws.proofs.Words.{first_small, name_take, small_name}
+use Rattle.bx_text_laws.proofs.Free.{free, free_plain, free_text, past_cap}
+use Rattle.bx_text_laws.proofs.Escapes.{numeral_value}
+use Rattle.bx_text_laws.proofs.Readings.{hex_from, no_octal_is, not_named, different, named_uncapped}
+use Rattle.bx_text_laws.proofs.Quotes.{Gives, gives, behind_rest, grouped}
+use Rattle.bx_text_laws.proofs.Longest.{unsigned}
+
+-- no digit, name character or fraction begins
+pub record Delimits (rest : List ℕ) : Type 0 where
+  pub digits : prefix_len is_digit rest ≡ 0
+  pub fraction : fraction_len rest ≡ 0
+  pub name : name_len rest ≡ 0
+
+-- just these bytes are taken, as t
+abbrev pub Exactly : List ℕ → Token → List ℕ → Type 0
+Exactly bytes t rest = (at line : ℕ) → (u : Token) × (q : Place) × (token_at (on (bytes ++ rest) at line) ≡ Ok (u, q)) × (q.rest ≡ rest) × (meant u ≡ t)
+
+-- integers
+digit_is : (n : ℕ) → n < 10 → Digit 10 (48 + n) n
+digit_is n h = (h, inl (refl, h))
+
+decimal_is : (k n : ℕ) → n < k → Numeral 10 (digits_within k n) n
+unfolding digits_within
+decimal_is zero n h = absurd (omega arith)
+decimal_is (suc k) n h = by (nat_lt n 10) refl (λ low. decimal_is k (n / 10) low)
+  where
+    tens : 10 * (n / 10) + n % 10 ≡ n
+    tens = omega arith
+
+    by : (t : Bool) → nat_lt n 10 ≡ t → (n / 10 < k → Numeral 10 (digits_within k (n / 10)) (n / 10))
+        → Numeral 10 (elim t [ true ↦ (48 + n) ∷ [] | false ↦ digits_within k (n / 10) ++ (48 + n % 10) ∷ [] ]) n
+    by true e more = one_digit (digit_is n (small n e))
+      where
+        small : (n : ℕ) → nat_lt n 10 ≡ true → n < 10
+        small n e = grind (arith, nat_tests)
+    by false e more =
+        let left : n % 10 < 10 = omega arith in
+        subst (Numeral 10 (digits_within k (n / 10) ++ (48 + n % 10) ∷ [])) tens (digit_more (more (shorter n k e h)) (digit_is (n % 10) left))
+      where
+        large : (n : ℕ) → nat_lt n 10 ≡ false → 10 ≤ n
+        large n e = grind (arith, nat_tests)
+
+        shorter : (n k : ℕ) → nat_lt n 10 ≡ false → n < suc k → n / 10 < k
+        shorter n k e h = let long : 10 ≤ n = large n e in omega arith
+
+pub numeral_exact : {front : List ℕ} → Minus front → (ds rest : List ℕ) → list_all is_digit ds ≡ true → 0 < length ds → Delimits rest → Exactly (front ++ ds) (token.integer (number (front ++ ds))) rest
+numeral_exact {front} mi ds rest a l d at line =
+    (token.integer (number (take (length front + length ds) text)), after p (length front + length ds), here, left, ap (λ w. token.integer (number w)) front_is)
+  where
+    text : List ℕ
+    text = (front ++ ds) ++ rest
+
+    p : Place
+    p = on text at line
+
+    same : text ≡ front ++ (ds ++ rest)
+    same = append_assoc front ds rest
+
+    count : length ds ≡ prefix_len is_digit (ds ++ rest)
+    count = omega (arith, run_append is_digit ds rest a, d.digits)
+
+    front_is : take (length front + length ds) text ≡ front ++ ds
+    front_is = take_at (front ++ ds) rest (length front + length ds) (length-append front ds)
+
+    left : drop (length front + length ds) text ≡ rest
+    left = drop_at (front ++ ds) rest (length front + length ds) (length-append front ds)
+
+    begun : token_at p ≡ number_by p (length front + length ds) (fraction_len (drop (length front + length ds) text))
+    begun =
+        subst (λ text. token_at (on text at line) ≡ number_by (on text at line) (length front + length ds) (fraction_len (drop (length front + length ds) text))) (sym same)
+        (first_number mi ds rest at line a l ∙ digits_on front (ds ++ rest) at line (length ds) count l)
+
+    here : token_at p ≡ Ok (token.integer (number (take (length front + length ds) text)), after p (length front + length ds))
+    here = begun ∙ ap (λ f. number_by p (length front + length ds) f) (ap fraction_len left ∙ d.fraction)
+
+pub exactly_is : (bytes rest : List ℕ) (t u : Token) → t ≡ u → Exactly bytes t rest → Exactly bytes u rest
+exactly_is bytes rest t u e x = subst (λ t. Exactly bytes t rest) e x
+
+pub integer_exact : (n : ℤ) (rest : List ℕ) → Delimits rest → Exactly (integer_text n) (token.integer n) rest
+unfolding integer_text whole_decimal
+integer_exact (pos n) rest d =
+    let k = digits_of (decimal_is (suc n) n (omega arith)) refl in
+    exactly_is (digits_within (suc n) n) rest (token.integer (number (digits_within (suc n) n))) (token.integer (pos n))
+    (ap (λ z. token.integer z) (unsigned (digits_within (suc n) n) k.0 ∙ ap (λ n. pos n) k.1)) (numeral_exact no_minus (digits_within (suc n) n) rest k.0 k.2 d)
+integer_exact (negsuc n) rest d =
+    let k = digits_of (decimal_is (suc (suc n)) (suc n) (omega arith)) refl in
+    exactly_is (45 ∷ digits_within (suc (suc n)) (suc n)) rest (token.integer (number (45 ∷ digits_within (suc (suc n)) (suc n)))) (token.integer (negsuc n))
+    (ap (λ n. token.integer (neg_ℤ (pos n))) k.1) (numeral_exact a_minus (digits_within (suc (suc n)) (suc n)) rest k.0 k.2 d)
+
+-- bare atoms
+pub word_exact : (c : ℕ) (cs bytes rest : List ℕ) → IsSmall c → AllByRecursion IsNameCharacter cs → InUtf8 (c ∷ cs) bytes → bytes ≢ codes "fun" → Delimits rest → Exactly bytes (token.atom (token.plain bytes)) rest
+word_exact c cs bytes rest small a (s, e) other d at line = (
+  word (take n text),
+  after p n,
+  begun,
+  ap (λ n. drop n text) count ∙ drop_at bytes rest (length bytes) refl,
+  ap (λ n. meant (word (take n text))) count ∙ ap (λ w. meant (word w)) (take_at bytes rest (length bytes) refl)
+      ∙ ap (λ t. meant (cond t named.the_word_fun (token.atom (token.plain bytes)))) (not_fun (bytes_eq bytes (codes "fun")) refl),
+)
+  where
+    text : List ℕ
+    text = bytes ++ rest
+
+    p : Place
+    p = on text at line
+
+    n : ℕ
+    n = name_len text
+
+    count : n ≡ length bytes
+    count = subst (λ ws. name_len (ws ++ rest) ≡ length ws + name_len rest) e (name_take (c ∷ cs) rest (small_name c small, a)) ∙ omega (arith, d.name)
+
+    begun : token_at p ≡ Ok (word (take n text), after p n)
+    begun =
+        subst (λ ws. token_at (on (ws ++ rest) at line) ≡ Ok (word (take (name_len (ws ++ rest)) (ws ++ rest)), after (on (ws ++ rest) at line) (name_len (ws ++ rest)))) e
+        (subst (λ ws. token_at (on ws at line) ≡ Ok (word (take (name_len ws) ws), after (on ws at line) (name_len ws))) (sym (append_assoc (encode_utf8 c) (encode_utf8_all cs) rest)) (first_small c (encode_utf8_all cs ++ rest) at line small))
+
+    not_fun : (t : Bool) → bytes_eq bytes (codes "fun") ≡ t → t ≡ false
+    not_fun true e = absurd (other ((bytes_eq-Decides bytes (codes "fun")).0 e))
+    not_fun false e = refl
+
+bare_character : (b : ℕ) → is_name_byte b ≡ true → IsNameCharacter b
+bare_character b e = grind (arith, nat_tests)
+
+bare_low : (b : ℕ) → is_name_byte b ≡ true → b < 128
+bare_low b e = grind (arith, nat_tests)
+
+bare_small : (b : ℕ) → atoms.is_lower b ≡ true → IsSmall b
+bare_small b e = inl (grind (arith, nat_tests), grind (arith, nat_tests))
+
+bare_text : (bs : List ℕ) → list_all is_name_byte bs ≡ true → AllByRecursion IsNameCharacter bs × InUtf8 bs bs
+bare_text [] a = (tt, (refl, refl))
+bare_text (b ∷ bs) a =
+    let both = and_parts (is_name_byte b) (list_all is_name_byte bs) a in
+    let low : b < 128 = bare_low b both.0 in
+    let more = bare_text bs both.1 in
+    ((bare_character b both.0, more.0), (and_from _ _ (low_scalar b (omega arith)) more.1.0, ap (λ ws. ws ++ encode_utf8_all bs) (encode_ascii b low) ∙ ap (λ ws. b ∷ ws) more.1.1))
+
+bare_exact : (w rest : List ℕ) → is_bare w ≡ true → Delimits rest → Exactly w (token.atom (token.plain w)) rest
+bare_exact [] rest e d = cc
+bare_exact (b ∷ bs) rest e d =
+    let first = and_parts (atoms.is_lower b && list_all is_name_byte (b ∷ bs)) (not (is_reserved (b ∷ bs))) e in
+    let names = and_parts (atoms.is_lower b) (list_all is_name_byte (b ∷ bs)) first.0 in
+    let text = bare_text (b ∷ bs) names.1 in
+    word_exact b bs (b ∷ bs) rest (bare_small b names.0) text.0.1 text.1 (λ is. reserved (ap is_reserved is) first.1) d
+  where
+    reserved : is_reserved (b ∷ bs) ≡ true → not (is_reserved (b ∷ bs)) ≡ true → ⊥
+    reserved e f = let both = sym (ap not e) ∙ f in cc
+
+-- quoted atoms: the characters that are written for one, and what they say
+abbrev Written : ℕ → List ℕ → Type 0
+Written c bytes =
+    (src : List ℕ) × InUtf8 src bytes × ((cs vs : List ℕ) → Quoted 39 cs vs → Quoted 39 (src ++ cs) (c ∷ vs)) × ((cs : List ℕ) → free 39 cs ≡ true → free 39 (src ++ cs) ≡ true)
+
+pub ascii_utf8 : (bs : List ℕ) → AllByRecursion (λ b. b < 128) bs → InUtf8 bs bs
+ascii_utf8 [] a = (refl, refl)
+ascii_utf8 (b ∷ bs) (low, a) =
+    let more = ascii_utf8 bs a in
+    (and_from _ _ (low_scalar b (omega arith)) more.0, ap (λ ws. ws ++ encode_utf8_all bs) (encode_ascii b low) ∙ ap (λ ws. b ∷ ws) more.1)
+
+pair_utf8 : (b : ℕ) → b < 128 → InUtf8 (92 ∷ b ∷ []) (92 ∷ b ∷ [])
+pair_utf8 b low = ascii_utf8 (92 ∷ b ∷ []) (omega arith, (low, tt))
+
+quote_other : IsOther 39
+quote_other = (
+  λ x. not_named x.1 (λ e. omega arith) (λ e. omega arith) (λ e. omega arith) (λ e. omega arith) (λ e. omega arith) (λ e. omega arith) (λ e. omega arith) (λ e. omega arith) (λ e. omega arith),
+  no_octal_is 39 refl,
+  λ e. omega arith,
+  λ e. omega arith,
+)
+
+slash_other : IsOther 92
+slash_other = (
+  λ x. not_named x.1 (λ e. omega arith) (λ e. omega arith) (λ e. omega arith) (λ e. omega arith) (λ e. omega arith) (λ e. omega arith) (λ e. omega arith) (λ e. omega arith) (λ e. omega arith),
+  no_octal_is 92 refl,
+  λ e. omega arith,
+  λ e. omega arith,
+)
+
+other_written : (c : ℕ) → c < 128 → IsOther c → Written c (92 ∷ c ∷ [])
+other_written c low h = (92 ∷ c ∷ [], pair_utf8 c low, λ cs vs k. quoted.other h k, λ cs f. past_cap 39 c cs (different c 94 h.3) ∙ f)
+
+named_written : (c n : ℕ) → n < 128 → Named n c → Written c (92 ∷ n ∷ [])
+named_written c n low h = (92 ∷ n ∷ [], pair_utf8 n low, λ cs vs k. quoted.named h k, λ cs f. past_cap 39 n cs (named_uncapped h) ∙ f)
+
+-- codes of control characters
+glyph_digit : (x : ℕ) → x < 16 → Digit 16 (digit_glyph false x) x
+glyph_digit x h = (h, grind (arith, nat_tests))
+
+glyph_low : (x : ℕ) → x < 16 → digit_glyph false x < 128
+glyph_low x h = grind (arith, nat_tests)
+
+abbrev Code : ℕ → List ℕ → Type 0
+Code c ds = Numeral 16 ds c × AllByRecursion (λ b. b < 128) ds
+
+code_written : (c : ℕ) → c < 256 → Code c (digits 16 false c)
+unfolding digits
+code_written c h = by (eqb (c / 16) 0) (eqb (c / 16 / 16) 0) refl refl
+  where
+    low : c % 16 < 16
+    low = omega arith
+
+    high : (c / 16) % 16 < 16
+    high = omega arith
+
+    value : 16 * ((c / 16) % 16) + c % 16 ≡ c
+    value = omega arith
+
+    nothing_left : (n : ℕ) → eqb n 0 ≡ true → n ≡ 0
+    nothing_left n e = grind (arith, nat_tests)
+
+    some_left : (n : ℕ) → n < 1 → eqb n 0 ≡ false → ⊥
+    some_left n l e = grind (arith, nat_tests)
+
+    by : (t u : Bool) → eqb (c / 16) 0 ≡ t → eqb (c / 16 / 16) 0 ≡ u
+        → Code c (cond t (digit_glyph false (c % 16) ∷ []) (cond u (digit_glyph false ((c / 16) % 16) ∷ digit_glyph false (c % 16) ∷ []) (digits_onto 62 16 false (c / 16 / 16) (digit_glyph false ((c / 16) % 16) ∷ digit_glyph false (c % 16) ∷ []))))
+    by true u e f =
+        let none : c / 16 ≡ 0 = nothing_left (c / 16) e in
+        let all : c % 16 ≡ c = omega arith in
+        (subst (Numeral 16 (digit_glyph false (c % 16) ∷ [])) all (one_digit (glyph_digit (c % 16) low)), (glyph_low (c % 16) low, tt))
+    by false true e f = (
+      subst (Numeral 16 (digit_glyph false ((c / 16) % 16) ∷ digit_glyph false (c % 16) ∷ [])) value (digit_more (one_digit (glyph_digit ((c / 16) % 16) high)) (glyph_digit (c % 16) low)),
+      (glyph_low ((c / 16) % 16) high, (glyph_low (c % 16) low, tt)),
+    )
+    by false false e f = absurd (some_left (c / 16 / 16) (omega arith) f)
+
+all_low_append : (xs ys : List ℕ) → AllByRecursion (λ b. b < 128) xs → AllByRecursion (λ b. b < 128) ys → AllByRecursion (λ b. b < 128) (xs ++ ys)
+all_low_append [] ys a b = b
+all_low_append (x ∷ xs) ys (l, a) b = (l, all_low_append xs ys a b)
+
+braced_written : (c : ℕ) → c < 128 → Written c (by_code c)
+braced_written c h = by_digits (digits 16 false c) (code_written c (omega arith))
+  where
+    by_digits : (ds : List ℕ) → Code c ds → Written c ((codes "\\x{" ++ ds) ++ codes "}")
+    by_digits ds (n, a) = (
+      92 ∷ 120 ∷ 123 ∷ (ds ++ 125 ∷ []),
+      ascii_utf8 (92 ∷ 120 ∷ 123 ∷ (ds ++ 125 ∷ [])) (omega arith, (omega arith, (omega arith, all_low_append ds (125 ∷ []) a (omega arith, tt)))),
+      (λ cs vs k. subst (λ us. Quoted 39 (92 ∷ 120 ∷ 123 ∷ us) (c ∷ vs)) (sym (append_assoc ds (125 ∷ []) cs)) (quoted.braced n (low_scalar c (omega arith)) k)),
+      (λ cs f. subst (λ us. free 39 (92 ∷ 120 ∷ 123 ∷ us) ≡ true) (sym (append_assoc ds (125 ∷ []) cs)) (braced_free ds cs n f)),
+    )
+      where
+        braced_free : (ds cs : List ℕ) → Numeral 16 ds c → free 39 cs ≡ true → free 39 (123 ∷ (ds ++ 125 ∷ cs)) ≡ true
+        braced_free ds cs n f = free_plain 39 123 (ds ++ 125 ∷ cs) refl refl (hex_from 39 ds (125 ∷ cs) (inl refl) (numeral_value n).0 (free_plain 39 125 cs refl refl f))
+
+plain_written : (c : ℕ) → all_scalars (c ∷ []) ≡ true → eqb c 39 ≡ false → eqb c 92 ≡ false → Written c (encode_utf8 c)
+plain_written c s e f = (c ∷ [], (s, append-nil (encode_utf8 c)), λ cs vs k. quoted.itself (eqb-false c 39 e) (eqb-false c 92 f) k, λ cs g. free_plain 39 c cs f e g)
+
+control_code : (c : ℕ) → (nat_lt c 32 || eqb c 127) ≡ true → c < 128
+control_code c e = grind (arith, nat_tests)
+
+written : (c : ℕ) → all_scalars (c ∷ []) ≡ true → Written c (atoms.escaped c)
+written c s = by (eqb c 39) (eqb c 92) (eqb c 10) (eqb c 13) (eqb c 9) (nat_lt c 32 || eqb c 127) refl refl refl refl refl refl
+  where
+    at : (d : ℕ) (bytes : List ℕ) → eqb c d ≡ true → Written d bytes → Written c bytes
+    at d bytes e w = subst (λ c. Written c bytes) (sym (eqb-true c d e)) w
+
+    by : (t u v w x y : Bool) → eqb c 39 ≡ t → eqb c 92 ≡ u → eqb c 10 ≡ v → eqb c 13 ≡ w → eqb c 9 ≡ x → (nat_lt c 32 || eqb c 127) ≡ y
+        → Written c (cond t (codes "\\'") (cond u (codes "\\\\") (cond v (codes "\\n") (cond w (codes "\\r") (cond x (codes "\\t") (cond y (by_code c) (encode_utf8 c)))))))
+    by true u v w x y a b d e f g = at 39 (codes "\\'") a (other_written 39 (omega arith) quote_other)
+    by false true v w x y a b d e f g = at 92 (codes "\\\\") b (other_written 92 (omega arith) slash_other)
+    by false false true w x y a b d e f g = at 10 (codes "\\n") d (named_written 10 110 (omega arith) line_feed)
+    by false false false true x y a b d e f g = at 13 (codes "\\r") e (named_written 13 114 (omega arith) carriage_return)
+    by false false false false true y a b d e f g = at 9 (codes "\\t") f (named_written 9 116 (omega arith) tab)
+    by false false false false false true a b d e f g = braced_written c (control_code c g)
+    by false false false false false false a b d e f g = plain_written c s a b
+
+abbrev AllWritten : List ℕ → List ℕ → Type 0
+AllWritten cs bytes = (src : List ℕ) × InUtf8 src bytes × Quoted 39 src cs × (free 39 src ≡ true)
+
+pub scalars_append : (xs ys : List ℕ) → all_scalars xs ≡ true → all_scalars ys ≡ true → all_scalars (xs ++ ys) ≡ true
+scalars_append [] ys a b = b
+scalars_append (x ∷ xs) ys a b = let both = and_parts _ (all_scalars xs) a in and_from _ (all_scalars (xs ++ ys)) both.0 (scalars_append xs ys both.1 b)
+
+all_written : (cs : List ℕ) → all_scalars cs ≡ true → AllWritten cs (flat_map atoms.escaped cs)
+all_written [] s = ([], (refl, refl), quoted.none, refl)
+all_written (c ∷ cs) s = let both = and_parts _ (all_scalars cs) s in join (written c (and_from _ true both.0 refl)) (all_written cs both.1)
+  where
+    join : Written c (atoms.escaped c) → AllWritten cs (flat_map atoms.escaped cs) → AllWritten (c ∷ cs) (atoms.escaped c ++ flat_map atoms.escaped cs)
+    join (src, u, k, f) (rest, w, r, g) =
+        (src ++ rest, (scalars_append src rest u.0 w.0, encodes-append src rest ∙ ap (λ us. us ++ encode_utf8_all rest) u.1 ∙ ap (λ us. atoms.escaped c ++ us) w.1), k rest cs r, f rest g)
+
+quoted_exact : (w rest : List ℕ) → IsUtf8 w → Exactly (atoms.quoted w) (token.atom (token.plain w)) rest
+quoted_exact w rest utf8 at line = by_written (all_written (chars w) (scalars-chars w utf8))
+  where
+    F : List ℕ
+    F = flat_map atoms.escaped (chars w)
+
+    by_gives : Gives 39 F rest at line (chars w) → (u : Token) × (q : Place) × (token_at (on (39 ∷ (F ++ 39 ∷ rest)) at line) ≡ Ok (u, q)) × (q.rest ≡ rest) × (meant u ≡ token.atom (token.plain w))
+    by_gives (b, e, m) = (
+      token.atom b,
+      behind (on (39 ∷ (F ++ 39 ∷ rest)) at line) (F ++ 39 ∷ rest) (length F),
+      ap (λ r. r >>= λ y. Ok (token.atom y.0, y.1)) e,
+      behind_rest 39 F rest,
+      ap (λ w. token.atom (token.plain w)) (m ∙ encodes-chars w utf8),
+    )
+
+    by_written : AllWritten (chars w) F → (u : Token) × (q : Place) × (token_at (on (((39 ∷ F) ++ 39 ∷ []) ++ rest) at line) ≡ Ok (u, q)) × (q.rest ≡ rest) × (meant u ≡ token.atom (token.plain w))
+    by_written (src, u, k, f) =
+        subst (λ text. (u : Token) × (q : Place) × (token_at (on text at line) ≡ Ok (u, q)) × (q.rest ≡ rest) × (meant u ≡ token.atom (token.plain w))) (sym (grouped 39 F rest))
+        (by_gives (gives 39 src (chars w) F rest at line (inl refl) (ap (free 39) (sym u.1) ∙ free_text 39 src (omega arith) ∙ f) k u))
+
+pub atom_exact : (w rest : List ℕ) → IsUtf8 w → Delimits rest → Exactly (printed_atom w) (token.atom (token.plain w)) rest
+atom_exact w rest utf8 d = by (is_bare w) refl
+  where
+    by : (t : Bool) → is_bare w ≡ t → Exactly (cond t w (atoms.quoted w)) (token.atom (token.plain w)) rest
+    by true e = bare_exact w rest e d
+    by false e = quoted_exact w rest utf8
+
+-- neither begins with a space or a comment
+pub record Starts (bytes : List ℕ) : Type 0 where
+  pub first : ℕ
+  pub more : List ℕ
+  pub is : bytes ≡ first ∷ more
+  pub space : is_space first ≡ false
+  pub percent : eqb first 37 ≡ false
+
+digit_starts : (ds : List ℕ) → list_all is_digit ds ≡ true → 0 < length ds → Starts ds
+digit_starts [] a l = absurd (omega arith)
+digit_starts (d ∷ ds) a l =
+    let digit = (and_parts (is_digit d) (list_all is_digit ds) a).0 in
+    record { first = d; more = ds; is = refl; space = no_space d digit; percent = no_percent d digit }
+  where
+    no_space : (d : ℕ) → is_digit d ≡ true → is_space d ≡ false
+    no_space d e = grind (arith, nat_tests)
+
+    no_percent : (d : ℕ) → is_digit d ≡ true → eqb d 37 ≡ false
+    no_percent d e = grind (arith, nat_tests)
+
+pub integer_starts : (n : ℤ) → Starts (integer_text n)
+unfolding integer_text whole_decimal
+integer_starts (pos n) = let k = digits_of (decimal_is (suc n) n (omega arith)) refl in digit_starts (digits_within (suc n) n) k.0 k.2
+integer_starts (negsuc n) = record { first = 45; more = digits_within (suc (suc n)) (suc n); is = refl; space = refl; percent = refl }
+
+pub atom_starts : (w : List ℕ) → Starts (printed_atom w)
+atom_starts w = by (is_bare w) refl
+  where
+    no_space : (d : ℕ) → atoms.is_lower d ≡ true → is_space d ≡ false
+    no_space d e = grind (arith, nat_tests)
+
+    no_percent : (d : ℕ) → atoms.is_lower d ≡ true → eqb d 37 ≡ false
+    no_percent d e = grind (arith, nat_tests)
+
+    bare : (w : List ℕ) → is_bare w ≡ true → Starts w
+    bare [] e = cc
+    bare (b ∷ bs) e =
+        let lower = (and_parts (atoms.is_lower b) (list_all is_name_byte (b ∷ bs)) (and_parts (atoms.is_lower b && list_all is_name_byte (b ∷ bs)) (not (is_reserved (b ∷ bs))) e).0).0 in
+        record { first = b; more = bs; is = refl; space = no_space b lower; percent = no_percent b lower }
+
+    by : (t : Bool) → is_bare w ≡ t → Starts (cond t w (atoms.quoted w))
+    by true e = bare w e
+    by false e = record { first = 39; more = flat_map atoms.escaped (chars w) ++ 39 ∷ []; is = refl; space = refl; percent = refl }

@@ -1,0 +1,454 @@
+-- What is printed is read as the same term.
+use Rattle.std.proofs.Common.{◌≡◌, ◌<◌, arith, ℕ, zero, suc, ◌+◌, false, eqb, ℤ, List, [], ◌∷◌, ◌++◌, Ok, refl, sym, ap, ◌∙◌, subst, codes, append_assoc, ◌⊎◌, inl, inr, IsUtf8}
+use Rattle.bx_terms.specs.Outcomes.{◌>>=◌}
+use Rattle.bx_terms.specs.AtomText.{printed_atom}
+use Rattle.bx_text.specs.declared.node.Span.{Span}
+use Rattle.bx_text.specs.Bytes.{is_space}
+use Rattle.bx_text.specs.Place.{Place, place_in}
+use Rattle.bx_text.specs.Named as named
+use Rattle.bx_text.specs.Token as token
+use Rattle.bx_text.specs.Token.{Token, Body, Lexeme, spelled}
+use Rattle.bx_text.specs.Lexing.{token_at, lexeme_from, lexeme_at}
+use Rattle.bx_text.specs.Terms.{span, tail_of}
+use Rattle.bx_text.specs.Grammar.{Spells, an_integer, an_atom, empty_tuple, a_tuple, empty_list, a_list, a_list_with_tail, Row, one, more, a_form}
+use Rattle.bx_text.specs.Printed.{integer_text, node_text, row_text, rest_text}
+use Rattle.bx_text.specs.Tree.{Tree, integer, atom, tuple, list, other, nil, cons, chain}
+use Rattle.bx_text.proofs.Grammatical.{forms_are}
+use Rattle.bx_text.specs.declared.node.Sort.{Sort}
+use Rattle.bx_text_laws.specs.Shown.{IsReadBack, StandsAs, Shown, ShownRow, ShownList, ShownRest, nowhere, unplaced}
+use Rattle.bx_text_laws.specs.Terms.{Stood, Term}
+use Rattle.bx_text_laws.specs.Tokens.{meant}
+use Rattle.bx_text_laws.proofs.Frame.{on}
+use Rattle.bx_text_laws.proofs.Longest.{same_place}
+use Rattle.bx_text_laws.proofs.Blanking.{tests_by, not_line}
+use Rattle.bx_text_laws.proofs.Finding.{standing}
+use Rattle.bx_text_laws.proofs.Meant.{atom_meant}
+use Rattle.bx_text_laws.proofs.Sentences.{back, term_back}
+use Rattle.bx_text_laws.proofs.Moving.{Closes, closes_by}
+use Rattle.bx_text_laws.proofs.Kept.{kept_moves}
+use Rattle.bx_text_laws.proofs.Printing.{Delimits, Starts, integer_exact, atom_exact, integer_starts, atom_starts}
+
+-- the next token, where no blank stands before it
+pub next_by : (b : ℕ) (bs : List ℕ) (at line : ℕ) (u : Token) (q : Place) → is_space b ≡ false → eqb b 37 ≡ false → token_at (on (b ∷ bs) at line) ≡ Ok (u, q)
+    → lexeme_at (on (b ∷ bs) at line) ≡ Ok (standing (on (b ∷ bs) at line) (u, q))
+next_by b bs at line u q s c h =
+    ap (λ r. r >>= lexeme_from) (tests_by b bs at line false false c (not_line b s) s)
+    ∙ ap (λ r. r >>= λ x. Ok (standing (on (b ∷ bs) at line) x)) h
+
+next_is : (bytes rest : List ℕ) (at line : ℕ) (u : Token) (q : Place) → Starts bytes → token_at (on (bytes ++ rest) at line) ≡ Ok (u, q)
+    → lexeme_at (on (bytes ++ rest) at line) ≡ Ok (standing (on (bytes ++ rest) at line) (u, q))
+next_is bytes rest at line u q s h =
+    subst (λ bs. token_at (on (bs ++ rest) at line) ≡ Ok (u, q) → lexeme_at (on (bs ++ rest) at line) ≡ Ok (standing (on (bs ++ rest) at line) (u, q))) (sym s.is)
+    (next_by s.first (s.more ++ rest) at line u q s.space s.percent) h
+
+-- a term is read from p on, up to this rest
+pub record Read (d : ℕ) (p : Place) (rest : List ℕ) (t : Tree) : Type 0 where
+  pub first : Lexeme
+  pub tree : Tree
+  pub end : Place
+  pub next : lexeme_at p ≡ Ok first
+  pub spells : Spells d first tree end
+  pub left : end.rest ≡ rest
+  pub same : unplaced tree ≡ unplaced t
+
+integer_meant : (u : Token) (n : ℤ) → meant u ≡ token.integer n → u ≡ token.integer n
+integer_meant (token.integer m) n e = e
+integer_meant token.float n e = cc
+integer_meant (token.atom b) n e = cc
+integer_meant (token.text b) n e = cc
+integer_meant token.open_tuple n e = cc
+integer_meant token.open_list n e = cc
+integer_meant token.open_map n e = cc
+integer_meant token.open_binary n e = cc
+integer_meant (token.mark m) n e = cc
+
+-- from each place
+abbrev pub Reads : ℕ → List ℕ → List ℕ → Tree → Type 0
+Reads d bytes rest t = (at line : ℕ) → Read d (on (bytes ++ rest) at line) rest t
+
+integer_read : (d : ℕ) (n : ℤ) (t : Tree) (rest : List ℕ) → unplaced t ≡ integer nowhere n → Closes rest → Reads d (integer_text n) rest t
+integer_read d n t rest e k at line = by_token (integer_exact n rest k.delimits at line)
+  where
+    by_token : ((u : Token) × (q : Place) × (token_at (on (integer_text n ++ rest) at line) ≡ Ok (u, q)) × (q.rest ≡ rest) × (meant u ≡ token.integer n)) → Read d (on (integer_text n ++ rest) at line) rest t
+    by_token (u, q, h, r, m) =
+        let l : Lexeme = standing (on (integer_text n ++ rest) at line) (u, q) in
+        record { first = l; tree = integer (span l q) n; end = q; next = next_is (integer_text n) rest at line u q (integer_starts n) h; spells = an_integer (integer_meant u n m); left = r; same = sym e }
+
+atom_read : (d : ℕ) (w : List ℕ) (t : Tree) (rest : List ℕ) → unplaced t ≡ atom nowhere w → IsUtf8 w → Closes rest → Reads d (printed_atom w) rest t
+atom_read d w t rest e utf8 k at line = by_token (atom_exact w rest utf8 k.delimits at line)
+  where
+    by_token : ((u : Token) × (q : Place) × (token_at (on (printed_atom w ++ rest) at line) ≡ Ok (u, q)) × (q.rest ≡ rest) × (meant u ≡ token.atom (token.plain w))) → Read d (on (printed_atom w ++ rest) at line) rest t
+    by_token (u, q, h, r, m) =
+        let l : Lexeme = standing (on (printed_atom w ++ rest) at line) (u, q) in
+        let a = atom_meant u w m in
+        record { first = l; tree = atom (span l q) (spelled a.0); end = q; next = next_is (printed_atom w) rest at line u q (atom_starts w) h; spells = an_atom a.1; left = r; same = ap (λ w. atom nowhere w) a.2 ∙ sym e }
+
+other_read : (d : ℕ) (k : Sort) (w : List ℕ) (t : Tree) (rest : List ℕ) → unplaced t ≡ other nowhere k w → StandsAs d k w → Closes rest → Reads d w rest t
+other_read d k w t rest e h c at line = by_term (kept_moves d k w h rest c at line)
+  where
+    p : Place
+    p = on (w ++ rest) at line
+
+    by_term : ((m : Lexeme) × (s : Span) × (q : Place) × Stood p m × Term d m (other s k w) q × (q.rest ≡ rest)) → Read d p rest t
+    by_term (m, s, q, stood, term, r) =
+        let b = back p m stood in
+        record { first = b.lexeme; tree = other s k w; end = q; next = b.next; spells = term_back term b.lexeme b.plain; left = r; same = sym e }
+
+-- what follows an element never goes on in it
+mark_closes : (b : ℕ) (Y : List ℕ) → Delimits (b ∷ Y) → 37 < b → Closes (b ∷ Y)
+mark_closes b Y d l = closes_by b Y d (λ s. omega (arith, l, s)) (λ e. omega (arith, l, e)) (λ e. omega (arith, l, e))
+
+bar_at : (X : List ℕ) → Closes (124 ∷ X)
+bar_at X = mark_closes 124 X (record { digits = refl; fraction = refl; name = refl }) (omega arith)
+
+comma_at : (X : List ℕ) → Closes (44 ∷ X)
+comma_at X = mark_closes 44 X (record { digits = refl; fraction = refl; name = refl }) (omega arith)
+
+delimits : (u : Tree) (X : List ℕ) → Closes X → Closes (rest_text u ++ X)
+delimits (integer s n) X d = bar_at _
+delimits (atom s w) X d = bar_at _
+delimits (tuple s t) X d = bar_at _
+delimits (list s t) X d = bar_at _
+delimits (other s k w) X d = bar_at _
+delimits nil X d = d
+delimits (cons t u) X d = comma_at _
+
+-- at the place where a term ended
+pub ended : {d : ℕ} {p : Place} {rest : List ℕ} {t : Tree} → (r : Read d p rest t) → Spells d r.first r.tree (on rest r.end.at r.end.line)
+ended {d = d} {rest = rest} r = subst (Spells d r.first r.tree) (same_place r.end (on rest r.end.at r.end.line) r.left refl refl) r.spells
+
+-- the elements that follow one, up to a mark, which are those of u up to its tail
+record Follow (d : ℕ) (p : Place) : Type 0 where
+  mark : Lexeme
+  trees : List Tree
+  row : (l : Lexeme) (t : Tree) → Spells d l t p → Row d l (t ∷ trees) mark
+
+record Closed (d : ℕ) (p : Place) (rest : List ℕ) (u : Tree) : Type 0 where
+  row : Follow d p
+  closes : row.mark.token ≡ named.close_tuple
+  left : row.mark.after.rest ≡ rest
+  same : unplaced (chain row.trees nil) ≡ unplaced u
+
+-- one element more, behind a comma
+abbrev follow_more : (d : ℕ) (bytes X : List ℕ) (b : Tree) (at line : ℕ) → (r : Read d (on (bytes ++ X) (at + 1) line) X b) → Follow d (on X r.end.at r.end.line) → Follow d (on (44 ∷ (bytes ++ X)) at line)
+follow_more d bytes X b at line r f =
+    record {
+      mark = f.mark;
+      trees = r.tree ∷ f.trees;
+      row = λ l t s. more s (next_by 44 (bytes ++ X) at line named.comma (on (bytes ++ X) (at + 1) line) refl refl refl) refl r.next (f.row r.first r.tree (ended r));
+    }
+
+same_cons : (a b u v : Tree) → unplaced a ≡ unplaced b → unplaced u ≡ unplaced v → unplaced (cons a u) ≡ unplaced (cons b v)
+same_cons a b u v e f = ap (λ x. cons x (unplaced u)) e ∙ ap (λ x. cons (unplaced b) x) f
+
+abbrev Ends : ℕ → List ℕ → Tree → Type 0
+Ends d rest u = (at line : ℕ) → Closed d (on (rest_text u ++ 125 ∷ rest) at line) rest u
+
+closed_end : (d : ℕ) (rest : List ℕ) → Ends d rest nil
+closed_end d rest at line =
+    let m : Lexeme = standing (on (125 ∷ rest) at line) (named.close_tuple, on rest (at + 1) line) in
+    record { row = record { mark = m; trees = []; row = λ l t s. one s (next_by 125 rest at line named.close_tuple (on rest (at + 1) line) refl refl refl) }; closes = refl; left = refl; same = refl }
+
+closed_more : (d : ℕ) (rest : List ℕ) (b v : Tree) → Reads d (node_text b) (rest_text v ++ 125 ∷ rest) b → Ends d rest v → Ends d rest (cons b v)
+closed_more d rest b v reads ends at line =
+    let X : List ℕ = rest_text v ++ 125 ∷ rest in
+    let r = reads (at + 1) line in
+    let c = ends r.end.at r.end.line in
+    subst (λ us. Closed d (on (44 ∷ us) at line) rest (cons b v)) (sym (append_assoc (node_text b) (rest_text v) (125 ∷ rest)))
+    (record { row = follow_more d (node_text b) X b at line r c.row; closes = c.closes; left = c.left; same = same_cons r.tree b (chain c.row.trees nil) v r.same c.same })
+
+-- a tuple behind its opening mark
+record Whole (d : ℕ) (l : Lexeme) (rest : List ℕ) (t : Tree) : Type 0 where
+  tree : Tree
+  end : Place
+  spells : Spells d l tree end
+  left : end.rest ≡ rest
+  same : unplaced tree ≡ t
+
+abbrev Tupled : ℕ → List ℕ → Tree → Type 0
+Tupled d rest t = (at line : ℕ) (p : Place) → Whole (suc d) (standing p (token.open_tuple, on (row_text t ++ 125 ∷ rest) at line)) rest (tuple nowhere (unplaced t))
+
+tupled_none : (d : ℕ) (rest : List ℕ) → Tupled d rest nil
+tupled_none d rest at line p =
+    let l : Lexeme = standing p (token.open_tuple, on (125 ∷ rest) at line) in
+    record {
+      tree = tuple (span l (on rest (at + 1) line)) nil;
+      end = on rest (at + 1) line;
+      spells = empty_tuple {m = standing (on (125 ∷ rest) at line) (named.close_tuple, on rest (at + 1) line)} refl (next_by 125 rest at line named.close_tuple (on rest (at + 1) line) refl refl refl) refl;
+      left = refl;
+      same = refl;
+    }
+
+tupled_some : (d : ℕ) (rest : List ℕ) (a u : Tree) → Reads d (node_text a) (rest_text u ++ 125 ∷ rest) a → Ends d rest u → Tupled d rest (cons a u)
+tupled_some d rest a u reads ends at line p =
+    let X : List ℕ = rest_text u ++ 125 ∷ rest in
+    let r = reads at line in
+    let c = ends r.end.at r.end.line in
+    let l : Lexeme = standing p (token.open_tuple, on (node_text a ++ X) at line) in
+    subst (λ us. Whole (suc d) (standing p (token.open_tuple, on us at line)) rest (tuple nowhere (unplaced (cons a u)))) (sym (append_assoc (node_text a) (rest_text u) (125 ∷ rest)))
+    (record {
+      tree = tuple (span l c.row.mark.after) (chain (r.tree ∷ c.row.trees) nil);
+      end = c.row.mark.after;
+      spells = a_tuple refl r.next (c.row.row r.first r.tree (ended r)) c.closes;
+      left = c.left;
+      same = ap (λ x. tuple nowhere x) (same_cons r.tree a (chain c.row.trees nil) u r.same c.same);
+    })
+
+opened : (b c : ℕ) (body rest : List ℕ) → ((b ∷ body) ++ c ∷ []) ++ rest ≡ b ∷ (body ++ c ∷ rest)
+opened b c body rest = ap (λ us. b ∷ us) (append_assoc body (c ∷ []) rest)
+
+tuple_read : (d : ℕ) (s : Tree) (t : Tree) (rest : List ℕ) → unplaced s ≡ tuple nowhere (unplaced t) → Tupled d rest t → Reads (suc d) ((123 ∷ row_text t) ++ 125 ∷ []) rest s
+tuple_read d s t rest e tupled at line =
+    let p : Place = on (123 ∷ (row_text t ++ 125 ∷ rest)) at line in
+    let q : Place = on (row_text t ++ 125 ∷ rest) (at + 1) line in
+    let w = tupled (at + 1) line p in
+    subst (λ us. Read (suc d) (on us at line) rest s) (sym (opened 123 125 (row_text t) rest))
+    (record { first = standing p (token.open_tuple, q); tree = w.tree; end = w.end; next = next_by 123 (row_text t ++ 125 ∷ rest) at line token.open_tuple q refl refl refl; spells = w.spells; left = w.left; same = w.same ∙ sym e })
+
+-- a list: up to its closing mark, or to the bar before its tail
+record Tailed (d : ℕ) (bar : Lexeme) (rest : List ℕ) (tail : Tree) : Type 0 where
+  is_bar : bar.token ≡ named.bar
+  start : Lexeme
+  tree : Tree
+  end : Place
+  close : Lexeme
+  begins : lexeme_at bar.after ≡ Ok start
+  spells : Spells d start tree end
+  closing : lexeme_at end ≡ Ok close
+  closes : close.token ≡ named.close_list
+  left : close.after.rest ≡ rest
+  same : tail_of tree ≡ tail
+
+record Proper (mark : Lexeme) (rest : List ℕ) (tail : Tree) : Type 0 where
+  closes : mark.token ≡ named.close_list
+  left : mark.after.rest ≡ rest
+  none : nil ≡ tail
+
+record Listed (d : ℕ) (p : Place) (rest : List ℕ) (u : Tree) : Type 0 where
+  row : Follow d p
+  tail : Tree
+  ends : Proper row.mark rest tail ⊎ Tailed d row.mark rest tail
+  same : unplaced (chain row.trees tail) ≡ unplaced u
+
+abbrev Tails : ℕ → List ℕ → Tree → Type 0
+Tails d rest u = (at line : ℕ) → Listed d (on (rest_text u ++ 93 ∷ rest) at line) rest u
+
+listed_end : (d : ℕ) (rest : List ℕ) → Tails d rest nil
+listed_end d rest at line =
+    let m : Lexeme = standing (on (93 ∷ rest) at line) (named.close_list, on rest (at + 1) line) in
+    record {
+      row = record { mark = m; trees = []; row = λ l t s. one s (next_by 93 rest at line named.close_list (on rest (at + 1) line) refl refl refl) };
+      tail = nil;
+      ends = inl (record { closes = refl; left = refl; none = refl });
+      same = refl;
+    }
+
+listed_more : (d : ℕ) (rest : List ℕ) (b v : Tree) → Reads d (node_text b) (rest_text v ++ 93 ∷ rest) b → Tails d rest v → Tails d rest (cons b v)
+listed_more d rest b v reads tails at line =
+    let X : List ℕ = rest_text v ++ 93 ∷ rest in
+    let r = reads (at + 1) line in
+    let c = tails r.end.at r.end.line in
+    subst (λ us. Listed d (on (44 ∷ us) at line) rest (cons b v)) (sym (append_assoc (node_text b) (rest_text v) (93 ∷ rest)))
+    (record { row = follow_more d (node_text b) X b at line r c.row; tail = c.tail; ends = c.ends; same = same_cons r.tree b (chain c.row.trees c.tail) v r.same c.same })
+
+abbrev IsTail : Tree → Type 0
+IsTail (list s t) = ⊥
+IsTail nil = ⊥
+IsTail (cons t u) = ⊥
+IsTail t = Unit {0}
+
+no_list : (s : Span) (t u : Tree) → IsTail u → list s t ≡ unplaced u → ⊥
+no_list s t (integer x n) k e = cc
+no_list s t (atom x w) k e = cc
+no_list s t (tuple x v) k e = cc
+no_list s t (list x v) k e = k
+no_list s t (other x y w) k e = cc
+no_list s t nil k e = k
+no_list s t (cons v w) k e = k
+
+untailed : (v u : Tree) → IsTail u → unplaced v ≡ unplaced u → tail_of v ≡ v
+untailed (integer s n) u k e = refl
+untailed (atom s w) u k e = refl
+untailed (tuple s t) u k e = refl
+untailed (list s t) u k e = absurd (no_list nowhere (unplaced t) u k e)
+untailed (other s j w) u k e = refl
+untailed nil u k e = refl
+untailed (cons t w) u k e = refl
+
+listed_tail : (d : ℕ) (rest : List ℕ) (u : Tree) → IsTail u → rest_text u ≡ 124 ∷ node_text u → Reads d (node_text u) (93 ∷ rest) u → Tails d rest u
+listed_tail d rest u k text reads at line =
+    subst (λ us. Listed d (on (us ++ 93 ∷ rest) at line) rest u) (sym text)
+    (record {
+      row = record { mark = bar; trees = []; row = λ l t s. one s (next_by 124 (node_text u ++ 93 ∷ rest) at line named.bar (on (node_text u ++ 93 ∷ rest) (at + 1) line) refl refl refl) };
+      tail = r.tree;
+      ends = inr (record {
+        is_bar = refl;
+        start = r.first;
+        tree = r.tree;
+        end = on (93 ∷ rest) r.end.at r.end.line;
+        close = standing (on (93 ∷ rest) r.end.at r.end.line) (named.close_list, on rest (r.end.at + 1) r.end.line);
+        begins = r.next;
+        spells = ended r;
+        closing = next_by 93 rest r.end.at r.end.line named.close_list (on rest (r.end.at + 1) r.end.line) refl refl refl;
+        closes = refl;
+        left = refl;
+        same = untailed r.tree u k r.same;
+      });
+      same = r.same;
+    })
+  where
+    bar : Lexeme
+    bar = standing (on (124 ∷ (node_text u ++ 93 ∷ rest)) at line) (named.bar, on (node_text u ++ 93 ∷ rest) (at + 1) line)
+
+    r : Read d (on (node_text u ++ 93 ∷ rest) (at + 1) line) (93 ∷ rest) u
+    r = reads (at + 1) line
+
+abbrev Bracketed : ℕ → List ℕ → Tree → Type 0
+Bracketed d rest t = (at line : ℕ) (p : Place) → Whole (suc d) (standing p (token.open_list, on (row_text t ++ 93 ∷ rest) at line)) rest (list nowhere (unplaced t))
+
+bracketed_none : (d : ℕ) (rest : List ℕ) → Bracketed d rest nil
+bracketed_none d rest at line p =
+    let l : Lexeme = standing p (token.open_list, on (93 ∷ rest) at line) in
+    record {
+      tree = list (span l (on rest (at + 1) line)) nil;
+      end = on rest (at + 1) line;
+      spells = empty_list {m = standing (on (93 ∷ rest) at line) (named.close_list, on rest (at + 1) line)} refl (next_by 93 rest at line named.close_list (on rest (at + 1) line) refl refl refl) refl;
+      left = refl;
+      same = refl;
+    }
+
+by_ends : (d : ℕ) (rest : List ℕ) (l : Lexeme) (first m : Lexeme) (ts : List Tree) (tail : Tree) → l.token ≡ token.open_list → lexeme_at l.after ≡ Ok first → Row d first ts m → Proper m rest tail ⊎ Tailed d m rest tail
+    → Whole (suc d) l rest (list nowhere (unplaced (chain ts tail)))
+by_ends d rest l first m ts tail o n row (inl k) =
+    record { tree = list (span l m.after) (chain ts nil); end = m.after; spells = a_list o n row k.closes; left = k.left; same = ap (λ u. list nowhere (unplaced (chain ts u))) k.none }
+by_ends d rest l first m ts tail o n row (inr k) =
+    record {
+      tree = list (span l k.close.after) (chain ts (tail_of k.tree));
+      end = k.close.after;
+      spells = a_list_with_tail o n row k.is_bar k.begins k.spells k.closing k.closes;
+      left = k.left;
+      same = ap (λ u. list nowhere (unplaced (chain ts u))) k.same;
+    }
+
+whole_is : {d : ℕ} {l : Lexeme} {rest : List ℕ} {t u : Tree} → t ≡ u → Whole d l rest t → Whole d l rest u
+whole_is {d = d} {l = l} {rest = rest} e w = subst (λ t. Whole d l rest t) e w
+
+bracketed_some : (d : ℕ) (rest : List ℕ) (a u : Tree) → Reads d (node_text a) (rest_text u ++ 93 ∷ rest) a → Tails d rest u → Bracketed d rest (cons a u)
+bracketed_some d rest a u reads tails at line p =
+    let X : List ℕ = rest_text u ++ 93 ∷ rest in
+    let r = reads at line in
+    let c = tails r.end.at r.end.line in
+    let l : Lexeme = standing p (token.open_list, on (node_text a ++ X) at line) in
+    subst (λ us. Whole (suc d) (standing p (token.open_list, on us at line)) rest (list nowhere (unplaced (cons a u)))) (sym (append_assoc (node_text a) (rest_text u) (93 ∷ rest)))
+    (whole_is (ap (λ x. list nowhere x) (same_cons r.tree a (chain c.row.trees c.tail) u r.same c.same))
+    (by_ends d rest l r.first c.row.mark (r.tree ∷ c.row.trees) c.tail refl r.next (c.row.row r.first r.tree (ended r)) c.ends))
+
+list_read : (d : ℕ) (s : Tree) (t : Tree) (rest : List ℕ) → unplaced s ≡ list nowhere (unplaced t) → Bracketed d rest t → Reads (suc d) ((91 ∷ row_text t) ++ 93 ∷ []) rest s
+list_read d s t rest e bracketed at line =
+    let p : Place = on (91 ∷ (row_text t ++ 93 ∷ rest)) at line in
+    let q : Place = on (row_text t ++ 93 ∷ rest) (at + 1) line in
+    let w = bracketed (at + 1) line p in
+    subst (λ us. Read (suc d) (on us at line) rest s) (sym (opened 91 93 (row_text t) rest))
+    (record { first = standing p (token.open_list, q); tree = w.tree; end = w.end; next = next_by 91 (row_text t ++ 93 ∷ rest) at line token.open_list q refl refl refl; spells = w.spells; left = w.left; same = w.same ∙ sym e })
+
+-- all of it, by the term
+record Facts (t : Tree) : Type 0 where
+  node : (d : ℕ) (rest : List ℕ) → Shown d t → Closes rest → Reads d (node_text t) rest t
+  inside : (d : ℕ) (rest : List ℕ) → ShownRow d t → Tupled d rest t
+  ends : (d : ℕ) (rest : List ℕ) → ShownRow d t → Ends d rest t
+  listed : (d : ℕ) (rest : List ℕ) → ShownList d t → Bracketed d rest t
+  tails : (d : ℕ) (rest : List ℕ) → ShownRest d t → Tails d rest t
+
+tuple_end : (X : List ℕ) → Closes (125 ∷ X)
+tuple_end X = mark_closes 125 X (record { digits = refl; fraction = refl; name = refl }) (omega arith)
+
+list_end : (X : List ℕ) → Closes (93 ∷ X)
+list_end X = mark_closes 93 X (record { digits = refl; fraction = refl; name = refl }) (omega arith)
+
+tuple_node : (s : Span) (t : Tree) → Facts t → (d : ℕ) (rest : List ℕ) → Shown d (tuple s t) → Reads d (node_text (tuple s t)) rest (tuple s t)
+tuple_node s t f zero rest h = absurd h
+tuple_node s t f (suc d) rest h = tuple_read d (tuple s t) t rest refl (f.inside d rest h)
+
+list_node : (s : Span) (t : Tree) → Facts t → (d : ℕ) (rest : List ℕ) → Shown d (list s t) → Reads d (node_text (list s t)) rest (list s t)
+list_node s t f zero rest h = absurd h
+list_node s t f (suc d) rest h = list_read d (list s t) t rest refl (f.listed d rest h)
+
+tuple_tail : (s : Span) (t : Tree) → Facts t → (d : ℕ) (rest : List ℕ) → ShownRest d (tuple s t) → Tails d rest (tuple s t)
+tuple_tail s t f zero rest h = absurd h
+tuple_tail s t f (suc d) rest h = listed_tail (suc d) rest (tuple s t) tt refl (tuple_node s t f (suc d) (93 ∷ rest) h)
+
+facts : (t : Tree) → Facts t
+facts (integer s n) = record {
+  node = λ d rest h k. integer_read d n (integer s n) rest refl k;
+  inside = λ d rest h. absurd h;
+  ends = λ d rest h. absurd h;
+  listed = λ d rest h. absurd h;
+  tails = λ d rest h. listed_tail d rest (integer s n) tt refl (integer_read d n (integer s n) (93 ∷ rest) refl (list_end rest));
+}
+facts (atom s w) = record {
+  node = λ d rest h k. atom_read d w (atom s w) rest refl h k;
+  inside = λ d rest h. absurd h;
+  ends = λ d rest h. absurd h;
+  listed = λ d rest h. absurd h;
+  tails = λ d rest h. listed_tail d rest (atom s w) tt refl (atom_read d w (atom s w) (93 ∷ rest) refl h (list_end rest));
+}
+facts (tuple s t) =
+    let f = facts t in
+    record {
+      node = λ d rest h k. tuple_node s t f d rest h;
+      inside = λ d rest h. absurd h;
+      ends = λ d rest h. absurd h;
+      listed = λ d rest h. absurd h;
+      tails = λ d rest h. tuple_tail s t f d rest h;
+    }
+facts (list s t) =
+    let f = facts t in
+    record {
+      node = λ d rest h k. list_node s t f d rest h;
+      inside = λ d rest h. absurd h;
+      ends = λ d rest h. absurd h;
+      listed = λ d rest h. absurd h;
+      tails = λ d rest h. absurd h;
+    }
+facts (other s k w) = record {
+  node = λ d rest h c. other_read d k w (other s k w) rest refl h c;
+  inside = λ d rest h. absurd h;
+  ends = λ d rest h. absurd h;
+  listed = λ d rest h. absurd h;
+  tails = λ d rest h. listed_tail d rest (other s k w) tt refl (other_read d k w (other s k w) (93 ∷ rest) refl h (list_end rest));
+}
+facts nil = record {
+  node = λ d rest h k. absurd h;
+  inside = λ d rest h. tupled_none d rest;
+  ends = λ d rest h. closed_end d rest;
+  listed = λ d rest h. bracketed_none d rest;
+  tails = λ d rest h. listed_end d rest;
+}
+facts (cons a u) =
+    let f = facts a in
+    let g = facts u in
+    record {
+      node = λ d rest h k. absurd h;
+      inside = λ d rest h. tupled_some d rest a u (f.node d (rest_text u ++ 125 ∷ rest) h.0 (delimits u (125 ∷ rest) (tuple_end rest))) (g.ends d rest h.1);
+      ends = λ d rest h. closed_more d rest a u (f.node d (rest_text u ++ 125 ∷ rest) h.0 (delimits u (125 ∷ rest) (tuple_end rest))) (g.ends d rest h.1);
+      listed = λ d rest h. bracketed_some d rest a u (f.node d (rest_text u ++ 93 ∷ rest) h.0 (delimits u (93 ∷ rest) (list_end rest))) (g.tails d rest h.1);
+      tails = λ d rest h. listed_more d rest a u (f.node d (rest_text u ++ 93 ∷ rest) h.0 (delimits u (93 ∷ rest) (list_end rest))) (g.tails d rest h.1);
+    }
+
+-- what is printed is read, where a delimiter follows
+pub printed_read : (t : Tree) (d : ℕ) (rest : List ℕ) → Shown d t → Closes rest → Reads d (node_text t) rest t
+printed_read t = (facts t).node
+
+-- a full stop that ends its line
+pub stop_at : (X : List ℕ) → Closes (46 ∷ 10 ∷ X)
+stop_at X = mark_closes 46 (10 ∷ X) (record { digits = refl; fraction = refl; name = refl }) (omega arith)
+
+pub read_back : (t : Tree) → Shown 256 t → IsReadBack t
+read_back t h = by_read ((facts t).node 256 (46 ∷ []) h (mark_closes 46 [] (record { digits = refl; fraction = refl; name = refl }) (omega arith)) 0 1)
+  where
+    by_read : Read 256 (on (node_text t ++ 46 ∷ []) 0 1) (46 ∷ []) t → IsReadBack t
+    by_read r =
+        let p : Place = on (46 ∷ []) r.end.at r.end.line in
+        let q : Place = on [] (r.end.at + 1) r.end.line in
+        let m : Lexeme = standing p (named.full_stop, q) in
+        (r.tree, q, (forms_are (place_in (node_text t ++ codes ".") 0) r.tree q).1 (a_form r.next (ended r) (next_by 46 [] r.end.at r.end.line named.full_stop q refl refl refl) refl), refl, r.same)

@@ -1,0 +1,25 @@
+//! Tests of worlds: choices, snapshots and what a report says of them; and of the debugger over them, its sessions and its lines.
+#![tactic(auto)]
+
+#[cfg(test)]
+mod answers;
+#[cfg(test)]
+mod arguments;
+#[cfg(test)]
+mod births;
+#[cfg(test)]
+mod exits;
+#[cfg(test)]
+mod reports;
+#[cfg(test)]
+mod samples;
+#[cfg(test)]
+mod sends;
+#[cfg(test)]
+mod sessions;
+#[cfg(test)]
+mod snapshots;
+#[cfg(test)]
+mod streams;
+#[cfg(test)]
+mod worlds;

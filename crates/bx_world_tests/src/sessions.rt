@@ -1,0 +1,215 @@
+//! Sessions: what stands behind their contracts, that calls succeed where there is memory, and worlds against runs from the start.
+
+use crate::samples::{LOOP, TRAPS, TWO};
+use bx_debug::{Session, Stop};
+use bx_load::Image;
+use bx_terms::{Fault, Place, Trap};
+use bx_world::{Choice, RcWorld};
+use bxemu_testkit::{atom, image};
+use std::alloc::Global;
+use std::test::Fail;
+
+const OWN: Choice = Choice::Run(0);
+
+/// A process that is not there.
+const OTHER: Choice = Choice::Run(7);
+
+/// x5 holds nothing.
+const UNSET: Stop = Stop::Trapped(Trap::Unset, 0);
+
+/// The second item of each listing's process.
+const SECOND: Stop = Stop::Break(0, Place { module: 0, item: 4 });
+
+/// A call of a session.
+#[derive(Clone, Copy)]
+enum Act<'a> {
+    Step(Choice),
+    Back(usize),
+    Forward(usize),
+    Go(&'a [Choice]),
+    /// As many runs of process 0.
+    GoOwn(usize),
+    Set(u32),
+    Clear(u32),
+}
+
+/// A call, the number of its refusal, why it stopped, and where the session stands then, of how many choices.
+type Row<'a> = (Act<'a>, u8, Stop, usize, usize);
+
+const POSITIONS: [Row<'static>; 14] = [
+    (Act::GoOwn(130), 0, Stop::Done, 130, 130),
+    (Act::Back(2), 0, Stop::Done, 128, 130),
+    (Act::Back(1), 0, Stop::Done, 127, 130),
+    (Act::Back(63), 0, Stop::Done, 64, 130),
+    (Act::Back(1), 0, Stop::Done, 63, 130),
+    (Act::Back(64), 22, Stop::Done, 63, 130),
+    (Act::Back(63), 0, Stop::Done, 0, 130),
+    (Act::Back(0), 0, Stop::Done, 0, 130),
+    (Act::Forward(63), 0, Stop::Done, 63, 130),
+    (Act::Forward(1), 0, Stop::Done, 64, 130),
+    (Act::Forward(67), 23, Stop::Done, 64, 130),
+    (Act::Forward(65), 0, Stop::Done, 129, 130),
+    (Act::Forward(1), 0, Stop::Done, 130, 130),
+    (Act::Forward(0), 0, Stop::Done, 130, 130),
+];
+
+const OTHERS_MADE: [Row<'static>; 13] = [
+    (Act::GoOwn(130), 0, Stop::Done, 130, 130),
+    (Act::Back(65), 0, Stop::Done, 65, 130),
+    (Act::Step(OTHER), 20, Stop::Done, 65, 130),
+    (Act::Go(&[OTHER, OWN]), 0, Stop::NotEnabled(OTHER), 65, 130),
+    (Act::Go(&[]), 0, Stop::Done, 65, 130),
+    (Act::Step(OWN), 0, Stop::Done, 66, 66),
+    (Act::Forward(1), 23, Stop::Done, 66, 66),
+    (Act::Back(67), 22, Stop::Done, 66, 66),
+    (Act::Back(2), 0, Stop::Done, 64, 66),
+    (Act::Back(1), 0, Stop::Done, 63, 66),
+    (Act::Go(&[OWN, OTHER]), 0, Stop::NotEnabled(OTHER), 64, 64),
+    (Act::GoOwn(70), 0, Stop::Done, 134, 134),
+    (Act::Back(6), 0, Stop::Done, 128, 134),
+];
+
+const AT_PLACES: [Row<'static>; 9] = [
+    (Act::Set(4), 0, Stop::Done, 0, 0),
+    (Act::Go(&[OWN, OWN]), 0, SECOND, 1, 1),
+    (Act::Step(OWN), 0, Stop::Done, 2, 2),
+    (Act::Clear(4), 0, Stop::Done, 2, 2),
+    (Act::Clear(4), 0, Stop::Done, 2, 2),
+    (Act::Go(&[OWN, OWN]), 0, Stop::Done, 4, 4),
+    (
+        Act::Go(&[OWN, OTHER, OWN]),
+        0,
+        Stop::NotEnabled(OTHER),
+        5,
+        5,
+    ),
+    (Act::Set(3), 0, Stop::Done, 5, 5),
+    (Act::Go(&[OWN]), 0, Stop::Done, 6, 6),
+];
+
+const ENDED: [Row<'static>; 7] = [
+    (Act::Set(0), 0, Stop::Done, 0, 0),
+    (Act::Set(3), 0, Stop::Done, 0, 0),
+    (Act::Set(4), 0, Stop::Done, 0, 0),
+    (Act::Set(5), 0, Stop::Done, 0, 0),
+    (Act::Go(&[OWN, OWN]), 0, SECOND, 1, 1),
+    (Act::Go(&[OWN]), 0, Stop::Done, 2, 2),
+    (Act::Go(&[OWN]), 0, Stop::NotEnabled(OWN), 2, 2),
+];
+
+const TRAPPED: [Row<'static>; 8] = [
+    (Act::Step(OWN), 0, Stop::Done, 1, 1),
+    (Act::Set(4), 0, Stop::Done, 1, 1),
+    (Act::Go(&[OWN, OWN]), 0, UNSET, 2, 2),
+    (Act::Step(OWN), 21, Stop::Done, 2, 2),
+    (Act::Go(&[OWN]), 0, UNSET, 2, 2),
+    (Act::Go(&[]), 0, Stop::Done, 2, 2),
+    (Act::Back(1), 0, Stop::Done, 1, 2),
+    (Act::Go(&[OWN]), 0, UNSET, 2, 2),
+];
+
+fn item(item: u32) -> Place {
+    Place { module: 0, item }
+}
+
+/// The number of a refusal; 0 for none, and want of memory is handed on.
+fn number_of(done: Result<(), Fault>) -> Result<u8, Fault> {
+    match done {
+        Ok(()) => Ok(0),
+        Err(fault) => fault.number().ok_or(fault),
+    }
+}
+
+/// As many runs of process 0.
+fn gone(alloc: Global, session: &mut Session<'_>, count: usize) -> Result<Stop, Fault> {
+    let choices = vec![in alloc; OWN; count]?;
+    session.go(alloc, &choices)
+}
+
+/// Does a call, and gives the number of its refusal and why it stopped.
+fn called(alloc: Global, session: &mut Session<'_>, act: Act<'_>) -> Result<(u8, Stop), Fault> {
+    let done = match act {
+        Act::Step(choice) => session.step(alloc, choice),
+        Act::Back(count) => session.back(alloc, count),
+        Act::Forward(count) => session.forward(alloc, count),
+        Act::Go(choices) => return Ok((0, session.go(alloc, choices)?)),
+        Act::GoOwn(count) => return Ok((0, gone(alloc, session, count)?)),
+        Act::Set(place) => session.set_break(alloc, item(place)),
+        Act::Clear(place) => {
+            session.clear_break(item(place));
+            Ok(())
+        }
+    };
+    Ok((number_of(done)?, Stop::Done))
+}
+
+/// Whether this is the world that so many runs of process 0 lead to.
+fn is_run(alloc: Global, image: &Image, world: &RcWorld, count: usize) -> Result<bool, Fault> {
+    let mut other = RcWorld::start(alloc, image, atom(image, "m"), atom(image, "f"))?;
+    for _turn in 0..count {
+        other.apply(alloc, image, OWN)?;
+    }
+    Ok(world.same(&other))
+}
+
+/// Whether a row's call answers so, and the session shows the world of its choices behind it.
+fn is_right(
+    alloc: Global,
+    image: &Image,
+    session: &mut Session<'_>,
+    row: &Row<'_>,
+) -> Result<bool, Fault> {
+    let (act, number, stop, at, len) = *row;
+    let answer = called(alloc, session, act)?;
+    Ok(
+        answer == (number, stop)
+            && session.at() == at
+            && session.len() == len
+            && is_run(alloc, image, session.world(), at)?,
+    )
+}
+
+/// How many rows, from the first on, are right.
+fn right_rows(alloc: Global, listing: &str, rows: &[Row<'_>]) -> Result<usize, Fault> {
+    let image = image(alloc, &[listing])?;
+    let mut session = Session::new(alloc, &image, atom(&image, "m"), atom(&image, "f"))?;
+    for (number, row) in rows.iter().enumerate() {
+        if !is_right(alloc, &image, &mut session, row)? {
+            return Ok(number);
+        }
+    }
+    Ok(rows.len())
+}
+
+#[test]
+fn positions_show_the_worlds_of_their_choices(rt: HostRuntime) -> Result<(), Fail> {
+    assert_eq!(rt; right_rows(rt.alloc(), LOOP, &POSITIONS)?, POSITIONS.len());
+    Ok(())
+}
+
+#[test]
+fn choices_are_dropped_where_others_are_made(rt: HostRuntime) -> Result<(), Fail> {
+    assert_eq!(rt;
+        right_rows(rt.alloc(), LOOP, &OTHERS_MADE)?,
+        OTHERS_MADE.len()
+    );
+    Ok(())
+}
+
+#[test]
+fn runs_break_off_at_places(rt: HostRuntime) -> Result<(), Fail> {
+    assert_eq!(rt; right_rows(rt.alloc(), LOOP, &AT_PLACES)?, AT_PLACES.len());
+    Ok(())
+}
+
+#[test]
+fn an_ended_process_breaks_nowhere(rt: HostRuntime) -> Result<(), Fail> {
+    assert_eq!(rt; right_rows(rt.alloc(), TWO, &ENDED)?, ENDED.len());
+    Ok(())
+}
+
+#[test]
+fn a_trap_goes_before_a_break(rt: HostRuntime) -> Result<(), Fail> {
+    assert_eq!(rt; right_rows(rt.alloc(), TRAPS, &TRAPPED)?, TRAPPED.len());
+    Ok(())
+}

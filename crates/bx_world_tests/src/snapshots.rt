@@ -1,0 +1,211 @@
+//! Snapshots of worlds whose processes hold all that a process may, each of which goes on apart from the others; and the
+//! instructions that a process runs at once.
+
+use bx_load::Image;
+use bx_proc::{Proc, Undone};
+use bx_share::{ArcHold, Hold, RcHold};
+use bx_terms::{Fault, Term};
+use bx_world::{Choice, Lanes, World, outcome_text};
+use bxemu_testkit::{atom, image, image_of_items};
+use std::alloc::Global;
+use std::test::Fail;
+
+/// `f/0` traps exits, spawns a linked `g/0` and tells it its pid from within a try; it shows the second of the two messages that
+/// come back, and passes over the first. What it leaves in its mailbox are the first one and the exit of `g/0`.
+const TALK: &str = "{module,m}. {exports,[{f,0},{g,0}]}. {labels,11}.
+{function,f,0,2}. {label,1}. {func_info,{atom,m},{atom,f},0}. {label,2}. {allocate,2,0}. {'try',{y,1},{f,3}}.
+{move,{atom,trap_exit},{x,0}}. {move,{atom,true},{x,1}}. {call_ext,2,{extfunc,erlang,process_flag,2}}.
+{move,{atom,m},{x,0}}. {move,{atom,g},{x,1}}. {move,nil,{x,2}}. {call_ext,3,{extfunc,erlang,spawn_link,3}}.
+{move,{x,0},{y,0}}. {bif,self,{f,0},[],{x,1}}. {put_tuple2,{x,1},{list,[{atom,from},{x,1}]}}. send.
+{label,4}. {loop_rec,{f,6},{x,0}}. {test,is_eq_exact,{f,5},[{x,0},{atom,b}]}. remove_message.
+{call_ext,1,{extfunc,erlang,display,1}}. {try_end,{y,1}}. {deallocate,2}. return.
+{label,5}. {loop_rec_end,{f,4}}. {label,6}. {wait,{f,4}}. {label,3}. {try_case,{y,1}}. {deallocate,2}. return.
+{function,g,0,8}. {label,7}. {func_info,{atom,m},{atom,g},0}. {label,8}. {label,9}. {loop_rec,{f,10},{x,0}}.
+{get_tuple_element,{x,0},1,{x,0}}. remove_message. {allocate,1,1}. {move,{x,0},{y,0}}. {move,{atom,a},{x,1}}. send.
+{move,{y,0},{x,0}}. {move,{atom,b},{x,1}}. send. {deallocate,1}. return. {label,10}. {wait,{f,9}}.";
+
+/// What stands behind the number of choices, whatever the order.
+const TALKED: &str =
+    "\nstate quiet\nprocess <0.0.0> ended normal\nprocess <0.1.0> ended normal\noutput <0.0.0> b\nend\n";
+
+/// More choices than the talk takes.
+const MANY: usize = 200;
+
+fn started<P: Hold<Proc>, C: Hold<Lanes>>(
+    alloc: Global,
+    image: &Image,
+) -> Result<World<P, C>, Fault> {
+    World::start(alloc, image, atom(image, "m"), atom(image, "f"))
+}
+
+/// The world that these choices lead to, of which no snapshot was taken.
+fn run<P: Hold<Proc>, C: Hold<Lanes>>(
+    alloc: Global,
+    image: &Image,
+    choices: &[Choice],
+) -> Result<World<P, C>, Fault> {
+    let mut world = started(alloc, image)?;
+    for choice in choices {
+        world.apply(alloc, image, *choice)?;
+    }
+    Ok(world)
+}
+
+/// A choice that can be made, by its place among those that can, counted round.
+fn picked<P: Hold<Proc>, C: Hold<Lanes>>(
+    alloc: Global,
+    world: &World<P, C>,
+    number: usize,
+) -> Result<Option<Choice>, Fault> {
+    let enabled = world.enabled(alloc)?;
+    let Some(at) = number.checked_rem(enabled.len()) else {
+        return Ok(None);
+    };
+    Ok(enabled.get(at).copied())
+}
+
+/// The choices that were made until none could be, picked by steps of that stride, and a snapshot from before each; and the world
+/// behind them.
+fn talk<P: Hold<Proc>, C: Hold<Lanes>>(
+    alloc: Global,
+    image: &Image,
+    stride: usize,
+) -> Result<(Vec<Choice>, Vec<World<P, C>>, World<P, C>), Fault> {
+    let mut world = started(alloc, image)?;
+    let mut choices = Vec::new(alloc);
+    let mut kept = Vec::new(alloc);
+    for number in 0..MANY {
+        let Some(choice) = picked(alloc, &world, number.wrapping_mul(stride))? else {
+            break;
+        };
+        choices.push(choice)?;
+        let before = world.snapshot(alloc)?;
+        let Ok(()) = kept.push(before) else {
+            return Err(Fault::Memory);
+        };
+        world.apply(alloc, image, choice)?;
+    }
+    Ok((choices, kept, world))
+}
+
+/// Whether each snapshot is the world of the choices before it, and goes on as they do.
+fn are_apart<P: Hold<Proc>, C: Hold<Lanes>>(
+    alloc: Global,
+    image: &Image,
+    choices: &[Choice],
+    kept: &mut [World<P, C>],
+) -> Result<bool, Fault> {
+    for (number, snapshot) in kept.iter_mut().enumerate() {
+        let (Some(before), Some(choice)) = (choices.get(..number), choices.get(number)) else {
+            return Ok(false);
+        };
+        let mut world = run::<P, C>(alloc, image, before)?;
+        if !snapshot.same(&world) {
+            return Ok(false);
+        }
+        world.apply(alloc, image, *choice)?;
+        snapshot.apply(alloc, image, *choice)?;
+        if !snapshot.same(&world) {
+            return Ok(false);
+        }
+    }
+    Ok(true)
+}
+
+/// Whether the world behind a talk is what it was before its snapshots went on, and ends as each does.
+fn talks<P: Hold<Proc>, C: Hold<Lanes>>(
+    alloc: Global,
+    image: &Image,
+    stride: usize,
+) -> Result<bool, Fault> {
+    let (choices, mut kept, world) = talk::<P, C>(alloc, image, stride)?;
+    let apart = are_apart(alloc, image, &choices, kept.as_mut_slice())?;
+    let same = world.same(&run(alloc, image, &choices)?);
+    let outcome = world.outcome(alloc)?;
+    let text = outcome_text(alloc, image.atoms(), 7, None, &outcome)?;
+    Ok(apart && same && text.as_str().strip_prefix("applied 7") == Some(TALKED))
+}
+
+#[test]
+fn snapshots_of_full_worlds_go_on_apart(rt: HostRuntime) -> Result<(), Fail> {
+    let alloc = rt.alloc();
+    let image = image(alloc, &[TALK])?;
+    for stride in [0, 1, 2, 5] {
+        assert!(rt;
+            talks::<RcHold<Proc>, RcHold<Lanes>>(alloc, &image, stride)?,
+            "{stride}"
+        );
+        assert!(rt;
+            talks::<ArcHold<Proc>, ArcHold<Lanes>>(alloc, &image, stride)?,
+            "{stride}"
+        );
+    }
+    Ok(())
+}
+
+/// Each kind of instruction that concerns nobody else and can't fail here, the one that ends the process last: how many there are
+/// before it.
+const ALONE: (&str, usize) = (
+    "{move,{integer,3},{x,0}}. {jump,{f,3}}. {label,3}. {test,is_lt,{f,1},[{integer,1},{x,0}]}.
+{test,is_ge,{f,1},[{x,0},{integer,3}]}. {test,is_eq,{f,1},[{x,0},{integer,3}]}. {test,is_ne,{f,1},[{x,0},{integer,4}]}.
+{test,is_eq_exact,{f,1},[{x,0},{integer,3}]}. {test,is_ne_exact,{f,1},[{x,0},{integer,4}]}.
+{test,is_integer,{f,1},[{x,0}]}. {test,is_number,{f,1},[{x,0}]}. {move,{atom,true},{x,1}}.
+{test,is_atom,{f,1},[{x,1}]}. {test,is_boolean,{f,1},[{x,1}]}. {test,is_pid,{f,4},[{x,0}]}. {label,4}.
+{test,is_nil,{f,1},[nil]}. {test,is_list,{f,1},[nil]}. {put_list,{x,0},nil,{x,3}}.
+{test,is_nonempty_list,{f,1},[{x,3}]}. {get_list,{x,3},{x,4},{x,5}}. {get_hd,{x,3},{x,4}}. {get_tl,{x,3},{x,5}}.
+{put_tuple2,{x,6},{list,[{atom,ok},{x,0}]}}. {test,is_tuple,{f,1},[{x,6}]}. {test,test_arity,{f,1},[{x,6},2]}.
+{test,is_tagged_tuple,{f,1},[{x,6},2,{atom,ok}]}. {get_tuple_element,{x,6},1,{x,7}}.
+{select_val,{x,7},{f,1},{list,[{integer,3},{f,5}]}}. {label,5}. {select_tuple_arity,{x,6},{f,1},{list,[2,{f,6}]}}. {label,6}.
+{gc_bif,'+',{f,0},1,[{x,0},{integer,4}],{x,0}}. {gc_bif,length,{f,0},1,[{x,3}],{x,1}}. {bif,hd,{f,0},[{x,3}],{x,1}}.
+{bif,element,{f,0},[{integer,1},{x,6}],{x,1}}. {test_heap,2,1}. {allocate,2,1}. {move,{x,6},{y,0}}. {move,{x,3},{y,1}}.
+{trim,1,1}. {call,1,{f,7}}. {deallocate,1}. {allocate_heap,1,4,1}. {call_last,1,{f,7},1}.
+{label,7}. {call_only,1,{f,8}}. {label,8}. return.",
+    44,
+);
+
+/// The same of a receive, where `a` has come, and then `b`, for which it looks: `a` is passed over, `b` taken, and `a` passed over
+/// again before it waits.
+const RECEIVING: (&str, usize) = (
+    "{label,3}. {loop_rec,{f,4},{x,0}}. {test,is_eq_exact,{f,5},[{x,0},{integer,2}]}. remove_message. {jump,{f,3}}.
+{label,5}. {loop_rec_end,{f,3}}. {label,4}. {wait,{f,3}}.",
+    12,
+);
+
+/// Whether the process's next instruction was run at once.
+fn is_run_at_once(alloc: Global, image: &Image, process: &mut Proc) -> Result<bool, Fault> {
+    let run = match process.free_place() {
+        Some(here) => process.run_from(alloc, image, here),
+        None => process.run_woken(alloc, image),
+    };
+    match run {
+        Ok(()) => Ok(true),
+        Err(Undone::Left) => Ok(false),
+        Err(Undone::Memory) => Err(Fault::Memory),
+    }
+}
+
+/// How many instructions a process runs at once from the start of `f`, in a row, in whose mailbox 1 and 2 are.
+fn run_at_once(alloc: Global, items: &str) -> Result<usize, Fault> {
+    let image = image_of_items(alloc, items)?;
+    let place = image.entry(atom(&image, "m"), atom(&image, "f"), 0);
+    let mut process = Proc::new(alloc, place, &[])?;
+    for message in [1, 2] {
+        if process.add_message(Term::int(message)).is_err() {
+            return Err(Fault::Memory);
+        }
+    }
+    for count in 0..MANY {
+        if !process.can_run() || !is_run_at_once(alloc, &image, &mut process)? {
+            return Ok(count);
+        }
+    }
+    Ok(MANY)
+}
+
+#[test]
+fn instructions_that_are_run_at_once(rt: HostRuntime) -> Result<(), Fail> {
+    for (items, count) in [ALONE, RECEIVING] {
+        assert_eq!(rt; run_at_once(rt.alloc(), items)?, count);
+    }
+    Ok(())
+}
