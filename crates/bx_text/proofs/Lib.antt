@@ -9,10 +9,12 @@ pub mod Escaping
 pub mod Grammatical
 pub mod Keeping
 pub mod Leads
+pub mod Lefts
 pub mod Letters
 pub mod Names
 pub mod Outcomes
 pub mod Parts
+pub mod Passed
 pub mod Shown
 pub mod Quoting
 pub mod Rows

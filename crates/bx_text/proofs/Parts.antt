@@ -19,16 +19,3 @@ pub parts_fail : {X Y : Type 0} (T U : Type 0) (v : X → Follow) (w : Y → Lex
     → turn < size → (T → U) → parts part (size - turn) l ≡ said → Gives T v (Err e) (part l) → Gives U w (Err e) said
 parts_fail T U v w e size turn part l said t f s h =
     gives_err v w e (part l) said f (λ g. sym s ∙ ap (λ k. parts part k l) (turns size turn t) ∙ ap (λ r. r >>= go_through (parts part (size - (turn + 1)))) g) h
-
--- a pair that was read begins with a term
-begun_on : {A : Type 0} (f : Place → Result A Fault) (r : Result (Tree × Place) Fault) (y : A) → (passed r >>= f) ≡ Ok y → IsOk r
-begun_on f (Ok x) y h = refl
-begun_on f (Err e) y h = cc
-
-then_begun : (term : Lexeme → Result (Tree × Place) Fault) (r : Result (Tree × Place) Fault) (f : Follow) → (passed r >>= want is_arrow >>= value_at term >>= follow_at) ≡ Ok f → IsOk r
-then_begun term (Ok x) f h = refl
-then_begun term (Err e) f h = cc
-
-pub pair_begun : (d turn : ℕ) (here first : Lexeme) (f : Follow) → (turn ≡ 0 → here ≡ first) → (0 < turn → IsOk (term_at d first)) → pair_at (term_at d) here ≡ Ok f → IsOk (term_at d first)
-pair_begun d zero here first f s g h = subst (λ l. IsOk (term_at d l)) (s refl) (then_begun (term_at d) (term_at d here) f h)
-pair_begun d (suc turn) here first f s g h = g (omega arith)

@@ -1,5 +1,5 @@
 -- What escapes stand for between quotes (Erlang Reference Manual, "Escape Sequences").
-use Rattle.std.specs.Prelude.{ℕ, ◌+◌, ◌-◌, ◌*◌, ◌%◌, Bool, true, false, ◌&&◌, ◌||◌, ◌==◌, nat_le, nat_lt, if◌then◌else◌, List, [], ◌∷◌, ◌++◌}
+use Rattle.std.specs.Prelude.{ℕ, ◌+◌, ◌-◌, ◌*◌, ◌%◌, Bool, true, false, ◌&&◌, ◌||◌, ◌==◌, nat_le, nat_lt, if◌then◌else◌, List, [], ◌∷◌, ◌++◌, Option, Some, None}
 use Rattle.std.specs.List.{fold}
 use Rattle.std.specs.Str.{chars, encode_utf8_all}
 use Rattle.bx_text.specs.declared.escapes.Escape.{Escape}
@@ -95,6 +95,15 @@ abbrev pub known_last : Escape → List ℕ
 known_last (Octal v) = coded v
 known_last (Octals v) = coded v
 known_last s = []
+
+-- a character or none
+abbrev pub one_of : Option ℕ → List ℕ
+one_of None = []
+one_of (Some c) = c ∷ []
+
+-- two of them at most
+abbrev pub both_of : Option ℕ × Option ℕ → List ℕ
+both_of x = one_of x.0 ++ one_of x.1
 
 -- all characters that are known with these
 abbrev pub known_in : Escape → List ℕ → List ℕ

@@ -5,10 +5,12 @@ pub mod Falls
 pub mod Form
 pub mod Forms
 pub mod Holding
+pub mod Left
 pub mod Letters
 pub mod Lexing
 pub mod Named
 pub mod Number
+pub mod Passing
 pub mod Place
 pub mod Rows
 pub mod Short

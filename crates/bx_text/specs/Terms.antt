@@ -74,6 +74,7 @@ passes wanted.Integer t = is_integer t
 passes wanted.Colon t = is_colon t
 passes wanted.Slash t = is_slash t
 passes wanted.Arrow t = is_arrow t
+passes wanted.Utf8 t = is_utf8_name t
 
 abbrev pub spells_list : Token → Bool
 spells_list (token.text w) = true
@@ -212,7 +213,7 @@ abbrev pub want : (Token → Bool) → Place → Result Place Fault
 want passes p = lexeme_at p >>= closed passes
 
 -- the place behind what was read
-abbrev pub passed : {A : Type 0} → Result (A × Place) Fault → Result Place Fault
+abbrev pub passed : {A Q : Type 0} → Result (A × Q) Fault → Result Q Fault
 passed read = read >>= λ x. Ok x.1
 
 -- a map's pair, and what follows it
@@ -306,8 +307,8 @@ group_at (suc d) l = bracket_by d (begin (group_at d)) l l.token
 abbrev pub term_at : ℕ → Reading
 term_at d = begin (group_at d)
 
--- Memory is taken to decode an atom, for an element that stands whole in a tuple, a list or a map, and for a string's
--- characters; it may be in a binary.
+-- Memory is taken to decode an atom, for an element that stands whole in a tuple or a list, and for a string's characters.
+-- What stands in a map or a binary is passed over, which takes none.
 abbrev pub keeps_atom : Token → Type 0
 keeps_atom (token.atom b) = IsEscaped b
 keeps_atom t = ⊥
@@ -316,8 +317,6 @@ abbrev pub keeps_by : (Lexeme → Type 0) → Lexeme → Token → Type 0
 keeps_by inner l (token.text b) = HasBody b ⊎ IsOkAnd (text_next l.after) IsSome
 keeps_by inner l token.open_tuple = IsOkAnd (lexeme_at l.after) inner
 keeps_by inner l token.open_list = IsOkAnd (lexeme_at l.after) inner
-keeps_by inner l token.open_map = IsOkAnd (lexeme_at l.after) inner
-keeps_by inner l token.open_binary = Unit {0}
 keeps_by inner l t = ⊥
 
 abbrev pub keeps_group : ℕ → Lexeme → Type 0

@@ -1,9 +1,11 @@
 //! Escapes between quotes.
 
-ghost use Rattle.std.specs.Prelude.{◌≡◌, ◌≤◌, ◌++◌, IfOk, string_bytes};
+ghost use Rattle.std.specs.Prelude.{◌≡◌, ◌≤◌, ◌++◌, ◌∷◌, ℕ, List, IfOk, MatchOption, codes, string_bytes};
+ghost use Rattle.std.specs.Str.{bytes_eq};
 ghost use Rattle.std.specs.Char.{encode_utf8};
 ghost use Rattle.std.specs.Str.{encode_utf8_all};
 ghost use Rattle.bx_text.specs.Escapes as escapes;
+ghost use Rattle.bx_text.specs.Left.{IsLeft};
 
 use std::alloc::{AllocError, Global};
 
@@ -228,110 +230,113 @@ fn named(c: char) -> char
     }
 }
 
-/// Writes the character of a code, if it is one's.
-#[tactic(auto, using(crate::proofs::Escaping::one_encoded, crate::proofs::Escaping::none_encoded, crate::proofs::Escaping::scalar_in, crate::proofs::Escaping::scalar_out))]
-fn put_code(out: &mut String, code: u32) -> Result<(), AllocError>
-    ensures { IfOk result (λ _. string_bytes out.new ≡ string_bytes out.old ++ encode_utf8_all (escapes.coded code)) }
+/// The characters, two at most, that become known at once.
+type Known = (Option<char>, Option<char>);
+
+/// The character of a code, if it is one's.
+#[tactic(auto, using(crate::proofs::Escaping::scalar_in, crate::proofs::Escaping::scalar_out))]
+fn coded(code: u32) -> Option<char>
+    ensures { escapes.one_of result ≡ escapes.coded code }
 {
-    match char::from_u32(code) {
+    char::from_u32(code)
+}
+
+/// The same where the escape is a good one.
+fn coded_if(good: bool, code: u32) -> Option<char>
+    ensures { escapes.one_of result ≡ escapes.coded_if good code }
+{
+    if good { coded(code) } else { None }
+}
+
+/// A character that stands for itself, unless it begins an escape.
+fn itself(c: char) -> Option<char>
+    ensures { escapes.one_of result ≡ escapes.itself c }
+{
+    if c == '\\' { None } else { Some(c) }
+}
+
+/// What a character behind a backslash stands for, where it stands alone.
+fn known_begun(c: char) -> Option<char>
+    ensures { escapes.one_of result ≡ escapes.known Escape.Begun c }
+{
+    if digit(c) < 8 || c == 'x' || c == '^' {
+        None
+    } else {
+        Some(named(c))
+    }
+}
+
+fn known_octal(value: u8, c: char) -> Known
+    ensures { escapes.both_of result ≡ escapes.known (Escape.Octal value) c }
+{
+    if digit(c) < 8 {
+        (None, None)
+    } else {
+        (coded(u32::from(value)), itself(c))
+    }
+}
+
+fn known_octals(value: u16, c: char) -> Known
+    ensures { escapes.both_of result ≡ escapes.known (Escape.Octals value) c }
+{
+    let last = digit(c);
+    if last < 8 {
+        (None, coded(8 * u32::from(value) + u32::from(last)))
+    } else {
+        (coded(u32::from(value)), itself(c))
+    }
+}
+
+fn known_hex(value: u8, c: char) -> Option<char>
+    ensures { escapes.one_of result ≡ escapes.known (Escape.HexDigit value) c }
+{
+    let last = digit(c);
+    coded_if(last < 16, 16 * u32::from(value) + u32::from(last))
+}
+
+/// The characters that are known with `c`.
+fn known(escape: Escape, c: char) -> Known
+    ensures { escapes.both_of result ≡ escapes.known escape c }
+{
+    match escape {
+        Escape::Plain => (None, itself(c)),
+        Escape::Begun => (None, known_begun(c)),
+        Escape::Octal(value) => known_octal(value, c),
+        Escape::Octals(value) => known_octals(value, c),
+        Escape::HexDigit(value) => (None, known_hex(value, c)),
+        Escape::Braced(value) => (None, coded_if(c == '}', value)),
+        Escape::Control => (None, coded_if(is_control(c), c as u32 % 32)),
+        Escape::Hex | Escape::Brace | Escape::Bad => (None, None),
+    }
+}
+
+/// The character that the end of the text makes known.
+fn known_last(escape: Escape) -> Option<char>
+    ensures { escapes.one_of result ≡ escapes.known_last escape }
+{
+    match escape {
+        Escape::Octal(value) => coded(u32::from(value)),
+        Escape::Octals(value) => coded(u32::from(value)),
+        _ => None,
+    }
+}
+
+#[tactic(auto, using(crate::proofs::Escaping::one_encoded, crate::proofs::Escaping::none_encoded))]
+fn put(out: &mut String, c: Option<char>) -> Result<(), AllocError>
+    ensures { IfOk result (λ _. string_bytes out.new ≡ string_bytes out.old ++ encode_utf8_all (escapes.one_of c)) }
+{
+    match c {
         Some(c) => out.push(c),
         None => Ok(()),
     }
 }
 
-/// Writes a character, unless it begins an escape.
-#[tactic(auto, using(crate::proofs::Escaping::one_encoded, crate::proofs::Escaping::none_encoded))]
-fn put_itself(out: &mut String, c: char) -> Result<(), AllocError>
-    ensures { IfOk result (λ _. string_bytes out.new ≡ string_bytes out.old ++ encode_utf8_all (escapes.itself c)) }
-{
-    if c == '\\' { Ok(()) } else { out.push(c) }
-}
-
-/// Writes what a character behind a backslash stands for, where it stands alone.
-#[tactic(auto, using(crate::proofs::Escaping::one_encoded, crate::proofs::Escaping::none_encoded))]
-fn put_named(out: &mut String, c: char) -> Result<(), AllocError>
-    ensures { IfOk result (λ _. string_bytes out.new ≡ string_bytes out.old ++ encode_utf8_all (escapes.known Escape.Begun c)) }
-{
-    if digit(c) < 8 || c == 'x' || c == '^' {
-        Ok(())
-    } else {
-        out.push(named(c))
-    }
-}
-
-/// Writes a character's code, and then another character.
 #[tactic(auto, using(crate::proofs::Escaping::two_encoded))]
-fn put_two(out: &mut String, code: u32, c: char) -> Result<(), AllocError>
-    ensures { IfOk result (λ _. string_bytes out.new ≡ string_bytes out.old ++ encode_utf8_all (escapes.coded code ++ escapes.itself c)) }
+fn put_known(out: &mut String, known: Known) -> Result<(), AllocError>
+    ensures { IfOk result (λ _. string_bytes out.new ≡ string_bytes out.old ++ encode_utf8_all (escapes.both_of known)) }
 {
-    put_code(out, code)?;
-    put_itself(out, c)
-}
-
-/// Writes the character of a code, where there is one.
-#[tactic(auto, using(crate::proofs::Escaping::none_encoded))]
-fn put_if(out: &mut String, good: bool, code: u32) -> Result<(), AllocError>
-    ensures { IfOk result (λ _. string_bytes out.new ≡ string_bytes out.old ++ encode_utf8_all (escapes.coded_if good code)) }
-{
-    if good { put_code(out, code) } else { Ok(()) }
-}
-
-#[tactic(auto, using(crate::proofs::Escaping::none_encoded))]
-fn put_octal(out: &mut String, value: u8, c: char) -> Result<(), AllocError>
-    ensures { IfOk result (λ _. string_bytes out.new ≡ string_bytes out.old ++ encode_utf8_all (escapes.known (Escape.Octal value) c)) }
-{
-    if digit(c) < 8 {
-        Ok(())
-    } else {
-        put_two(out, u32::from(value), c)
-    }
-}
-
-fn put_octals(out: &mut String, value: u16, c: char) -> Result<(), AllocError>
-    ensures { IfOk result (λ _. string_bytes out.new ≡ string_bytes out.old ++ encode_utf8_all (escapes.known (Escape.Octals value) c)) }
-{
-    let last = digit(c);
-    if last < 8 {
-        put_code(out, 8 * u32::from(value) + u32::from(last))
-    } else {
-        put_two(out, u32::from(value), c)
-    }
-}
-
-fn put_hex(out: &mut String, value: u8, c: char) -> Result<(), AllocError>
-    ensures { IfOk result (λ _. string_bytes out.new ≡ string_bytes out.old ++ encode_utf8_all (escapes.known (Escape.HexDigit value) c)) }
-{
-    let last = digit(c);
-    put_if(out, last < 16, 16 * u32::from(value) + u32::from(last))
-}
-
-/// Writes the characters that are known with `c`.
-#[tactic(auto, using(crate::proofs::Escaping::none_encoded))]
-fn put(out: &mut String, escape: Escape, c: char) -> Result<(), AllocError>
-    ensures { IfOk result (λ _. string_bytes out.new ≡ string_bytes out.old ++ encode_utf8_all (escapes.known escape c)) }
-{
-    match escape {
-        Escape::Plain => put_itself(out, c),
-        Escape::Begun => put_named(out, c),
-        Escape::Octal(value) => put_octal(out, value, c),
-        Escape::Octals(value) => put_octals(out, value, c),
-        Escape::HexDigit(value) => put_hex(out, value, c),
-        Escape::Braced(value) => put_if(out, c == '}', value),
-        Escape::Control => put_if(out, is_control(c), c as u32 % 32),
-        Escape::Hex | Escape::Brace | Escape::Bad => Ok(()),
-    }
-}
-
-/// Writes the character that the end of the text makes known.
-#[tactic(auto, using(crate::proofs::Escaping::none_encoded))]
-fn put_last(out: &mut String, escape: Escape) -> Result<(), AllocError>
-    ensures { IfOk result (λ _. string_bytes out.new ≡ string_bytes out.old ++ encode_utf8_all (escapes.known_last escape)) }
-{
-    match escape {
-        Escape::Octal(value) => put_code(out, u32::from(value)),
-        Escape::Octals(value) => put_code(out, u32::from(value)),
-        _ => Ok(()),
-    }
+    put(out, known.0)?;
+    put(out, known.1)
 }
 
 /// The text that a spelling with escapes stands for.
@@ -341,9 +346,66 @@ pub(crate) fn decode(alloc: Global, raw: &str) -> Result<String, AllocError>
     let mut out = String::new(alloc);
     let mut escape = Escape::Plain;
     for c in raw.chars() {
-        put(&mut out, escape, c)?;
+        put_known(&mut out, known(escape, c))?;
         escape = step(escape, c);
     }
-    put_last(&mut out, escape)?;
+    put(&mut out, known_last(escape))?;
     Ok(out)
+}
+
+/// What is left of a text behind a character with which it begins.
+fn rest_behind(left: &[u8], c: char) -> Option<&[u8]>
+    ensures { MatchOption result ((rest : List ℕ) → left.now ≡ c ∷ rest → ⊥) (λ rest. left.now ≡ c ∷ rest.now) }
+{
+    match left {
+        [first, rest @ ..] => {
+            if char::from(*first) == c {
+                Some(rest)
+            } else {
+                None
+            }
+        }
+        [] => None,
+    }
+}
+
+/// The same, where there may be no character.
+#[tactic(auto, using(crate::proofs::Lefts::none_more, crate::proofs::Lefts::one_more, crate::proofs::Lefts::no_more, crate::proofs::Lefts::none_left))]
+fn left_behind<'w>(left: Option<&'w [u8]>, c: Option<char>) -> Option<&'w [u8]>
+    ensures { (word : List ℕ) (ks : List ℕ) → IsLeft word ks left.entry → IsLeft word (ks ++ escapes.one_of c) result }
+{
+    match c {
+        Some(c) => rest_behind(left?, c),
+        None => left,
+    }
+}
+
+/// Whether nothing is left of the word `utf8` behind characters with which it begins.
+#[tactic(auto, using(crate::proofs::Lefts::nothing_left, crate::proofs::Lefts::some_left, crate::proofs::Lefts::other_word))]
+fn is_spent(left: Option<&[u8]>) -> bool
+    ensures { (ks : List ℕ) → IsLeft (codes "utf8") ks left.entry → result ≡ bytes_eq (encode_utf8_all ks) (codes "utf8") }
+{
+    match left {
+        Some([]) => true,
+        Some([_, ..]) => false,
+        None => false,
+    }
+}
+
+/// Whether a spelling with escapes stands for `utf8`.
+pub(crate) fn means_utf8(raw: &str) -> bool
+    ensures { result ≡ bytes_eq (escapes.decoded raw.now) (codes "utf8") }
+{
+    let word: &[u8] = b"utf8";
+    let mut left = Some(word);
+    let mut escape = Escape::Plain;
+    for c in raw.chars() {
+        let (one, other) = known(escape, c);
+        let first = left_behind(left, one);
+        left = left_behind(first, other);
+        escape = step(escape, c);
+    }
+    let last = known_last(escape);
+    let rest = left_behind(left, last);
+    is_spent(rest)
 }

@@ -55,82 +55,54 @@ pub(crate) fn span(l: Lexeme<'_>, end: Reader<'_>) -> Span
 pub(crate) fn closes_tuple(token: Token<'_>) -> bool
     ensures { result ≡ terms.closes_tuple (token_of token.entry) }
 {
-    match token {
-        Token::Mark(Mark::CloseTuple) => true,
-        _ => false,
-    }
+    matches!(token, Token::Mark(Mark::CloseTuple))
 }
 
 pub(crate) fn closes_list(token: Token<'_>) -> bool
     ensures { result ≡ terms.closes_list (token_of token.entry) }
 {
-    match token {
-        Token::Mark(Mark::CloseList) => true,
-        _ => false,
-    }
+    matches!(token, Token::Mark(Mark::CloseList))
 }
 
 pub(crate) fn closes_binary(token: Token<'_>) -> bool
     ensures { result ≡ terms.closes_binary (token_of token.entry) }
 {
-    match token {
-        Token::Mark(Mark::CloseBinary) => true,
-        _ => false,
-    }
+    matches!(token, Token::Mark(Mark::CloseBinary))
 }
 
 pub(crate) fn is_colon(token: Token<'_>) -> bool
     ensures { result ≡ terms.is_colon (token_of token.entry) }
 {
-    match token {
-        Token::Mark(Mark::Colon) => true,
-        _ => false,
-    }
+    matches!(token, Token::Mark(Mark::Colon))
 }
 
 pub(crate) fn is_slash(token: Token<'_>) -> bool
     ensures { result ≡ terms.is_slash (token_of token.entry) }
 {
-    match token {
-        Token::Mark(Mark::Slash) => true,
-        _ => false,
-    }
+    matches!(token, Token::Mark(Mark::Slash))
 }
 
 pub(crate) fn is_comma(token: Token<'_>) -> bool
     ensures { result ≡ terms.is_comma (token_of token.entry) }
 {
-    match token {
-        Token::Mark(Mark::Comma) => true,
-        _ => false,
-    }
+    matches!(token, Token::Mark(Mark::Comma))
 }
 
 pub(crate) fn is_bar(token: Token<'_>) -> bool
     ensures { result ≡ terms.is_bar (token_of token.entry) }
 {
-    match token {
-        Token::Mark(Mark::Bar) => true,
-        _ => false,
-    }
+    matches!(token, Token::Mark(Mark::Bar))
 }
 
 pub(crate) fn is_stop(token: Token<'_>) -> bool
     ensures { result ≡ terms.is_stop (token_of token.entry) }
 {
-    match token {
-        Token::Mark(Mark::Stop) => true,
-        _ => false,
-    }
+    matches!(token, Token::Mark(Mark::Stop))
 }
 
 /// Whether a term that begins with the token is a list.
 pub(crate) fn spells_list(token: Token<'_>) -> bool
     ensures { result ≡ terms.spells_list (token_of token.entry) }
 {
-    match token {
-        Token::Text(_) => true,
-        Token::OpenList => true,
-        _ => false,
-    }
+    matches!(token, Token::Text(_) | Token::OpenList)
 }

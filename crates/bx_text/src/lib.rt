@@ -3,6 +3,7 @@
 
 mod binaries;
 mod blanks;
+mod brackets;
 mod bytes;
 mod escapes;
 mod follows;
@@ -15,6 +16,7 @@ mod lexing;
 mod moves;
 mod node;
 mod numbers;
+mod passing;
 mod printing;
 mod quotes;
 mod reader;

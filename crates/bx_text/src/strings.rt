@@ -114,10 +114,17 @@ pub(crate) fn string<'a>(alloc: Global, l: &mut Lexeme<'a>) -> Result<Node<'a>, 
     Ok(Node::list(span(first, l.after), elements, None))
 }
 
-/// Reads the strings in a row that begin with the token held, and lets them go.
-pub(crate) fn pass_strings<'a>(alloc: Global, l: &mut Lexeme<'a>) -> Result<(), Fault>
-    ensures { Gives (Unit {0}) (λ _. place l.new.after) result (passed (strings_at (lexeme_of l.old))) }
+/// Passes over the strings in a row that begin with the token held.
+pub(crate) fn pass_strings<'a>(l: &mut Lexeme<'a>) -> Result<(), Fault>
+    ensures { Gives ⊥ (λ _. place l.new.after) result (passed (strings_at (lexeme_of l.old))) }
 {
-    let _ = alone(alloc, l)?;
-    Ok(())
+    // Each string takes a byte at least.
+    for _turn in 0..l.after.rest.len() + 1 {
+        match text_next(l) {
+            Err(fault) => return Err(fault),
+            Ok(false) => return Ok(()),
+            Ok(true) => {}
+        }
+    }
+    Err(truncated(l.after))
 }

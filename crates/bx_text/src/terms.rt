@@ -3,7 +3,7 @@
 ghost use Rattle.std.specs.Prelude.{◌≡◌, ◌⊎◌, ◌++◌, ◌∷◌, [], IfOk, OnOk, IsOk, IsOkAnd, suc, true, false};
 ghost use Rattle.bx_terms.specs.Outcomes.{Gives};
 ghost use Rattle.bx_text.specs.Place.{place};
-ghost use Rattle.bx_text.specs.Token.{lexeme_of, token_of, body_of, open_map, IsEscaped};
+ghost use Rattle.bx_text.specs.Token.{lexeme_of, token_of, body_of, IsEscaped};
 ghost use Rattle.bx_text.specs.Form.{tail_tree};
 ghost use Rattle.bx_text.specs.Grammar.{IsToken};
 ghost use Rattle.bx_text.specs.Tree.{integer, atom, chain};
@@ -12,60 +12,18 @@ ghost use Rattle.bx_text.specs.Terms as terms;
 ghost use Rattle.bx_text.specs.Rows.{prefixed, chained, joined, closing, splicing, ending};
 
 use crate::binaries::binary;
+use crate::brackets::{list_end, misplaced, too_deep, tuple_end, unended};
 use crate::follows::follow;
 use crate::kept::{fun, kept};
 use crate::lexemes::{Lexeme, closes_list, closes_tuple, is_bar, span, spells_list};
 use crate::lexing::advance;
 use crate::node::{Node, Sort};
+use crate::passing::map;
 use crate::strings::{string, strings};
 use crate::tokens::{Body, Mark, Token};
-use crate::wanted::{Wanted, want};
 use crate::word::Word;
 use bx_terms::Fault;
 use std::alloc::{AllocError, Global};
-
-/// The fault of a token that may not stand here.
-fn misplaced(l: &Lexeme<'_>) -> Fault
-    ensures { result ≡ Fault.BadTerm l.now.line }
-{
-    Fault::BadTerm { line: l.line }
-}
-
-/// Whether the token held closes a tuple or a map, as it is to.
-fn tuple_end(l: &Lexeme<'_>) -> Result<(), Fault>
-    ensures { Gives ⊥ (λ _. place l.now.after) result (terms.closed terms.closes_tuple (lexeme_of l.now)) }
-{
-    if closes_tuple(l.token) {
-        Ok(())
-    } else {
-        Err(misplaced(l))
-    }
-}
-
-/// Whether the token held closes a list, as it is to.
-fn list_end(l: &Lexeme<'_>) -> Result<(), Fault>
-    ensures { Gives ⊥ (λ _. place l.now.after) result (terms.closed terms.closes_list (lexeme_of l.now)) }
-{
-    if closes_list(l.token) {
-        Ok(())
-    } else {
-        Err(misplaced(l))
-    }
-}
-
-/// The fault of a text that ends before the token held.
-fn unended(l: &Lexeme<'_>) -> Fault
-    ensures { result ≡ Fault.Truncated l.now.line }
-{
-    Fault::Truncated { line: l.line }
-}
-
-/// The fault of brackets that nest too deep at the token held.
-fn too_deep(l: &Lexeme<'_>) -> Fault
-    ensures { result ≡ Fault.TooDeep l.now.line }
-{
-    Fault::TooDeep { line: l.line }
-}
 
 /// The atom that the token held spells.
 fn atom<'a>(alloc: Global, l: &Lexeme<'a>, body: Body<'a>) -> Result<Node<'a>, Fault>
@@ -113,8 +71,8 @@ fn bracket<'a>(alloc: Global, l: &mut Lexeme<'a>, depth: u32) -> Result<Node<'a>
         Token::Text(_) => string(alloc, l),
         Token::OpenTuple => tuple(alloc, l, depth),
         Token::OpenList => list(alloc, l, depth),
-        Token::OpenMap => map(alloc, l, depth),
-        Token::OpenBinary => binary(alloc, l, depth),
+        Token::OpenMap => map(l, depth),
+        Token::OpenBinary => binary(l, depth),
         _ => Err(misplaced(l)),
     }
 }
@@ -334,59 +292,4 @@ fn improper<'a>(
     let node = term(alloc, l, depth)?;
     let tail = Box::new(alloc, node)?;
     Ok(Some(tail))
-}
-
-/// The value behind a map's arrow, which is held.
-#[cycle(term)]
-fn value<'a>(alloc: Global, l: &mut Lexeme<'a>, depth: u32) -> Result<(), Fault>
-    ensures { Gives (Unit {0}) (λ _. place l.new.after) result (terms.value_at (terms.term_at depth) (place l.old.after)) }
-{
-    advance(l)?;
-    let _ = term(alloc, l, depth)?;
-    Ok(())
-}
-
-/// The map's pair that begins with the token held: whether another follows, which is then held.
-#[cycle(term)]
-fn pair<'a>(alloc: Global, l: &mut Lexeme<'a>, depth: u32) -> Result<bool, Fault>
-    requires { IsToken (lexeme_of l.old) }
-    ensures { Gives (terms.kept depth (lexeme_of l.old)) (λ more. terms.follow_by more (lexeme_of l.new)) result (terms.pair_at (terms.term_at depth) (lexeme_of l.old)) }
-{
-    let _ = term(alloc, l, depth)?;
-    want(l, Wanted::Arrow)?;
-    value(alloc, l, depth)?;
-    follow(l)
-}
-
-/// The map's pairs from the token held on; held then is the first token that is no comma.
-#[cycle(term)]
-fn pairs<'a>(alloc: Global, l: &mut Lexeme<'a>, depth: u32) -> Result<(), Fault>
-    requires { IsToken (lexeme_of l.old) }
-    ensures { Gives (terms.kept depth (lexeme_of l.old)) (λ _. lexeme_of l.new) result (terms.parts_at (terms.pair_at (terms.term_at depth)) (lexeme_of l.old)) }
-{
-    // Each pair takes a byte at least.
-    for _turn in 0..l.after.rest.len() + 1 {
-        match pair(alloc, l, depth) {
-            Err(fault) => return Err(fault),
-            Ok(false) => return Ok(()),
-            Ok(true) => {}
-        }
-    }
-    Err(unended(l))
-}
-
-/// The map that begins with the token held, whose keys and values may nest `depth` deep.
-#[cycle(term)]
-fn map<'a>(alloc: Global, l: &mut Lexeme<'a>, depth: u32) -> Result<Node<'a>, Fault>
-    requires stands { IsToken (lexeme_of l.old) }
-    requires opens { token_of l.old.token ≡ open_map }
-    ensures { Gives (IsOkAnd (lexing.lexeme_at (place l.old.after)) (terms.kept depth)) (λ x. (x, place l.new.after)) result (terms.map_at (terms.term_at depth) (lexeme_of l.old)) }
-{
-    let first = *l;
-    advance(l)?;
-    if !closes_tuple(l.token) {
-        pairs(alloc, l, depth)?;
-        tuple_end(l)?;
-    }
-    kept(first, l.after, Sort::Map)
 }

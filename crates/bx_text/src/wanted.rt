@@ -3,12 +3,14 @@
 ghost use Rattle.std.specs.Prelude.{◌≡◌};
 ghost use Rattle.bx_terms.specs.Outcomes.{Gives};
 ghost use Rattle.bx_text.specs.Place.{place};
-ghost use Rattle.bx_text.specs.Token.{token_of, lexeme_of};
+ghost use Rattle.bx_text.specs.Token as token;
+ghost use Rattle.bx_text.specs.Token.{token_of, lexeme_of, body_of};
 ghost use Rattle.bx_text.specs.Terms as terms;
 
+use crate::escapes::means_utf8;
 use crate::lexemes::Lexeme;
 use crate::lexing::advance;
-use crate::tokens::{Mark, Token};
+use crate::tokens::{Body, Mark, Token};
 use bx_terms::Fault;
 
 /// Which token is wanted.
@@ -19,6 +21,18 @@ pub(crate) enum Wanted {
     Colon,
     Slash,
     Arrow,
+    /// The atom `utf8`.
+    Utf8,
+}
+
+/// Whether what stands between quotes, or a bare word, means `utf8`.
+fn is_utf8(body: Body<'_>) -> bool
+    ensures { result ≡ terms.is_utf8_name (token.atom (body_of body.entry)) }
+{
+    match body {
+        Body::Plain(text) => text == "utf8",
+        Body::Escaped(raw) => means_utf8(raw),
+    }
 }
 
 /// Whether the token is the one that is wanted.
@@ -32,6 +46,7 @@ fn passes(wanted: Wanted, token: Token<'_>) -> bool
         (Wanted::Colon, Token::Mark(Mark::Colon)) => true,
         (Wanted::Slash, Token::Mark(Mark::Slash)) => true,
         (Wanted::Arrow, Token::Mark(Mark::Arrow)) => true,
+        (Wanted::Utf8, Token::Atom(body)) => is_utf8(body),
         _ => false,
     }
 }

@@ -7,7 +7,7 @@ use Rattle.bx_text.proofs.binaries.segments.Goals as goal
 
 pub returns-in-Err : goal.returns-in-Err
 returns-in-Err c =
-    parts_fail {X = Follow} {Y = Lexeme} (Unit {0}) (Unit {0}) (λ f. f) (λ m. m) c.in-Err.fault (length c.args.l.now.after.rest.now + 1) c.loop-turn._turn (segment_at c.args.depth) (lexeme_of c.loop-turn.l) _
+    parts_fail {X = Follow} {Y = Lexeme} ⊥ ⊥ (λ f. f) (λ m. m) c.in-Err.fault (length c.args.l.now.after.rest.now + 1) c.loop-turn._turn (segment_at c.args.depth) (lexeme_of c.loop-turn.l) _
     (omega arith) (λ k. k) c.loop-turn.invariant c.in-Err.ensures
 
 pub returns-in-Ok-false : goal.returns-in-Ok-false

@@ -1,22 +1,17 @@
 use Rattle.std.proofs.Common.{◌≡◌, suc, ◌+◌, ◌-◌, true, false, inr, List, length, Ok, IsOkAnd, sym, ap, ◌∙◌, subst, arith}
-use Rattle.bx_text.specs.declared.lexemes.Lexeme.{Lexeme as Held}
-use Rattle.bx_text.specs.declared.node.Sort.TheVariants as sort
 use Rattle.bx_text.specs.Place.{Place, place}
 use Rattle.bx_text.specs.Token.{Lexeme, lexeme_of}
 use Rattle.bx_text.specs.Tree.{Tree}
 use Rattle.bx_text.specs.Form.{tail_tree}
 use Rattle.bx_text.specs.Lexing.{lexeme_at}
-use Rattle.bx_text.specs.Grammar.{IsKept}
-use Rattle.bx_text.specs.Terms.{Follow, next, end, closes_tuple, follow_by, element_at, elements_at, pair_at, parts_at, term_at, group_at, keeps_group, kept, rest_at, end_at, tail_at}
+use Rattle.bx_text.specs.Terms.{Follow, next, end, follow_by, element_at, elements_at, term_at, group_at, keeps_group, kept, rest_at, end_at, tail_at}
 use Rattle.bx_text.specs.Rows.{prefixed, chained, joined, closing, splicing}
 use Rattle.bx_text.proofs.Outcomes.{gives_same}
-use Rattle.bx_text.proofs.Rows.{row_last, row_next, part_last, part_next, list_fails, list_gives}
+use Rattle.bx_text.proofs.Rows.{row_last, row_next, list_fails, list_gives}
 use Rattle.bx_text.proofs.Elements.{deeper, many_step, many_end, many_fail, many_unended, element_begun, kept_first}
-use Rattle.bx_text.proofs.Parts.{parts_step, parts_end, parts_fail, pair_begun}
 use Rattle.bx_text.proofs.Tails.{rest_from, closing_is, improper_gives, splicing_is}
-use Rattle.bx_text.proofs.Keeping.{token_next, pair_next, empty_map_kept, map_kept}
+use Rattle.bx_text.proofs.Keeping.{token_next}
 use Rattle.bx_text.proofs.terms.+term.Goals as goal
-use Rattle.bx_text.proofs.terms.+term.Goals.{map-then-not-closes_tuple+in_ok-pairs+in_ok-tuple_end, map-else-not-closes_tuple}
 
 pub group-returns : goal.group-returns
 group-returns t c =
@@ -109,52 +104,8 @@ elements-returns-in-Ok-false-clause-begins t c =
     element_begun c.args.depth c.loop-turn._turn c.loop-turn.found.items (lexeme_of c.loop-turn.l) (lexeme_of c.args.l.now)
     (c.element.new.found.items, follow_by c.in-Ok-false.field-0 (lexeme_of c.element.new.l)) c.loop-turn.invariant.starts c.loop-turn.invariant.goes c.in-Ok-false.ensures
 
-pub pairs-returns-in-Err : goal.pairs-returns-in-Err
-pairs-returns-in-Err t c =
-    let here = lexeme_of c.loop-turn.l in
-    let first = lexeme_of c.args.l.now in
-    let kept_it : kept c.args.depth here → kept c.args.depth first =
-    λ k. kept_first c.args.depth c.loop-turn._turn here first c.loop-turn.invariant.starts c.loop-turn.invariant.goes k in
-    parts_fail {X = Follow} {Y = Lexeme} (kept c.args.depth here) (kept c.args.depth first) (λ f. f) (λ m. m) c.in-Err.fault (length c.args.l.now.after.rest.now + 1) c.loop-turn._turn
-    (pair_at (term_at c.args.depth)) here (parts_at (pair_at (term_at c.args.depth)) first) (omega arith) kept_it c.loop-turn.invariant.reads c.in-Err.ensures
-
-pub pairs-returns-in-Ok-false : goal.pairs-returns-in-Ok-false
-pairs-returns-in-Ok-false t c =
-    let last : c.in-Ok-false.field-0 ≡ false = cc in
-    sym c.loop-turn.invariant.reads
-    ∙ parts_end (length c.args.l.now.after.rest.now + 1) c.loop-turn._turn (pair_at (term_at c.args.depth)) (lexeme_of c.loop-turn.l) (lexeme_of c.pair.new.l)
-    (omega arith) (part_last c.in-Ok-false.field-0 _ _ last c.in-Ok-false.ensures)
-
-pub pairs-loop-turn-preserved : goal.pairs-loop-turn-preserved
-pairs-loop-turn-preserved t c =
-    let here = lexeme_of c.loop-turn.l in
-    let n = lexeme_of c.pair.new.l in
-    let more : c.in-Ok-true.field-0 ≡ true = cc in
-    let read = part_next c.in-Ok-true.field-0 n (pair_at (term_at c.args.depth) here) more c.in-Ok-true.ensures in
-    record {
-      reads = parts_step (length c.args.l.now.after.rest.now + 1) c.loop-turn._turn (pair_at (term_at c.args.depth)) here n (omega arith) read ∙ c.loop-turn.invariant.reads;
-      starts = λ z. absurd (omega arith);
-      stands = pair_next c.args.depth here n read;
-      goes = λ _. pair_begun c.args.depth c.loop-turn._turn here (lexeme_of c.args.l.now) (next n) c.loop-turn.invariant.starts c.loop-turn.invariant.goes read;
-    }
-
 pub elements-returns-clause-reads : goal.elements-returns-clause-reads
 elements-returns-clause-reads t c =
     let first = lexeme_of c.args.l.now in
     many_unended {X = List Tree × Lexeme} (kept c.args.depth first) (λ y. y) c.unended.result (length c.args.l.now.after.rest.now + 1) c.loop-turn._turn c.loop-turn.found.items (term_at c.args.depth)
     (lexeme_of c.loop-turn.l) (prefixed c.args.found.now.items (elements_at (term_at c.args.depth) first)) (omega arith) c.unended.ensures c.loop-turn.invariant.reads
-
-pub map-kept-requires : goal.map-kept-requires
-map-kept-requires t c =
-    let l : Lexeme = lexeme_of c.args.l.now in
-    let m : Lexeme = lexeme_of c.advance.new.l in
-    elim c.if-not-closes_tuple.branch [
-      | map-then-not-closes_tuple+in_ok-pairs+in_ok-tuple_end w ↦
-          let some : closes_tuple m.token ≡ false = sym c.closes_tuple.ensures ∙ w.if-not-closes_tuple.true in
-          subst (λ (h : Held). IsKept sort.Map l (place h.after)) (sym w.l-is)
-          (map_kept c.args.depth l m (lexeme_of w.pairs.new.l) (place w.pairs.new.l.after) c.requires.stands c.requires.opens c.in_ok-advance.ensures some w.in_ok-pairs.ensures w.in_ok-tuple_end.ensures)
-      | map-else-not-closes_tuple w ↦
-          let none : closes_tuple m.token ≡ true = sym c.closes_tuple.ensures ∙ w.if-not-closes_tuple.false in
-          subst (λ (h : Held). IsKept sort.Map l (place h.after)) (sym w.l-is)
-          (empty_map_kept c.args.depth l m c.requires.stands c.requires.opens c.in_ok-advance.ensures none)
-    ]

@@ -1,6 +1,6 @@
 use Rattle.std.proofs.Common.{◌≡◌, ◌+◌, ◌*◌, ◌-◌, ◌<◌, IsOk}
 use Rattle.bx_text.specs.Token.{lexeme_of}
-use Rattle.bx_text.specs.Terms.{many, elements_at, parts, parts_at, pair_at, term_at}
+use Rattle.bx_text.specs.Terms.{many, elements_at, term_at}
 use Rattle.bx_text.specs.Rows.{prefixed}
 use Rattle.bx_text.specs.Grammar.{IsToken}
 use Rattle.bx_text.proofs.terms.+term.Given as goal
@@ -48,29 +48,9 @@ decreases-tuple l = 16 * l.depth + 8
 abbrev pub decreases-bracket : goal.decreases-bracket
 decreases-bracket l = 16 * l.depth + 9
 
-abbrev pub decreases-value : goal.decreases-value
-decreases-value l = 16 * l.depth + 2
-
-abbrev pub decreases-pair : goal.decreases-pair
-decreases-pair l = 16 * l.depth + 3
-
-abbrev pub decreases-pairs : goal.decreases-pairs
-decreases-pairs l = 16 * l.depth + 4
-
-abbrev pub decreases-map : goal.decreases-map
-decreases-map l = 16 * l.depth + 8
-
 abbrev pub invariant-elements-loop-turn : goal.invariant-elements-loop-turn
 invariant-elements-loop-turn l = record {
   reads : prefixed l.found.items (many (term_at l.depth) (l._turn-end - l._turn) (lexeme_of l.l)) ≡ prefixed l.fn.found.items (elements_at (term_at l.depth) (lexeme_of l.fn.l));
-  starts : l._turn ≡ 0 → lexeme_of l.l ≡ lexeme_of l.fn.l;
-  stands : IsToken (lexeme_of l.l);
-  goes : 0 < l._turn → IsOk (term_at l.depth (lexeme_of l.fn.l));
-}
-
-abbrev pub invariant-pairs-loop-turn : goal.invariant-pairs-loop-turn
-invariant-pairs-loop-turn l = record {
-  reads : parts (pair_at (term_at l.depth)) (l._turn-end - l._turn) (lexeme_of l.l) ≡ parts_at (pair_at (term_at l.depth)) (lexeme_of l.fn.l);
   starts : l._turn ≡ 0 → lexeme_of l.l ≡ lexeme_of l.fn.l;
   stands : IsToken (lexeme_of l.l);
   goes : 0 < l._turn → IsOk (term_at l.depth (lexeme_of l.fn.l));

@@ -1,0 +1,148 @@
+-- A term that is passed over ends where it ends when it is built.
+use Rattle.std.proofs.Common.{◌≡◌, ℕ, zero, suc, ◌+◌, ◌-◌, ◌<◌, Bool, true, false, if◌then◌else◌, List, [], ◌∷◌, ◌++◌, length, Option, Some, None, Result, Ok, Err, refl, sym, ap, ◌∙◌}
+use Rattle.bx_terms.specs.Outcomes.{Gives, ◌>>=◌}
+use Rattle.bx_terms.specs.declared.faults.Fault.{Fault}
+use Rattle.bx_text.specs.Place.{Place}
+use Rattle.bx_text.specs.Token as token
+use Rattle.bx_text.specs.Token.{Body, Lexeme}
+use Rattle.bx_text.specs.Lexing.{lexeme_at}
+use Rattle.bx_text.specs.Tree.{Tree, tuple, list, nil, chain}
+use Rattle.bx_text.specs.Terms.{Reading, Follow, next, end, span, closed, closes_tuple, closes_list, is_bar, follow_at, want, passed, go_through, parts, parts_at, element_at, go_on, many, elements_at, tuple_on, tuple_at, tail_of, tail_at, end_at, rest_on, rest_at, list_at, letters_of, text_next, texts, texts_on, strings_at, string_at, bracket_by, begin, group_at, term_at}
+use Rattle.bx_text.specs.Passing.{element_passed, tuple_passed, end_passed, list_passed}
+use Rattle.bx_text.specs.Grammar.{IsToken}
+use Rattle.bx_text.proofs.Outcomes.{gives_err, bind_ok}
+use Rattle.bx_text.proofs.Rows.{turns}
+use Rattle.bx_text.proofs.Keeping.{followed}
+
+-- what is made of what was read makes no difference
+behind : {A B Q : Type 0} (f : A → Q → B) (r : Result (A × Q) Fault) → passed (r >>= λ x. Ok (f x.0 x.1, x.1)) ≡ passed r
+behind f (Ok x) = refl
+behind f (Err e) = refl
+
+placed : {B : Type 0} (f : Place → B) (r : Result Place Fault) → passed (r >>= λ q. Ok (f q, q)) ≡ r
+placed f (Ok q) = refl
+placed f (Err e) = refl
+
+-- what is made of an element and what follows it, of a tail, and of a list's elements and what ends them
+abbrev with_tree : Tree → Follow → Result (Tree × Follow) Fault
+with_tree t f = Ok (t, f)
+
+abbrev untailed : Tree × Place → Result (Tree × Place) Fault
+untailed x = Ok (tail_of x.0, x.1)
+
+abbrev ended : List Tree → Tree × Place → Result (Tree × Place) Fault
+ended ts y = Ok (chain ts y.0, y.1)
+
+abbrev listed : Lexeme → Tree × Place → Result (Tree × Place) Fault
+listed l x = Ok (list (span l x.1) x.0, x.1)
+
+abbrev nothing : Lexeme → Result (Tree × Place) Fault
+nothing m = Ok (nil, m.after)
+
+elements_on : (term : Reading) (k : ℕ) → ((n : Lexeme) → passed (many term k n) ≡ parts (element_passed term) k n) → (t : Tree) (r : Result Follow Fault)
+    → passed ((r >>= with_tree t) >>= λ x. go_on (many term k) x.0 x.1) ≡ (r >>= go_through (parts (element_passed term) k))
+elements_on term k more t (Ok (next n)) = behind (λ ts m. t ∷ ts) (many term k n) ∙ more n
+elements_on term k more t (Ok (end m)) = refl
+elements_on term k more t (Err e) = refl
+
+elements_by : (term : Reading) (k : ℕ) → ((n : Lexeme) → passed (many term k n) ≡ parts (element_passed term) k n) → (r : Result (Tree × Place) Fault)
+    → passed ((r >>= λ x. follow_at x.1 >>= with_tree x.0) >>= λ x. go_on (many term k) x.0 x.1) ≡ (passed r >>= follow_at >>= go_through (parts (element_passed term) k))
+elements_by term k more (Ok x) = elements_on term k more x.0 (follow_at x.1)
+elements_by term k more (Err e) = refl
+
+elements_are : (term : Reading) (k : ℕ) (l : Lexeme) → passed (many term k l) ≡ parts (element_passed term) k l
+elements_are term zero l = refl
+elements_are term (suc k) l = elements_by term k (elements_are term k) (term l)
+
+all_are : (term : Reading) (m : Lexeme) → passed (elements_at term m) ≡ parts_at (element_passed term) m
+all_are term m = elements_are term (length m.after.rest + 1) m
+
+-- tuples
+tuple_by : (l : Lexeme) (r : Result (List Tree × Lexeme) Fault) → passed (r >>= λ x. closed closes_tuple x.1 >>= λ q. Ok (tuple (span l q) (chain x.0 nil), q)) ≡ (passed r >>= closed closes_tuple)
+tuple_by l (Ok x) = placed (λ q. tuple (span l q) (chain x.0 nil)) (closed closes_tuple x.1)
+tuple_by l (Err e) = refl
+
+tuple_from : (term : Reading) (l m : Lexeme) (b : Bool)
+    → passed (if b then Ok (tuple (span l m.after) nil, m.after) else (elements_at term m >>= λ x. closed closes_tuple x.1 >>= λ q. Ok (tuple (span l q) (chain x.0 nil), q)))
+    ≡ (if b then Ok m.after else (parts_at (element_passed term) m >>= closed closes_tuple))
+tuple_from term l m true = refl
+tuple_from term l m false = tuple_by l (elements_at term m) ∙ ap (λ r. r >>= closed closes_tuple) (all_are term m)
+
+tuple_begun : (term : Reading) (l : Lexeme) (r : Result Lexeme Fault)
+    → passed (r >>= tuple_on term l) ≡ (r >>= λ m. if closes_tuple m.token then Ok m.after else (parts_at (element_passed term) m >>= closed closes_tuple))
+tuple_begun term l (Ok m) = tuple_from term l m (closes_tuple m.token)
+tuple_begun term l (Err e) = refl
+
+tuple_is : (term : Reading) (l : Lexeme) → passed (tuple_at term l) ≡ tuple_passed term l
+tuple_is term l = tuple_begun term l (lexeme_at l.after)
+
+-- lists
+tail_by : (r : Result (Tree × Place) Fault) → passed ((r >>= untailed) >>= λ x. lexeme_at x.1 >>= closed closes_list >>= λ q. Ok (x.0, q)) ≡ (passed r >>= want closes_list)
+tail_by (Ok x) = placed (λ q. tail_of x.0) (want closes_list x.1)
+tail_by (Err e) = refl
+
+bar_by : (term : Reading) (r : Result Lexeme Fault) → passed (r >>= tail_at term >>= λ x. lexeme_at x.1 >>= closed closes_list >>= λ q. Ok (x.0, q)) ≡ (passed (r >>= term) >>= want closes_list)
+bar_by term (Ok n) = tail_by (term n)
+bar_by term (Err e) = refl
+
+end_from : (term : Reading) (m : Lexeme) (b : Bool)
+    → passed (if b then (lexeme_at m.after >>= tail_at term >>= λ x. lexeme_at x.1 >>= closed closes_list >>= λ q. Ok (x.0, q)) else (closed closes_list m >>= λ q. Ok (nil, q)))
+    ≡ (if b then (passed (lexeme_at m.after >>= term) >>= want closes_list) else closed closes_list m)
+end_from term m true = bar_by term (lexeme_at m.after)
+end_from term m false = placed (λ q. nil) (closed closes_list m)
+
+rest_by : (term : Reading) (l : Lexeme) (r : Result (List Tree × Lexeme) Fault)
+    → passed ((r >>= λ x. end_at term x.1 >>= ended x.0) >>= listed l) ≡ (passed r >>= end_passed term)
+rest_by term l (Ok x) =
+    behind (λ t q. list (span l q) t) (end_at term x.1 >>= ended x.0) ∙ behind (λ t q. chain x.0 t) (end_at term x.1) ∙ end_from term x.1 (is_bar x.1.token)
+rest_by term l (Err e) = refl
+
+list_from : (term : Reading) (l m : Lexeme) (b : Bool)
+    → passed ((if b then nothing m else (elements_at term m >>= λ x. end_at term x.1 >>= ended x.0)) >>= listed l)
+    ≡ (if b then Ok m.after else (parts_at (element_passed term) m >>= end_passed term))
+list_from term l m true = refl
+list_from term l m false = rest_by term l (elements_at term m) ∙ ap (λ r. r >>= end_passed term) (all_are term m)
+
+list_begun : (term : Reading) (l : Lexeme) (r : Result Lexeme Fault)
+    → passed ((r >>= rest_on term) >>= listed l) ≡ (r >>= λ m. if closes_list m.token then Ok m.after else (parts_at (element_passed term) m >>= end_passed term))
+list_begun term l (Ok m) = list_from term l m (closes_list m.token)
+list_begun term l (Err e) = refl
+
+list_is : (term : Reading) (l : Lexeme) → passed (list_at term l) ≡ list_passed term l
+list_is term l = list_begun term l (lexeme_at l.after)
+
+string_is : (l : Lexeme) → passed (string_at l) ≡ passed (strings_at l)
+string_is l = behind (λ ts q. list (span l q) (chain ts nil)) (strings_at l)
+
+-- what a bracket's token leads to
+pub text_group : (d : ℕ) (l : Lexeme) (b : Body) → l.token ≡ token.text b → passed (strings_at l) ≡ passed (group_at (suc d) l)
+text_group d l b t = sym (ap (λ k. passed (bracket_by d (begin (group_at d)) l k)) t ∙ string_is l)
+
+pub tuple_group : (d : ℕ) (l : Lexeme) → l.token ≡ token.open_tuple → tuple_passed (term_at d) l ≡ passed (group_at (suc d) l)
+tuple_group d l t = sym (ap (λ k. passed (bracket_by d (begin (group_at d)) l k)) t ∙ tuple_is (term_at d) l)
+
+pub list_group : (d : ℕ) (l : Lexeme) → l.token ≡ token.open_list → list_passed (term_at d) l ≡ passed (group_at (suc d) l)
+list_group d l t = sym (ap (λ k. passed (bracket_by d (begin (group_at d)) l k)) t ∙ list_is (term_at d) l)
+
+-- strings
+pub strings_begun : (l : Lexeme) → passed (texts (length l.after.rest + 1) l.after) ≡ passed (strings_at l)
+strings_begun l = sym (behind (λ ts q. letters_of l l.token ++ ts) (texts (length l.after.rest + 1) l.after))
+
+pub strings_step : (size turn : ℕ) (p : Place) (l : Lexeme) → turn < size → text_next p ≡ Ok (Some l) → passed (texts (size - (turn + 1)) l.after) ≡ passed (texts (size - turn) p)
+strings_step size turn p l t e =
+    sym (ap (λ k. passed (texts k p)) (turns size turn t)
+    ∙ ap (λ r. passed (r >>= texts_on (texts (size - (turn + 1))) p)) e
+    ∙ behind (λ ts q. letters_of l l.token ++ ts) (texts (size - (turn + 1)) l.after))
+
+pub strings_end : (size turn : ℕ) (p : Place) → turn < size → text_next p ≡ Ok None → passed (texts (size - turn) p) ≡ Ok p
+strings_end size turn p t e = ap (λ k. passed (texts k p)) (turns size turn t) ∙ ap (λ r. passed (r >>= texts_on (texts (size - (turn + 1))) p)) e
+
+pub strings_fail : {X Y : Type 0} (v : X → Option Lexeme) (w : Y → Place) (e : Fault) (size turn : ℕ) (p : Place) (said : Result Place Fault)
+    → turn < size → passed (texts (size - turn) p) ≡ said → Gives ⊥ v (Err e) (text_next p) → Gives ⊥ w (Err e) said
+strings_fail v w e size turn p said t s h =
+    gives_err v w e (text_next p) said (λ k. k)
+    (λ g. sym s ∙ ap (λ k. passed (texts k p)) (turns size turn t) ∙ ap (λ r. passed (r >>= texts_on (texts (size - (turn + 1))) p)) g) h
+
+-- what follows an element
+pub element_next : (d : ℕ) (l n : Lexeme) → element_passed (term_at d) l ≡ Ok (next n) → IsToken n
+element_next d l n h = let a = bind_ok (passed (term_at d l)) follow_at (next n) h in followed a.0 n a.2
