@@ -19,7 +19,10 @@ module _ (plan : Planned) (all : Chained) (is : AreChains plan all) where
   pub root_last : last all 0 ≡ 0
   root_last = one (below_or_past 0 (last all 0)) where
     one : (0 < last all 0) ⊎ (last all 0 ≤ 0) → last all 0 ≡ 0
-    one (inl h) = let on = goes_on_is plan 1 (is.chains.inside 0 1 is.chains.some (omega (arith, is.chains.root)) (omega (arith, h))) in absurd (omega (arith, on.low))
+    one (inl h) =
+        let on = goes_on_is plan 1 (is.chains.inside 0 1 is.chains.some (omega (arith, is.chains.root)) (omega (arith, h))) in
+        let back = is.chains.behind 0 1 is.chains.some (omega (arith, is.chains.root)) (omega (arith, h)) in
+        absurd (omega (arith, on.low, back))
     one (inr h) = omega (arith, h)
 
   -- a chain ends where the next one begins, or with the nodes
@@ -37,7 +40,7 @@ module _ (plan : Planned) (all : Chained) (is : AreChains plan all) where
     positive = begins.positive;
     ordered = ordered (inner_or_final all c);
     within = omega (arith, last_within c h, is.nodes);
-    row = λ node l g. let on = goes_on_is plan node (is.chains.inside c node h l g) in omega (arith, on.behind, on.low);
+    row = λ node l g. let back = is.chains.behind c node h l g in omega (arith, back, l);
   } where
     begins : Begins plan all c
     begins = is.chains.begins c p h
@@ -55,7 +58,7 @@ module _ (plan : Planned) (all : Chained) (is : AreChains plan all) where
     one : (node < last all (owner all node)) ⊎ (last all (owner all node) ≤ node) → last all (owner all node) ≡ node
     one (inl l) =
         let on = goes_on_is plan (node + 1) (is.chains.inside (owner all node) (node + 1) own.chain (omega (arith, own.behind)) (omega (arith, l))) in
-        let back : node + 1 - 1 ≡ node = omega arith in
+        let back : parent plan.tree (node + 1) ≡ node = omega (arith, is.chains.behind (owner all node) (node + 1) own.chain (omega (arith, own.behind)) (omega (arith, l))) in
         absurd (both_ways (ends_at plan node) (ap (ends_at plan) (sym back) ∙ on.unended) ended)
     one (inr g) = omega (arith, g, own.before)
 

@@ -34,10 +34,9 @@ root_or_more c = one (cases_eq c 0) where
 
 -- what is said of a node that goes on
 pub record GoesOn (plan : Planned) (node : ℕ) : Type 0 where
-  pub low : 1 < node
-  pub behind : parent plan.tree node ≡ node - 1
-  pub single : child_count plan.tree (node - 1) ≡ 1
-  pub unended : ends_at plan (node - 1) ≡ false
+  pub low : 0 < parent plan.tree node
+  pub single : child_count plan.tree (parent plan.tree node) ≡ 1
+  pub unended : ends_at plan (parent plan.tree node) ≡ false
 
 not_true : (b : Bool) → not b ≡ true → b ≡ false
 not_true true h = cc
@@ -45,14 +44,12 @@ not_true false h = refl
 
 pub goes_on_is : (plan : Planned) (node : ℕ) → goes_on plan node ≡ true → GoesOn plan node
 goes_on_is plan node h =
-    let a = and_parts (nat_lt 1 node && (parent plan.tree node == node - 1) && (child_count plan.tree (node - 1) == 1)) (not (ends_at plan (node - 1))) h in
-    let b = and_parts (nat_lt 1 node && (parent plan.tree node == node - 1)) (child_count plan.tree (node - 1) == 1) a.0 in
-    let c = and_parts (nat_lt 1 node) (parent plan.tree node == node - 1) b.0 in
+    let a = and_parts (nat_lt 0 (parent plan.tree node) && (child_count plan.tree (parent plan.tree node) == 1)) (not (ends_at plan (parent plan.tree node))) h in
+    let b = and_parts (nat_lt 0 (parent plan.tree node)) (child_count plan.tree (parent plan.tree node) == 1) a.0 in
     record {
-      low = ltb-true 1 node c.0;
-      behind = eqb-true (parent plan.tree node) (node - 1) c.1;
-      single = eqb-true (child_count plan.tree (node - 1)) 1 b.1;
-      unended = not_true (ends_at plan (node - 1)) a.1;
+      low = ltb-true 0 (parent plan.tree node) b.0;
+      single = eqb-true (child_count plan.tree (parent plan.tree node)) 1 b.1;
+      unended = not_true (ends_at plan (parent plan.tree node)) a.1;
     }
 
 module _ (plan : Planned) (all : Chained) (is : AreSoFar plan all) where
@@ -71,7 +68,7 @@ module _ (plan : Planned) (all : Chained) (is : AreSoFar plan all) where
 
   -- ---- a node goes on
 
-  module _ (on : goes_on plan (length all.owners) ≡ true) where
+  module _ (on : goes_on plan (length all.owners) ≡ true) (next : parent plan.tree (length all.owners) ≡ length all.owners - 1) where
     longer : length (extended all).owners ≡ length all.owners + 1
     longer = length-append all.owners ((length all.heads - 1) ∷ [])
 
@@ -105,6 +102,16 @@ module _ (plan : Planned) (all : Chained) (is : AreSoFar plan all) where
       one (inl l) = is.inside c node h a (omega (arith, b, same_inner c l))
       one (inr l) = final l (cases_eq node (length all.owners))
 
+    behind_still : (c node : ℕ) → c < length all.heads → first all c < node → node ≤ last (extended all) c → parent plan.tree node ≡ node - 1
+    behind_still c node h a b = one (inner_or_final all c) where
+      final : length all.heads ≤ c + 1 → (node ≡ length all.owners) ⊎ (node ≢ length all.owners) → parent plan.tree node ≡ node - 1
+      final l (inl e) = ap (parent plan.tree) e ∙ next ∙ ap (λ n. n - 1) (sym e)
+      final l (inr e) = is.behind c node h a (omega (arith, e, b, last_final all c l, last_final (extended all) c l, longer))
+
+      one : (c + 1 < length all.heads) ⊎ (length all.heads ≤ c + 1) → parent plan.tree node ≡ node - 1
+      one (inl l) = is.behind c node h a (omega (arith, b, same_inner c l))
+      one (inr l) = final l (cases_eq node (length all.owners))
+
     owned_still : (node : ℕ) → node < length (extended all).owners → Owned (extended all) node
     owned_still node h = one (cases_eq node (length all.owners)) where
       one : (node ≡ length all.owners) ⊎ (node ≢ length all.owners) → Owned (extended all) node
@@ -133,6 +140,7 @@ module _ (plan : Planned) (all : Chained) (is : AreSoFar plan all) where
       begins = begins_still;
       rises = is.rises;
       inside = inside_still;
+      behind = behind_still;
       owners = owned_still;
       kids = is.kids;
     }
@@ -163,11 +171,10 @@ module _ (plan : Planned) (all : Chained) (is : AreSoFar plan all) where
           let p = parent plan.tree (length all.owners) in
           let ahead : p + 1 ≤ last all (owner all p) = omega (arith, e, own.before) in
           let on = goes_on_is plan (p + 1) (is.inside (owner all p) (p + 1) own.chain (omega (arith, own.behind)) ahead) in
-          let here : parent plan.tree (p + 1) ≡ p = omega (arith, on.behind) in
+          let here : parent plan.tree (p + 1) ≡ p = omega (arith, is.behind (owner all p) (p + 1) own.chain (omega (arith, own.behind)) ahead) in
           let lower : p + 1 - 1 < length all.owners - 1 = omega (arith, ahead, last_within (owner all p) own.chain) in
           let two = count_two (λ step. step.0 == p) plan.tree.steps (p + 1 - 1) (length all.owners - 1) (0, Run 0) lower (omega (arith, tree.count, within, is.owned)) (steps_there (p + 1) here) (steps_there (length all.owners) refl) in
-          let place : p + 1 - 1 ≡ p = omega arith in
-          let single : child_count plan.tree p ≡ 1 = sym (ap (child_count plan.tree) place) ∙ on.single in
+          let single : child_count plan.tree p ≡ 1 = sym (ap (child_count plan.tree) here) ∙ on.single in
           absurd (omega (arith, two, single))
 
     abbrev next : Chained
@@ -251,6 +258,14 @@ module _ (plan : Planned) (all : Chained) (is : AreSoFar plan all) where
       one (inr e) =
           let less : c < length all.heads = omega (arith, h, more_heads, e) in
           is.inside c node less (omega (arith, old_first c less, a)) (omega (arith, old_last c less, b))
+
+    behind_more : (c node : ℕ) → c < length next.heads → first next c < node → node ≤ last next c → parent plan.tree node ≡ node - 1
+    behind_more c node h a b = one (cases_eq c (length all.heads)) where
+      one : (c ≡ length all.heads) ⊎ (c ≢ length all.heads) → parent plan.tree node ≡ node - 1
+      one (inl e) = absurd (omega (arith, ap (first next) e, new_first, ap (last next) e, new_last, a, b))
+      one (inr e) =
+          let less : c < length all.heads = omega (arith, h, more_heads, e) in
+          is.behind c node less (omega (arith, old_first c less, a)) (omega (arith, old_last c less, b))
 
     owned_more : (node : ℕ) → node < length next.owners → Owned next node
     owned_more node h = one (cases_eq node (length all.owners)) where
@@ -363,6 +378,7 @@ module _ (plan : Planned) (all : Chained) (is : AreSoFar plan all) where
       begins = begins_more;
       rises = rises_more;
       inside = inside_more;
+      behind = behind_more;
       owners = owned_more;
       kids = kids_more;
     }

@@ -1,5 +1,5 @@
 -- The chains of a plan's tree. Chain 0 is the root alone. Each other chain is a run of nodes of which each but the last has
--- one child, the next one, and ends no schedule.
+-- one child, the next one, and ends no schedule; no chain can be made longer.
 use Rattle.std.specs.Prelude.{◌≡◌, ℕ, ◌+◌, ◌-◌, ◌<◌, ◌≤◌, ◌==◌, ◌&&◌, not, nat_lt, Bool, true, false, if◌then◌else◌, List, [], ◌∷◌, ◌++◌, length, count_by, slice_index_or, slice_set}
 use Rattle.std.specs.List.{list_any}
 use Rattle.bx_world.specs.declared.choices.Choice.{Choice}
@@ -15,12 +15,11 @@ child_count tree node = count_by (λ step. step.0 == node) tree.steps
 abbrev pub ends_at : Planned → ℕ → Bool
 ends_at plan node = list_any (λ line. line.1 == node) plan.lines
 
--- whether a node goes on its parent's chain: the parent is right before it and below the root, has no other child, and
--- ends no schedule
+-- whether a node goes on its parent's chain: the parent is below the root, has no other child, and ends no schedule
 abbrev pub goes_on : Planned → ℕ → Bool
 goes_on plan node =
-    nat_lt 1 node && (parent plan.tree node == node - 1) && (child_count plan.tree (node - 1) == 1)
-    && not (ends_at plan (node - 1))
+    nat_lt 0 (parent plan.tree node) && (child_count plan.tree (parent plan.tree node) == 1)
+    && not (ends_at plan (parent plan.tree node))
 
 pub record Chained : Type 0 where
   -- by chain, its first node and the chain on whose last node it stands
@@ -63,7 +62,8 @@ one_if b = if b then 1 else 0
 abbrev pub is_kid : Chained → ℕ → ℕ → Bool
 is_kid all c d = nat_lt 0 d && nat_lt d (length all.heads) && above all d == c
 
--- a chain below the root begins at a node that doesn't go on, and stands on the last node of a chain before it
+-- a chain below the root begins at a node that doesn't go on, so it makes no other chain longer, and stands on the last node of a
+-- chain before it
 pub record Begins (plan : Planned) (all : Chained) (c : ℕ) : Type 0 where
   pub positive : 0 < first all c
   pub within : first all c < length all.owners
@@ -85,6 +85,7 @@ pub record AreSoFar (plan : Planned) (all : Chained) : Type 0 where
   pub begins : (c : ℕ) → 0 < c → c < length all.heads → Begins plan all c
   pub rises : (c : ℕ) → c + 1 < length all.heads → first all c < first all (c + 1)
   pub inside : (c node : ℕ) → c < length all.heads → first all c < node → node ≤ last all c → goes_on plan node ≡ true
+  pub behind : (c node : ℕ) → c < length all.heads → first all c < node → node ≤ last all c → parent plan.tree node ≡ node - 1
   pub owners : (node : ℕ) → node < length all.owners → Owned all node
   pub kids : (c d : ℕ) → times d (kids all c) ≡ one_if (is_kid all c d)
 

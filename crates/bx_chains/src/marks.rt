@@ -89,9 +89,10 @@ impl Marks {
         requires within { node < length plan.now.tree.paths }
         ensures { result ≡ goes_on plan.now node }
     {
-        node > 1
-            && plan.parent(node) == node - 1
-            && has_one_child(&self.children, plan, node - 1)
-            && !has_end(&self.ends, plan, node - 1)
+        let _nodes = plan.nodes();
+        let parent = plan.parent(node);
+        parent > 0
+            && has_one_child(&self.children, plan, parent)
+            && !has_end(&self.ends, plan, parent)
     }
 }

@@ -11,25 +11,25 @@ use Rattle.bx_plan.specs.Nodes.{choice_eq, has_node, with_node, with_nodes, begi
 use Rattle.bx_plan.proofs.Members.{path_decides, has_at, stands_at}
 use Rattle.bx_plan.proofs.Walking.{with_nodes_extends}
 
-abbrev Has : List (List Choice) → List Choice → Type 0
+abbrev pub Has : List (List Choice) → List Choice → Type 0
 Has nodes path = has_node nodes path ≡ true
 
-has_append : (xs ys : List (List Choice)) (path : List Choice) → Has (xs ++ ys) path → Has xs path ⊎ Has ys path
+pub has_append : (xs ys : List (List Choice)) (path : List Choice) → Has (xs ++ ys) path → Has xs path ⊎ Has ys path
 has_append xs ys path h = or_cases (has_node xs path) (has_node ys path) (sym (list_any-append (λ node. pointwise choice_eq path node) xs ys) ∙ h)
 
-has_append_left : (xs ys : List (List Choice)) (path : List Choice) → Has xs path → Has (xs ++ ys) path
+pub has_append_left : (xs ys : List (List Choice)) (path : List Choice) → Has xs path → Has (xs ++ ys) path
 has_append_left xs ys path h = list_any-append (λ node. pointwise choice_eq path node) xs ys ∙ or_left (has_node xs path) (has_node ys path) h
 
-has_append_right : (xs ys : List (List Choice)) (path : List Choice) → Has ys path → Has (xs ++ ys) path
+pub has_append_right : (xs ys : List (List Choice)) (path : List Choice) → Has ys path → Has (xs ++ ys) path
 has_append_right xs ys path h = list_any-append (λ node. pointwise choice_eq path node) xs ys ∙ or_right (has_node xs path) (has_node ys path) h
 
-has_one : (to path : List Choice) → Has (to ∷ []) path → path ≡ to
+pub has_one : (to path : List Choice) → Has (to ∷ []) path → path ≡ to
 has_one to path h = one (or_cases (pointwise choice_eq path to) false h) where
   one : (pointwise choice_eq path to ≡ true) ⊎ (false ≡ true) → path ≡ to
   one (inl e) = (path_decides path to).0 e
   one (inr e) = cc
 
-has_first : (to : List Choice) (nodes : List (List Choice)) → Has (to ∷ nodes) to
+pub has_first : (to : List Choice) (nodes : List (List Choice)) → Has (to ∷ nodes) to
 has_first to nodes = or_left (pointwise choice_eq to to) (has_node nodes to) ((path_decides to to).1 refl)
 
 -- ---- nodes that are added
@@ -59,7 +59,7 @@ added_all nodes (to ∷ paths) path h = one (added_all (with_node nodes to) path
     two (inr e) = inr (subst (λ p. Has (to ∷ paths) p) (sym e) (has_first to paths))
   one (inr k) = inr (or_right (pointwise choice_eq path to) (has_node paths path) k)
 
-stay : (nodes paths : List (List Choice)) (path : List Choice) → Has nodes path → Has (with_nodes nodes paths) path
+pub stay : (nodes paths : List (List Choice)) (path : List Choice) → Has nodes path → Has (with_nodes nodes paths) path
 stay nodes paths path h =
     let more = with_nodes_extends nodes paths in
     subst (λ n. Has n path) (sym more.1) (has_append_left nodes more.0 path h)

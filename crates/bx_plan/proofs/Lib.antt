@@ -17,3 +17,4 @@ pub mod Pushing
 pub mod Upward
 pub mod Beginnings
 pub mod SamePlans
+pub mod Followers

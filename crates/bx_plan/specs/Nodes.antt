@@ -1,5 +1,5 @@
 -- The nodes of a plan's tree: the beginnings of its schedules, each once, in the order of their first use.
-use Rattle.std.specs.Prelude.{◌≡◌, ◌⊎◌, ◌↔◌, ◌<◌, slice_index_or, ℕ, ◌-◌, Bool, false, ◌&&◌, ◌==◌, if◌then◌else◌, List, [], ◌∷◌, ◌++◌, length}
+use Rattle.std.specs.Prelude.{◌≡◌, ◌⊎◌, ◌↔◌, ◌<◌, slice_index_or, ℕ, ◌+◌, ◌-◌, Bool, false, ◌&&◌, ◌==◌, if◌then◌else◌, List, [], ◌∷◌, ◌++◌, length}
 use Rattle.std.specs.List.{list_any}
 use Rattle.std.specs.Cmp.Lexicographic.{pointwise}
 use Rattle.bx_world.specs.declared.choices.Choice.{Choice}
@@ -65,3 +65,13 @@ pub record AreNodes (schedules nodes : List (List Choice)) : Type 0 where
   pub root : slice_index_or nodes 0 [] ≡ []
   pub members : (path : List Choice) → HasNode nodes path ↔ ((path ≡ []) ⊎ IsBeginning schedules path)
   pub distinct : (i j : ℕ) → i < length nodes → j < length nodes → slice_index_or nodes i [] ≡ slice_index_or nodes j [] → i ≡ j
+
+-- some schedule ends there
+abbrev pub EndsThere : List (List Choice) → List Choice → Type 0
+EndsThere [] path = ⊥
+EndsThere (schedule ∷ schedules) path = (path ≡ schedule) ⊎ EndsThere schedules path
+
+-- the node right behind this one is a child of it
+abbrev pub HasChildNext : List (List Choice) → ℕ → Type 0
+HasChildNext nodes node =
+    (choice : Choice) × (node + 1 < length nodes) × (slice_index_or nodes (node + 1) [] ≡ slice_index_or nodes node [] ++ choice ∷ [])
