@@ -1,19 +1,16 @@
 //! Measures of `bxemu`, on standard error. Without arguments it does nothing.
 //!
-//! `bench listing ITEMS`, `bench choices ROUNDS`, `bench mailbox ROUNDS`, `bench worlds LAPS`,
-//! `bench ring ROUNDS`, `bench senders TURNS`, `bench session CHOICES`, `bench campaign SCHEDULES`,
-//! `bench units SCHEDULES`; over a listing in a file `bench program CHOICES FILE` and
-//! `bench forms ROUNDS FILE`; at random `bench fuzz ROUNDS`, `bench walk CHOICES`,
-//! `bench texts ROUNDS FILE`.
+//! `bench listing ITEMS`, `bench choices ROUNDS`, `bench worlds LAPS`, `bench ring ROUNDS`,
+//! `bench senders TURNS`, `bench session CHOICES`, `bench campaign SCHEDULES`, `bench units SCHEDULES`;
+//! over a listing in a file `bench program CHOICES FILE` and `bench forms ROUNDS FILE`; at random
+//! `bench walk CHOICES`.
 #![tactic(auto)]
 
 mod campaigns;
 mod crowds;
 mod figures;
-mod fuzz;
 mod generated;
 mod listings;
-mod mailboxes;
 mod plans;
 mod programs;
 mod replays;
@@ -94,8 +91,6 @@ fn by_number(rt: &HostRuntime, word: &str, number: u32) -> Result<(), Trouble> {
     match word {
         "listing" => listings::measure(rt, number),
         "choices" => replays::loops(rt, number),
-        "mailbox" => mailboxes::measure(rt, number),
-        "fuzz" => fuzz::measure(rt, number),
         "ring" => crowds::ring(rt, number),
         "senders" => crowds::senders(rt, number),
         "session" => sessions::measure(rt, number),
@@ -111,7 +106,6 @@ fn by_file(rt: &HostRuntime, word: &str, number: u32, file: &str) -> Result<(), 
     match word {
         "program" => replays::program(rt, number, file, &text),
         "forms" => texts::measure(rt, number, file, &text),
-        "texts" => texts::fuzz(rt, number, &text),
         _ => Err(Trouble::Usage),
     }
 }

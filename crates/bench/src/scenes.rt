@@ -105,12 +105,6 @@ impl Scene {
     pub fn snapshot(&self, alloc: Global) -> Result<RcWorld, Fault> {
         self.end.world.snapshot(alloc)
     }
-
-    /// Makes a choice in a snapshot.
-    pub fn try_out(&self, alloc: Global, choice: Choice) -> Result<(), Fault> {
-        let mut other = self.end.world.snapshot(alloc)?;
-        other.apply(alloc, self.program.image(), choice)
-    }
 }
 
 #[inline(always)]

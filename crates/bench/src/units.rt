@@ -4,68 +4,17 @@ use crate::figures::{Watch, figure};
 use crate::plans::{HEAD, JUMP, PROCESSES, START, plan_of};
 use crate::programs::Program;
 use crate::trouble::Trouble;
-use bx_board::{Gate, Piece, campaign};
+use bx_board::{FreeGate, campaign};
 use bx_plan::Plan;
 use bx_terms::Fault;
 use bx_world::{ArcWorld, Choice, RunEnd, advance};
 use std::alloc::Global;
 use std::sync::Wait;
-use std::sync::atomic::{AtomicU64, Ordering};
 use std::thread::Threads;
 use std::time::Clock;
 
 /// How many choices process 0 makes until it has started all others.
 const BEFORE: u32 = 4 * (PROCESSES - 1);
-
-/// Notes when a campaign's workers begin and when they have ended, in nanoseconds since it was made: without the making of the
-/// book and the report.
-#[derive(Drop)]
-struct Service<'a, R: Clock> {
-    rt: &'a R,
-    watch: Watch,
-    began: AtomicU64,
-    ended: AtomicU64,
-}
-
-impl<'a, R: Clock> Service<'a, R> {
-    fn new(rt: &'a R) -> Service<'a, R> {
-        Service {
-            rt,
-            watch: Watch::start(rt),
-            began: AtomicU64::new(0),
-            ended: AtomicU64::new(0),
-        }
-    }
-
-    fn now(&self) -> u64 {
-        let nanos = self.watch.nanos(self.rt).unwrap_or(0);
-        u64::try_from(nanos).unwrap_or(0)
-    }
-
-    /// How many nanoseconds the workers took, where the clock could be read.
-    fn nanos(&self) -> Option<u128> {
-        let began = self.began.load(Ordering::SeqCst);
-        let ended = self.ended.load(Ordering::SeqCst);
-        match ended.checked_sub(began) {
-            Some(took) if began > 0 => Some(u128::from(took)),
-            _ => None,
-        }
-    }
-}
-
-impl<'a, R: Clock + Sync> Gate for Service<'a, R> {
-    fn begun(&self, _chains: usize) {
-        self.began.store(self.now(), Ordering::SeqCst);
-    }
-
-    fn leased(&self, _worker: usize) {}
-
-    fn worked(&self, _worker: usize, _piece: &Piece<'_>) {}
-
-    fn ended(&self) {
-        self.ended.store(self.now(), Ordering::SeqCst);
-    }
-}
 
 /// Runs a campaign of that many schedules by one worker, in which every unit behind the first is
 /// one choice: behind what all begin with each node has some thirty children, or none.
@@ -104,9 +53,9 @@ fn shared<R: Threads + Wait + Clock + Eprint + AllocGlobal + Sync>(
     let units = u64::from(units_of(plan));
     figure(
         rt,
-        "one worker serves a board",
+        "a campaign by one worker",
         units,
-        "a lease, its choice and its submit",
+        "a lease, its choice, its submit and its part of the book",
         nanos,
     )
 }
@@ -118,9 +67,9 @@ fn timed<R: Threads + Wait + Clock + AllocGlobal + Sync>(
 ) -> Result<Option<u128>, Fault> {
     let image = program.image();
     let (m, f) = (program.module(), program.start());
-    let service = Service::new(rt);
-    let _report = campaign(rt, rt.alloc(), image, m, f, plan, 1, &service)?;
-    Ok(service.nanos())
+    let watch = Watch::start(rt);
+    let _report = campaign(rt, rt.alloc(), image, m, f, plan, 1, &FreeGate)?;
+    Ok(watch.nanos(rt))
 }
 
 /// Tells what so many choices take, each in a snapshot of its own of one world.

@@ -99,12 +99,7 @@ fn runs(times: u32) -> Step {
 fn of_ten(rt: &HostRuntime, rounds: u32) -> Result<(), Trouble> {
     let parts = [(HEAD, 1), (CHILDREN, 1)];
     let ten = Scene::led(rt.alloc(), &parts, &[runs(45)])?;
-    of_both(rt, rounds, &ten)
-}
-
-fn of_both(rt: &HostRuntime, rounds: u32, ten: &Scene) -> Result<(), Trouble> {
-    snapshots(rt, rounds, ten)?;
-    tries(rt, rounds, ten)
+    snapshots(rt, rounds, &ten)
 }
 
 fn snapshots(rt: &HostRuntime, rounds: u32, ten: &Scene) -> Result<(), Trouble> {
@@ -125,28 +120,6 @@ fn snapshots_timed(rt: &HostRuntime, ten: &Scene) -> Result<Option<u128>, Fault>
     let watch = Watch::start(rt);
     for _ in 0..LAPS {
         let _ = ten.snapshot(rt.alloc())?;
-    }
-    Ok(watch.nanos(rt))
-}
-
-fn tries(rt: &HostRuntime, rounds: u32, ten: &Scene) -> Result<(), Trouble> {
-    let mut took = Rounds::new(rt.alloc());
-    for _ in 0..rounds {
-        took.push(tries_timed(rt, ten)?)?;
-    }
-    figure_of(
-        rt,
-        "ten processes",
-        u64::from(LAPS),
-        "a snapshot and a choice in it",
-        &mut took,
-    )
-}
-
-fn tries_timed(rt: &HostRuntime, ten: &Scene) -> Result<Option<u128>, Fault> {
-    let watch = Watch::start(rt);
-    for _ in 0..LAPS {
-        ten.try_out(rt.alloc(), Run(1))?;
     }
     Ok(watch.nanos(rt))
 }
