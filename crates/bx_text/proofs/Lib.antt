@@ -8,7 +8,6 @@ pub mod Elements
 pub mod Escaping
 pub mod Grammatical
 pub mod Keeping
-pub mod Leads
 pub mod Lefts
 pub mod Letters
 pub mod Names

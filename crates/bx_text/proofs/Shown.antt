@@ -99,6 +99,43 @@ digits_shown (b ∷ bs) e some = by (eqb b 48) refl some (digits_shown bs)
         let shown : 48 + with_digit 0 b ≡ b = omega arith in
         folded (with_digit 0 b) bs first parts.1 ∙ ap (λ ds. ds ++ bs) (one_digit (with_digit 0 b) (omega arith) ∙ ap (λ c. c ∷ []) shown)
 
+-- the zeros that digits begin with count nothing
+unshown : (ds : List ℕ) → decimal (drop (prefix_len is_zero ds) ds) ≡ decimal ds
+unshown [] = refl
+unshown (b ∷ bs) = by (eqb b 48) refl (unshown bs)
+  where
+    by : (t : Bool) → eqb b 48 ≡ t → decimal (drop (prefix_len is_zero bs) bs) ≡ decimal bs → decimal (drop (cond t (1 + prefix_len is_zero bs) 0) (b ∷ bs)) ≡ fold with_digit (with_digit 0 b) bs
+    by true is rest =
+        let none : with_digit 0 b ≡ 0 = grind (arith, nat_tests) in
+        let next : 1 + prefix_len is_zero bs ≡ suc (prefix_len is_zero bs) = omega arith in
+        ap (λ n. decimal (drop n (b ∷ bs))) next ∙ rest ∙ ap (λ n. fold with_digit n bs) (sym none)
+    by false is rest = refl
+
+-- so digits spell the same number exactly where the others are the same
+pub same_shown : (ds es : List ℕ) → list_all is_digit ds ≡ true → list_all is_digit es ≡ true → 0 < decimal ds → 0 < decimal es → decimal ds ≡ decimal es
+    → drop (prefix_len is_zero ds) ds ≡ drop (prefix_len is_zero es) es
+same_shown ds es d e m n h = sym (digits_shown ds d m) ∙ ap whole_decimal h ∙ digits_shown es e n
+
+pub same_decimal : (ds es : List ℕ) → drop (prefix_len is_zero ds) ds ≡ drop (prefix_len is_zero es) es → decimal ds ≡ decimal es
+same_decimal ds es h = sym (unshown ds) ∙ ap decimal h ∙ unshown es
+
+pub large_some : (negative : Bool) (n : ℕ) → is_large (signed negative n) ≡ true → 0 < n
+large_some true zero large = absurd (cc)
+large_some true (suc n) large = omega arith
+large_some false zero large = absurd (cc)
+large_some false (suc n) large = omega arith
+
+-- integers outside 64 bits have one sign and one magnitude
+pub signed_apart : (m n : Bool) (a b : ℕ) → is_large (signed m a) ≡ true → is_large (signed n b) ≡ true → signed m a ≡ signed n b → (m ≡ n) × (a ≡ b)
+signed_apart true true zero b p q e = cc
+signed_apart true true (suc a) zero p q e = cc
+signed_apart true true (suc a) (suc b) p q e = let same : a ≡ b = cc in (refl, ap suc same)
+signed_apart true false zero b p q e = cc
+signed_apart true false (suc a) b p q e = cc
+signed_apart false true a zero p q e = cc
+signed_apart false true a (suc b) p q e = cc
+signed_apart false false a b p q e = let same : a ≡ b = cc in (refl, same)
+
 -- an integer of 64 bits as std prints it
 pub small_text : (z : ℤ) → mag z < 2 ^ 63 → signed_decimal z ≡ integer_text z
 unfolding integer_text whole_decimal

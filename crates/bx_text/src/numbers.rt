@@ -16,7 +16,7 @@ use crate::tokens::{Large, Token};
 use bx_terms::Fault;
 
 /// What a byte counts as a digit: how far it is past `0`.
-pub(crate) fn digit_value(digit: u8) -> u64
+fn digit_value(digit: u8) -> u64
     ensures { result ≡ digit - 48 }
 {
     u64::from(digit.saturating_sub(b'0'))
@@ -34,7 +34,7 @@ fn with_digit(n: u64, digit: u8) -> Option<u64>
 
 /// The number that digits spell, where it is below 2^64.
 #[tactic(auto, using(crate::proofs::Decimals::stays_large, crate::proofs::Decimals::fold_step))]
-pub(crate) fn magnitude(digits: &[u8]) -> Option<u64>
+fn magnitude(digits: &[u8]) -> Option<u64>
     ensures { MatchOption result (2 ^ 64 ≤ decimal digits.now) (λ n. n ≡ decimal digits.now) }
 {
     let mut sum = 0u64;

@@ -1,36 +1,17 @@
 //! The text of a node: without spaces, and never as a string.
 
-ghost use Rattle.std.specs.Prelude.{◌≡◌, ◌++◌, true, ◌≤◌, Ok, OnOk, drop, length, string_bytes};
-ghost use Rattle.std.specs.List.{list_all, prefix_len};
+ghost use Rattle.std.specs.Prelude.{◌≡◌, ◌++◌, true, Ok, OnOk, string_bytes};
 ghost use Rattle.bx_terms.specs.Outcomes.{Gives};
-ghost use Rattle.bx_text.specs.Bytes.{is_digit};
 ghost use Rattle.bx_text.specs.Number.{number, is_large, is_spelling};
 ghost use Rattle.bx_text.specs.Tree.{chain, IsWhole, IsEnd};
 ghost use Rattle.bx_text.specs.View.{tail_seen};
-ghost use Rattle.bx_text.specs.Printed.{is_zero, sign_text, integer_text, node_text, row_text, rest_text};
+ghost use Rattle.bx_text.specs.Printed.{sign_text, integer_text, node_text, row_text, rest_text};
 
-use crate::bytes::as_text;
 use crate::node::{Node, View};
-use crate::spellings::parts;
+use crate::spellings::{parts, shown};
 use bx_terms::{Fault, push_atom};
 use itoa::Buffer;
 use std::alloc::{AllocError, Global};
-
-/// How many zeros stand before the other digits.
-fn zeros(digits: &[u8]) -> usize
-    ensures exact { result ≡ prefix_len is_zero digits.now }
-    ensures bounded { result ≤ length digits.now }
-{
-    digits.iter().take_while(|digit| **digit == b'0').count()
-}
-
-/// Digits without the zeros that they begin with.
-fn shown(digits: &[u8]) -> &str
-    requires { list_all is_digit digits.now ≡ true }
-    ensures { result.now ≡ drop (prefix_len is_zero digits.now) digits.now }
-{
-    as_text(&digits[zeros(digits)..])
-}
 
 fn push_integer(out: &mut String, value: i64) -> Result<(), AllocError>
     ensures { OnOk result (string_bytes out.new ≡ string_bytes out.old ++ integer_text value) }

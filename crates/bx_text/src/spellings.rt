@@ -1,54 +1,12 @@
-//! When two spellings stand for the same integer, whatever zeros their digits begin with.
+//! The digits of spellings, and when two spellings stand for the same integer.
 
-ghost use Rattle.std.specs.Prelude.{◌≡◌, ◌↔◌, ◌≤◌, true, length, IsTrue};
-ghost use Rattle.std.specs.List.{fold, list_all};
+ghost use Rattle.std.specs.Prelude.{◌≡◌, ◌↔◌, ◌≤◌, ◌<◌, true, drop, length, IsTrue};
+ghost use Rattle.std.specs.List.{list_all, prefix_len};
 ghost use Rattle.bx_text.specs.Bytes.{is_digit};
-ghost use Rattle.bx_text.specs.Number.{decimal, number, signed, is_large, is_spelling, with_digit};
+ghost use Rattle.bx_text.specs.Number.{decimal, number, signed, is_large, is_spelling};
+ghost use Rattle.bx_text.specs.Printed.{is_zero};
 
-use crate::numbers::{digit_value, magnitude};
-
-/// The largest lead that what follows can still make up for: a byte counts at most 207, and a lead grows tenfold.
-const LARGEST_LEAD: u64 = 23;
-
-/// Whether the digits `xs`, read on from the number `lead`, spell what as many digits `ys` spell.
-fn same_behind(lead: u64, xs: &[u8], ys: &[u8]) -> bool
-    requires { length xs.now ≡ length ys.now }
-    ensures { IsTrue result ↔ (fold with_digit lead xs.now ≡ decimal ys.now) }
-{
-    let mut one = lead;
-    let mut other = 0u64;
-    for i in 0..xs.len() {
-        if one.abs_diff(other) > LARGEST_LEAD {
-            return false;
-        }
-        let shared = one.min(other);
-        one = (one - shared) * 10 + digit_value(xs[i]);
-        other = (other - shared) * 10 + digit_value(ys[i]);
-    }
-    one == other
-}
-
-/// Whether digits spell the same number as others, of which there are no more.
-fn same_as_shorter(digits: &[u8], shorter: &[u8]) -> bool
-    requires { length shorter.now ≤ length digits.now }
-    ensures { IsTrue result ↔ (decimal digits.now ≡ decimal shorter.now) }
-{
-    let extra = digits.len() - shorter.len();
-    match magnitude(&digits[..extra]) {
-        Some(lead) => same_behind(lead, &digits[extra..], shorter),
-        None => false,
-    }
-}
-
-fn same_decimal(xs: &[u8], ys: &[u8]) -> bool
-    ensures { IsTrue result ↔ (decimal xs.now ≡ decimal ys.now) }
-{
-    if xs.len() < ys.len() {
-        same_as_shorter(ys, xs)
-    } else {
-        same_as_shorter(xs, ys)
-    }
-}
+use crate::bytes::as_text;
 
 /// Whether a spelling has a sign, and its digits.
 pub(crate) fn parts(spelling: &[u8]) -> (bool, &[u8])
@@ -61,14 +19,43 @@ pub(crate) fn parts(spelling: &[u8]) -> (bool, &[u8])
     }
 }
 
+/// How many zeros stand before the other digits.
+fn zeros(digits: &[u8]) -> usize
+    ensures exact { result ≡ prefix_len is_zero digits.now }
+    ensures bounded { result ≤ length digits.now }
+{
+    digits.iter().take_while(|digit| **digit == b'0').count()
+}
+
+/// Digits without the zeros that they begin with.
+pub(crate) fn shown(digits: &[u8]) -> &str
+    requires { list_all is_digit digits.now ≡ true }
+    ensures { result.now ≡ drop (prefix_len is_zero digits.now) digits.now }
+{
+    as_text(&digits[zeros(digits)..])
+}
+
+/// Whether digits spell the same number, which is not 0.
+fn same_digits(one: &[u8], other: &[u8]) -> bool
+    requires digits { list_all is_digit one.now ≡ true }
+    requires other_digits { list_all is_digit other.now ≡ true }
+    requires some { 0 < decimal one.now }
+    requires other_some { 0 < decimal other.now }
+    ensures { IsTrue result ↔ (decimal one.now ≡ decimal other.now) }
+{
+    shown(one) == shown(other)
+}
+
 /// Whether two spellings of integers outside 64 bits stand for the same one.
-#[tactic(auto, using(crate::proofs::Leads::signed_apart))]
+#[tactic(auto, using(crate::proofs::Shown::signed_apart, crate::proofs::Shown::large_some))]
 pub(crate) fn same_number(one: &[u8], other: &[u8]) -> bool
     requires one { is_large (number one.now) ≡ true }
     requires other { is_large (number other.now) ≡ true }
+    requires spelled { is_spelling one.now ≡ true }
+    requires other_spelled { is_spelling other.now ≡ true }
     ensures { IsTrue result ↔ (number one.now ≡ number other.now) }
 {
     let (negative, digits) = parts(one);
     let (other_negative, other_digits) = parts(other);
-    negative == other_negative && same_decimal(digits, other_digits)
+    negative == other_negative && same_digits(digits, other_digits)
 }
