@@ -22,7 +22,7 @@ spells_more t u more [] [] e = tt
 spells_more t u more [] (i ∷ is) e = e
 spells_more t u more (n ∷ ns) [] e = e
 spells_more t u more (n ∷ ns) (i ∷ is) e = (
-  record { number = e.0.number; row = row_more t u more n.operands.items i.operands e.0.row },
+  record { op = e.0.op; row = row_more t u more n.operands.items i.operands e.0.row },
   spells_more t u more ns is e.1,
 )
 

@@ -3,7 +3,6 @@ pub mod Firsts
 pub mod Imports
 pub mod Labels
 pub mod Registers
-pub mod MarkNumbers
 pub mod Growth
 pub mod Growing
 pub mod Units

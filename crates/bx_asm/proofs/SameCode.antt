@@ -27,9 +27,6 @@ same_items_so_far xs ys i = so_far (record { op = Line; operands = [] }) xs ys i
 pub same_whole : {A : Type 0} (xs ys : List A) (i : ℕ) → length xs ≤ i → length ys ≤ i → take i xs ≡ take i ys → xs ≡ ys
 same_whole xs ys i hx hy e = sym (take_all i xs hx) ∙ e ∙ take_all i ys hy
 
-pub same_item : (i j : Item) → i.op ≡ j.op → i.operands ≡ j.operands → i ≡ j
-same_item i j op operands = λ k. record { op = op k; operands = operands k }
-
 abbrev flat : List CodeFunction → List Item
 flat fs = flat_map (λ f. f.items) fs
 

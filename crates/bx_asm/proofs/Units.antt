@@ -1,13 +1,9 @@
 -- The items of a unit, found by their numbers.
 use Rattle.std.proofs.Common.{◌≡◌, ℕ, ◌<◌, ◌≤◌, List, [], ◌∷◌, ◌++◌, length, map, take, drop, get_or, refl, ap, sym, ◌∙◌, arith, length-drop, length-append}
-use Rattle.std.specs.Prelude.{Option, Some, None, option_map, slice_get, unwrap_or}
+use Rattle.std.specs.Prelude.{Option, Some, None, option_map, slice_get}
 use Rattle.std.specs.List.{flat_map}
 use Rattle.std.proofs.lemmas.List.{take-append-drop, length-take-le, length-map}
 use Rattle.std.proofs.lemmas.Option.{slice_get-map, slice_get-get_or, slice_get_past}
-use Rattle.bx_ops.specs.Opcodes.{opcode}
-use Rattle.bx_ops.specs.declared.opcode.Op.{Op}
-use Rattle.bx_ops.specs.declared.opcode.Op.TheVariants.{IntCodeEnd}
-use Rattle.bx_ops.proofs.OpcodeLemmas.{with_number-number}
 use Rattle.bx_listing.specs.Items.{Item, PlacedItem}
 use Rattle.bx_listing.specs.ListedCode.{ListedFunction}
 use Rattle.bx_listing.specs.Code.{function_code_of, items_of}
@@ -16,7 +12,7 @@ use Rattle.bx_asm.specs.declared.unit.Head.{Head}
 use Rattle.bx_asm.specs.Drafts.{Spells, head_of, all_items}
 use Rattle.bx_asm.specs.Limits.{count}
 use Rattle.bx_asm.specs.Operands.{Tables}
-use Rattle.bx_asm.specs.Spelling.{op_of, spelled_item}
+use Rattle.bx_asm.specs.Spelling.{spelled_item}
 use Rattle.bx_asm.specs.Unit.{functions, IsUnit, total, code_head}
 use Rattle.bx_asm.proofs.Growth.{row_spelled}
 
@@ -68,19 +64,15 @@ pub drop_front : {A : Type 0} (xs ys : List A) → drop (length xs) (xs ++ ys) �
 drop_front [] ys = refl
 drop_front (x ∷ xs) ys = drop_front xs ys
 
-opcode_of : (n : ℕ) (op : Op) → n ≡ (opcode op).number → op_of n ≡ op
-opcode_of n op e = ap op_of e ∙ ap (λ (o : Option Op). unwrap_or o IntCodeEnd) (with_number-number op)
-
 -- what every item of a row spells is what the row spells
 unwrapped : (t : Tables) (ns : List NumberedItem) (is : List Item) → Spells t ns is → map (spelled_item t) ns ≡ is
 unwrapped t [] [] e = refl
 unwrapped t [] (i ∷ is) e = absurd e
 unwrapped t (n ∷ ns) [] e = absurd e
 unwrapped t (n ∷ ns) (i ∷ is) e =
-    let op = opcode_of n.number i.op e.0.number in
     let row = row_spelled t n.operands.items i.operands e.0.row in
     let tail = unwrapped t ns is e.1 in
-    λ k. record { op = op k; operands = row k } ∷ tail k
+    λ k. record { op = e.0.op k; operands = row k } ∷ tail k
 
 -- the items of each function are its own, and there are as many as there are items
 functions-of : (fs : List ListedFunction) → functions (map head_of fs) (all_items fs) ≡ map function_code_of fs

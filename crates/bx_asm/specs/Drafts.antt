@@ -1,7 +1,6 @@
 -- Code that is being numbered: what was spelled stays spelled while the tables grow.
 use Rattle.std.specs.Prelude.{◌≡◌, ℕ, ◌+◌, List, [], ◌∷◌, ◌++◌, Option, Some, None, map, slice_get, length}
 use Rattle.std.specs.List.{flat_map}
-use Rattle.bx_ops.specs.Opcodes.{opcode}
 use Rattle.bx_listing.specs.declared.items.Operand.{Operand as Spelt}
 use Rattle.bx_listing.specs.Items.{Item}
 use Rattle.bx_listing.specs.ListedCode.{ListedFunction}
@@ -25,7 +24,7 @@ abbrev pub SpellsRow : Tables → List Operand → List Spelt → Type 0
 SpellsRow t numbered row = map (spelled t) numbered ≡ map Some row
 
 pub record SpellsItem (t : Tables) (numbered : NumberedItem) (item : Item) : Type 0 where
-  pub number : numbered.number ≡ (opcode item.op).number
+  pub op : numbered.op ≡ item.op
   pub row : SpellsRow t numbered.operands.items item.operands
 
 -- the numbered items spell these items

@@ -95,7 +95,7 @@ fn copy_item(
 {
     take_room(room, item.operands.as_slice().len())?;
     Ok(NumberedItem {
-        number: item.number,
+        op: item.op,
         operands: SmallVec::from_slice(alloc, item.operands.as_slice())?,
     })
 }

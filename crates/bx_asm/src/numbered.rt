@@ -1,4 +1,4 @@
-//! An item of a unit, seen where it lies: its numbers, and what they spell.
+//! An item of a unit, seen where it lies: its opcode and operands, and what they spell.
 
 ghost use Rattle.std.specs.Prelude.{◌≡◌, ◌↔◌, ◌||◌, ◌==◌, IsTrue, option_map, slice_get, length};
 ghost use Rattle.bx_asm.specs.Decoding.{instruction_of};
@@ -12,13 +12,13 @@ use crate::instruction::Instruction;
 use crate::lookup::Lookup;
 use crate::operands::Operand;
 use bx_listing::{Amount, Import};
-use bx_ops::{Bif, Op, number, op_by_number};
+use bx_ops::{Bif, Op};
 use bx_terms::{AtomId, Term};
 
-/// An item of a unit: its opcode's number, its operands, and the tables that these name.
+/// An item of a unit: its opcode, its operands, and the tables that these name.
 #[derive(Clone, Copy)]
 pub struct Numbered<'a> {
-    pub number: u32,
+    pub op: Op,
     pub operands: &'a [Operand],
     pub tables: Lookup<'a>,
 }
@@ -68,10 +68,6 @@ impl<'a> Spelt<'a> {
         }
     }
 }
-
-const LABEL: u32 = Op::Label as u32;
-
-const LINE: u32 = Op::Line as u32;
 
 impl<'a> Lookup<'a> {
     /// What an operand spells; what is in no table is nil.
@@ -126,7 +122,7 @@ impl<'a> Numbered<'a> {
     pub fn op(self) -> Op
         ensures { result ≡ (item_of self.entry).op }
     {
-        op_by_number(self.number).unwrap_or(Op::IntCodeEnd)
+        self.op
     }
 
     /// The instruction that the item is; `None` where it is a label or a line.
@@ -137,24 +133,21 @@ impl<'a> Numbered<'a> {
         self.tables.instruction(self.op(), self.operands)
     }
 
-    /// Whether the item is a mark: a label or a line, and no instruction. It is told by the opcode's number alone.
+    /// Whether the item is a mark: a label or a line, and no instruction.
     #[inline(always)]
-    #[tactic(auto, using(crate::proofs::MarkNumbers::mark_is))]
     pub fn is_mark(self) -> bool
         ensures { result ≡ is_mark (item_of self.entry) }
     {
-        self.number == LABEL || self.number == LINE
+        matches!(self.op, Op::Label | Op::Line)
     }
 
     /// The label that the item is.
-    #[tactic(auto, using(crate::proofs::MarkNumbers::label_is, crate::proofs::MarkNumbers::label_is_not))]
     pub fn label(self) -> Option<u32>
         ensures { result ≡ label_of (item_of self.entry) }
     {
-        if self.number == LABEL {
-            self.first_place()
-        } else {
-            None
+        match self.op {
+            Op::Label => self.first_place(),
+            _ => None,
         }
     }
 
@@ -185,18 +178,12 @@ impl<'a> Numbered<'a> {
     }
 
     /// Whether both spell the same item.
+    #[tactic(auto, using(bx_ops::proofs::Equality::op_same))]
     pub fn same(self, other: Numbered<'_>) -> bool
         ensures { IsTrue result ↔ (item_of self.entry ≡ item_of other.entry) }
     {
-        same_op(self.op(), other.op()) && same_operands(self, other)
+        self.op == other.op && same_operands(self, other)
     }
-}
-
-#[tactic(auto, using(crate::proofs::MarkNumbers::same_numbers))]
-fn same_op(one: Op, other: Op) -> bool
-    ensures { IsTrue result ↔ (one ≡ other) }
-{
-    number(one) == number(other)
 }
 
 /// Whether the operands of one number are the same, or neither item has one.

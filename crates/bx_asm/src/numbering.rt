@@ -2,7 +2,6 @@
 
 ghost use Rattle.std.specs.Prelude.{◌≡◌, ◌≤◌, ◌<◌, ◌+◌, ◌∷◌, ◌++◌, [], List, OnOk, IfOk, Some, None, length, true};
 ghost use Rattle.std.specs.List.{list_all};
-ghost use Rattle.bx_ops.specs.Opcodes.{opcode};
 ghost use Rattle.bx_terms.specs.Tree.{Tree};
 ghost use Rattle.bx_listing.specs.declared.items.Import.{Import as Called};
 ghost use Rattle.bx_asm.specs.Drafts.{Extends, SpellsRow};
@@ -11,7 +10,6 @@ ghost use Rattle.bx_asm.specs.Operands.{spelled};
 
 use crate::operands::{NumberedItem, Operand};
 use bx_listing::{Import, Item, Operand as Listed};
-use bx_ops::number;
 use bx_terms::Term;
 use indexmap::IndexSet;
 use smallvec::SmallVec;
@@ -132,7 +130,7 @@ impl Draft {
     {
         let operands = self.number_row(alloc, item.operands)?;
         self.items.push(NumberedItem {
-            number: number(item.op),
+            op: item.op,
             operands,
         })?;
         Ok(())

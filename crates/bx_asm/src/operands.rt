@@ -3,7 +3,7 @@
 ghost use Rattle.std.specs.Prelude.{◌≡◌};
 
 use bx_listing::Amount;
-use bx_ops::Bif;
+use bx_ops::{Bif, Op};
 use bx_terms::AtomId;
 use smallvec::SmallVec;
 
@@ -45,9 +45,10 @@ impl Default for Operand {
     }
 }
 
-/// An item as it is stored: its opcode's number and its operands, of which up to three lie in the item itself.
+/// An item as it is stored: its opcode, which stands for one number, and its operands, of which up to three lie in the
+/// item itself.
 #[derive(Debug, Drop)]
 pub struct NumberedItem {
-    pub number: u32,
+    pub op: Op,
     pub operands: SmallVec<Operand, 3>,
 }

@@ -163,7 +163,7 @@ impl Unit {
         }
         let item = &self.items[number];
         Some(Numbered {
-            number: item.number,
+            op: item.op,
             operands: item.operands.as_slice(),
             tables: Lookup { named: &self.named },
         })

@@ -1,6 +1,5 @@
 pub mod Classes
 pub mod GuardBifs
 pub mod Opcodes
-pub mod OpsByLength
+pub mod Rows
 pub mod Table
-pub mod TableLaws

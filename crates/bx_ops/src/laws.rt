@@ -3,10 +3,9 @@ ghost use Rattle.std.specs.Prelude.{◌≡◌, ◌↔◌, ℕ, List, [], ◌∷�
 ghost use Rattle.bx_ops.specs.declared.guard_bif.Bif.{Bif};
 ghost use Rattle.bx_ops.specs.declared.opcode.Op.{Op};
 ghost use Rattle.bx_ops.specs.GuardBifs.{guard_bif, guard_bif_with};
-ghost use Rattle.bx_ops.specs.Opcodes.{opcode, every_op, with_number, with_name, with_name_and_arity};
-ghost use Rattle.bx_ops.specs.Classes.{is_local, is_test};
-ghost use Rattle.bx_ops.specs.Table.{slots, way};
-ghost use Rattle.bx_ops.specs.TableLaws.{kept, is_test_way};
+ghost use Rattle.bx_ops.specs.Opcodes.{opcode, every_op, with_number, with_name};
+ghost use Rattle.bx_ops.specs.Classes.{is_local};
+ghost use Rattle.bx_ops.specs.Table.{way, arity, is_test, with_name_and_arity};
 
 /// No two opcodes have the same number.
 pub fn numbers_are_distinct()
@@ -30,8 +29,8 @@ pub fn names_look_up()
 
 /// A look-up by name and arity finds an opcode exactly where the opcode has both.
 pub fn names_with_arities_look_up()
-    ensures { (name : List ℕ) (arity : ℕ) (op : Op) → (with_name_and_arity name arity ≡ Some op)
-        ↔ (((opcode op).name ≡ name) × ((opcode op).arity ≡ arity)) }
+    ensures { (name : List ℕ) (count : ℕ) (op : Op) → (with_name_and_arity name count ≡ Some op)
+        ↔ (((opcode op).name ≡ name) × (arity op ≡ count)) }
 {}
 
 /// Exactly four opcodes are not local.
@@ -40,9 +39,9 @@ pub fn four_are_not_local()
         ≡ codes "call_ext" ∷ codes "call_ext_last" ∷ codes "send" ∷ codes "call_ext_only" ∷ [] }
 {}
 
-/// The tests are the opcodes whose name begins with `is_`, and `test_arity`.
+/// The opcodes that listings write as `{test,NAME,LABEL,OPERANDS}` are those whose name begins with `is_`, and `test_arity`.
 pub fn tests_are_named_so()
-    ensures { (op : Op) → is_test op
+    ensures { (op : Op) → is_test (way op)
         ≡ (bytes_eq (take 3 (opcode op).name) (codes "is_") || bytes_eq (opcode op).name (codes "test_arity")) }
 {}
 
@@ -55,16 +54,4 @@ pub fn guard_bifs_are_distinct()
 pub fn guard_bifs_look_up()
     ensures { (name : List ℕ) (arity : ℕ) (bif : Bif) → (guard_bif_with name arity ≡ Some bif)
         ↔ (((guard_bif bif).name ≡ name) × ((guard_bif bif).arity ≡ arity)) }
-{}
-
-/// The table of how listings write instructions gives each opcode as many operands as its arity says.
-#[tactic(auto, using(crate::proofs::TableLaws::arities))]
-pub fn operands_are_as_many_as_the_arity()
-    ensures { (op : Op) → kept (slots op) ≡ (opcode op).arity }
-{}
-
-/// The opcodes that listings write as `{test,NAME,LABEL,OPERANDS}` are the tests.
-#[tactic(auto, using(crate::proofs::TableLaws::tests))]
-pub fn tests_are_written_as_tests()
-    ensures { (op : Op) → is_test_way (way op) ≡ is_test op }
 {}

@@ -3,13 +3,11 @@
 
 mod guard_bif;
 pub mod laws;
-mod lookup;
 mod opcode;
 mod sorts;
 mod table;
 
-pub use guard_bif::{Bif, bif_arity, bif_by_name, bif_name, is_guard_bif};
-pub use lookup::{op_by_name, op_by_number, op_named};
-pub use opcode::{Op, is_local, is_test, name, number, shape};
+pub use guard_bif::{Bif, bif_by_name, bif_name};
+pub use opcode::Op;
 pub use sorts::{Slot, Sort, Way};
-pub use table::{slots, way};
+pub use table::{is_local, name, number, op_by_name, op_by_number, op_named, shape, slots, way};

@@ -1,287 +1,182 @@
-//! The opcodes, and what the table says of each.
+//! The opcodes, and the table of them: a row each, by rising number.
+//!
+//! Source: `genop.tab` of Erlang/OTP (lib/compiler/src), and the listings that `erlc -S` writes.
 ghost use Rattle.std.specs.Prelude.{◌≡◌};
 ghost use Rattle.bx_ops.specs.Opcodes.{opcode};
-ghost use Rattle.bx_ops.specs.Classes.{is_local as local_op, is_test as test_op};
+ghost use Rattle.bx_ops.specs.Rows.{said_of_op};
 
-/// An opcode of the subset, named as in `genop.tab` of Erlang/OTP. Its value is the number that it has there.
+use crate::sorts::Slot::{self, Heap, Many, NoLabel, One, Pairs, ToX0};
+use crate::sorts::Sort::{
+    Arity, Atom, Bif0, Bif1, Bif2, Callee, Fail, Mark, Number, Place, Register, Source, Target,
+    Value, YRegister,
+};
+use crate::sorts::Way;
+
+/// An opcode of the subset, named as in `genop.tab` of Erlang/OTP, by rising number.
 #[derive(Clone, Copy, Debug, PartialEq, Eq)]
 pub enum Op {
-    Label = 1,
-    FuncInfo = 2,
-    IntCodeEnd = 3,
-    Call = 4,
-    CallLast = 5,
-    CallOnly = 6,
-    CallExt = 7,
-    CallExtLast = 8,
-    Bif0 = 9,
-    Bif1 = 10,
-    Bif2 = 11,
-    Allocate = 12,
-    AllocateHeap = 13,
-    TestHeap = 16,
-    Deallocate = 18,
-    Return = 19,
-    Send = 20,
-    RemoveMessage = 21,
-    Timeout = 22,
-    LoopRec = 23,
-    LoopRecEnd = 24,
-    Wait = 25,
-    WaitTimeout = 26,
-    IsLt = 39,
-    IsGe = 40,
-    IsEq = 41,
-    IsNe = 42,
-    IsEqExact = 43,
-    IsNeExact = 44,
-    IsInteger = 45,
-    IsFloat = 46,
-    IsNumber = 47,
-    IsAtom = 48,
-    IsPid = 49,
-    IsReference = 50,
-    IsPort = 51,
-    IsNil = 52,
-    IsBinary = 53,
-    IsList = 55,
-    IsNonemptyList = 56,
-    IsTuple = 57,
-    TestArity = 58,
-    SelectVal = 59,
-    SelectTupleArity = 60,
-    Jump = 61,
-    Catch = 62,
-    CatchEnd = 63,
-    Move = 64,
-    GetList = 65,
-    GetTupleElement = 66,
-    PutList = 69,
-    Badmatch = 72,
-    IfEnd = 73,
-    CaseEnd = 74,
-    CallExtOnly = 78,
-    Try = 104,
-    TryEnd = 105,
-    TryCase = 106,
-    TryCaseEnd = 107,
-    Raise = 108,
-    IsBoolean = 114,
-    GcBif1 = 124,
-    GcBif2 = 125,
-    Trim = 136,
-    Line = 153,
-    IsTaggedTuple = 159,
-    BuildStacktrace = 160,
-    GetHd = 162,
-    GetTl = 163,
-    PutTuple2 = 164,
-    Swap = 169,
-    InitYregs = 172,
+    Label,
+    FuncInfo,
+    IntCodeEnd,
+    Call,
+    CallLast,
+    CallOnly,
+    CallExt,
+    CallExtLast,
+    Bif0,
+    Bif1,
+    Bif2,
+    Allocate,
+    AllocateHeap,
+    TestHeap,
+    Deallocate,
+    Return,
+    Send,
+    RemoveMessage,
+    Timeout,
+    LoopRec,
+    LoopRecEnd,
+    Wait,
+    WaitTimeout,
+    IsLt,
+    IsGe,
+    IsEq,
+    IsNe,
+    IsEqExact,
+    IsNeExact,
+    IsInteger,
+    IsFloat,
+    IsNumber,
+    IsAtom,
+    IsPid,
+    IsReference,
+    IsPort,
+    IsNil,
+    IsBinary,
+    IsList,
+    IsNonemptyList,
+    IsTuple,
+    TestArity,
+    SelectVal,
+    SelectTupleArity,
+    Jump,
+    Catch,
+    CatchEnd,
+    Move,
+    GetList,
+    GetTupleElement,
+    PutList,
+    Badmatch,
+    IfEnd,
+    CaseEnd,
+    CallExtOnly,
+    Try,
+    TryEnd,
+    TryCase,
+    TryCaseEnd,
+    Raise,
+    IsBoolean,
+    GcBif1,
+    GcBif2,
+    Trim,
+    Line,
+    IsTaggedTuple,
+    BuildStacktrace,
+    GetHd,
+    GetTl,
+    PutTuple2,
+    Swap,
+    InitYregs,
 }
 
-/// The opcode's number, from 1 to 172.
-pub fn number(op: Op) -> u32
-    ensures { result ≡ (opcode op).number }
-{
-    op as u32
+/// A row: the opcode, its number, its name, how listings write it, and its operands in the order in which they are written.
+pub(crate) type Row = (Op, u32, &'static str, Way, &'static [Slot]);
+
+/// Rows, each as `OPCODE NUMBER NAME WAY OPERANDS;`.
+macro_rules! rows {
+    ($($op:ident $number:literal $name:literal $way:ident [$($slot:expr),*];)*) => {
+        &[$((Op::$op, $number, $name, Way::$way, &[$($slot),*])),*]
+    };
 }
 
-/// The instruction's name, as `genop.tab` spells it.
-pub fn name(op: Op) -> &'static str
-    ensures { result.now ≡ (opcode op).name }
-{
-    match op {
-        Op::Label => "label",
-        Op::FuncInfo => "func_info",
-        Op::IntCodeEnd => "int_code_end",
-        Op::Call => "call",
-        Op::CallLast => "call_last",
-        Op::CallOnly => "call_only",
-        Op::CallExt => "call_ext",
-        Op::CallExtLast => "call_ext_last",
-        Op::Bif0 => "bif0",
-        Op::Bif1 => "bif1",
-        Op::Bif2 => "bif2",
-        Op::Allocate => "allocate",
-        Op::AllocateHeap => "allocate_heap",
-        Op::TestHeap => "test_heap",
-        Op::Deallocate => "deallocate",
-        Op::Return => "return",
-        Op::Send => "send",
-        Op::RemoveMessage => "remove_message",
-        Op::Timeout => "timeout",
-        Op::LoopRec => "loop_rec",
-        Op::LoopRecEnd => "loop_rec_end",
-        Op::Wait => "wait",
-        Op::WaitTimeout => "wait_timeout",
-        Op::IsLt => "is_lt",
-        Op::IsGe => "is_ge",
-        Op::IsEq => "is_eq",
-        Op::IsNe => "is_ne",
-        Op::IsEqExact => "is_eq_exact",
-        Op::IsNeExact => "is_ne_exact",
-        Op::IsInteger => "is_integer",
-        Op::IsFloat => "is_float",
-        Op::IsNumber => "is_number",
-        Op::IsAtom => "is_atom",
-        Op::IsPid => "is_pid",
-        Op::IsReference => "is_reference",
-        Op::IsPort => "is_port",
-        Op::IsNil => "is_nil",
-        Op::IsBinary => "is_binary",
-        Op::IsList => "is_list",
-        Op::IsNonemptyList => "is_nonempty_list",
-        Op::IsTuple => "is_tuple",
-        Op::TestArity => "test_arity",
-        Op::SelectVal => "select_val",
-        Op::SelectTupleArity => "select_tuple_arity",
-        Op::Jump => "jump",
-        Op::Catch => "catch",
-        Op::CatchEnd => "catch_end",
-        Op::Move => "move",
-        Op::GetList => "get_list",
-        Op::GetTupleElement => "get_tuple_element",
-        Op::PutList => "put_list",
-        Op::Badmatch => "badmatch",
-        Op::IfEnd => "if_end",
-        Op::CaseEnd => "case_end",
-        Op::CallExtOnly => "call_ext_only",
-        Op::Try => "try",
-        Op::TryEnd => "try_end",
-        Op::TryCase => "try_case",
-        Op::TryCaseEnd => "try_case_end",
-        Op::Raise => "raise",
-        Op::IsBoolean => "is_boolean",
-        Op::GcBif1 => "gc_bif1",
-        Op::GcBif2 => "gc_bif2",
-        Op::Trim => "trim",
-        Op::Line => "line",
-        Op::IsTaggedTuple => "is_tagged_tuple",
-        Op::BuildStacktrace => "build_stacktrace",
-        Op::GetHd => "get_hd",
-        Op::GetTl => "get_tl",
-        Op::PutTuple2 => "put_tuple2",
-        Op::Swap => "swap",
-        Op::InitYregs => "init_yregs",
-    }
-}
+pub(crate) static ROWS: &[Row] = rows! {
+    Label 1 "label" Plain [One(Place)];
+    FuncInfo 2 "func_info" Plain [One(Atom), One(Atom), One(Arity)];
+    IntCodeEnd 3 "int_code_end" Bare [];
+    Call 4 "call" Plain [One(Arity), One(Target)];
+    CallLast 5 "call_last" Plain [One(Arity), One(Target), One(Number)];
+    CallOnly 6 "call_only" Plain [One(Arity), One(Target)];
+    CallExt 7 "call_ext" Plain [One(Arity), One(Callee)];
+    CallExtLast 8 "call_ext_last" Plain [One(Arity), One(Callee), One(Number)];
+    Bif0 9 "bif0" Bif [One(Bif0), NoLabel, One(Register)];
+    Bif1 10 "bif1" Bif [One(Bif1), One(Fail), One(Source), One(Register)];
+    Bif2 11 "bif2" Bif [One(Bif2), One(Fail), One(Source), One(Source), One(Register)];
+    Allocate 12 "allocate" Plain [One(Number), One(Number)];
+    AllocateHeap 13 "allocate_heap" Plain [One(Number), Heap, One(Number)];
+    TestHeap 16 "test_heap" Plain [Heap, One(Number)];
+    Deallocate 18 "deallocate" Plain [One(Number)];
+    Return 19 "return" Bare [];
+    Send 20 "send" Bare [];
+    RemoveMessage 21 "remove_message" Bare [];
+    Timeout 22 "timeout" Bare [];
+    LoopRec 23 "loop_rec" Plain [One(Target), One(Register)];
+    LoopRecEnd 24 "loop_rec_end" Plain [One(Target)];
+    Wait 25 "wait" Plain [One(Target)];
+    WaitTimeout 26 "wait_timeout" Plain [One(Target), One(Source)];
+    IsLt 39 "is_lt" Test [One(Target), One(Source), One(Source)];
+    IsGe 40 "is_ge" Test [One(Target), One(Source), One(Source)];
+    IsEq 41 "is_eq" Test [One(Target), One(Source), One(Source)];
+    IsNe 42 "is_ne" Test [One(Target), One(Source), One(Source)];
+    IsEqExact 43 "is_eq_exact" Test [One(Target), One(Source), One(Source)];
+    IsNeExact 44 "is_ne_exact" Test [One(Target), One(Source), One(Source)];
+    IsInteger 45 "is_integer" Test [One(Target), One(Source)];
+    IsFloat 46 "is_float" Test [One(Target), One(Source)];
+    IsNumber 47 "is_number" Test [One(Target), One(Source)];
+    IsAtom 48 "is_atom" Test [One(Target), One(Source)];
+    IsPid 49 "is_pid" Test [One(Target), One(Source)];
+    IsReference 50 "is_reference" Test [One(Target), One(Source)];
+    IsPort 51 "is_port" Test [One(Target), One(Source)];
+    IsNil 52 "is_nil" Test [One(Target), One(Source)];
+    IsBinary 53 "is_binary" Test [One(Target), One(Source)];
+    IsList 55 "is_list" Test [One(Target), One(Source)];
+    IsNonemptyList 56 "is_nonempty_list" Test [One(Target), One(Source)];
+    IsTuple 57 "is_tuple" Test [One(Target), One(Source)];
+    TestArity 58 "test_arity" Test [One(Target), One(Register), One(Number)];
+    SelectVal 59 "select_val" Plain [One(Source), One(Target), Pairs(Value, Target)];
+    SelectTupleArity 60 "select_tuple_arity" Plain [One(Register), One(Target), Pairs(Number, Target)];
+    Jump 61 "jump" Plain [One(Target)];
+    Catch 62 "catch" Plain [One(YRegister), One(Target)];
+    CatchEnd 63 "catch_end" Plain [One(YRegister)];
+    Move 64 "move" Plain [One(Source), One(Register)];
+    GetList 65 "get_list" Plain [One(Register), One(Register), One(Register)];
+    GetTupleElement 66 "get_tuple_element" Plain [One(Register), One(Number), One(Register)];
+    PutList 69 "put_list" Plain [One(Source), One(Source), One(Register)];
+    Badmatch 72 "badmatch" Plain [One(Source)];
+    IfEnd 73 "if_end" Bare [];
+    CaseEnd 74 "case_end" Plain [One(Source)];
+    CallExtOnly 78 "call_ext_only" Plain [One(Arity), One(Callee)];
+    Try 104 "try" Plain [One(YRegister), One(Target)];
+    TryEnd 105 "try_end" Plain [One(YRegister)];
+    TryCase 106 "try_case" Plain [One(YRegister)];
+    TryCaseEnd 107 "try_case_end" Plain [One(Source)];
+    Raise 108 "raise" Raise [NoLabel, One(Source), One(Source), ToX0];
+    IsBoolean 114 "is_boolean" Test [One(Target), One(Source)];
+    GcBif1 124 "gc_bif1" GcBif [One(Bif1), One(Fail), One(Number), One(Source), One(Register)];
+    GcBif2 125 "gc_bif2" GcBif [One(Bif2), One(Fail), One(Number), One(Source), One(Source), One(Register)];
+    Trim 136 "trim" Plain [One(Number), One(Number)];
+    Line 153 "line" Plain [One(Mark)];
+    IsTaggedTuple 159 "is_tagged_tuple" Test [One(Target), One(Register), One(Number), One(Atom)];
+    BuildStacktrace 160 "build_stacktrace" Bare [];
+    GetHd 162 "get_hd" Plain [One(Register), One(Register)];
+    GetTl 163 "get_tl" Plain [One(Register), One(Register)];
+    PutTuple2 164 "put_tuple2" Plain [One(Register), Many(Source)];
+    Swap 169 "swap" Plain [One(Register), One(Register)];
+    InitYregs 172 "init_yregs" Plain [Many(YRegister)];
+};
 
-/// The arity: how many operands the instruction has, from 0 to 6. A test's label and each argument of a BIF count.
-pub fn shape(op: Op) -> usize
-    ensures { result ≡ (opcode op).arity }
+/// The opcode's row.
+pub(crate) fn row_of(op: Op) -> &'static Row
+    ensures { said_of_op result.now ≡ opcode op }
 {
-    match op {
-        Op::IntCodeEnd
-        | Op::Return
-        | Op::Send
-        | Op::RemoveMessage
-        | Op::Timeout
-        | Op::IfEnd
-        | Op::BuildStacktrace => 0,
-        Op::Label
-        | Op::Deallocate
-        | Op::LoopRecEnd
-        | Op::Wait
-        | Op::Jump
-        | Op::CatchEnd
-        | Op::Badmatch
-        | Op::CaseEnd
-        | Op::TryEnd
-        | Op::TryCase
-        | Op::TryCaseEnd
-        | Op::Line
-        | Op::InitYregs => 1,
-        Op::Call
-        | Op::CallOnly
-        | Op::CallExt
-        | Op::Bif0
-        | Op::Allocate
-        | Op::TestHeap
-        | Op::LoopRec
-        | Op::WaitTimeout
-        | Op::IsInteger
-        | Op::IsFloat
-        | Op::IsNumber
-        | Op::IsAtom
-        | Op::IsPid
-        | Op::IsReference
-        | Op::IsPort
-        | Op::IsNil
-        | Op::IsBinary
-        | Op::IsList
-        | Op::IsNonemptyList
-        | Op::IsTuple
-        | Op::Catch
-        | Op::Move
-        | Op::CallExtOnly
-        | Op::Try
-        | Op::Raise
-        | Op::IsBoolean
-        | Op::Trim
-        | Op::GetHd
-        | Op::GetTl
-        | Op::PutTuple2
-        | Op::Swap => 2,
-        Op::FuncInfo
-        | Op::CallLast
-        | Op::CallExtLast
-        | Op::AllocateHeap
-        | Op::IsLt
-        | Op::IsGe
-        | Op::IsEq
-        | Op::IsNe
-        | Op::IsEqExact
-        | Op::IsNeExact
-        | Op::TestArity
-        | Op::SelectVal
-        | Op::SelectTupleArity
-        | Op::GetList
-        | Op::GetTupleElement
-        | Op::PutList => 3,
-        Op::Bif1 | Op::IsTaggedTuple => 4,
-        Op::Bif2 | Op::GcBif1 => 5,
-        Op::GcBif2 => 6,
-    }
-}
-
-/// Whether a run of the instruction concerns only the process that runs it: false for `send`, `call_ext`,
-/// `call_ext_last` and `call_ext_only`, true for all others.
-pub fn is_local(op: Op) -> bool
-    ensures { result ≡ local_op op }
-{
-    !matches!(
-        op,
-        Op::Send | Op::CallExt | Op::CallExtLast | Op::CallExtOnly
-    )
-}
-
-/// Whether a listing writes the instruction as `{test,NAME,LABEL,OPERANDS}`.
-pub fn is_test(op: Op) -> bool
-    ensures { result ≡ test_op op }
-{
-    matches!(
-        op,
-        Op::IsLt
-            | Op::IsGe
-            | Op::IsEq
-            | Op::IsNe
-            | Op::IsEqExact
-            | Op::IsNeExact
-            | Op::IsInteger
-            | Op::IsFloat
-            | Op::IsNumber
-            | Op::IsAtom
-            | Op::IsPid
-            | Op::IsReference
-            | Op::IsPort
-            | Op::IsNil
-            | Op::IsBinary
-            | Op::IsList
-            | Op::IsNonemptyList
-            | Op::IsTuple
-            | Op::TestArity
-            | Op::IsBoolean
-            | Op::IsTaggedTuple
-    )
+    &ROWS[op as usize]
 }

@@ -1,8 +1,8 @@
 //! Rows of the tables, copied by hand from `genop.tab` and the Erlang Reference Manual.
 
 use bx_ops::{
-    Bif, Op, bif_arity, bif_by_name, bif_name, is_guard_bif, is_local, is_test, name, number,
-    op_by_name, op_by_number, op_named, shape,
+    Bif, Op, Slot, Sort, Way, bif_by_name, bif_name, is_local, name, number, op_by_name,
+    op_by_number, op_named, shape, slots, way,
 };
 
 static OPCODES: [(u32, &str, usize, Op); 11] = [
@@ -67,15 +67,31 @@ fn are_local() -> bool {
     are_local && !others && !is_local(Op::CallExtOnly)
 }
 
-fn are_tests() -> bool {
-    let others = is_test(Op::TestHeap) || is_test(Op::SelectVal) || is_test(Op::Jump);
-    let are_tests = is_test(Op::IsNil) && is_test(Op::TestArity) && is_test(Op::IsTaggedTuple);
-    are_tests && !others
+#[test]
+fn some_opcodes_are_not_local(rt: HostRuntime) {
+    assert!(rt; are_local());
 }
 
 #[test]
-fn some_opcodes_are_set_apart(rt: HostRuntime) {
-    assert!(rt; are_local() && are_tests());
+fn listings_write_opcodes_in_their_ways(rt: HostRuntime) {
+    for op in [Op::IsNil, Op::TestArity, Op::IsTaggedTuple] {
+        assert_eq!(rt; way(op), Way::Test);
+    }
+    for op in [Op::TestHeap, Op::SelectVal, Op::Jump] {
+        assert_eq!(rt; way(op), Way::Plain);
+    }
+    assert_eq!(rt; way(Op::Bif0), Way::Bif);
+    assert_eq!(rt; way(Op::IfEnd), Way::Bare);
+}
+
+#[test]
+fn a_bif_without_arguments_has_no_label_to_go_to(rt: HostRuntime) {
+    let written = [
+        Slot::One(Sort::Bif0),
+        Slot::NoLabel,
+        Slot::One(Sort::Register),
+    ];
+    assert_eq!(rt; slots(Op::Bif0), written.as_slice());
 }
 
 static BIFS: [(&str, usize, Bif); 9] = [
@@ -101,10 +117,9 @@ static NO_BIFS: [(&str, usize); 8] = [
     ("+", 3),
 ];
 
-/// Whether a guard BIF is found by its name and arity, and tells both.
+/// Whether a guard BIF is found by its name and arity, and tells its name.
 fn is_bif_row(text: &str, arity: usize, bif: Bif) -> bool {
-    let tells = bif_name(bif) == text && bif_arity(bif) == arity;
-    bif_by_name(text, arity) == Some(bif) && tells && is_guard_bif(text, arity)
+    bif_by_name(text, arity) == Some(bif) && bif_name(bif) == text
 }
 
 #[test]
@@ -113,6 +128,6 @@ fn guard_bifs_are_found_by_name_and_arity(rt: HostRuntime) {
         assert!(rt; is_bif_row(*text, *arity, *bif), "{text}");
     }
     for (text, arity) in &NO_BIFS {
-        assert!(rt; !is_guard_bif(*text, *arity), "{text}");
+        assert!(rt; bif_by_name(*text, *arity).is_none(), "{text}");
     }
 }
