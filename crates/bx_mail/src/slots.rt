@@ -31,6 +31,11 @@ impl Clone for Slot {
     }
 }
 
+/// How many slots there may be: as many as 32 bits number, which take 128 GiB.
+const MOST_SLOTS: usize = u32::MAX as usize;
+
+const _: () = prove!(MOST_SLOTS == 4_294_967_295);
+
 /// Slots by number. A link names a slot, or none.
 #[derive(Debug, Drop)]
 pub struct Slots {
@@ -141,7 +146,7 @@ impl Slots {
         self.open_new()
     }
 
-    /// The number of a new slot. There may be so many as 32 bits number, which take 128 GiB.
+    /// The number of a new slot, where there is room for one more.
     #[cold]
     #[inline(never)]
     fn open_new(&mut self) -> Result<u32, AllocError>
@@ -151,7 +156,7 @@ impl Slots {
         ensures err { OnErr result (self.new ≡ self.old) }
     {
         let at = self.slots.len();
-        if at >= u32::MAX as usize {
+        if at >= MOST_SLOTS {
             return Err(AllocError);
         }
         self.slots.push(Slot {

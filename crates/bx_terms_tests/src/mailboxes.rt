@@ -92,6 +92,29 @@ fn add_five(mailbox: &mut Mailbox) -> Result<(), AllocError> {
     Ok(())
 }
 
+/// More messages than 16 bits number.
+const MANY: i64 = 70_000;
+
+/// Whether so many messages are held at once, and are taken in the order in which they came.
+fn holds_many(alloc: Global) -> Result<bool, AllocError> {
+    let mut mailbox = Mailbox::new(alloc);
+    for number in 0..MANY {
+        mailbox.add(message(number)).map_err(|_| AllocError)?;
+    }
+    for number in 0..MANY {
+        if number_of(mailbox.take().as_ref()) != Some(number) {
+            return Ok(false);
+        }
+    }
+    Ok(mailbox.len() == 0)
+}
+
+#[test]
+fn many_messages_wait_at_once(rt: HostRuntime) -> Result<(), Fail> {
+    assert!(rt; holds_many(rt.alloc())?);
+    Ok(())
+}
+
 /// Whether a mailbox and its copy are the same at once, not after a pass in one, and after it in both.
 fn is_same_copy(alloc: Global) -> Result<bool, AllocError> {
     let mut mailbox = Mailbox::new(alloc);
