@@ -381,7 +381,7 @@ and_right : (a b : Bool) → (a && b) ≡ true → b ≡ true
 and_right true b e = e
 and_right false b e = cc
 
-step : (image : Loaded) (choice : Choice) (w : State) (pair : ℕ × ℕ) → waiting w.lanes.channels pair ++ put_in image choice w pair ≡ taken_from image choice w pair ++ waiting (behind image choice w).lanes.channels pair
+pub step : (image : Loaded) (choice : Choice) (w : State) (pair : ℕ × ℕ) → waiting w.lanes.channels pair ++ put_in image choice w pair ≡ taken_from image choice w pair ++ waiting (behind image choice w).lanes.channels pair
 step image choice w pair = step_if (can w choice) image choice w pair (and_right (is_none w.trap) (able choice w.processes w.lanes))
 
 -- choices in a row

@@ -14,3 +14,6 @@ pub mod Lawful
 pub mod Arriving
 pub mod Confined
 pub mod Entering
+pub mod Alike
+pub mod Commuting
+pub mod Orders

@@ -15,3 +15,4 @@ pub mod Seen
 pub mod Texts
 pub mod Posting
 pub mod Entering
+pub mod Independent

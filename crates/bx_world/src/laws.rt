@@ -13,6 +13,7 @@ ghost use Rattle.bx_world.specs.Running.{Ended, advanced, ran};
 ghost use Rattle.bx_signals.specs.Channels.{waiting};
 ghost use Rattle.bx_terms.specs.declared.places.Place.{Place};
 ghost use Rattle.bx_world.specs.Posting.{all_put, all_taken, all_behind};
+ghost use Rattle.bx_world.specs.Independent.{AreIndependent, IsNoRun};
 ghost use Rattle.bx_world.specs.Entering.{is_linked, Enters, Entered};
 
 /// What is looked up of a choice is whether it is among those that are enabled.
@@ -102,4 +103,20 @@ pub fn a_link_comes_by_link_by_spawn_link_or_by_a_signal()
     ensures from_the_start { (image : Loaded) (choices : List Choice) (place : Place) (p q : ℕ) →
         is_linked (all_behind image choices (begun place)).processes p q ≡ true → Entered image
         choices (begun place) p q }
+{}
+
+/// Two choices of which none is a run, both enabled, of different actors, of which neither traps where the second is made behind the first,
+/// are independent: that both orders lead to the same world follows.
+pub fn choices_that_are_no_runs_may_be_exchanged()
+    ensures { (image : Loaded) (first second : Choice) (w : State) → IsNoRun first → IsNoRun second
+        → actor first ≢ actor second → can w first ≡ true → can w second ≡ true →
+        (chosen image first w).trap ≡ None →
+        (chosen image second (chosen image first w)).trap ≡ None → AreIndependent image w first
+        second }
+{}
+
+/// Choices that are independent in one order are so in the other, so both are applied in that order too, without a trap.
+pub fn independence_is_mutual()
+    ensures { (image : Loaded) (w : State) (first second : Choice) → AreIndependent image w first
+        second → AreIndependent image w second first }
 {}

@@ -9,6 +9,7 @@ mod delivering;
 mod lanes;
 pub mod laws;
 mod lives;
+mod locality;
 mod outcomes;
 mod output;
 mod procs;

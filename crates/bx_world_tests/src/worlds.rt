@@ -209,7 +209,43 @@ fn assert_worlds<P: Hold<Proc>, C: Hold<Lanes>>(
     assert_answers::<P, C>(rt, alloc)?;
     assert_enabled::<P, C>(rt, alloc)?;
     assert_ends::<P, C>(rt, alloc)?;
+    assert_local::<P, C>(rt, alloc)?;
     assert_snapshots::<P, C>(rt, alloc)
+}
+
+/// A move, and a send.
+const SENDS: &str = "{move,{atom,ok},{x,0}}. send.";
+
+/// Whether the next run of a process is local, behind these choices.
+fn is_local<P: Hold<Proc>, C: Hold<Lanes>>(
+    alloc: Global,
+    items: &str,
+    choices: &[Choice],
+    pid: u32,
+) -> Result<bool, Fault> {
+    let image = image_of_items(alloc, items)?;
+    let end = run::<P, C>(alloc, &image, choices)?;
+    Ok(end.world.runs_local(&image, pid))
+}
+
+fn assert_local<P: Hold<Proc>, C: Hold<Lanes>>(rt: &impl Abort, alloc: Global) -> Result<(), Fail> {
+    let rows: [(&str, &[Choice], u32, bool); 7] = [
+        (SENDS, &[], 0, true),
+        (SENDS, &[OWN], 0, false),
+        ("{call_ext_only,0,{extfunc,erlang,self,0}}.", &[], 0, false),
+        (TWO, &[OWN], 0, true),
+        // it has ended
+        (TWO, &[OWN, OWN], 0, false),
+        // it stands behind the items
+        ("", &[], 0, false),
+        // there is no such process
+        (TWO, &[], 1, false),
+    ];
+    for (items, choices, pid, want) in rows {
+        let told = is_local::<P, C>(alloc, items, choices, pid)?;
+        assert!(rt; told == want, "{items}");
+    }
+    Ok(())
 }
 
 #[test]
