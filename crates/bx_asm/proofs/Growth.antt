@@ -50,9 +50,6 @@ import_is i k e =
 pub stored_import : (keys : List Import) (n : ℕ) (i : Import) → ((k : Import) × ((slice_get keys n ≡ Some k) × ((imports.eq-value).it i k ≡ true))) → slice_get keys n ≡ Some i
 stored_import keys n i stored = stored.1.0 ∙ ap Some (sym (import_is i stored.0 stored.1.1))
 
-pub tables_same : (t : Tables) → ExtendsTables t t
-tables_same t = record { literals = extends_same t.literals; imports = extends_same t.imports }
-
 pub tables_then : (t u v : Tables) → ExtendsTables t u → ExtendsTables u v → ExtendsTables t v
 tables_then t u v one two = record {
   literals = λ k x e. two.literals k x (one.literals k x e);

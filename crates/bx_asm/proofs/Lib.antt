@@ -8,3 +8,4 @@ pub mod Growing
 pub mod Units
 pub mod SameCode
 pub mod SpelledAlike
+pub mod Crossing

@@ -18,6 +18,6 @@ pub use guard_names::{guard_bif, is_guard};
 pub use guards::{guard, guard_decoded, guard_of_integers, guard_of_one, guard_of_two};
 pub use kinds::{is_atom, is_integer, is_list, is_pid, is_the_atom, is_tuple, truth};
 pub use native_names::native;
-pub use natives::{Native, is_ask};
+pub use natives::Native;
 pub use parts::{element, element_from_zero, head, length, size, tail};
 pub use values::{elements, native_value};

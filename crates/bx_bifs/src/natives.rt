@@ -1,8 +1,5 @@
 //! The natives.
 
-ghost use Rattle.std.specs.Prelude.{◌≡◌};
-ghost use Rattle.bx_bifs.specs.Asks.{is_ask};
-
 /// A native: a function of module `erlang`, no guard BIF, that a call of an external function runs.
 ///
 /// Source: module `erlang` of the ERTS Reference Manual, and the Erlang Reference Manual for the operators `!` and `++`.
@@ -38,20 +35,4 @@ pub enum Native {
     ListToTuple,
     /// `tuple_to_list/1`.
     TupleToList,
-}
-
-/// Whether a native concerns others than its caller: they are asked, and answer it.
-pub fn is_ask(native: Native) -> bool
-    ensures { result ≡ is_ask native }
-{
-    matches!(
-        native,
-        Native::Spawn
-            | Native::SpawnLink
-            | Native::Link
-            | Native::Unlink
-            | Native::ExitSignal
-            | Native::Send
-            | Native::Display
-    )
 }

@@ -1,9 +1,23 @@
 -- What a board is made of that threads may share, or that may go from one to another, as a set for `search`.
+use denote.Param.Send.{IsSend, sendable}
+use Rattle.std.proofs.Crossing as owned
+use Rattle.bx_share.proofs.arc_hold.ArcHold.TheSendSync as holds
+use Rattle.bx_terms.proofs.kinds.Trap.TheSendSync as traps
+use Rattle.bx_terms.proofs.Crossing.{term_send, term_sync}
+use Rattle.bx_proc.proofs.Crossing.{process_send, process_sync}
+use Rattle.bx_world.proofs.choices.Choice.TheSendSync as choices
+use Rattle.bx_world.proofs.Crossing.{lanes_send, lanes_sync}
+use Rattle.bx_board.specs.contracts.slots.Slot as slot
 use Rattle.bx_terms.proofs.atom_table.AtomId.TheSendSync as ids
+use Rattle.bx_load.proofs.Crossing.{image_sync}
 use Rattle.bx_plan.proofs.plans.Plan.TheSendSync as plans
 use Rattle.bx_chains.proofs.chains.Chains.TheSendSync as chains
 use Rattle.bx_board.proofs.slots.Event.TheSendSync as events
-use Rattle.bx_board.proofs.CodeCrosses.{image_sync}
-use Rattle.bx_board.proofs.EndsCross.{slot_send}
+
+-- how a chain stands may go to another thread, with the end of its run
+pub slot_send : IsSend slot.the_row
+slot_send =
+    let a = process_send in let b = process_sync in let c = lanes_send in let d = lanes_sync in let e = term_send in let f = term_sync in
+    search (holds.the_send, holds.the_sync, traps.the_send, traps.the_sync, choices.the_send, choices.the_sync, sendable, owned.crosses) depth 50 fits 20000
 
 pub ruleset crosses = (image_sync, slot_send, ids.the_send, plans.the_sync, chains.the_send, events.the_send)

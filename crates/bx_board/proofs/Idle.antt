@@ -1,12 +1,8 @@
 -- A book that one worker goes on with alone.
-use Rattle.std.proofs.Common.{◌≡◌, ◌≢◌, ◌⊎◌, inl, inr, ℕ, zero, suc, ◌<◌, ◌≤◌, Bool, true, false, Option, None, Some, length, refl, sym, ap, subst, ◌∙◌, arith}
-use Rattle.std.specs.Prelude.{IsOk, IsSome, MatchBool}
+use Rattle.std.proofs.Common.{◌≡◌, ◌≢◌, ◌⊎◌, inl, inr, ℕ, zero, suc, ◌<◌, ◌≤◌, Bool, true, false, length, refl, sym, ap, subst, ◌∙◌, arith}
+use Rattle.std.specs.Prelude.{MatchBool}
 use Rattle.std.proofs.lemmas.List.{length-set}
 use Rattle.std.proofs.lemmas.Bool.{cases_eq}
-use Rattle.bx_terms.specs.declared.atom_table.AtomId.{AtomId}
-use Rattle.bx_terms.specs.declared.places.Place.{Place}
-use Rattle.bx_load.specs.Image.{Loaded, export}
-use Rattle.bx_world.specs.World.{begun_at, started}
 use Rattle.bx_chains.specs.Chains.{Begins, above, chain_count, one_if}
 use Rattle.bx_board.specs.declared.slots.Slot.{Slot}
 use Rattle.bx_board.specs.declared.slots.Slot.TheVariants.{Waiting, Leased, Done}
@@ -86,10 +82,3 @@ took old new k false held h = absurd (h.1 held)
 -- as many chains as there are can be done at most
 pub done_in_low : (b : Kept) → done_in b ≤ length b.state.slots
 done_in_low b = how_many_low (is_finished b.state) (length b.state.slots)
-
--- a start from which a world begins is exported
-pub exported_there : (image : Loaded) (m f : AtomId) → IsOk (started image m f) → IsSome (export image m f 0)
-exported_there image m f h = by (export image m f 0) h where
-  by : (place : Option Place) → IsOk (begun_at place) → IsSome place
-  by (Some place) h = refl
-  by None h = h

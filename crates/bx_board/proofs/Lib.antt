@@ -1,4 +1,3 @@
-pub mod Compared
 pub mod Steps
 pub mod Numbers
 pub mod RowLengths
@@ -11,8 +10,4 @@ pub mod Beginning
 pub mod Idle
 pub mod Found
 pub mod Runs
-pub mod TermsCross
-pub mod CodeCrosses
-pub mod ProcessesCross
-pub mod EndsCross
 pub mod Crossing

@@ -13,7 +13,7 @@ mod working;
 pub use boards::{Board, Campaign, FreeGate, Gate};
 pub use books::{Book, report_alone};
 pub use campaigns::campaign;
-pub use reports::{Report, ScheduleName, Scheduled};
+pub use reports::{Report, Scheduled};
 pub use slots::{ArcEnd, Counts, Event, Slot};
 pub use texts::report_text;
 pub use working::{Lease, Piece, work};

@@ -18,7 +18,7 @@ pub fn report_text(alloc: Global, atoms: &Atoms, report: &Report) -> Result<Stri
         (Ok (report_lines atoms.now report.now)) }
 {
     let mut out = String::new(alloc);
-    for schedule in report.schedules() {
+    for schedule in report.as_slice() {
         push_schedule(alloc, &mut out, atoms, schedule)?;
     }
     Ok(out)

@@ -1,7 +1,8 @@
 //! Outcomes and reports that were put together by hand, with their texts.
 
-use bx_board::{Report, ScheduleName, Scheduled, report_text};
-use bx_terms::{Atoms, Term, Trap, fixed};
+use bx_board::{Report, Scheduled, report_text};
+use bx_share::Same;
+use bx_terms::{Atoms, Name, Term, Trap, fixed};
 use bx_world::{Choice, Choices, Outcome, Output, Standing, Status, Statuses};
 use std::alloc::{AllocError, Global};
 use std::test::Fail;
@@ -67,7 +68,7 @@ fn outcome(alloc: Global, number: u32) -> Result<Outcome, AllocError> {
 }
 
 fn scheduled(alloc: Global, number: u32) -> Result<Scheduled, AllocError> {
-    let name = ScheduleName::new(alloc, if number == 1 { "b_-9Z" } else { "a" })?;
+    let name = Name::new(alloc, if number == 1 { "b_-9Z" } else { "a" })?;
     let refused = match number {
         3 => Some(Choice::Run(0)),
         4 => Some(Choice::Deliver(0, 12)),
@@ -185,7 +186,7 @@ fn schedules_in_order(rt: HostRuntime) -> Result<(), Fail> {
 #[test]
 fn sameness_of_reports(rt: HostRuntime) -> Result<(), Fail> {
     let one = report(rt.alloc(), &[1, 5])?;
-    assert_eq!(rt; one.schedules().len(), 2);
+    assert_eq!(rt; one.as_slice().len(), 2);
     assert!(rt; one.same(&report(rt.alloc(), &[1, 5])?));
     assert!(rt; !one.same(&report(rt.alloc(), &[5, 1])?));
     assert!(rt; !one.same(&report(rt.alloc(), &[1])?));

@@ -4,3 +4,4 @@ pub mod Catching
 pub mod Writing
 pub mod StackRows
 pub mod Linked
+pub mod Crossing

@@ -1,5 +1,5 @@
 -- Frames whose y registers lie in one row.
-use Rattle.std.proofs.Common.{◌≡◌, ℕ, zero, suc, ◌+◌, ◌-◌, ◌<◌, ◌≤◌, List, [], ◌∷◌, ◌++◌, length, get_or, take, drop, reverse, refl, ap, min, sym, ◌∙◌, subst, arith, cond, Bool, true, false, length-append, length-drop, length-take-le}
+use Rattle.std.proofs.Common.{◌≡◌, ℕ, zero, suc, ◌+◌, ◌-◌, ◌<◌, ◌≤◌, List, [], ◌∷◌, ◌++◌, length, get_or, take, drop, reverse, refl, ap, min, sym, ◌∙◌, subst, arith, cond, Bool, true, false, length-drop, length-take-le}
 use Rattle.std.proofs.lemmas.List.{reverse-append, reverse-reverse, length-reverse, get_or-reverse, take_at, drop_at, drop-drop, take-take, take_all, drop_all, drop_min, drop_more, take-append-drop, drop-set-add, take-set-le}
 use Rattle.std.proofs.lemmas.Bool.Decides.{nat_tests}
 use Rattle.std.proofs.lemmas.Option.{slice_get_past}
@@ -19,12 +19,6 @@ pushed heads cells more h e =
     ap (λ hs. frames_of hs (cells ++ more)) (reverse-append heads (h ∷ []))
     ∙ ap (λ cs. record { cells = cs; return_to = h.return_to } ∷ frames_of (reverse heads) (take h.first (cells ++ more))) (drop_at cells more h.first (sym e))
     ∙ ap (λ cs. record { cells = more; return_to = h.return_to } ∷ frames_of (reverse heads) cs) (take_at cells more h.first (sym e))
-
-pub pushed_fits : (heads : List Head) (cells more : List (Option Value)) (h : Head) → h.first ≡ length cells → Fits (reverse heads) (length cells) → Fits (reverse (heads ++ h ∷ [])) (length (cells ++ more))
-pushed_fits heads cells more h e f =
-    let H : List Head → Type 0 = λ hs. Fits hs (length (cells ++ more)) in
-    let G : ℕ → Type 0 = λ n. Fits (reverse heads) n in
-    subst H (sym (reverse-append heads (h ∷ []))) (omega (arith, length-append cells more), subst G (sym e) f)
 
 -- what a y register of the topmost frame holds, by where it lies in the row
 at_row : (cells : List (Option Value)) (first n : ℕ) → slice_get (drop first cells) n ≡ slice_get cells (first + n)

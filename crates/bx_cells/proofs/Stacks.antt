@@ -1,7 +1,6 @@
 -- Frames in a row, the topmost last, and the registers of one frame.
-use Rattle.std.proofs.Common.{◌≡◌, ℕ, ◌+◌, ◌<◌, ◌≤◌, List, [], ◌∷◌, length, get_or, take, drop, reverse, ap, sym, ◌∙◌, arith, ◌↔◌, add-one, drop-cons, get_or-set_same}
-use Rattle.std.proofs.Math.ListN.{set, length-set}
-use Rattle.std.proofs.lemmas.List.{take-set, take_more, take_more_same, take_all, reverse-append, reverse-reverse}
+use Rattle.std.proofs.Common.{◌≡◌, ℕ, ◌+◌, ◌<◌, ◌≤◌, List, [], ◌∷◌, length, get_or, take, drop, reverse, ap, sym, ◌∙◌, arith, add-one, drop-cons}
+use Rattle.std.proofs.lemmas.List.{take_more, take_more_same, take_all, reverse-append}
 use Rattle.std.specs.Prelude.{Option}
 use Rattle.bx_cells.specs.declared.values.Value.{Value}
 use Rattle.bx_cells.specs.Stack.{lowest_tag}
@@ -22,17 +21,6 @@ same_so_far xs ys i d = take_more_same xs ys i d
 pub same_whole : {A : Type 0} (xs ys : List A) (i : ℕ) → length xs ≤ i → length ys ≤ i → take i xs ≡ take i ys → xs ≡ ys
 same_whole xs ys i hx hy e = sym (take_all i xs hx) ∙ e ∙ take_all i ys hy
 
--- two rows are the same exactly where they are the same turned round
-pub same_reversed : {A : Type 0} (xs ys : List A) → (xs ≡ ys) ↔ (reverse xs ≡ reverse ys)
-same_reversed xs ys = (ap reverse, λ e. sym (reverse-reverse xs) ∙ ap reverse e ∙ reverse-reverse ys)
-
 -- the last of a row is the first of it turned round
 pub reverse_last : {A : Type 0} (xs : List A) (n : ℕ) (d : A) → length xs ≡ n + 1 → reverse xs ≡ get_or xs n d ∷ reverse (take n xs)
 reverse_last xs n d h = ap reverse (sym (take_all (n + 1) xs (omega arith))) ∙ reverse_next xs n d (omega arith)
-
--- another element there
-pub reverse_set_last : {A : Type 0} (xs : List A) (n : ℕ) (y : A) → length xs ≡ n + 1 → reverse (set xs n y) ≡ y ∷ reverse (take n xs)
-reverse_set_last xs n y h =
-    reverse_last (set xs n y) n y (length-set xs n y ∙ h)
-    ∙ ap (λ z. z ∷ reverse (take n (set xs n y))) (get_or-set_same xs n y y (omega arith))
-    ∙ ap (λ zs. y ∷ reverse zs) (take-set xs n y)

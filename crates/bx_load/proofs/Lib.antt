@@ -9,3 +9,4 @@ pub mod PlaceLaws
 pub mod SameImages
 pub mod TableRows
 pub mod TargetSteps
+pub mod Crossing

@@ -143,8 +143,5 @@ add_joined ss ss0 ss1 ss2 first first' last saved free free' passed len at mail 
     subst (λ x. Joined ss2 first' (Some at) saved x passed (len + 1) (added mail message)) (sym n)
     (add_linked ss0 ss1 ss2 first first' last saved passed len at mail message (opened ss ss0 first last saved free passed len at mail j o bound) e r)
 
-pub opened_within : (ss ss0 : List Slot) (first last saved free : Option ℕ) (passed len at : ℕ) (mail : Mail) → Joined ss first last saved free passed len mail → Opened ss ss0 free at → length ss0 < 2 ^ 32 → (next : Option ℕ) × (slice_get ss0 at ≡ Some (vacant next))
-opened_within ss ss0 first last saved free passed len at mail j o bound = at_free ss0 first last saved passed len at mail (opened ss ss0 first last saved free passed len at mail j o bound)
-
 pub opened_joined : (ss ss0 : List Slot) (first last saved free : Option ℕ) (passed len at : ℕ) (mail : Mail) → Joined ss first last saved free passed len mail → Opened ss ss0 free at → length ss0 < 2 ^ 32 → Joined ss0 first last saved (Some at) passed len mail
 opened_joined ss ss0 first last saved free passed len at mail j o bound = opened ss ss0 first last saved free passed len at mail j o bound

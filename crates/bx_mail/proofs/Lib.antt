@@ -4,3 +4,4 @@ pub mod Taking
 pub mod Adding
 pub mod Rows
 pub mod Histories
+pub mod Crossing

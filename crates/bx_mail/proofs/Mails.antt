@@ -111,9 +111,6 @@ no_current ss first last saved free passed len mail j e = ap first_of (no_rest s
 pub not_told : (mail : Mail) → current mail ≡ None → (IsTrue false → IsSome (current mail)) × (IsSome (current mail) → IsTrue false)
 not_told mail e = subst (λ o. (IsTrue false → IsSome o) × (IsSome o → IsTrue false)) (sym e) (λ t. t, λ t. t)
 
-pub passed_below : (ss : List Slot) (first last saved free : Option ℕ) (passed len : ℕ) (mail : Mail) → Joined ss first last saved free passed len mail → passed < 2 ^ 32
-passed_below ss first last saved free passed len mail j = omega (arith, j.passed_is, j.len_is, j.others, j.bounded, length-append mail.passed mail.rest)
-
 pub len_below : (ss : List Slot) (first last saved free : Option ℕ) (passed len : ℕ) (mail : Mail) → Joined ss first last saved free passed len mail → len < 2 ^ 32
 len_below ss first last saved free passed len mail j = omega (arith, j.others, j.bounded)
 

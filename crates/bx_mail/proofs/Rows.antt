@@ -72,10 +72,3 @@ same_mail ss os first last saved free first' last' saved' free' passed passed' l
       ap (λ l. record { passed = l; rest = mail.rest }) (first_same mail.passed mail'.passed mail.rest mail'.rest count all) ∙ ap (λ l. record { passed = mail'.passed; rest = l }) (others_same mail.passed mail'.passed mail.rest mail'.rest count all),
   λ e. all_row ss first last saved free passed len mail j ∙ ap (λ (m : Mail). map (λ x. Some x) (m.passed ++ m.rest)) e ∙ sym (all_row os first' last' saved' free' passed' len' mail' k) ∙ ap (λ x. row os x first') (sym n),
 )
-
--- mailboxes that are the same have as many messages
-pub same_passed : (ss os : List Slot) (first last saved free first' last' saved' free' : Option ℕ) (passed passed' len len' : ℕ) (mail mail' : Mail) → Joined ss first last saved free passed len mail → Joined os first' last' saved' free' passed' len' mail' → mail ≡ mail' → passed ≡ passed'
-same_passed ss os first last saved free first' last' saved' free' passed passed' len len' mail mail' j k e = j.passed_is ∙ ap (λ (m : Mail). length m.passed) e ∙ sym k.passed_is
-
-pub same_len : (ss os : List Slot) (first last saved free first' last' saved' free' : Option ℕ) (passed passed' len len' : ℕ) (mail mail' : Mail) → Joined ss first last saved free passed len mail → Joined os first' last' saved' free' passed' len' mail' → mail ≡ mail' → len ≡ len'
-same_len ss os first last saved free first' last' saved' free' passed passed' len len' mail mail' j k e = j.len_is ∙ ap (λ (m : Mail). length (m.passed ++ m.rest)) e ∙ sym k.len_is

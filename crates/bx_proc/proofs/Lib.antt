@@ -15,3 +15,4 @@ pub mod Awake
 pub mod OnItsWay
 pub mod Hearing
 pub mod Unsent
+pub mod Crossing

@@ -10,10 +10,12 @@ ghost use Rattle.bx_share.specs.Loan.{LendsShown};
 use std::alloc::{AllocError, AllocFailed, Global};
 
 mod arc_hold;
+mod list;
 mod rc_hold;
 mod same;
 
 pub use arc_hold::ArcHold;
+pub use list::List;
 pub use rc_hold::RcHold;
 pub use same::{Same, same_held, same_rows};
 

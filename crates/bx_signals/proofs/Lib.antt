@@ -4,3 +4,4 @@ pub mod Lines
 pub mod Maps
 pub mod Listed
 pub mod Paired
+pub mod Crossing

@@ -171,7 +171,7 @@ impl Channels {
     /// Takes back the signal that was put last into the channel to each of these receivers, from the last on.
     #[cold]
     #[inline(never)]
-    pub fn take_back_all(&mut self, from: u32, links: &[u32])
+    fn take_back_all(&mut self, from: u32, links: &[u32])
         ensures { self.new ≡ taken_back_all from links.now self.old }
     {
         let mut left = links.len();

@@ -1,5 +1,5 @@
 -- What follows from the answer of a definition that looks at one thing after another.
-use Rattle.std.proofs.Common.{◌≡◌, ◌⊎◌, Result, Ok, Err, refl, ap, inl, inr}
+use Rattle.std.proofs.Common.{◌≡◌, Result, Ok, Err, refl, ap}
 use Rattle.bx_terms.specs.Outcomes.{◌>>=◌}
 
 pub ok_is : {A E : Type 0} (x y : A) → ◌≡◌ {A = Result A E} (Ok x) (Ok y) → x ≡ y
@@ -15,8 +15,3 @@ ok_pair x u y v e = let both = ok_is (x, y) (u, v) e in (ap (λ p. p.0) both, ap
 pub bind_ok : {A B E : Type 0} (m : Result A E) (f : A → Result B E) (y : B) → (m >>= f) ≡ Ok y → (x : A) × (m ≡ Ok x) × (f x ≡ Ok y)
 bind_ok (Ok x) f y e = (x, refl, e)
 bind_ok (Err z) f y e = cc
-
--- the first fault is that of the first step, or of what follows it
-pub bind_err : {A B E : Type 0} (m : Result A E) (f : A → Result B E) (z : E) → (m >>= f) ≡ Err z → (m ≡ Err z) ⊎ ((x : A) × (m ≡ Ok x) × (f x ≡ Err z))
-bind_err (Ok x) f z e = inr (x, refl, e)
-bind_err (Err w) f z e = inl (ap Err (err_is w z e))

@@ -30,9 +30,6 @@ abbrev number_past : ℕ → Option (List ℕ) → ℕ
 number_past a (Some s) = 0
 number_past a None = a
 
-abbrev atom_keys : List (List ℕ) → ℕ → ℕ → Ordering
-atom_keys texts = then_cmp (on (λ a. lacks (codes_of texts a)) nat_cmp) (then_cmp (on (λ a. text_or_none (codes_of texts a)) (slice_cmp nat_cmp)) (on (λ a. number_past a (codes_of texts a)) nat_cmp))
-
 then_equal : (o : Ordering) → ordering_then o Equal ≡ o
 then_equal Less = refl
 then_equal Equal = refl

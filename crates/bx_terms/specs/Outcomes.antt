@@ -26,8 +26,3 @@ Does takes old new (Err fault) said = (said ≡ Err fault) × (new ≡ old)
 abbrev pub Refuses : {A : Type 0} → Type 0 → Fault → Result A Fault → Type 0
 Refuses takes Memory said = takes
 Refuses takes fault said = said ≡ Err fault
-
--- the answer of a call that consumes `given`: the value, seen by `view`, or the fault with all that was given handed back
-abbrev pub HandsBack : {X A G : Type 0} → Type 0 → (X → A) → G → Result X (Fault × G) → Result A Fault → Type 0
-HandsBack takes view given (Ok x) said = said ≡ Ok (view x)
-HandsBack takes view given (Err refused) said = Refuses takes refused.0 said × (refused.1 ≡ given)

@@ -2,12 +2,14 @@
 
 ghost use Rattle.std.specs.Prelude.{◌≡◌, IfOk};
 
+use bx_share::Same;
 use std::alloc::{AllocError, AllocFailed, Global};
 use std::fmt;
 use std::marker::Model;
 use thiserror::Error;
 
-/// The name of what is outside the subset: an instruction, a test, a BIF with its arity, or a kind of operand.
+/// A name as a text spells it: of a schedule, or of what is outside the subset (an instruction, a test, a BIF with its arity, or
+/// a kind of operand).
 #[derive(Debug, Drop)]
 pub struct Name {
     text: String,
@@ -37,6 +39,12 @@ impl Name {
         ensures { result.now ≡ self.now }
     {
         self.text.as_str()
+    }
+}
+
+impl Same for Name {
+    fn same(&self, other: &Name) -> bool {
+        self.as_str() == other.as_str()
     }
 }
 

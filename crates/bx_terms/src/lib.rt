@@ -1,4 +1,6 @@
 //! Atoms, terms and faults: what every other crate of `bxemu` speaks of.
+//!
+//! `Trap::Unsupported` is raised nowhere: reading refuses what is not run. It stays for an instruction that is read before it is run.
 #![tactic(auto)]
 
 mod atom_table;
@@ -18,5 +20,5 @@ pub use faults::{Fault, Name};
 pub use kinds::{Class, Trap};
 pub use ordering::order;
 pub use places::Place;
-pub use printing::{print, push_pid};
+pub use printing::{print, push_name, push_pid};
 pub use terms::{MAX_HEIGHT, Term, TermRefusal, View};

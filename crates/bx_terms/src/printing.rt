@@ -1,10 +1,10 @@
 //! The text of a term, without spaces, and never as a string.
 
-ghost use Rattle.std.specs.Prelude.{◌≡◌, ◌++◌, IfOk, OnOk, if◌then◌else◌, is_ok, string_bytes, slice_get, List, ℕ};
+ghost use Rattle.std.specs.Prelude.{◌≡◌, ◌++◌, IfOk, OnOk, if◌then◌else◌, is_ok, string_bytes, option_map};
 ghost use Rattle.bx_terms.specs.Tree.{listed};
 ghost use Rattle.bx_terms.specs.Printed.{printed, printed_name, printed_pid, printed_tail, printed_elements};
 
-use crate::atom_table::{AtomId, Atoms};
+use crate::atom_table::Atoms;
 use crate::atom_text::push_atom;
 use crate::terms::{Term, View};
 use itoa::Buffer;
@@ -28,10 +28,11 @@ pub fn push_pid(alloc: Global, out: &mut String, number: u32) -> Result<(), Allo
     out.push_str(text.as_str())
 }
 
-fn push_name(alloc: Global, out: &mut String, atoms: &Atoms, id: AtomId) -> Result<(), AllocError>
-    ensures { OnOk result (string_bytes out.new ≡ string_bytes out.old ++ printed_name (slice_get atoms.now id.0)) }
+/// Adds a name as an atom is printed, and `?` where there is none; `out` is as before where memory runs out.
+pub fn push_name(alloc: Global, out: &mut String, name: Option<&str>) -> Result<(), AllocError>
+    ensures { string_bytes out.new ≡ (if is_ok result then string_bytes out.old ++ printed_name (option_map (λ text. text.now) name.entry) else string_bytes out.old) }
 {
-    match atoms.text(id) {
+    match name {
         Some(text) => push_atom(alloc, out, text),
         None => out.push_str("?"),
     }
@@ -43,7 +44,7 @@ fn push_term(alloc: Global, out: &mut String, atoms: &Atoms, term: &Term) -> Res
 {
     match term.view() {
         View::Int(value) => out.push_str(Buffer::new().format(value)),
-        View::Atom(id) => push_name(alloc, out, atoms, id),
+        View::Atom(id) => push_name(alloc, out, atoms.text(id)),
         View::Pid(number) => push_pid(alloc, out, number),
         View::Tuple(elements) => {
             out.push_str("{")?;

@@ -17,3 +17,4 @@ pub mod Entering
 pub mod Alike
 pub mod Commuting
 pub mod Orders
+pub mod Crossing

@@ -1,11 +1,9 @@
 //! One choice of the tester's, and rows of them.
 
-ghost use Rattle.std.specs.Prelude.{◌≡◌, ◌∷◌, ◌++◌, [], OnOk, OnErr};
+ghost use Rattle.std.specs.Prelude.{◌≡◌};
 ghost use Rattle.bx_world.specs.Enabled.{actor};
 
-use bx_share::{Same, same_rows};
-use std::alloc::{AllocError, Global};
-use std::marker::Model;
+use bx_share::{List, Same};
 
 /// One event of a world; pids are 0 to 1023 in texts, and any `u32` here.
 #[derive(Clone, Copy, Debug, PartialEq, Eq)]
@@ -44,56 +42,4 @@ impl Same for Choice {
 }
 
 /// Choices in a row.
-#[derive(Debug, Drop)]
-pub struct Choices {
-    items: Vec<Choice>,
-}
-
-impl Model for Choices {
-    ghost use Rattle.std.specs.Prelude.{List};
-    ghost use Rattle.bx_world.specs.declared.choices.Choice.{Choice};
-
-    ghost Value = { List Choice };
-
-    ghost view = { λ a. a.items.items };
-}
-
-impl Choices {
-    /// No choice.
-    pub fn new(alloc: Global) -> Choices
-        ensures { result ≡ [] }
-    {
-        Choices {
-            items: Vec::new(alloc),
-        }
-    }
-
-    /// These choices.
-    pub(crate) fn of(items: Vec<Choice>) -> Choices
-        ensures { result ≡ items.items }
-    {
-        Choices { items }
-    }
-
-    /// Puts a choice last; where memory runs out, nothing has changed.
-    pub fn push(&mut self, choice: Choice) -> Result<(), AllocError>
-        ensures ok { OnOk result (self.new ≡ self.old ++ choice ∷ []) }
-        ensures err { OnErr result (self.new ≡ self.old) }
-    {
-        self.items.push(choice)?;
-        Ok(())
-    }
-
-    /// The choices in order.
-    pub fn as_slice(&self) -> &[Choice]
-        ensures { result.now ≡ self.now }
-    {
-        self.items.as_slice()
-    }
-}
-
-impl Same for Choices {
-    fn same(&self, other: &Choices) -> bool {
-        same_rows(&self.items, &other.items)
-    }
-}
+pub type Choices = List<Choice>;

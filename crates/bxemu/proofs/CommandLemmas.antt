@@ -2,16 +2,14 @@
 use Rattle.std.proofs.Common.{◌≡◌, ◌<◌, ◌^◌, ◌∙◌, ℕ, ap, arith, get_or, sym, List, [], Option, Some, None, Result, Ok, Err, IfOk, ◌⊎◌, inl, inr, codes, refl, subst, true}
 use Rattle.clap.proofs.OnLiterals.{clap_on_literals}
 use Rattle.clap.specs.Faults.{fault_of, is_simple_and_free}
-use Rattle.clap.specs.Kinds.{IsAmong}
 use Rattle.clap.specs.Simple.{HasMatchesOf, app_of, is_simple, subcommand_of, subcommand_rows_of}
 use Rattle.clap.specs.Values.{kind_of}
 use Rattle.clap.specs.Walk.{Row, Text, all_of, first_of}
 use Rattle.clap.specs.declared.builder.command.Command.{Command}
 use Rattle.clap.specs.declared.parser.matches.ArgMatches.{ArgMatches}
 use Rattle.clap.specs.declared.error.Error.{Error}
-use Rattle.clap.specs.declared.error.kind.ErrorKind.TheVariants.{DisplayHelp, DisplayVersion, MissingSubcommand, OutOfMemory}
-use Rattle.bxemu.specs.CommandLines.{IsMistaken, IsUnordered, Lacks, MayAskHelp, Orders, OrdersNothing, RefusesWords, Spells, program}
-use Rattle.bxemu.specs.Statuses.{EndsByKind}
+use Rattle.clap.specs.declared.error.kind.ErrorKind.TheVariants.{MissingSubcommand, OutOfMemory}
+use Rattle.bxemu.specs.CommandLines.{IsMistaken, IsUnordered, Lacks, Orders, RefusesWords, Spells, program}
 use Rattle.bxemu.specs.declared.commands.Order.{Order}
 use Rattle.bxemu.specs.declared.commands.Order.TheVariants.{Campaign, Debug, Dis, Run}
 
@@ -151,23 +149,6 @@ module _ (c : Command) (is : app_of c ≡ program) (words : List Text) where
   -- the subcommand that a parse met is the one that the words name
   pub subcommand_is : (m : ArgMatches) → HasMatchesOf (app_of c) words m → subcommand_rows_of m ≡ subcommand_of program words
   subcommand_is m h = (subst (λ a. HasMatchesOf a words m) is h program_is_simple).1
-
--- a help is the answer only where it may have been asked for
-asks_help : (words : List Text) (e : Error) → OrdersNothing words e → (kind_of e ≡ DisplayHelp) ⊎ (kind_of e ≡ DisplayVersion) → MayAskHelp words
-asks_help words e (inl (inl memory)) (inl help) = absurd (cc)
-asks_help words e (inl (inl memory)) (inr version) = absurd (cc)
-asks_help words e (inl (inr among)) (inl help) = inl (subst (λ k. IsAmong k (fault_of program words)) help among)
-asks_help words e (inl (inr among)) (inr version) = inr (subst (λ k. IsAmong k (fault_of program words)) version among)
-asks_help words e (inr (inl memory)) (inl help) = absurd (cc)
-asks_help words e (inr (inl memory)) (inr version) = absurd (cc)
-asks_help words e (inr (inr lacks)) (inl help) = let missing = lacks.0 in absurd (cc)
-asks_help words e (inr (inr lacks)) (inr version) = let missing = lacks.0 in absurd (cc)
-
--- what is answered in place of an order ends as the words say
-pub refused_by : (words : List Text) (e : Error) (status : ℕ) → OrdersNothing words e → EndsByKind (kind_of e) status → RefusesWords words status
-refused_by words e status nothing (inl memory) = inr (inl memory.1)
-refused_by words e status nothing (inr (inl help)) = inr (inr (asks_help words e nothing help.0, help.1))
-refused_by words e status nothing (inr (inr two)) = inl two
 
 -- words that have an order and no fault are not mistaken
 pub not_mistaken : (words : List Text) (order : Order) (status : ℕ) → fault_of program words ≡ [] → Orders (subcommand_of program words) order → IsMistaken words → RefusesWords words status

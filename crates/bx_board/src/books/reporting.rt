@@ -8,17 +8,17 @@ ghost use Rattle.bx_board.specs.Kept.{IsAllDone};
 ghost use Rattle.bx_board.specs.Reported.{report_of, told, told_alone};
 
 use crate::books::Book;
-use crate::reports::{Report, ScheduleName, Scheduled};
+use crate::reports::{Report, Scheduled};
 use crate::slots::{ArcEnd, Slot};
 use bx_share::Hold;
-use bx_terms::Fault;
+use bx_terms::{Fault, Name};
 use std::alloc::{AllocError, Global};
 
 /// What the end of a run shows under a schedule's name.
 fn told(alloc: Global, name: &str, end: &ArcEnd) -> Result<Scheduled, AllocError>
     ensures { IfOk result (λ one. one ≡ told name.now end.now) }
 {
-    let name = ScheduleName::new(alloc, name)?;
+    let name = Name::new(alloc, name)?;
     let outcome = match end.world.outcome(alloc) {
         Ok(outcome) => outcome,
         Err(_) => return Err(AllocError),

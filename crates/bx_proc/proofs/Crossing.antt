@@ -3,44 +3,18 @@ use denote.Param.Send.{IsSend, IsSync, AllSend, AllSync, view_send, view_sync, r
 use denote.Struct.Declared.{shape}
 use Rattle.std.proofs.Crossing as owned
 use Rattle.std.specs.contracts.option.Option as option
+use Rattle.bx_terms.proofs.Crossing.{term_send, term_sync}
 use Rattle.bx_terms.specs.contracts.places.Place as place
 use Rattle.bx_terms.proofs.places.Place.TheSendSync as places
 use Rattle.bx_bifs.specs.contracts.natives.Native as native
 use Rattle.bx_bifs.proofs.natives.Native.TheSendSync as natives
-use Rattle.bx_cells.specs.contracts.values.Value as value
-use Rattle.bx_cells.specs.contracts.registers.Registers as registers
-use Rattle.bx_cells.specs.contracts.frames.Frames as frames
 use Rattle.bx_cells.proofs.links.Links.TheSendSync as links
-use Rattle.bx_mail.specs.contracts.mailbox.Mailbox as mailbox
+use Rattle.bx_cells.proofs.Crossing.{registers_send, registers_sync, frames_send, frames_sync}
+use Rattle.bx_mail.proofs.Crossing.{mailbox_send, mailbox_sync}
 use Rattle.bx_proc.specs.contracts.parts.Pending as pending
 use Rattle.bx_proc.specs.contracts.parts.Status as status
 use Rattle.bx_proc.specs.contracts.process.Proc as process
 use Rattle.bx_proc.specs.contracts.process.Proc.TheInside as inside
-use Rattle.bx_board.proofs.TermsCross.{term_send, term_sync}
-
-value_send : IsSend value.the_row
-value_send = search (term_send, sendable) depth 30
-
-value_sync : IsSync value.the_row
-value_sync = search (term_sync, sendable) depth 30
-
-registers_send : IsSend registers.the_row
-registers_send = let a = value_send in search (sendable, owned.crosses) depth 30
-
-registers_sync : IsSync registers.the_row
-registers_sync = let a = value_sync in search (sendable, owned.crosses) depth 30
-
-frames_send : IsSend frames.the_row
-frames_send = let a = value_send in search (sendable, owned.crosses) depth 30
-
-frames_sync : IsSync frames.the_row
-frames_sync = let a = value_sync in search (sendable, owned.crosses) depth 30
-
-mailbox_send : IsSend mailbox.the_row
-mailbox_send = search (term_send, sendable, owned.crosses) depth 30
-
-mailbox_sync : IsSync mailbox.the_row
-mailbox_sync = search (term_sync, sendable, owned.crosses) depth 30
 
 -- a field that is an enum has the row of its variants
 place_send : IsSend (option.the_field place.the_row).row

@@ -1,6 +1,0 @@
-use Rattle.std.proofs.Common.{◌≡◌, take, length}
-use Rattle.bx_board.proofs.reports.same_rows.Given as goal
-
--- rows of one length that are the same so far
-abbrev pub invariant-loop-at : goal.invariant-loop-at
-invariant-loop-at l = (length l.xs ≡ length l.ys) × (take l.at l.xs ≡ take l.at l.ys)
