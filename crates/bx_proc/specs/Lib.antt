@@ -4,13 +4,16 @@ pub mod Building
 pub mod Calls
 pub mod Catching
 pub mod Choosing
-pub mod Dispatch
+pub mod Codes
+pub mod Ending
 pub mod Faults
 pub mod Looking
 pub mod Moving
+pub mod Passing
 pub mod Process
 pub mod Reading
 pub mod Receiving
+pub mod Runs
 pub mod Sending
 pub mod Signals
 pub mod Spelled
@@ -18,5 +21,6 @@ pub mod Stacking
 pub mod Stepping
 pub mod Stops
 pub mod Table
+pub mod Telling
 pub mod Wanting
 pub mod Families

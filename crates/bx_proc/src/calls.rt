@@ -1,20 +1,25 @@
-//! Calls, jumps and returns.
+//! Calls, returns and frames.
 
-ghost use Rattle.std.specs.Prelude.{◌≡◌, Ok, Err, MatchResult};
+ghost use Rattle.std.specs.Prelude.{◌≡◌, ℕ, Ok, Err, Some, MatchResult};
+ghost use Rattle.bx_asm.specs.Decoding.{call_row as call_form, call_last_row as call_last_form};
+ghost use Rattle.bx_asm.specs.Instr as instr;
 ghost use Rattle.bx_cells.specs.TopFrame.{top_of};
-ghost use Rattle.bx_load.specs.Image.{after};
-ghost use Rattle.bx_proc.specs.Calls.{goes, saved_in, deallocated, prepared, framed, call_row, return_row};
-ghost use Rattle.bx_proc.specs.Stops.{Turns, Makes};
+ghost use Rattle.bx_load.specs.Image.{after, Loaded};
+ghost use Rattle.bx_terms.specs.declared.places.Place as places;
+ghost use Rattle.bx_proc.specs.Calls.{goes, saved_in, deallocated, prepared, framed, call_row};
+ghost use Rattle.bx_proc.specs.Runs.{RunsAt};
+ghost use Rattle.bx_proc.specs.Spelled.{spelled};
+ghost use Rattle.bx_proc.specs.Stops.{Turns};
 
-use crate::parts::Effect;
+use crate::operands::{label_of, number_of};
 use crate::process::Proc;
 use crate::stops::Stop;
-use bx_asm::CallKind;
+use bx_asm::{CallKind, Lookup, Operand};
 use bx_load::Image;
 use bx_terms::{Place, Term, Trap, fixed};
 
 impl Proc {
-    /// `jump`, and where a test does not hold.
+    /// On at a label.
     #[inline(always)]
     pub(crate) fn go(&mut self, image: &Image, here: Place, label: u32) -> Result<(), Stop>
         ensures { Turns ⊥ self.old self.new result (goes image.now here label self.old) }
@@ -33,26 +38,64 @@ impl Proc {
     {
         let target = image.target(here.module, label);
         if target.is_none() {
-            return Err(Stop::Trapped(Trap::BadPlace));
+            return Err(Stop::trapped(Trap::BadPlace));
         }
         self.place = target;
         Ok(())
     }
 
-    /// `call`, `call_last`, `call_only`.
-    #[inline(always)]
+    /// `call` and `call_only`.
+    #[inline(never)]
+    #[tactic(auto, unfolding(crate::specs::Table::row, crate::specs::Table::Takes))]
     pub(crate) fn call(
         &mut self,
         image: &Image,
         here: Place,
         kind: CallKind,
-        label: u32,
+        tables: Lookup<'_>,
+        row: &[Operand],
     ) -> Result<(), Stop>
+        ensures { (pid : ℕ) → RunsAt pid image.now here self.old self.new result
+            (call_form kind (spelled tables.entry row.now)) }
+    {
+        let [_, target] = row else {
+            return Err(Stop::trapped(Trap::BadPlace));
+        };
+        let label = label_of(tables, *target)?;
+        self.enter(image, here, kind, label)?;
+        Ok(())
+    }
+
+    /// `call_last`.
+    #[inline(never)]
+    #[tactic(auto, unfolding(crate::specs::Table::row, crate::specs::Table::Takes))]
+    pub(crate) fn call_last(
+        &mut self,
+        image: &Image,
+        here: Place,
+        tables: Lookup<'_>,
+        row: &[Operand],
+    ) -> Result<(), Stop>
+        ensures { (pid : ℕ) → RunsAt pid image.now here self.old self.new result
+            (call_last_form (spelled tables.entry row.now)) }
+    {
+        let [_, target, size] = row else {
+            return Err(Stop::trapped(Trap::BadPlace));
+        };
+        let label = label_of(tables, *target)?;
+        let size = number_of(tables, *size)?;
+        self.enter(image, here, CallKind::Last(size), label)?;
+        Ok(())
+    }
+
+    /// Calls the function that begins at a label.
+    #[inline(always)]
+    fn enter(&mut self, image: &Image, here: Place, kind: CallKind, label: u32) -> Result<(), Stop>
         ensures { Turns ⊥ self.old self.new result
             (call_row image.now here (after image.now here) kind label self.old) }
     {
         let Some(place) = image.target_at_once(here.module, label) else {
-            return self.call_anywhere(image, here, kind, label);
+            return self.enter_anywhere(image, here, kind, label);
         };
         self.prepare(image, here, kind)?;
         self.place = Some(place);
@@ -61,7 +104,7 @@ impl Proc {
 
     /// The same, wherever the label stands.
     #[inline(never)]
-    fn call_anywhere(
+    fn enter_anywhere(
         &mut self,
         image: &Image,
         here: Place,
@@ -74,7 +117,7 @@ impl Proc {
         let target = image.target(here.module, label);
         let Some(place) = target else {
             self.may_prepare(kind)?;
-            return Err(Stop::Trapped(Trap::BadPlace));
+            return Err(Stop::trapped(Trap::BadPlace));
         };
         self.prepare(image, here, kind)?;
         self.place = Some(place);
@@ -91,7 +134,7 @@ impl Proc {
                 self.cp = Some(image.after(here));
                 Ok(())
             }
-            CallKind::Last(size) => self.deallocate(size),
+            CallKind::Last(size) => self.give_back(size),
             CallKind::Only => Ok(()),
         }
     }
@@ -107,9 +150,9 @@ impl Proc {
         Ok(())
     }
 
-    /// `deallocate`.
+    /// Gives the topmost frame back.
     #[inline(always)]
-    pub(crate) fn deallocate(&mut self, size: u32) -> Result<(), Stop>
+    pub(crate) fn give_back(&mut self, size: u32) -> Result<(), Stop>
         ensures { Turns ⊥ self.old self.new result (deallocated size self.old) }
     {
         self.cp = self.saved(size as u64)?;
@@ -130,14 +173,16 @@ impl Proc {
     }
 
     /// `return`.
-    #[inline(never)]
-    pub(crate) fn go_back(&mut self) -> Result<Effect, Stop>
-        ensures { Makes ⊥ self.old self.new result (return_row self.old) }
+    #[inline(always)]
+    #[tactic(auto, unfolding(crate::specs::Table::row, crate::specs::Table::Takes))]
+    pub(crate) fn return_to(&mut self) -> Result<(), Stop>
+        ensures { (pid : ℕ) (image : Loaded) (here : places.Place) → RunsAt pid image here self.old
+            self.new result (Some instr.return) }
     {
         if self.cp.is_none() {
-            return Ok(Effect::Ended(Term::atom(fixed::NORMAL)));
+            return self.end(Term::atom(fixed::NORMAL));
         }
         self.place = self.cp;
-        Ok(Effect::Ran)
+        Ok(())
     }
 }

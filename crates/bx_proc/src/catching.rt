@@ -1,32 +1,63 @@
-//! Catch tags, the faults that they catch, and faults that are raised again.
+//! Catch tags, the faults that they catch, and values that nothing matched.
 
-ghost use Rattle.std.specs.Prelude.{◌≡◌, Ok, Err, MatchResult};
+ghost use Rattle.std.specs.Prelude.{◌≡◌, ℕ, Ok, Err, Some, option_map};
+ghost use Rattle.bx_asm.specs.Decoding.{catch_row as catch_form, no_match_row as no_match_form, raise_row as raise_form, y_alone};
+ghost use Rattle.bx_asm.specs.Instr as instr;
 ghost use Rattle.bx_asm.specs.Instructed.{source_of};
-ghost use Rattle.bx_proc.specs.Catching.{tagged, tag_at, try_end_row, caught_of, catch_end_row, class_atom, try_case_row, trace_at, raise_row, build_stacktrace_row, mismatched, no_match_row};
+ghost use Rattle.bx_proc.specs.Catching.{tagged, tag_at, caught_of, class_atom, trace_at, mismatched};
 ghost use Rattle.bx_proc.specs.Faults.{within_height};
-ghost use Rattle.bx_proc.specs.Stops.{Reads, Turns, Makes};
-ghost use Rattle.bx_proc.specs.Wanting.{CaughtTakes, CatchEndTakes, TryCaseTakes, RaiseTakes, NoMatchTakes};
+ghost use Rattle.bx_proc.specs.Runs.{RunsAt};
+ghost use Rattle.bx_proc.specs.Spelled.{spelled};
+ghost use Rattle.bx_proc.specs.Stops.{Reads, Turns};
+ghost use Rattle.bx_proc.specs.Wanting.{CaughtTakes};
+ghost use Rattle.bx_proc.specs.Looking.{tree_of};
+ghost use Rattle.bx_terms.specs.Built.{IsWithinHeight};
 
 use crate::faults::pair;
-use crate::parts::{Effect, Pending};
+use crate::operands::{label_of, y_in, y_of};
 use crate::process::Proc;
+use crate::reading::Seen;
 use crate::stops::Stop;
-use bx_asm::{Mismatch, Register, Source};
+use bx_asm::{Lookup, Mismatch, Operand, Register, Source};
 use bx_cells::Value;
-use bx_terms::{AtomId, Class, Place, Term, Trap, fixed};
+use bx_load::Image;
+use bx_terms::{AtomId, Class, MAX_HEIGHT, Place, Term, Trap, fixed};
 use std::alloc::Global;
 
 impl Proc {
     /// `catch` and `try`.
-    pub(crate) fn tag(&mut self, number: u16, place: Option<Place>) -> Result<(), Stop>
+    #[inline(never)]
+    #[tactic(auto, unfolding(crate::specs::Table::row, crate::specs::Table::Takes))]
+    pub(crate) fn catch_at_label(
+        &mut self,
+        image: &Image,
+        here: Place,
+        tables: Lookup<'_>,
+        row: &[Operand],
+    ) -> Result<(), Stop>
+        ensures { (pid : ℕ) → RunsAt pid image.now here self.old self.new result
+            (catch_form (spelled tables.entry row.now)) }
+    {
+        let [tag, label] = row else {
+            return Err(Stop::trapped(Trap::BadPlace));
+        };
+        let tag = y_of(tables, *tag)?;
+        let label = label_of(tables, *label)?;
+        self.tag(tag, image.target(here.module, label))?;
+        self.place = Some(image.after(here));
+        Ok(())
+    }
+
+    /// Puts a tag into a y register.
+    fn tag(&mut self, number: u16, place: Option<Place>) -> Result<(), Stop>
         ensures { Turns ⊥ self.old self.new result (tagged number place self.old) }
     {
         let Some(place) = place else {
-            return Err(Stop::Trapped(Trap::BadPlace));
+            return Err(Stop::trapped(Trap::BadPlace));
         };
         match self.frames.set(number, Value::Tag(place)) {
             Ok(()) => Ok(()),
-            Err((trap, _)) => Err(Stop::Trapped(trap)),
+            Err((trap, _)) => Err(Stop::trapped(trap)),
         }
     }
 
@@ -40,52 +71,84 @@ impl Proc {
         }
     }
 
-    /// `try_end`.
-    #[tactic(auto, unfolding(crate::specs::Catching::try_end_row))]
-    pub(crate) fn try_end(&mut self, number: u16) -> Result<(), Stop>
-        ensures { Turns ⊥ self.old self.new result (try_end_row number self.old) }
-    {
-        self.tag_of(number)?;
-        self.clear(number)
-    }
-
     /// `catch_end`.
-    #[tactic(auto, unfolding(crate::specs::Catching::catch_end_row))]
-    pub(crate) fn catch_end(&mut self, alloc: Global, number: u16) -> Result<(), Stop>
-        ensures { Turns (CatchEndTakes number self.old) self.old self.new result
-            (catch_end_row number self.old) }
+    #[inline(never)]
+    #[tactic(auto, unfolding(crate::specs::Table::row, crate::specs::Table::Takes, crate::specs::Catching::catch_end_row))]
+    pub(crate) fn catch_end(
+        &mut self,
+        alloc: Global,
+        image: &Image,
+        here: Place,
+        tables: Lookup<'_>,
+        row: &[Operand],
+    ) -> Result<(), Stop>
+        ensures { (pid : ℕ) → RunsAt pid image.now here self.old self.new result
+            (option_map instr.catch_end (y_alone (spelled tables.entry row.now))) }
     {
+        let number = y_in(tables, row)?;
         self.tag_of(number)?;
         if let Some(fault) = &self.fault {
-            let value = fault.value.copy(alloc)?;
-            let caught = caught_of(alloc, fault.class, value)?;
+            let caught = caught_of(alloc, fault.class, &fault.value)?;
             if let Err(_) = self.x.set(0, Value::Term(caught)) {
-                return Err(Stop::Memory);
+                return Err(Stop::memory());
             }
             self.fault = None;
         }
-        self.clear(number)
+        self.clear(number)?;
+        self.place = Some(image.after(here));
+        Ok(())
+    }
+
+    /// `try_end`.
+    #[inline(never)]
+    #[tactic(auto, unfolding(crate::specs::Table::row, crate::specs::Table::Takes, crate::specs::Catching::try_end_row))]
+    pub(crate) fn try_end(
+        &mut self,
+        image: &Image,
+        here: Place,
+        tables: Lookup<'_>,
+        row: &[Operand],
+    ) -> Result<(), Stop>
+        ensures { (pid : ℕ) → RunsAt pid image.now here self.old self.new result
+            (option_map instr.try_end (y_alone (spelled tables.entry row.now))) }
+    {
+        let number = y_in(tables, row)?;
+        self.tag_of(number)?;
+        self.clear(number)?;
+        self.place = Some(image.after(here));
+        Ok(())
     }
 
     /// `try_case`.
-    #[tactic(auto, unfolding(crate::specs::Catching::try_case_row))]
-    pub(crate) fn try_case(&mut self, alloc: Global, number: u16) -> Result<(), Stop>
-        ensures { Turns (TryCaseTakes number self.old) self.old self.new result
-            (try_case_row number self.old) }
+    #[inline(never)]
+    #[tactic(auto, unfolding(crate::specs::Table::row, crate::specs::Table::Takes, crate::specs::Catching::try_case_row))]
+    pub(crate) fn try_case(
+        &mut self,
+        alloc: Global,
+        image: &Image,
+        here: Place,
+        tables: Lookup<'_>,
+        row: &[Operand],
+    ) -> Result<(), Stop>
+        ensures { (pid : ℕ) → RunsAt pid image.now here self.old self.new result
+            (option_map instr.try_case (y_alone (spelled tables.entry row.now))) }
     {
+        let number = y_in(tables, row)?;
         self.frames.get(number)?;
         let Some(fault) = &self.fault else {
-            return Err(Stop::Trapped(Trap::NoPending));
+            return Err(Stop::trapped(Trap::NoPending));
         };
         let class = fault.class;
         let value = Value::Term(fault.value.copy(alloc)?);
         self.tag_of(number)?;
         let name = Value::Term(Term::atom(class_atom(class)));
         if let Err(_) = self.x.set_three(name, value, Value::Trace(class)) {
-            return Err(Stop::Memory);
+            return Err(Stop::memory());
         }
         self.fault = None;
-        self.clear(number)
+        self.clear(number)?;
+        self.place = Some(image.after(here));
+        Ok(())
     }
 
     /// The class of the trace that a source gives.
@@ -102,61 +165,121 @@ impl Proc {
     }
 
     /// `raise`.
-    #[tactic(auto, unfolding(crate::specs::Catching::raise_row))]
+    #[inline(never)]
+    #[tactic(auto, unfolding(crate::specs::Table::row, crate::specs::Table::Takes, crate::specs::Catching::raise_row))]
     pub(crate) fn raise_again(
         &mut self,
         alloc: Global,
-        trace: Source<'_>,
-        value: Source<'_>,
-    ) -> Result<Effect, Stop>
-        ensures { Makes (RaiseTakes (source_of trace.entry) (source_of value.entry) self.old)
-            self.old self.new result (raise_row (source_of trace.entry) (source_of value.entry)
-            self.old) }
+        image: &Image,
+        here: Place,
+        tables: Lookup<'_>,
+        row: &[Operand],
+    ) -> Result<(), Stop>
+        ensures { (pid : ℕ) → RunsAt pid image.now here self.old self.new result
+            (raise_form (spelled tables.entry row.now)) }
     {
-        let class = self.trace(trace)?;
-        let value = self.term_of(alloc, value)?;
+        let [trace, value] = row else {
+            return Err(Stop::trapped(Trap::BadPlace));
+        };
+        let class = self.trace(tables.source(*trace))?;
+        let value = self.term_by(alloc, tables, *value)?;
         self.raise(alloc, class, value)
     }
 
     /// `build_stacktrace`.
-    #[tactic(auto, unfolding(crate::specs::Catching::build_stacktrace_row))]
-    pub(crate) fn build_stacktrace(&mut self) -> Result<(), Stop>
-        ensures { Turns ⊥ self.old self.new result (build_stacktrace_row self.old) }
+    #[inline(never)]
+    #[tactic(auto, unfolding(crate::specs::Table::row, crate::specs::Table::Takes, crate::specs::Catching::build_stacktrace_row))]
+    pub(crate) fn build_stacktrace(&mut self, image: &Image, here: Place) -> Result<(), Stop>
+        ensures { (pid : ℕ) → RunsAt pid image.now here self.old self.new result
+            (Some instr.build_stacktrace) }
     {
         self.trace(Source::Register(Register::X(0)))?;
         if let Err(_) = self.x.set(0, Value::Term(Term::nil())) {
-            return Err(Stop::Memory);
+            return Err(Stop::memory());
         }
+        self.place = Some(image.after(here));
         Ok(())
     }
 
+    /// `func_info`.
+    #[inline(never)]
+    #[tactic(auto, unfolding(crate::specs::Table::row, crate::specs::Table::Takes))]
+    pub(crate) fn func_info(
+        &mut self,
+        alloc: Global,
+        image: &Image,
+        here: Place,
+    ) -> Result<(), Stop>
+        ensures { (pid : ℕ) → RunsAt pid image.now here self.old self.new result
+            (Some instr.func_info) }
+    {
+        self.raise(alloc, Class::Error, Term::atom(fixed::FUNCTION_CLAUSE))
+    }
+
+    /// `int_code_end`.
+    #[inline(always)]
+    #[tactic(auto, unfolding(crate::specs::Table::row, crate::specs::Table::Takes))]
+    pub(crate) fn int_code_end(&mut self, image: &Image, here: Place) -> Result<(), Stop>
+        ensures { (pid : ℕ) → RunsAt pid image.now here self.old self.new result
+            (Some instr.int_code_end) }
+    {
+        Err(Stop::trapped(Trap::BadPlace))
+    }
+
+    /// `if_end`.
+    #[inline(never)]
+    #[tactic(auto, unfolding(crate::specs::Table::row, crate::specs::Table::Takes))]
+    pub(crate) fn if_end(&mut self, alloc: Global, image: &Image, here: Place) -> Result<(), Stop>
+        ensures { (pid : ℕ) → RunsAt pid image.now here self.old self.new result
+            (Some instr.if_end) }
+    {
+        self.raise(alloc, Class::Error, Term::atom(fixed::IF_CLAUSE))
+    }
+
     /// `badmatch`, `case_end` and `try_case_end`.
-    #[tactic(auto, unfolding(crate::specs::Catching::no_match_row))]
+    #[inline(never)]
+    #[tactic(auto, unfolding(crate::specs::Table::row, crate::specs::Table::Takes, crate::specs::Catching::no_match_row))]
     pub(crate) fn no_match(
         &mut self,
         alloc: Global,
+        image: &Image,
+        here: Place,
         mismatch: Mismatch,
-        value: Source<'_>,
-    ) -> Result<Effect, Stop>
-        ensures { Makes (NoMatchTakes (source_of value.entry) self.old) self.old self.new result
-            (no_match_row mismatch (source_of value.entry) self.old) }
+        tables: Lookup<'_>,
+        row: &[Operand],
+    ) -> Result<(), Stop>
+        ensures { (pid : ℕ) → RunsAt pid image.now here self.old self.new result
+            (no_match_form mismatch (spelled tables.entry row.now)) }
     {
-        let value = self.term_of(alloc, value)?;
-        let told = mismatched(alloc, mismatch, value)?;
+        let [value] = row else {
+            return Err(Stop::trapped(Trap::BadPlace));
+        };
+        let told = {
+            let seen = self.seen(tables.source(*value))?;
+            mismatched(alloc, mismatch, seen)?
+        };
         self.raise(alloc, Class::Error, told)
     }
 }
 
-/// What `catch` gives for a fault.
-fn caught_of(alloc: Global, class: Class, value: Term) -> Result<Term, Stop>
-    ensures { Reads (CaughtTakes class) (λ t. t) result (caught_of class value) }
+/// What `catch` gives for a fault. Its height is looked at before anything is built.
+fn caught_of(alloc: Global, class: Class, value: &Term) -> Result<Term, Stop>
+    ensures { Reads (CaughtTakes class value.now) (λ t. t) result (caught_of class value.now) }
 {
     let exit = Term::atom(fixed::EXIT_TAG);
     match class {
-        Class::Throw => Ok(value),
-        Class::Exit => pair(alloc, exit, value),
+        Class::Throw => Ok(value.copy(alloc)?),
+        Class::Exit => {
+            if value.height() == MAX_HEIGHT {
+                return Err(Stop::trapped(Trap::TermHeight));
+            }
+            pair(alloc, exit, value.copy(alloc)?)
+        }
         Class::Error => {
-            let reason = pair(alloc, value, Term::nil())?;
+            if value.height() > MAX_HEIGHT - 2 {
+                return Err(Stop::trapped(Trap::TermHeight));
+            }
+            let reason = pair(alloc, value.copy(alloc)?, Term::nil())?;
             pair(alloc, exit, reason)
         }
     }
@@ -172,14 +295,18 @@ fn class_atom(class: Class) -> AtomId
     }
 }
 
-/// A value that nothing matched, as the fault tells it.
-fn mismatched(alloc: Global, mismatch: Mismatch, value: Term) -> Result<Term, Stop>
-    ensures { Reads (Unit {0}) (λ t. t) result (within_height (mismatched mismatch value)) }
+/// A value that nothing matched, as the fault tells it. Its height is looked at before anything is built.
+fn mismatched(alloc: Global, mismatch: Mismatch, value: Seen<'_>) -> Result<Term, Stop>
+    ensures { Reads (IsWithinHeight (mismatched mismatch (tree_of value.entry))) (λ t. t) result
+        (within_height (mismatched mismatch (tree_of value.entry))) }
 {
     let name = match mismatch {
         Mismatch::Badmatch => fixed::BADMATCH,
         Mismatch::CaseClause => fixed::CASE_CLAUSE,
         Mismatch::TryClause => fixed::TRY_CLAUSE,
     };
-    pair(alloc, Term::atom(name), value)
+    if value.term().height() == MAX_HEIGHT {
+        return Err(Stop::trapped(Trap::TermHeight));
+    }
+    pair(alloc, Term::atom(name), value.kept(alloc)?)
 }

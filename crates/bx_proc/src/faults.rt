@@ -1,34 +1,55 @@
-//! What becomes of a fault.
+//! What becomes of a fault, and the end of a process.
 
-ghost use Rattle.std.specs.Prelude.{◌≡◌, Ok};
+ghost use Rattle.std.specs.Prelude.{◌≡◌};
+ghost use Rattle.bx_terms.specs.Built.{IsWithinHeight};
 ghost use Rattle.bx_proc.specs.Faults.{reason, pair, within_height, raised, caught_at};
 ghost use Rattle.bx_proc.specs.Calls.{raised_by};
-ghost use Rattle.bx_proc.specs.Stops.{Reads, Makes};
-ghost use Rattle.bx_proc.specs.Wanting.{Pairs, Raises, RaisesBy};
+ghost use Rattle.bx_proc.specs.Ending.{ended};
+ghost use Rattle.bx_proc.specs.Runs.{Runs};
+ghost use Rattle.bx_proc.specs.Stops.{Reads};
+ghost use Rattle.bx_proc.specs.Wanting.{ReasonTakes, Raises, RaisesBy};
+ghost use Rattle.bx_proc.specs.declared.stops.Why.TheVariants as stops;
+ghost use Rattle.std.specs.Prelude.{Err};
 
-use crate::parts::{Effect, Pending};
+use crate::parts::Pending;
 use crate::process::Proc;
 use crate::stops::Stop;
 use bx_asm::CallKind;
-use bx_terms::{Class, Place, Term, TermRefusal, Trap, fixed};
+use bx_terms::{Class, MAX_HEIGHT, Place, Term, TermRefusal, Trap, fixed};
 use std::alloc::Global;
 
 impl Proc {
-    /// Raises a fault: it is caught in the stack, or the process ends.
+    /// The process ends: its reason waits where a fault does.
+    #[cold]
     #[inline(never)]
-    pub(crate) fn raise(&mut self, alloc: Global, class: Class, value: Term) -> Result<Effect, Stop>
-        ensures { Makes (Raises class self.old) self.old self.new result
+    pub(crate) fn end(&mut self, reason: Term) -> Result<(), Stop>
+        ensures told { result ≡ Err stops.Ends }
+        ensures waits { self.new ≡ ended reason self.old }
+    {
+        self.fault = Some(Pending {
+            class: Class::Exit,
+            value: reason,
+        });
+        Err(Stop::ends())
+    }
+
+    /// Raises a fault: it is caught in the stack, or the process ends.
+    #[cold]
+    #[inline(never)]
+    pub(crate) fn raise(&mut self, alloc: Global, class: Class, value: Term) -> Result<(), Stop>
+        ensures { Runs (Raises class value self.old) self.old self.new result
             (raised class value self.old) }
     {
         let Some((above, place)) = self.frames.handler() else {
             let reason = reason(alloc, class, value)?;
-            return Ok(Effect::Ended(reason));
+            return self.end(reason);
         };
         self.catch_at(above, place, class, value);
-        Ok(Effect::Ran)
+        Ok(())
     }
 
     /// Raises a fault of what a call by name would have run.
+    #[cold]
     #[inline(never)]
     pub(crate) fn raise_by(
         &mut self,
@@ -36,8 +57,8 @@ impl Proc {
         kind: CallKind,
         class: Class,
         value: Term,
-    ) -> Result<Effect, Stop>
-        ensures { Makes (RaisesBy kind class self.old) self.old self.new result
+    ) -> Result<(), Stop>
+        ensures { Runs (RaisesBy kind class value self.old) self.old self.new result
             (raised_by kind class value self.old) }
     {
         let CallKind::Last(size) = kind else {
@@ -46,11 +67,11 @@ impl Proc {
         let cp = self.saved(size as u64)?;
         let Some((above, place)) = self.frames.handler_below() else {
             let reason = reason(alloc, class, value)?;
-            return Ok(Effect::Ended(reason));
+            return self.end(reason);
         };
         self.catch_at(above, place, class, value);
         self.cp = cp;
-        Ok(Effect::Ran)
+        Ok(())
     }
 
     /// The frames above go, and the fault waits to be looked at.
@@ -63,30 +84,40 @@ impl Proc {
     }
 }
 
-/// The reason with which a process ends that did not catch a fault.
+/// The reason with which a process ends that did not catch a fault. Its height is looked at before anything is built.
+#[tactic(auto, using(crate::proofs::Heights::pair_low, crate::proofs::Heights::refused_high, crate::proofs::Heights::uncaught_low, crate::proofs::Heights::uncaught_high))]
 fn reason(alloc: Global, class: Class, value: Term) -> Result<Term, Stop>
-    ensures { Reads (Pairs class) (λ r. r) result (within_height (reason class value)) }
+    ensures { Reads (ReasonTakes class value) (λ r. r) result
+        (within_height (reason class value)) }
 {
     match class {
         Class::Exit => Ok(value),
         Class::Error => pair(alloc, value, Term::nil()),
         Class::Throw => {
+            if value.height() > MAX_HEIGHT - 2 {
+                return Err(Stop::trapped(Trap::TermHeight));
+            }
             let uncaught = pair(alloc, Term::atom(fixed::NOCATCH), value)?;
             pair(alloc, uncaught, Term::nil())
         }
     }
 }
 
-/// A tuple of two.
+/// A tuple of two. Its height is looked at before it is built.
+#[tactic(auto, using(crate::proofs::Heights::pair_low, crate::proofs::Heights::first_high, crate::proofs::Heights::second_high))]
 pub(crate) fn pair(alloc: Global, first: Term, second: Term) -> Result<Term, Stop>
-    ensures { Reads (Unit {0}) (λ t. t) result (within_height (pair first second)) }
+    ensures { Reads (IsWithinHeight (pair first second)) (λ t. t) result
+        (within_height (pair first second)) }
 {
+    if first.height() == MAX_HEIGHT || second.height() == MAX_HEIGHT {
+        return Err(Stop::trapped(Trap::TermHeight));
+    }
     let mut elements = Vec::with_capacity(alloc, 2)?;
     elements.push(first)?;
     elements.push(second)?;
     match Term::tuple(alloc, elements) {
         Ok(term) => Ok(term),
-        Err((TermRefusal::TooHigh, _)) => Err(Stop::Trapped(Trap::TermHeight)),
-        Err((TermRefusal::Memory, _)) => Err(Stop::Memory),
+        Err((TermRefusal::TooHigh, _)) => Err(Stop::trapped(Trap::TermHeight)),
+        Err((TermRefusal::Memory, _)) => Err(Stop::memory()),
     }
 }

@@ -1,9 +1,11 @@
 //! Laws of the definitions: the functions do nothing, and their clauses are the laws.
 
-ghost use Rattle.std.specs.Prelude.{◌≡◌, ℕ, Ok, None, Some, false};
+ghost use Rattle.std.specs.Prelude.{◌≡◌, ℕ, Ok, Err, None, Some, true, false};
 ghost use Rattle.bx_bifs.specs.declared.natives.Native.{Native};
 ghost use Rattle.bx_asm.specs.Instr.{Instr};
-ghost use Rattle.bx_load.specs.Image.{Loaded, instruction_at};
+ghost use Rattle.bx_asm.specs.Decoding.{instruction_of};
+ghost use Rattle.bx_listing.specs.Items.{Item};
+ghost use Rattle.bx_load.specs.Image.{Loaded, instruction_at, item_at};
 ghost use Rattle.bx_terms.specs.Tree.{Tree};
 ghost use Rattle.bx_terms.specs.declared.kinds.Trap.TheVariants.{BadPlace, NoTag, WrongShape};
 ghost use Rattle.bx_terms.specs.declared.places.Place.{Place};
@@ -14,7 +16,9 @@ ghost use Rattle.bx_proc.specs.declared.parts.Pending.{Pending};
 ghost use Rattle.bx_proc.specs.declared.parts.Status.TheVariants.{Ready, Ended};
 ghost use Rattle.bx_proc.specs.Process.{Process};
 ghost use Rattle.bx_proc.specs.Families.{parts_of, KeepsBut};
-ghost use Rattle.bx_proc.specs.Stepping.{attempted, settled, settled_with, Whole};
+ghost use Rattle.bx_proc.specs.Stepping.{attempted, settled, settled_with, is_held_up_by, takes_memory, unasked, resumed, ResumedTakes, SettlingTakes, Whole};
+ghost use Rattle.bx_proc.specs.Telling.{Tells, Resumes, unfaulted};
+ghost use Rattle.bx_proc.specs.declared.stops.Why.TheVariants.{Asks, Ends};
 ghost use Rattle.bx_proc.specs.Table.{row, looks_at_faults};
 
 /// An instruction changes only the parts of its process that its family may change.
@@ -34,11 +38,34 @@ pub fn a_run_is_done_whole_or_changes_nothing()
         (effect : Effect) → settled_with image answer message p ≡ (q, effect) → Whole p q effect }
 {}
 
-/// A process that stands where no instruction is has nothing to run: the trap `BadPlace`, also while a fault is pending.
+/// A process that stands where no instruction is has nothing to run: the trap `BadPlace`. That goes before a fault that is
+/// pending.
 pub fn there_is_nothing_to_run_without_an_instruction()
-    ensures { (image : Loaded) (pid : ℕ) (here : Place) (p : Process) → p.status ≡ Ready → p.asked ≡
-        None → p.place ≡ Some here → instruction_at image here ≡ None → attempted image pid p ≡
+    ensures item { (image : Loaded) (pid : ℕ) (here : Place) (p : Process) → p.status ≡ Ready →
+        p.asked ≡ None → p.place ≡ Some here → item_at image here ≡ None → attempted image pid p ≡
         (p, effects.Trap BadPlace) }
+    ensures instruction { (image : Loaded) (pid : ℕ) (here : Place) (p : Process) → p.status ≡ Ready
+        → p.asked ≡ None → p.place ≡ Some here → p.fault ≡ None → instruction_at image here ≡ None →
+        attempted image pid p ≡ (p, effects.Trap BadPlace) }
+{}
+
+/// That an instruction does not look at a pending fault is told by its opcode.
+pub fn the_opcode_tells_what_looks_at_a_fault()
+    ensures { (item : Item) (i : Instr) → instruction_of item ≡ Some i → looks_at_faults i ≡ false →
+        is_held_up_by item.op ≡ true }
+{}
+
+/// A process whose run, or whose answer, ended it is as it was before once the reason is taken out; one whose run asked for
+/// something, once that is withdrawn.
+pub fn what_waits_in_a_process_is_taken_out_again()
+    ensures ended { (image : Loaded) (pid : ℕ) (old new : Process) → Tells (takes_memory image old)
+        old new (Err Ends) (attempted image pid old) → unfaulted new ≡ old }
+    ensures asked { (image : Loaded) (pid : ℕ) (native : Native) (old new : Process) → Tells
+        (takes_memory image old) old new (Err (Asks native)) (attempted image pid old) →
+        unasked new ≡ old }
+    ensures answered { (image : Loaded) (answer : Answer) (old new : Process) → Resumes
+        (ResumedTakes (SettlingTakes image answer (unasked old)) old.asked) old new (Err Ends)
+        (resumed image answer old.asked (unasked old)) → unfaulted new ≡ old }
 {}
 
 /// While a fault is pending, an instruction that does not look at it is the trap `NoTag`.

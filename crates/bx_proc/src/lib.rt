@@ -1,8 +1,9 @@
 //! One process, and what a run of one instruction makes of it.
 #![tactic(auto)]
 
+mod answering;
 mod asking;
-mod at_once;
+mod attempting;
 mod building;
 mod calls;
 mod catching;
@@ -11,21 +12,19 @@ mod dispatch;
 mod faults;
 pub mod laws;
 mod moving;
+mod operands;
 mod parts;
 mod process;
 mod reading;
 mod receiving;
-mod receiving_at_once;
 mod running;
 mod sending;
-mod settling;
 mod signals;
 mod stacking;
+mod stepping;
 mod stops;
-mod table;
-mod waking;
 
 pub use parts::{Answer, Arguments, Effect, Pending, Status};
 pub use process::Proc;
 pub use sending::Sending;
-pub use stops::Undone;
+pub use stops::{Stop, Undone, Why};

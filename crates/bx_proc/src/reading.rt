@@ -1,6 +1,6 @@
 //! What an instruction reads and writes.
 
-ghost use Rattle.std.specs.Prelude.{◌≡◌, ◌⊎◌, Ok, Err, IfSome, MatchResult, option_map};
+ghost use Rattle.std.specs.Prelude.{◌≡◌, ◌⊎◌, Ok, Err, IfOk, IfSome, OnErr, MatchResult, option_map};
 ghost use Rattle.bx_terms.specs.Tree.{int};
 ghost use Rattle.bx_asm.specs.Instructed.{source_of};
 ghost use Rattle.bx_asm.specs.declared.instruction.Register.TheVariants.{X, Y};
@@ -9,14 +9,14 @@ ghost use Rattle.bx_cells.specs.TopFrame.{y_cell};
 ghost use Rattle.bx_proc.specs.Looking.{tree_of};
 ghost use Rattle.bx_proc.specs.Reading.{value_at, held_in, written, both_written, carried, carried_in, term_in, term_at};
 ghost use Rattle.bx_proc.specs.Stops.{Reads, Turns};
-ghost use Rattle.bx_proc.specs.Wanting.{KeepsTerm, KeepsValue, Opens};
+ghost use Rattle.bx_proc.specs.Wanting.{KeepsTerm, KeepsValue, Opens, Shares};
 
 use crate::process::Proc;
 use crate::stops::Stop;
 use bx_asm::{Lookup, Operand, Register, Source};
 use bx_cells::Value;
 use bx_terms::{Term, Trap, View};
-use std::alloc::Global;
+use std::alloc::{AllocError, Global};
 
 /// A term that is looked at: where it lies, or as an instruction spells it.
 #[derive(Debug, Drop)]
@@ -26,6 +26,17 @@ pub(crate) enum Seen<'a> {
 }
 
 impl Seen<'_> {
+    /// The same, to be kept.
+    pub(crate) fn kept(self, alloc: Global) -> Result<Term, AllocError>
+        ensures kept { IfOk result (λ t. t ≡ tree_of self.entry) }
+        ensures memory { OnErr result (Shares (tree_of self.entry)) }
+    {
+        match self {
+            Seen::Held(term) => term.copy(alloc),
+            Seen::Spelled(term) => Ok(term),
+        }
+    }
+
     #[inline(always)]
     pub(crate) fn term(&self) -> &Term
         ensures { result.now ≡ tree_of self.now }
@@ -80,7 +91,7 @@ impl Proc {
 
     /// The term that a register holds.
     #[inline(always)]
-    pub(crate) fn term(&self, register: Register) -> Result<&Term, Trap>
+    pub fn term(&self, register: Register) -> Result<&Term, Trap>
         ensures { MatchResult result (λ t. term_in register self.now ≡ Ok t.now)
             (λ trap. term_in register self.now ≡ Err trap) }
     {
@@ -191,11 +202,11 @@ impl Proc {
         match register {
             Register::X(number) => match self.x.set(number, value) {
                 Ok(()) => Ok(()),
-                Err(_) => Err(Stop::Memory),
+                Err(_) => Err(Stop::memory()),
             },
             Register::Y(number) => match self.frames.set(number, value) {
                 Ok(()) => Ok(()),
-                Err((trap, _)) => Err(Stop::Trapped(trap)),
+                Err((trap, _)) => Err(Stop::trapped(trap)),
             },
         }
     }
@@ -217,7 +228,7 @@ impl Proc {
     {
         match self.frames.set(number, value) {
             Ok(()) => Ok(()),
-            Err((trap, _)) => Err(Stop::Trapped(trap)),
+            Err((trap, _)) => Err(Stop::trapped(trap)),
         }
     }
 
@@ -239,7 +250,7 @@ impl Proc {
             (Register::X(first), Register::X(second)) => {
                 match self.x.set_two(first, value, second, more) {
                     Ok(()) => Ok(()),
-                    Err(_) => Err(Stop::Memory),
+                    Err(_) => Err(Stop::memory()),
                 }
             }
             (Register::X(first), Register::Y(second)) => {
@@ -294,7 +305,7 @@ fn carried(alloc: Global, value: &Value) -> Result<Value, Stop>
 {
     match value {
         Value::Term(term) => Ok(Value::Term(term.copy(alloc)?)),
-        Value::Tag(_) => Err(Stop::Trapped(Trap::NotATerm)),
+        Value::Tag(_) => Err(Stop::trapped(Trap::NotATerm)),
         Value::Trace(class) => Ok(Value::Trace(*class)),
     }
 }

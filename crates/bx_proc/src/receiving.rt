@@ -1,16 +1,17 @@
 //! Messages that are looked at, passed over and taken, and waiting for them.
 
-ghost use Rattle.std.specs.Prelude.{◌≡◌, Ok};
-ghost use Rattle.bx_asm.specs.Instructed.{source_of};
-ghost use Rattle.bx_load.specs.Image.{after};
-ghost use Rattle.bx_proc.specs.Receiving.{loop_rec_row, remove_message_row, loop_rec_end_row, wait_row, timeout_row, time_of, wait_timeout_row};
-ghost use Rattle.bx_proc.specs.Stops.{Turns, Makes};
-ghost use Rattle.bx_proc.specs.Wanting.{LoopRecTakes, WaitTimeoutTakes};
+ghost use Rattle.std.specs.Prelude.{◌≡◌, ℕ, Some, option_map};
+ghost use Rattle.bx_asm.specs.Decoding.{loop_rec_row as loop_rec_form, wait_timeout_row as wait_timeout_form, label_alone};
+ghost use Rattle.bx_asm.specs.Instr as instr;
+ghost use Rattle.bx_proc.specs.Receiving.{time_of};
+ghost use Rattle.bx_proc.specs.Runs.{RunsAt};
+ghost use Rattle.bx_proc.specs.Spelled.{spelled};
 
-use crate::parts::{Effect, Status};
+use crate::operands::{label_in, label_of, register_of};
+use crate::parts::Status;
 use crate::process::Proc;
 use crate::stops::Stop;
-use bx_asm::{Register, Source};
+use bx_asm::{Lookup, Operand};
 use bx_cells::Value;
 use bx_load::Image;
 use bx_terms::{Class, Place, Term, Trap, View, fixed};
@@ -26,20 +27,27 @@ pub(crate) enum Time {
 
 impl Proc {
     /// `loop_rec`.
-    #[tactic(auto, unfolding(crate::specs::Receiving::loop_rec_row))]
+    #[inline(never)]
+    #[tactic(auto, unfolding(crate::specs::Table::row, crate::specs::Table::Takes, crate::specs::Receiving::loop_rec_row))]
     pub(crate) fn loop_rec(
         &mut self,
         alloc: Global,
         image: &Image,
         here: Place,
-        otherwise: u32,
-        to: Register,
+        tables: Lookup<'_>,
+        row: &[Operand],
     ) -> Result<(), Stop>
-        ensures { Turns (LoopRecTakes to self.old) self.old self.new result
-            (loop_rec_row image.now here (after image.now here) otherwise to self.old) }
+        ensures { (pid : ℕ) → RunsAt pid image.now here self.old self.new result
+            (loop_rec_form (spelled tables.entry row.now)) }
     {
+        let [otherwise, to] = row else {
+            return Err(Stop::trapped(Trap::BadPlace));
+        };
+        let otherwise = label_of(tables, *otherwise)?;
+        let to = register_of(tables, *to)?;
         let Some(message) = self.mailbox.current() else {
-            return self.go(image, here, otherwise);
+            self.go(image, here, otherwise)?;
+            return Ok(());
         };
         let message = message.copy(alloc)?;
         self.write(to, Value::Term(message))?;
@@ -48,78 +56,103 @@ impl Proc {
     }
 
     /// `remove_message`.
-    pub(crate) fn remove_message(&mut self) -> Result<(), Stop>
-        ensures { Turns ⊥ self.old self.new result (remove_message_row self.old) }
+    #[inline(never)]
+    #[tactic(auto, unfolding(crate::specs::Table::row, crate::specs::Table::Takes))]
+    pub(crate) fn remove_message(&mut self, image: &Image, here: Place) -> Result<(), Stop>
+        ensures { (pid : ℕ) → RunsAt pid image.now here self.old self.new result
+            (Some instr.remove_message) }
     {
-        match self.mailbox.take() {
-            Some(_) => Ok(()),
-            None => Err(Stop::Trapped(Trap::NoMessage)),
-        }
+        let Some(_) = self.mailbox.take() else {
+            return Err(Stop::trapped(Trap::NoMessage));
+        };
+        self.place = Some(image.after(here));
+        Ok(())
+    }
+
+    /// `wait`.
+    #[inline(never)]
+    #[tactic(auto, unfolding(crate::specs::Table::row, crate::specs::Table::Takes))]
+    pub(crate) fn wait(
+        &mut self,
+        image: &Image,
+        here: Place,
+        tables: Lookup<'_>,
+        row: &[Operand],
+    ) -> Result<(), Stop>
+        ensures { (pid : ℕ) → RunsAt pid image.now here self.old self.new result
+            (option_map instr.wait (label_alone (spelled tables.entry row.now))) }
+    {
+        let label = label_in(tables, row)?;
+        self.go(image, here, label)?;
+        self.status = Status::Waiting;
+        Ok(())
     }
 
     /// `loop_rec_end`.
+    #[inline(never)]
+    #[tactic(auto, unfolding(crate::specs::Table::row, crate::specs::Table::Takes))]
     pub(crate) fn loop_rec_end(
         &mut self,
         image: &Image,
         here: Place,
-        label: u32,
+        tables: Lookup<'_>,
+        row: &[Operand],
     ) -> Result<(), Stop>
-        ensures { Turns ⊥ self.old self.new result
-            (loop_rec_end_row image.now here label self.old) }
+        ensures { (pid : ℕ) → RunsAt pid image.now here self.old self.new result
+            (option_map instr.loop_rec_end (label_alone (spelled tables.entry row.now))) }
     {
+        let label = label_in(tables, row)?;
         if self.mailbox.current().is_none() {
-            return Err(Stop::Trapped(Trap::NoMessage));
+            return Err(Stop::trapped(Trap::NoMessage));
         }
         self.go(image, here, label)?;
         self.mailbox.pass();
         Ok(())
     }
 
-    /// `wait`.
-    pub(crate) fn wait(&mut self, image: &Image, here: Place, label: u32) -> Result<(), Stop>
-        ensures { Turns ⊥ self.old self.new result (wait_row image.now here label self.old) }
+    /// `timeout`.
+    #[inline(never)]
+    #[tactic(auto, unfolding(crate::specs::Table::row, crate::specs::Table::Takes))]
+    pub(crate) fn timeout(&mut self, image: &Image, here: Place) -> Result<(), Stop>
+        ensures { (pid : ℕ) → RunsAt pid image.now here self.old self.new result
+            (Some instr.timeout) }
     {
-        self.go(image, here, label)?;
-        self.status = Status::Waiting;
+        self.mailbox.reset();
+        self.place = Some(image.after(here));
         Ok(())
     }
 
-    /// `timeout`.
-    pub(crate) fn timeout(&mut self)
-        ensures { self.new ≡ timeout_row self.old }
-    {
-        self.mailbox.reset();
-    }
-
     /// `wait_timeout`.
-    #[tactic(auto, unfolding(crate::specs::Receiving::wait_timeout_row))]
+    #[inline(never)]
+    #[tactic(auto, unfolding(crate::specs::Table::row, crate::specs::Table::Takes, crate::specs::Receiving::wait_timeout_row))]
     pub(crate) fn wait_timeout(
         &mut self,
         alloc: Global,
         image: &Image,
         here: Place,
-        label: u32,
-        time: Source<'_>,
-    ) -> Result<Effect, Stop>
-        ensures { Makes (WaitTimeoutTakes (source_of time.entry) self.old) self.old self.new result
-            (wait_timeout_row image.now here (after image.now here) label (source_of time.entry)
-            self.old) }
+        tables: Lookup<'_>,
+        row: &[Operand],
+    ) -> Result<(), Stop>
+        ensures { (pid : ℕ) → RunsAt pid image.now here self.old self.new result
+            (wait_timeout_form (spelled tables.entry row.now)) }
     {
+        let [label, time] = row else {
+            return Err(Stop::trapped(Trap::BadPlace));
+        };
+        let label = label_of(tables, *label)?;
         let time = {
-            let seen = self.seen(time)?;
+            let seen = self.seen(tables.source(*time))?;
             time_of(seen.term())
         };
-        match time {
-            Time::Wrong => {
-                return self.raise(alloc, Class::Error, Term::atom(fixed::TIMEOUT_VALUE));
-            }
-            Time::Endless => self.wait(image, here, label)?,
-            Time::Expiring => {
-                self.wait(image, here, label)?;
-                self.expires = Some(image.after(here));
-            }
+        if let Time::Wrong = time {
+            return self.raise(alloc, Class::Error, Term::atom(fixed::TIMEOUT_VALUE));
         }
-        Ok(Effect::Ran)
+        self.go(image, here, label)?;
+        self.status = Status::Waiting;
+        if let Time::Expiring = time {
+            self.expires = Some(image.after(here));
+        }
+        Ok(())
     }
 }
 

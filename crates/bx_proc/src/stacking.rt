@@ -1,43 +1,113 @@
 //! Frames of the stack.
 
-ghost use Rattle.std.specs.Prelude.{◌≡◌, Ok, Err, MatchResult};
+ghost use Rattle.std.specs.Prelude.{◌≡◌, ℕ, Ok, Err, MatchResult, option_map};
+ghost use Rattle.bx_asm.specs.Decoding.{trim_row as trim_form, init_yregs_row as init_yregs_form, first_number};
+ghost use Rattle.bx_asm.specs.Instr as instr;
 ghost use Rattle.bx_asm.specs.Instructed.{registers_of};
-ghost use Rattle.bx_proc.specs.Stacking.{allocate_row, trim_row, init_yregs_row, cleared, cleared_if, there_all, all_cleared};
+ghost use Rattle.bx_proc.specs.Runs.{RunsAt};
+ghost use Rattle.bx_proc.specs.Spelled.{spelled};
+ghost use Rattle.bx_proc.specs.Stacking.{cleared, cleared_if, there_all, all_cleared};
 ghost use Rattle.bx_proc.specs.Stops.{Turns};
 
+use crate::operands::{number_in, number_of, registers_in};
 use crate::process::Proc;
 use crate::stops::Stop;
-use bx_asm::YRegisters;
+use bx_asm::{Lookup, Operand, YRegisters};
 use bx_cells::Value;
-use bx_terms::{Term, Trap};
+use bx_load::Image;
+use bx_terms::{Place, Term, Trap};
 
 impl Proc {
     /// `allocate` and `allocate_heap`.
-    #[inline(always)]
-    pub(crate) fn allocate(&mut self, size: u32) -> Result<(), Stop>
-        ensures { Turns (Unit {0}) self.old self.new result (Ok (allocate_row size self.old)) }
+    #[inline(never)]
+    #[tactic(auto, unfolding(crate::specs::Table::row, crate::specs::Table::Takes))]
+    pub(crate) fn allocate(
+        &mut self,
+        image: &Image,
+        here: Place,
+        tables: Lookup<'_>,
+        row: &[Operand],
+    ) -> Result<(), Stop>
+        ensures { (pid : ℕ) → RunsAt pid image.now here self.old self.new result
+            (option_map instr.allocate (first_number (spelled tables.entry row.now))) }
     {
+        let size = number_in(tables, row)?;
         self.frames.push(size as usize, self.cp)?;
+        self.place = Some(image.after(here));
+        Ok(())
+    }
+
+    /// `deallocate`.
+    #[inline(never)]
+    #[tactic(auto, unfolding(crate::specs::Table::row, crate::specs::Table::Takes))]
+    pub(crate) fn deallocate(
+        &mut self,
+        image: &Image,
+        here: Place,
+        tables: Lookup<'_>,
+        row: &[Operand],
+    ) -> Result<(), Stop>
+        ensures { (pid : ℕ) → RunsAt pid image.now here self.old self.new result
+            (option_map instr.deallocate (first_number (spelled tables.entry row.now))) }
+    {
+        let size = number_in(tables, row)?;
+        self.give_back(size)?;
+        self.place = Some(image.after(here));
+        Ok(())
+    }
+
+    /// `test_heap`.
+    #[inline(always)]
+    #[tactic(auto, unfolding(crate::specs::Table::row, crate::specs::Table::Takes))]
+    pub(crate) fn test_heap(&mut self, image: &Image, here: Place) -> Result<(), Stop>
+        ensures { (pid : ℕ) → RunsAt pid image.now here self.old self.new result
+            (Some instr.test_heap) }
+    {
+        self.place = Some(image.after(here));
         Ok(())
     }
 
     /// `trim`.
-    #[inline(always)]
-    pub(crate) fn trim(&mut self, count: u32, left: u32) -> Result<(), Stop>
-        ensures { Turns ⊥ self.old self.new result (trim_row count left self.old) }
+    #[inline(never)]
+    #[tactic(auto, unfolding(crate::specs::Table::row, crate::specs::Table::Takes))]
+    pub(crate) fn trim(
+        &mut self,
+        image: &Image,
+        here: Place,
+        tables: Lookup<'_>,
+        row: &[Operand],
+    ) -> Result<(), Stop>
+        ensures { (pid : ℕ) → RunsAt pid image.now here self.old self.new result
+            (trim_form (spelled tables.entry row.now)) }
     {
+        let [count, left] = row else {
+            return Err(Stop::trapped(Trap::BadPlace));
+        };
+        let count = number_of(tables, *count)?;
+        let left = number_of(tables, *left)?;
         self.saved(count as u64 + left as u64)?;
         self.frames.trim(count as usize);
+        self.place = Some(image.after(here));
         Ok(())
     }
 
     /// `init_yregs`.
-    pub(crate) fn init_yregs(&mut self, registers: YRegisters<'_>) -> Result<(), Stop>
-        ensures { Turns ⊥ self.old self.new result
-            (init_yregs_row (registers_of registers.entry) self.old) }
+    #[inline(never)]
+    #[tactic(auto, unfolding(crate::specs::Table::row, crate::specs::Table::Takes))]
+    pub(crate) fn init_yregs(
+        &mut self,
+        image: &Image,
+        here: Place,
+        tables: Lookup<'_>,
+        row: &[Operand],
+    ) -> Result<(), Stop>
+        ensures { (pid : ℕ) → RunsAt pid image.now here self.old self.new result
+            (init_yregs_form (spelled tables.entry row.now)) }
     {
+        let registers = registers_in(tables, row)?;
         self.find_yregs(registers)?;
         self.clear_yregs(registers);
+        self.place = Some(image.after(here));
         Ok(())
     }
 
@@ -84,7 +154,7 @@ impl Proc {
     {
         match self.frames.set(number, Value::Term(Term::nil())) {
             Ok(()) => Ok(()),
-            Err((trap, _)) => Err(Stop::Trapped(trap)),
+            Err((trap, _)) => Err(Stop::trapped(trap)),
         }
     }
 }

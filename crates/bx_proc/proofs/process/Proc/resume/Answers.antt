@@ -1,0 +1,7 @@
+use Rattle.std.proofs.Common.{rules}
+use Rattle.bx_proc.proofs.Resuming.{resumed_told}
+use Rattle.bx_proc.proofs.process.Proc.resume.Goals as goal
+
+pub returns : goal.returns
+returns c =
+    resumed_told c.args.image.now c.args.answer.now c.in-Some.native c.args.self.now c.withdraw.new.self c.settle_call-ran.new.self c.rest.new.self c.settle_call-ran.result (search rules) c.withdraw.ensures c.settle_call-ran.ensures c.rest.ensures

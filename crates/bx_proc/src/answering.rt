@@ -1,0 +1,275 @@
+//! The end of what a process asked for or sent.
+
+ghost use Rattle.std.specs.Prelude.{◌≡◌, true, is_some};
+ghost use Rattle.bx_asm.specs.Decoding.{instruction_of, call_ext_row as call_ext_form};
+ghost use Rattle.bx_asm.specs.Numbered.{item_of};
+ghost use Rattle.std.specs.FinMap as finite;
+ghost use Rattle.bx_load.specs.Image.{after, instruction_at};
+ghost use Rattle.bx_proc.specs.declared.parts.Answer.TheVariants as answers;
+ghost use Rattle.bx_proc.specs.Asking.{finished_with};
+ghost use Rattle.bx_proc.specs.Runs.{Runs, asking};
+ghost use Rattle.bx_proc.specs.Spelled.{spelled};
+ghost use Rattle.bx_proc.specs.Stepping.{asked_at, called_in, given_to, settling, settled, settled_with, SettlingTakes, SettlingWithTakes, NotingTakes, GivenTakes, noting, leads_to, leads_on, unasked, rested, resumed, resumed_with, ResumedTakes};
+ghost use Rattle.bx_proc.specs.Telling.{Resumes};
+
+use crate::operands::{import_of, number_of};
+use crate::parts::{Answer, Status};
+use crate::process::Proc;
+use crate::stops::Stop;
+use bx_asm::{CallKind, Numbered};
+use bx_bifs::Native;
+use bx_load::Image;
+use bx_ops::Op;
+use bx_terms::{Place, Term, Trap, fixed};
+use std::alloc::Global;
+
+impl Proc {
+    /// Answers what the process asked for, at the `send` or the call by name that stands there. `WrongShape` where it asked
+    /// for nothing.
+    ///
+    /// Where it does not go on, nothing has changed, but that the reason of an end waits until it is taken; and what the
+    /// process asked for still waits.
+    #[tactic(auto, using(crate::proofs::Resuming::resumed_told))]
+    pub fn resume(&mut self, alloc: Global, image: &Image, answer: &Answer) -> Result<(), Stop>
+        ensures { Resumes
+            (ResumedTakes (SettlingTakes image.now answer.now (unasked self.old)) self.old.asked)
+            self.old self.new result
+            (resumed image.now answer.now self.old.asked (unasked self.old)) }
+    {
+        let Some(native) = self.asked else {
+            return Err(Stop::trapped(Trap::WrongShape));
+        };
+        self.withdraw();
+        let ran = self.settle_call(alloc, image, answer);
+        self.rest(native, &ran);
+        ran
+    }
+
+    /// The same with a message to the process itself: where the answer is a value with which it goes on, the message joins
+    /// its mailbox, and else there is none.
+    #[tactic(auto, using(crate::proofs::Resuming::unnoted))]
+    pub fn resume_noting(
+        &mut self,
+        alloc: Global,
+        image: &Image,
+        answer: &Answer,
+        message: Term,
+    ) -> Result<(), Stop>
+        ensures { Resumes (ResumedTakes
+            (SettlingWithTakes image.now answer.now (unasked self.old)) self.old.asked)
+            self.old self.new result
+            (resumed_with image.now answer.now message self.old.asked (unasked self.old)) }
+    {
+        match answer {
+            Answer::Value(value) => self.resume_with(alloc, image, value, message),
+            Answer::Fault(_, _) => self.resume(alloc, image, answer),
+        }
+    }
+
+    /// The same with a value.
+    fn resume_with(
+        &mut self,
+        alloc: Global,
+        image: &Image,
+        value: &Term,
+        message: Term,
+    ) -> Result<(), Stop>
+        ensures { Resumes (ResumedTakes (NotingTakes image.now (unasked self.old)) self.old.asked)
+            self.old self.new result (resumed_with image.now (answers.Value value.now) message
+            self.old.asked (unasked self.old)) }
+    {
+        let Some(native) = self.asked else {
+            return Err(Stop::trapped(Trap::WrongShape));
+        };
+        self.withdraw();
+        let ran = self.note(alloc, image, value, message);
+        self.rest(native, &ran);
+        ran
+    }
+
+    /// Asks for nothing any more.
+    #[inline]
+    pub fn withdraw(&mut self)
+        ensures { self.new ≡ unasked self.old }
+    {
+        self.asked = None;
+    }
+
+    /// Asks for this native again, which was withdrawn.
+    #[inline]
+    pub fn ask_again(&mut self, native: Native)
+        ensures { self.new ≡ asking native self.old }
+    {
+        self.asked = Some(native);
+    }
+
+    /// A process that was answered and goes on is ready; else it asks as before.
+    fn rest(&mut self, native: Native, ran: &Result<(), Stop>)
+        ensures { self.new ≡ rested native self.old ran.now }
+    {
+        if ran.is_err() {
+            self.asked = Some(native);
+            return;
+        }
+        self.status = Status::Ready;
+        self.expires = None;
+        self.asked = None;
+    }
+
+    /// Ends the `send` or the call by name that stands there.
+    pub(crate) fn settle_call(
+        &mut self,
+        alloc: Global,
+        image: &Image,
+        answer: &Answer,
+    ) -> Result<(), Stop>
+        ensures { Runs (SettlingTakes image.now answer.now self.old) self.old self.new result
+            (settling image.now answer.now self.old) }
+    {
+        let (here, kind) = self.asked_at(image)?;
+        if self.fault.is_some() {
+            return Err(Stop::trapped(Trap::NoTag));
+        }
+        self.give(alloc, image, here, kind, answer)
+    }
+
+    /// The `send` or the call by name at which the process stands, and how it calls.
+    #[tactic(auto, unfolding(crate::specs::Stepping::asked_at))]
+    fn asked_at(&self, image: &Image) -> Result<(Place, CallKind), Trap>
+        ensures { result ≡ asked_at image.now self.now.place }
+    {
+        let Some(here) = self.place else {
+            return Err(Trap::BadPlace);
+        };
+        Ok((here, called_there(image, here)?))
+    }
+
+    /// The answer's value goes into x0, which holds the first argument, and its fault is raised.
+    #[tactic(auto, using(crate::proofs::Resuming::given_value))]
+    fn give(
+        &mut self,
+        alloc: Global,
+        image: &Image,
+        here: Place,
+        kind: CallKind,
+        answer: &Answer,
+    ) -> Result<(), Stop>
+        ensures { Runs (GivenTakes kind answer.now self.old) self.old self.new result
+            (given_to (after image.now here) kind answer.now self.old) }
+    {
+        match answer {
+            Answer::Value(value) => {
+                let Some(_) = self.x.get(0) else {
+                    return Err(Stop::trapped(Trap::Unset));
+                };
+                let value = value.copy(alloc)?;
+                self.finish_with(image, here, kind, value)
+            }
+            Answer::Fault(class, value) => {
+                let value = value.copy(alloc)?;
+                self.raise_by(alloc, kind, *class, value)
+            }
+        }
+    }
+
+    /// The same with a message to itself.
+    pub(crate) fn note(
+        &mut self,
+        alloc: Global,
+        image: &Image,
+        value: &Term,
+        message: Term,
+    ) -> Result<(), Stop>
+        ensures { Runs (NotingTakes image.now self.old) self.old self.new result
+            (noting message (settling image.now (answers.Value value.now) self.old)) }
+    {
+        let (here, kind) = self.asked_at(image)?;
+        if self.fault.is_some() {
+            return Err(Stop::trapped(Trap::NoTag));
+        }
+        let Some(_) = self.x.get(0) else {
+            return Err(Stop::trapped(Trap::Unset));
+        };
+        let Some(_) = self.leads_to(image, here, kind)? else {
+            return self.end(Term::atom(fixed::NORMAL));
+        };
+        self.go_on_with(alloc, image, here, kind, value, message)
+    }
+
+    /// Where the process goes on behind a native that is answered; nowhere, where it ends.
+    fn leads_to(&self, image: &Image, here: Place, kind: CallKind) -> Result<Option<Place>, Trap>
+        ensures { result ≡ leads_to kind (after image.now here) self.now }
+    {
+        match kind {
+            CallKind::Plain => Ok(Some(image.after(here))),
+            CallKind::Only => Ok(self.cp),
+            CallKind::Last(size) => self.saved(size as u64),
+        }
+    }
+
+    /// The message joins the mailbox, and the process goes on with the value. What may lack memory comes first.
+    #[tactic(auto, using(crate::proofs::Noting::noted_on))]
+    fn go_on_with(
+        &mut self,
+        alloc: Global,
+        image: &Image,
+        here: Place,
+        kind: CallKind,
+        value: &Term,
+        message: Term,
+    ) -> Result<(), Stop>
+        requires held { is_some (finite.get self.old.x 0) ≡ true }
+        requires goes_on { leads_on (leads_to kind (after image.now here) self.old) ≡ true }
+        ensures { Runs (Unit {0}) self.old self.new result
+            (noting message (finished_with (after image.now here) kind value.now self.old)) }
+    {
+        let value = value.copy(alloc)?;
+        if let Err(_) = self.mailbox.add(message) {
+            return Err(Stop::memory());
+        }
+        self.finish_with(image, here, kind, value)
+    }
+}
+
+/// In which way the instruction at a place calls that may have asked others.
+#[tactic(auto, using(crate::proofs::Decoded::called_item, crate::proofs::Decoded::called_none))]
+fn called_there(image: &Image, here: Place) -> Result<CallKind, Trap>
+    ensures { result ≡ called_in (instruction_at image.now here) }
+{
+    let Some(item) = image.item(here) else {
+        return Err(Trap::BadPlace);
+    };
+    called_as(item)
+}
+
+/// The same of an item.
+#[tactic(auto, unfolding(bx_asm::specs::Decoding::decoded))]
+fn called_as(item: Numbered<'_>) -> Result<CallKind, Trap>
+    ensures { result ≡ called_in (instruction_of (item_of item.entry)) }
+{
+    match item.op() {
+        Op::Send => Ok(CallKind::Plain),
+        Op::CallExt => called_plainly(CallKind::Plain, item),
+        Op::CallExtOnly => called_plainly(CallKind::Only, item),
+        Op::CallExtLast => {
+            let [_, callee, size] = item.operands else {
+                return Err(Trap::BadPlace);
+            };
+            import_of(item.tables, *callee)?;
+            Ok(CallKind::Last(number_of(item.tables, *size)?))
+        }
+        _ => Err(Trap::BadPlace),
+    }
+}
+
+/// In that way, where a callee stands there.
+fn called_plainly(kind: CallKind, item: Numbered<'_>) -> Result<CallKind, Trap>
+    ensures { result ≡ called_in (call_ext_form kind
+        (spelled item.entry.tables item.entry.operands.now)) }
+{
+    let [_, callee] = item.operands else {
+        return Err(Trap::BadPlace);
+    };
+    import_of(item.tables, *callee)?;
+    Ok(kind)
+}
