@@ -1,4 +1,4 @@
-//! Tests of one process: a listing's items, so many runs, and what the report then says.
+//! Tests of one process: a listing's items, so many runs, and what the report then says; and a process that is stepped by hand.
 #![tactic(auto)]
 
 #[cfg(test)]
@@ -13,6 +13,8 @@ mod frames;
 mod reading;
 #[cfg(test)]
 mod reports;
+#[cfg(test)]
+mod stepping;
 #[cfg(test)]
 mod traps;
 #[cfg(test)]

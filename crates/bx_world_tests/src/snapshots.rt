@@ -1,8 +1,8 @@
 //! Snapshots of worlds whose processes hold all that a process may, each of which goes on apart from the others; and the
-//! instructions that a process runs at once.
+//! instructions that a process runs alone.
 
 use bx_load::Image;
-use bx_proc::{Proc, Undone};
+use bx_proc::{Proc, Why};
 use bx_share::{ArcHold, Hold, RcHold};
 use bx_terms::{Fault, Term};
 use bx_world::{Choice, Lanes, World, outcome_text};
@@ -171,21 +171,19 @@ const RECEIVING: (&str, usize) = (
     12,
 );
 
-/// Whether the process's next instruction was run at once.
-fn is_run_at_once(alloc: Global, image: &Image, process: &mut Proc) -> Result<bool, Fault> {
-    let run = match process.free_place() {
-        Some(here) => process.run_from(alloc, image, here),
-        None => process.run_woken(alloc, image),
-    };
-    match run {
+/// Whether the process's next instruction was run, and is all that there is to it.
+fn is_run(alloc: Global, image: &Image, process: &mut Proc) -> Result<bool, Fault> {
+    match process.run(alloc, 0, image) {
         Ok(()) => Ok(true),
-        Err(Undone::Left) => Ok(false),
-        Err(Undone::Memory) => Err(Fault::Memory),
+        Err(stop) => match stop.why() {
+            Why::Memory => Err(Fault::Memory),
+            _ => Ok(false),
+        },
     }
 }
 
-/// How many instructions a process runs at once from the start of `f`, in a row, in whose mailbox 1 and 2 are.
-fn run_at_once(alloc: Global, items: &str) -> Result<usize, Fault> {
+/// How many instructions a process runs from the start of `f`, in a row, in whose mailbox 1 and 2 are.
+fn run_alone(alloc: Global, items: &str) -> Result<usize, Fault> {
     let image = image_of_items(alloc, items)?;
     let place = image.entry(atom(&image, "m"), atom(&image, "f"), 0);
     let mut process = Proc::new(alloc, place, &[])?;
@@ -195,7 +193,7 @@ fn run_at_once(alloc: Global, items: &str) -> Result<usize, Fault> {
         }
     }
     for count in 0..MANY {
-        if !process.can_run() || !is_run_at_once(alloc, &image, &mut process)? {
+        if !process.can_run() || !is_run(alloc, &image, &mut process)? {
             return Ok(count);
         }
     }
@@ -203,9 +201,9 @@ fn run_at_once(alloc: Global, items: &str) -> Result<usize, Fault> {
 }
 
 #[test]
-fn instructions_that_are_run_at_once(rt: HostRuntime) -> Result<(), Fail> {
+fn instructions_that_concern_nobody_else(rt: HostRuntime) -> Result<(), Fail> {
     for (items, count) in [ALONE, RECEIVING] {
-        assert_eq!(rt; run_at_once(rt.alloc(), items)?, count);
+        assert_eq!(rt; run_alone(rt.alloc(), items)?, count);
     }
     Ok(())
 }
