@@ -1,6 +1,6 @@
 //! Operands looked at where they lie: nothing is copied, and no memory is taken.
 
-ghost use Rattle.std.specs.Prelude.{◌≡◌, Option, option_map};
+ghost use Rattle.std.specs.Prelude.{◌≡◌, Option, option_map, length};
 ghost use Rattle.bx_asm.specs.Operands.{operand_of, row_of};
 ghost use Rattle.bx_asm.specs.Decoding.{as_source, as_register, as_y, as_label, as_fail, as_place, as_number, as_atom, as_import, as_bif, members, sources_behind, registers_behind, pairs_behind, label_alone, y_alone, source_alone, first_number};
 ghost use Rattle.bx_asm.specs.Instructed.{source_of, sources_of, registers_of, pairs_of};
@@ -134,6 +134,13 @@ impl<'a> Lookup<'a> {
             Operand::Import(number) => self.named.imports.get_index(number).copied(),
             _ => None,
         }
+    }
+
+    /// How many functions are called by their names.
+    pub fn import_count(self) -> usize
+        ensures { result ≡ length (tables self.entry).imports }
+    {
+        self.named.imports.len()
     }
 
     /// The members of the list that the row ends in.

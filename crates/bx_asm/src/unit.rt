@@ -152,6 +152,11 @@ impl Unit {
         self.items.len()
     }
 
+    /// The tables that its items name; what a unit's clauses see is its code alone.
+    pub fn lookup(&self) -> Lookup<'_> {
+        Lookup { named: &self.named }
+    }
+
     /// The item of this number, from 0; `None` past the last.
     #[inline(always)]
     #[tactic(auto, using(crate::proofs::Units::item_at, crate::proofs::Units::no_item_at))]

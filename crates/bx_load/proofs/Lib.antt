@@ -1,5 +1,6 @@
 pub mod BehindMarks
 pub mod BehindSteps
+pub mod CalleeRows
 pub mod ExportSteps
 pub mod FunctionHeads
 pub mod LabelRows

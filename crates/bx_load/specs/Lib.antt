@@ -1,3 +1,4 @@
+pub mod Callees
 pub mod Image
 pub mod Heads
 pub mod Behind

@@ -4,6 +4,7 @@
 mod apart;
 mod behind;
 mod by_name;
+mod callees;
 mod exports;
 mod image;
 mod labels;
@@ -13,5 +14,6 @@ mod marks;
 mod modules;
 mod tables;
 
+pub use callees::Callee;
 pub use image::Image;
 pub use loading::{LoadRefused, load};

@@ -6,6 +6,7 @@ ghost use Rattle.bx_terms.specs.Outcomes.{Refuses};
 ghost use Rattle.bx_load.specs.Image.{is_atom};
 ghost use Rattle.bx_load.specs.Loading.{has_twice, loaded, TakesMemory};
 
+use crate::callees::Modules;
 use crate::image::Image;
 use crate::tables::tables_of;
 use bx_asm::Unit;
@@ -39,7 +40,10 @@ pub fn load(alloc: Global, atoms: Atoms, units: Vec<Unit>) -> Result<Image, Load
         Fault::ModuleTwice
     } else {
         match tables_of(alloc, &units) {
-            Ok(Some(tables)) => return Ok(Image::new(atoms, units, tables)),
+            Ok(Some(tables)) => match Modules::of(&units, &tables).callees(alloc, &atoms) {
+                Ok(callees) => return Ok(Image::new(atoms, units, tables, callees)),
+                Err(_) => Fault::Memory,
+            },
             Ok(None) => Fault::ExportMissing,
             Err(_) => Fault::Memory,
         }
