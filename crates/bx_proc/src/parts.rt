@@ -99,7 +99,7 @@ impl Model for Arguments {
 }
 
 impl Arguments {
-    pub(crate) fn of(terms: Vec<Term>) -> Arguments
+    pub fn of(terms: Vec<Term>) -> Arguments
         ensures { result ≡ terms.items }
     {
         Arguments { terms }

@@ -7,6 +7,7 @@ use Rattle.std.proofs.lemmas.Option.{slice_get_within}
 use Rattle.bx_terms.specs.Tree.{Tree, atom}
 use Rattle.bx_terms.specs.declared.fixed.TheConstants.{KILLED, NOPROC}
 use Rattle.bx_terms.specs.declared.faults.Fault.{Fault}
+use Rattle.bx_terms.specs.declared.faults.Fault.TheVariants.{NotEnabled}
 use Rattle.bx_terms.specs.declared.kinds.Trap.{Trap}
 use Rattle.bx_load.specs.Image.{Loaded}
 use Rattle.bx_signals.specs.Waiting.{first}
@@ -15,8 +16,8 @@ use Rattle.bx_signals.specs.declared.signal.Signal.{Signal}
 use Rattle.bx_signals.specs.declared.signal.Signal.TheVariants as signals
 use Rattle.bx_signals.proofs.Maps.{equal_pair}
 use Rattle.bx_cells.specs.Links.{among}
-use Rattle.bx_proc.specs.Process.{Process}
-use Rattle.bx_proc.specs.Signals.{without_link}
+use Rattle.bx_proc.specs.Process.{Process, can_expire}
+use Rattle.bx_proc.specs.Signals.{without_link, expired}
 use Rattle.bx_world.specs.declared.choices.Choice.{Choice}
 use Rattle.bx_world.specs.declared.choices.Choice.TheVariants.{Run, Deliver, Expire}
 use Rattle.bx_world.specs.declared.lanes.Lanes.{Lanes}
@@ -26,7 +27,7 @@ use Rattle.bx_world.specs.World.{Life, Live, Gone, State}
 use Rattle.bx_world.specs.Sharing.{hearing, telling}
 use Rattle.bx_world.specs.Asking.{Done, exit_message, is_kill, is_normal, low_enough}
 use Rattle.bx_world.specs.Delivering.{messaged, ending, exiting, heard, gone_heard, lost}
-use Rattle.bx_world.specs.Lifetimes.{Among, lived, lived_if, gone_if, life_expired, put_back, set_back, expired_at, beside, lost_if, told_at}
+use Rattle.bx_world.specs.Lifetimes.{Among, lived, lived_if, gone_if, life_expired, put_back, at_life, lost_if, told_at}
 use Rattle.bx_world.specs.Enabled.{able, actor, may_at, may_run, may_expire}
 use Rattle.bx_world.specs.Choosing.{made, made_or, chosen, trap_of}
 use Rattle.bx_world.specs.Posting.{Post, parting_posts, done_posts, heard_posts, gone_posts, signal_posts, posts, same_pair, in_channel, as_row, takes}
@@ -135,9 +136,9 @@ module _ (q : ℕ) (lives others : List Life) (one : Life) (here : slice_get liv
   gone_among p reason l n (Some (signals.LinkExit other)) = (put_here (Gone reason), refl)
   gone_among p reason l n (Some (signals.Exit other)) = (put_here (Gone reason), refl)
 
-  expired_among : (l n : Lanes) (r : Result (Life × Unit {0}) Fault) → AmongAlike q (beside l (set_back q lives r)) (beside n (set_back q others r))
-  expired_among l n (Ok done) = (put_here done.0, refl)
-  expired_among l n (Err fault) = tt
+  expired_among : (l n : Lanes) (x : Process) (b : Bool) → AmongAlike q (put_back q lives (if b then Ok ((Live (expired x), l), turns.Ran) else Err NotEnabled)) (put_back q others (if b then Ok ((Live (expired x), n), turns.Ran) else Err NotEnabled))
+  expired_among l n x true = (put_here (Live (expired x)), refl)
+  expired_among l n x false = tt
 
 -- a delivery, told by the signal that waits first
 abbrev told_with : ℕ → ℕ → Lanes → List Life → Option Life → Option Signal → Result Among Fault
@@ -157,9 +158,10 @@ told_alike p q l n lives others None (Some s) here there = (here ∙ sym there, 
 told_alike p q l n lives others (Some (Live x)) s here there = heard_among q lives others (Live x) here there p l n (heard p q x l s) (heard p q x n s) (heard_alike p q l n x s)
 told_alike p q l n lives others (Some (Gone reason)) s here there = gone_among q lives others (Gone reason) here there p reason l n s
 
-expired_alike : (p : ℕ) (l n : Lanes) (lives others : List Life) (o : Option Life) → slice_get lives p ≡ o → slice_get others p ≡ o → AmongAlike p (beside l (expired_at p lives o)) (beside n (expired_at p others o))
+expired_alike : (p : ℕ) (l n : Lanes) (lives others : List Life) (o : Option Life) → slice_get lives p ≡ o → slice_get others p ≡ o → AmongAlike p (at_life (life_expired l) p lives o) (at_life (life_expired n) p others o)
 expired_alike p l n lives others None here there = tt
-expired_alike p l n lives others (Some one) here there = expired_among p lives others one here there l n (life_expired one)
+expired_alike p l n lives others (Some (Gone reason)) here there = tt
+expired_alike p l n lives others (Some (Live x)) here there = expired_among p lives others (Live x) here there l n x (can_expire x)
 
 -- the signal that a choice takes
 abbrev pub heeds : Choice → State → Option Signal
@@ -184,7 +186,7 @@ module _ (image : Loaded) where
       (told_alike p q w.lanes v.lanes w.processes v.processes o s refl (sym finds.life)))
   made_alike (Expire p) w v idle finds =
       let o = slice_get w.processes p in
-      subst (λ x. AmongAlike p (beside w.lanes (expired_at p w.processes o)) (beside v.lanes (expired_at p v.processes x))) finds.life
+      subst (λ x. AmongAlike p (at_life (life_expired w.lanes) p w.processes o) (at_life (life_expired v.lanes) p v.processes x)) finds.life
       (expired_alike p w.lanes v.lanes w.processes v.processes o refl (sym finds.life))
 
 -- the trap, and the life of the actor, after a choice

@@ -25,7 +25,7 @@ use Rattle.bx_world.specs.World.{Life, Live, Gone, State}
 use Rattle.bx_world.specs.Enabled.{able, can, actor, may_at, may_run, may_expire}
 use Rattle.bx_world.specs.Turning.{runs}
 use Rattle.bx_world.specs.Delivering.{heard, gone_heard, lost}
-use Rattle.bx_world.specs.Lifetimes.{Among, lived, lived_if, gone_if, life_run, put_back, at_life, lives_run, beside, expired_at, set_back, lost_if, told_at, lives_told}
+use Rattle.bx_world.specs.Lifetimes.{Among, lived, lived_if, gone_if, life_run, put_back, at_life, lives_run, life_expired, lost_if, told_at, lives_told}
 use Rattle.bx_world.specs.Births.{past_limits, system_limit, other_if, newborn, life_answered, lives_answered, unborn_at_trap, lives_grown, lives_born}
 use Rattle.bx_world.specs.Choosing.{born_too, made, trap_of, world_of, made_or, unless_refused, chosen, applied}
 use Rattle.bx_world.proofs.Keeping.{AmongKept, lives_run_kept}
@@ -124,11 +124,11 @@ module _ (p q : ℕ) (lives : List Life) where
   told_made l (Some (Gone reason)) = gone_made reason l (first (waiting l.channels (p, q)))
 
 -- an expiration
-able_expired : (p : ℕ) (l : Lanes) (lives : List Life) (x : Process) (b : Bool) → MadeAs b (beside l (set_back p lives (if b then Ok (Live (expired x), tt) else Err NotEnabled)))
+able_expired : (p : ℕ) (l : Lanes) (lives : List Life) (x : Process) (b : Bool) → MadeAs b (put_back p lives (if b then Ok ((Live (expired x), l), turns.Ran) else Err NotEnabled))
 able_expired p l lives x true = tt
 able_expired p l lives x false = refl
 
-expired_made : (p : ℕ) (l : Lanes) (lives : List Life) (o : Option Life) → MadeAs (may_at may_expire o) (beside l (expired_at p lives o))
+expired_made : (p : ℕ) (l : Lanes) (lives : List Life) (o : Option Life) → MadeAs (may_at may_expire o) (at_life (life_expired l) p lives o)
 expired_made p l lives None = refl
 expired_made p l lives (Some (Gone reason)) = refl
 expired_made p l lives (Some (Live x)) = able_expired p l lives x (can_expire x)

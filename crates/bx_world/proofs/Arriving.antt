@@ -13,8 +13,8 @@ use Rattle.bx_signals.specs.declared.signal.Signal.{Signal}
 use Rattle.bx_signals.specs.declared.signal.Signal.TheVariants as signals
 use Rattle.bx_signals.proofs.Maps.{waiting_with, waiting_empty, equal_pair}
 use Rattle.bx_cells.specs.Links.{among}
-use Rattle.bx_proc.specs.Process.{Process, can_run}
-use Rattle.bx_proc.specs.Signals.{with_link, without_link}
+use Rattle.bx_proc.specs.Process.{Process, can_run, can_expire}
+use Rattle.bx_proc.specs.Signals.{with_link, without_link, expired}
 use Rattle.bx_proc.specs.Stepping.{attempted, settled, settled_with}
 use Rattle.bx_proc.specs.declared.parts.Answer.{Answer}
 use Rattle.bx_proc.specs.declared.parts.Answer.TheVariants as answers
@@ -35,7 +35,7 @@ use Rattle.bx_world.specs.Requests.{requested}
 use Rattle.bx_world.specs.Asking.{Done, whole, closing, leaving, yes, badarg, exit_message, is_kill, is_normal, low_enough, noted, exiting_oneself, unlinked_done, done_by}
 use Rattle.bx_world.specs.Turning.{turned, runs}
 use Rattle.bx_world.specs.Delivering.{messaged, ending, exiting, heard, received, gone_heard, lost}
-use Rattle.bx_world.specs.Lifetimes.{Among, lived, lived_if, gone_if, life_run, put_back, at_life, lost_if, told_at, beside, expired_at}
+use Rattle.bx_world.specs.Lifetimes.{Among, lived, lived_if, gone_if, life_run, put_back, at_life, life_expired, lost_if, told_at}
 use Rattle.bx_world.specs.Births.{past_limits, system_limit, other_if, newborn, answering, linked_to, life_answered, lives_answered, unborn_at_trap, lives_grown, lives_born}
 use Rattle.bx_world.specs.Enabled.{able, can, actor}
 use Rattle.bx_world.specs.Choosing.{born_too, made, made_or, chosen}
@@ -281,10 +281,15 @@ run_fits image p l lives (Some (Gone reason)) at kept = tt
 run_fits image p l lives (Some (Live x)) at kept = able_fits image p l lives x (can_run x) at kept
 
 -- an expiration
-expired_fits : (l : Lanes) (r : Result (List Life × Unit {0}) Fault) → AmongFits (λ n. n) l.channels [] (beside l r)
+able_expired_fits : (p : ℕ) (l : Lanes) (lives : List Life) (x : Process) (b : Bool) → AmongFits (λ n. n) l.channels [] (put_back p lives (if b then Ok ((Live (expired x), l), turns.Ran) else Err NotEnabled))
 unfolding put_posts
-expired_fits l (Ok done) = refl
-expired_fits l (Err fault) = tt
+able_expired_fits p l lives x true = refl
+able_expired_fits p l lives x false = tt
+
+expired_fits : (p : ℕ) (l : Lanes) (lives : List Life) (o : Option Life) → AmongFits (λ n. n) l.channels [] (at_life (life_expired l) p lives o)
+expired_fits p l lives None = tt
+expired_fits p l lives (Some (Gone reason)) = tt
+expired_fits p l lives (Some (Live x)) = able_expired_fits p l lives x (can_expire x)
 
 abbrev took_by : Choice → Change
 took_by (Run p) = λ m. m
@@ -294,7 +299,7 @@ took_by (Expire p) = λ m. m
 made_fits : (image : Loaded) (choice : Choice) (w : State) → AmongFits (took_by choice) w.lanes.channels (posts image choice w) (made image choice w.processes w.lanes)
 made_fits image (Run p) w = run_fits image p w.lanes w.processes (slice_get w.processes p) refl (lives_run_kept image p w.lanes w.processes)
 made_fits image (Deliver p q) w = told_fits p q w.processes w.lanes (slice_get w.processes q)
-made_fits image (Expire p) w = expired_fits w.lanes (expired_at p w.processes (slice_get w.processes p))
+made_fits image (Expire p) w = expired_fits p w.lanes w.processes (slice_get w.processes p)
 
 -- of a world
 abbrev FitsAt : Change → Channels Signal → List Post → Option (Trap × ℕ) → Channels Signal → Type 0

@@ -5,6 +5,7 @@ use Rattle.std.proofs.lemmas.Bool.{cases_eq}
 use Rattle.bx_terms.specs.Tree.{Tree, atom}
 use Rattle.bx_terms.specs.declared.fixed.TheConstants.{KILLED}
 use Rattle.bx_terms.specs.declared.faults.Fault.{Fault}
+use Rattle.bx_terms.specs.declared.faults.Fault.TheVariants.{NotEnabled}
 use Rattle.bx_terms.specs.declared.kinds.Trap.{Trap}
 use Rattle.bx_load.specs.Image.{Loaded}
 use Rattle.bx_signals.specs.Waiting.{first}
@@ -14,8 +15,8 @@ use Rattle.bx_signals.specs.declared.signal.Signal.TheVariants as signals
 use Rattle.bx_signals.proofs.Maps.{same_channels}
 use Rattle.bx_signals.proofs.Turned.{same_everywhere}
 use Rattle.bx_cells.specs.Links.{among}
-use Rattle.bx_proc.specs.Process.{Process}
-use Rattle.bx_proc.specs.Signals.{with_message, with_link, without_link}
+use Rattle.bx_proc.specs.Process.{Process, can_expire}
+use Rattle.bx_proc.specs.Signals.{with_message, with_link, without_link, expired}
 use Rattle.bx_world.specs.declared.choices.Choice.{Choice}
 use Rattle.bx_world.specs.declared.choices.Choice.TheVariants.{Run, Deliver, Expire}
 use Rattle.bx_world.specs.declared.lanes.Lanes.{Lanes}
@@ -25,7 +26,7 @@ use Rattle.bx_world.specs.World.{Life, Live, Gone, State}
 use Rattle.bx_world.specs.Sharing.{hearing}
 use Rattle.bx_world.specs.Asking.{Done, exit_message, is_kill, is_normal, low_enough}
 use Rattle.bx_world.specs.Delivering.{messaged, ending, exiting, heard, received, gone_heard, gone_received, lost}
-use Rattle.bx_world.specs.Lifetimes.{Among, lived, lived_if, gone_if, life_expired, put_back, set_back, expired_at, beside, lost_if, told_at}
+use Rattle.bx_world.specs.Lifetimes.{Among, lived, lived_if, gone_if, life_expired, put_back, at_life, lost_if, told_at}
 use Rattle.bx_world.specs.Enabled.{able, can, actor}
 use Rattle.bx_world.specs.Choosing.{made, made_or, chosen}
 use Rattle.bx_world.specs.Posting.{posts, unless_trap, where_made, in_channel, put_in, takes, taken_from, behind, all_behind}
@@ -100,13 +101,14 @@ module _ (p q : ℕ) (lives : List Life) (l : Lanes) where
   told_keeps (Some (Live x)) = heard_keeps x (first (waiting l.channels (p, q)))
   told_keeps (Some (Gone reason)) = gone_keeps reason (first (waiting l.channels (p, q)))
 
-  over_keeps : (r : Result (Life × Unit {0}) Fault) → Keeps q lives l (beside l (set_back q lives r))
-  over_keeps (Ok done) = let kept = set_keeps done.0 in (kept.0, kept.1, refl)
-  over_keeps (Err fault) = tt
+  over_keeps : (x : Process) (b : Bool) → Keeps q lives l (put_back q lives (if b then Ok ((Live (expired x), l), turns.Ran) else Err NotEnabled))
+  over_keeps x true = let kept = set_keeps (Live (expired x)) in (kept.0, kept.1, refl)
+  over_keeps x false = tt
 
-  expired_keeps : (o : Option Life) → Keeps q lives l (beside l (expired_at q lives o))
+  expired_keeps : (o : Option Life) → Keeps q lives l (at_life (life_expired l) q lives o)
   expired_keeps None = tt
-  expired_keeps (Some one) = over_keeps (life_expired one)
+  expired_keeps (Some (Gone reason)) = tt
+  expired_keeps (Some (Live x)) = over_keeps x (can_expire x)
 
 made_keeps : (image : Loaded) (c : Choice) (w : State) → IsNoRun c → Keeps (actor c) w.processes w.lanes (made image c w.processes w.lanes)
 made_keeps image (Run p) w idle = absurd idle

@@ -20,7 +20,7 @@ use Rattle.bx_world.specs.declared.turns.Turn.TheVariants as turns
 use Rattle.bx_world.specs.World.{Life, Live, Gone, State}
 use Rattle.bx_world.specs.Enabled.{can, actor, may_at, may_run, may_expire}
 use Rattle.bx_world.specs.Delivering.{gone_received, lost}
-use Rattle.bx_world.specs.Lifetimes.{Lived, Among, gone_if, life_run, life_told, life_expired, put_back, at_life, lives_run, told_at, lost_if, set_back, expired_at, beside}
+use Rattle.bx_world.specs.Lifetimes.{Lived, Among, gone_if, life_run, life_told, life_expired, put_back, at_life, lives_run, lives_expired, told_at, lost_if}
 use Rattle.bx_world.specs.Births.{past_limits, system_limit, other_if, newborn, life_answered, lives_answered, unborn_at_trap, lives_grown, lives_born}
 use Rattle.bx_world.specs.Choosing.{born_too, made, made_or, chosen}
 use Rattle.bx_world.specs.Posting.{behind, all_behind}
@@ -123,19 +123,11 @@ too_confined image p l lives (Ok (w, turns.Trapped kind)) kept h = h
 too_confined image p l lives (Ok (w, turns.Bears birth)) kept h = subst (λ (v : List Life × Lanes). AmongConfined p lives (lives_born image p birth v.1 v.0)) (sym kept) (born_confined image p birth l lives)
 too_confined image p l lives (Err fault) kept h = tt
 
-set_confined : (p : ℕ) (l : Lanes) (lives : List Life) (r : Result (Life × Unit {0}) Fault) → AmongConfined p lives (beside l (set_back p lives r))
-set_confined p l lives (Ok done) = confined p lives (slice_set lives p done.0) (length-set lives p done.0, λ q other. get_set_other lives p q done.0 other)
-set_confined p l lives (Err fault) = tt
-
-expired_confined : (p : ℕ) (l : Lanes) (lives : List Life) (o : Option Life) → AmongConfined p lives (beside l (expired_at p lives o))
-expired_confined p l lives None = tt
-expired_confined p l lives (Some one) = set_confined p l lives (life_expired one)
-
 made_confined : (image : Loaded) (choice : Choice) (lives : List Life) (l : Lanes) → AmongConfined (actor choice) lives (made image choice lives l)
 made_confined image (Run p) lives l =
     too_confined image p l lives (lives_run image p l lives) (lives_run_kept image p l lives) (weaker p lives (lives_run image p l lives) (at_changed (life_run image p l) p lives (slice_get lives p)))
 made_confined image (Deliver p q) lives l = told_confined p q l lives (slice_get lives q)
-made_confined image (Expire p) lives l = expired_confined p l lives (slice_get lives p)
+made_confined image (Expire p) lives l = weaker p lives (lives_expired p l lives) (at_changed (life_expired l) p lives (slice_get lives p))
 
 kept_or : (p : ℕ) (w : State) (r : Result Among Fault) → AmongConfined p w.processes r → Confined p w.processes (made_or p w r).processes
 kept_or p w (Ok (v, turn)) h = h
@@ -161,7 +153,7 @@ gone_here image (Run p) w reason gone =
 gone_here image (Deliver p q) w reason gone =
     subst (λ o. IsGone (made_or q w (told_at p q w.lanes w.processes o)) q reason) (sym gone) (heard_gone q w reason (gone_received p q w.lanes) gone)
 gone_here image (Expire p) w reason gone =
-    refused_gone p w (made image (Expire p) w.processes w.lanes) reason gone (ap (λ o. beside w.lanes (expired_at p w.processes o)) gone)
+    refused_gone p w (made image (Expire p) w.processes w.lanes) reason gone (ap (at_life (life_expired w.lanes) p w.processes) gone)
 
 pub gone_stays : (image : Loaded) (choice : Choice) (w : State) (p : ℕ) (reason : Tree) → IsGone w p reason → IsGone (chosen image choice w) p reason
 gone_stays image choice w p reason gone = one (cases_eq p (actor choice))

@@ -38,7 +38,7 @@ use Rattle.bx_world.specs.Asking as asking
 use Rattle.bx_world.specs.Asking.{Done, closing, leaving, yes, badarg, exit_message, is_kill, is_normal, low_enough, noted, exiting_oneself, unlinked_done, doing, done_by}
 use Rattle.bx_world.specs.Turning.{turned, runs}
 use Rattle.bx_world.specs.Delivering.{messaged, ending, exiting, heard, received, gone_received, lost}
-use Rattle.bx_world.specs.Lifetimes.{Among, lived, lived_if, gone_if, life_run, put_back, at_life, lost_if, told_at, set_back, expired_at, beside}
+use Rattle.bx_world.specs.Lifetimes.{Among, lived, lived_if, gone_if, life_run, put_back, at_life, life_expired, lives_expired, lost_if, told_at}
 use Rattle.bx_world.specs.Births.{past_limits, system_limit, other_if, linked_to, newborn, answering, life_answered, lives_answered, unborn_at_trap, lives_grown, lives_born}
 use Rattle.bx_world.specs.Enabled.{can, actor}
 use Rattle.bx_world.specs.Choosing.{born_too, made, made_or, chosen}
@@ -510,11 +510,11 @@ abbrev Never : ℕ → Type 0
 Never q = ⊥
 
 expire_gains : (p : ℕ) (l : Lanes) (lives : List Life) (x : Process) (b : Bool) → slice_get lives p ≡ Some (Live x)
-    → AmongGains (At p Never) lives (beside l (set_back p lives (if b then Ok (Live (expired x), tt) else Err NotEnabled)))
+    → AmongGains (At p Never) lives (put_back p lives (if b then Ok ((Live (expired x), l), turns.Ran) else Err NotEnabled))
 expire_gains p l lives x true at = put_gains p Never lives (Live x) (Live (expired x)) at (same_links Never x (expired x) (expired_links (can_expire x) x))
 expire_gains p l lives x false at = tt
 
-expired_gains : (p : ℕ) (l : Lanes) (lives : List Life) (o : Option Life) → slice_get lives p ≡ o → AmongGains (At p Never) lives (beside l (expired_at p lives o))
+expired_gains : (p : ℕ) (l : Lanes) (lives : List Life) (o : Option Life) → slice_get lives p ≡ o → AmongGains (At p Never) lives (at_life (life_expired l) p lives o)
 expired_gains p l lives None at = tt
 expired_gains p l lives (Some (Gone reason)) at = tt
 expired_gains p l lives (Some (Live x)) at = expire_gains p l lives x (can_expire x) at
@@ -531,7 +531,7 @@ made_gains image (Deliver p r) w =
     weaker (At r (Told (first (waiting w.lanes.channels (p, r))) p)) (Enters image w (Deliver p r)) w.processes (told_at p r w.lanes w.processes (slice_get w.processes r))
     (told_enters w image p r) (told_gains p r w.lanes w.processes (slice_get w.processes r) refl)
 made_gains image (Expire p) w =
-    weaker (At p Never) (Enters image w (Expire p)) w.processes (beside w.lanes (expired_at p w.processes (slice_get w.processes p))) (λ k q t. t.1) (expired_gains p w.lanes w.processes (slice_get w.processes p) refl)
+    weaker (At p Never) (Enters image w (Expire p)) w.processes (lives_expired p w.lanes w.processes) (λ k q t. t.1) (expired_gains p w.lanes w.processes (slice_get w.processes p) refl)
 
 gained_or : (R : ℕ → ℕ → Type 0) (p : ℕ) (w : State) (r : Result Among Fault) → AmongGains R w.processes r → Gains R w.processes (made_or p w r).processes
 gained_or R p w (Ok (v, turn)) h = h

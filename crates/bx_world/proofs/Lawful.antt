@@ -1,19 +1,22 @@
 -- What is true of every world and every run.
 use Rattle.std.proofs.Common.{◌≡◌, ℕ, ◌+◌, ◌≤◌, List, [], ◌∷◌, ◌++◌, Option, Some, None, Result, Ok, Err, Bool, true, false, length, refl, sym, ap, subst, ◌∙◌, arith}
-use Rattle.std.specs.Prelude.{IsSome, ◌||◌, if◌then◌else◌, is_some}
+use Rattle.std.specs.Prelude.{IsSome, ◌||◌, if◌then◌else◌, is_some, slice_get}
 use Rattle.bx_terms.specs.Tree.{pid}
 use Rattle.bx_terms.specs.declared.faults.Fault.{Fault}
+use Rattle.bx_terms.specs.declared.faults.Fault.TheVariants.{NotEnabled}
 use Rattle.bx_terms.specs.declared.kinds.Trap.{Trap}
 use Rattle.bx_load.specs.Image.{Loaded}
 use Rattle.bx_world.specs.declared.choices.Choice.{Choice}
 use Rattle.bx_world.specs.declared.choices.Choice.TheVariants.{Run, Deliver, Expire}
 use Rattle.bx_world.specs.declared.lanes.Lanes.{Lanes}
 use Rattle.bx_world.specs.declared.turns.Turn.TheVariants as turns
+use Rattle.bx_proc.specs.Process.{Process, can_expire}
+use Rattle.bx_proc.specs.Signals.{expired}
 use Rattle.bx_proc.specs.declared.parts.Answer.TheVariants.{Value}
 use Rattle.bx_world.specs.declared.requests.Birth.{Birth}
-use Rattle.bx_world.specs.World.{Life, Live, State}
+use Rattle.bx_world.specs.World.{Life, Live, Gone, State}
 use Rattle.bx_world.specs.Enabled.{open_choices, unless_trapped, enabled, can, actor}
-use Rattle.bx_world.specs.Lifetimes.{Among, beside, lives_run, lives_told, lives_expired}
+use Rattle.bx_world.specs.Lifetimes.{Among, at_life, put_back, life_expired, lives_run, lives_told}
 use Rattle.bx_world.specs.Births.{past_limits, system_limit, other_if, newborn, lives_answered, unborn_at_trap, lives_grown, lives_born}
 use Rattle.bx_world.specs.Choosing.{born_too, made, made_or, chosen}
 use Rattle.bx_world.specs.Running.{Ended, tried, advanced, ran}
@@ -65,14 +68,19 @@ too_kept image p l lives (Ok (after, turns.Trapped kind)) h = h
 too_kept image p l lives (Ok (after, turns.Bears birth)) h = subst (λ (v : List Life × Lanes). TrapKept (lives, l) (lives_born image p birth v.1 v.0)) (sym h) (born_kept image p birth l lives)
 too_kept image p l lives (Err fault) h = tt
 
-beside_kept : (before : List Life × Lanes) (l : Lanes) (r : Result (List Life × Unit {0}) Fault) → TrapKept before (beside l r)
-beside_kept before l (Ok done) = tt
-beside_kept before l (Err fault) = tt
+expired_kept : (before : List Life × Lanes) (p : ℕ) (l : Lanes) (lives : List Life) (o : Option Life) → TrapKept before (at_life (life_expired l) p lives o)
+expired_kept before p l lives None = tt
+expired_kept before p l lives (Some (Gone reason)) = tt
+expired_kept before p l lives (Some (Live x)) = go (can_expire x)
+  where
+    go : (b : Bool) → TrapKept before (put_back p lives (if b then Ok ((Live (expired x), l), turns.Ran) else Err NotEnabled))
+    go true = tt
+    go false = tt
 
 made_kept : (image : Loaded) (choice : Choice) (lives : List Life) (l : Lanes) → TrapKept (lives, l) (made image choice lives l)
 made_kept image (Run p) lives l = too_kept image p l lives (lives_run image p l lives) (lives_run_kept image p l lives)
 made_kept image (Deliver p q) lives l = at_trap (lives, l) (lives_told p q l lives) (lives_told_kept p q l lives)
-made_kept image (Expire p) lives l = beside_kept (lives, l) l (lives_expired p lives)
+made_kept image (Expire p) lives l = expired_kept (lives, l) p l lives (slice_get lives p)
 
 trapped_alone : (p : ℕ) (w : State) (r : Result Among Fault) (trap : Trap × ℕ) → w.trap ≡ None → TrapKept (w.processes, w.lanes) r → (made_or p w r).trap ≡ Some trap → made_or p w r ≡ record w { trap = Some trap }
 trapped_alone p w (Ok (v, turns.Ran)) trap free h is = cc

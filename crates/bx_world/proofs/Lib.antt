@@ -1,11 +1,12 @@
-pub mod AtOnce
 pub mod Viewed
 pub mod Changing
 pub mod Compared
 pub mod Finding
-pub mod Lifelines
+pub mod Acted
+pub mod Heard
+pub mod Exiting
+pub mod Running
 pub mod Undoing
-pub mod Elements
 pub mod Keeping
 pub mod Applying
 pub mod Growing

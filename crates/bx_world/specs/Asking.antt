@@ -1,11 +1,11 @@
 -- What an instruction that has a part in others makes of its process and of the lanes, all of it or nothing.
 -- Source: module `erlang` of the ERTS Reference Manual; Erlang Reference Manual, "Processes".
-use Rattle.std.specs.Prelude.{ℕ, ◌==◌, ◌||◌, [], ◌∷◌, Bool, false, not, Option, Some, None, nat_le, if◌then◌else◌}
+use Rattle.std.specs.Prelude.{ℕ, ◌==◌, ◌||◌, [], ◌∷◌, Bool, true, false, not, Option, Some, None, IsSome, nat_le, if◌then◌else◌}
 use Rattle.bx_terms.specs.Tree.{Tree, atom, pid, tuple, listed, height}
-use Rattle.bx_terms.specs.declared.atom_table.AtomId.{AtomId}
 use Rattle.bx_terms.specs.declared.fixed.TheConstants.{TRUE, NORMAL, KILL, KILLED, BADARG, EXIT_TAG}
 use Rattle.bx_terms.specs.declared.kinds.Class.TheVariants.{Error}
 use Rattle.bx_terms.specs.declared.kinds.Trap.TheVariants.{TermHeight, BadPlace}
+use Rattle.bx_bifs.specs.Kinds.{is_the_atom}
 use Rattle.bx_load.specs.Image.{Loaded}
 use Rattle.bx_signals.specs.declared.signal.Signal.{Signal}
 use Rattle.bx_signals.specs.declared.signal.Signal.TheVariants as signals
@@ -65,10 +65,6 @@ badarg = Fault Error (atom BADARG.0)
 abbrev pub exit_message : ℕ → Tree → Tree
 exit_message p reason = tuple (listed (atom EXIT_TAG.0 ∷ pid p ∷ reason ∷ []))
 
-abbrev pub is_the_atom : AtomId → Tree → Bool
-is_the_atom a (atom b) = b == a.0
-is_the_atom a t = false
-
 abbrev pub is_kill : Tree → Bool
 is_kill = is_the_atom KILL
 
@@ -93,6 +89,15 @@ abbrev pub exiting_oneself : Loaded → ℕ → Tree → Process → Lanes → D
 exiting_oneself image p reason x lanes =
     if is_kill reason then leaving p x lanes (atom KILLED.0)
     else if x.trap_exit then noted image p yes x lanes (low_enough (exit_message p reason)) else leaving p x lanes reason
+
+-- memory is wanted there for no message that is too high
+abbrev pub TakesUnless : Bool → Bool → Option Tree → Type 0
+TakesUnless true traps message = Unit {0}
+TakesUnless false true message = IsSome message
+TakesUnless false false message = Unit {0}
+
+abbrev pub ExitTakes : ℕ → Tree → Bool → Type 0
+ExitTakes p reason traps = TakesUnless (is_kill reason) traps (low_enough (exit_message p reason))
 
 -- a link to oneself and one that is there are nothing; else the process enters the other into its set, and tells it
 abbrev pub linking : Loaded → ℕ → ℕ → Process → Lanes → Done

@@ -11,7 +11,7 @@ use Rattle.bx_world.specs.declared.turns.Turn.{Turn}
 use Rattle.bx_world.specs.declared.turns.Turn.TheVariants as turns
 use Rattle.bx_world.specs.World.{Life, State}
 use Rattle.bx_world.specs.Enabled.{can, actor}
-use Rattle.bx_world.specs.Lifetimes.{Among, lives_run, lives_told, lives_expired, beside}
+use Rattle.bx_world.specs.Lifetimes.{Among, lives_run, lives_told, lives_expired}
 use Rattle.bx_world.specs.Births.{lives_born}
 
 -- a run may ask for a birth
@@ -23,7 +23,7 @@ born_too image p answer = answer
 abbrev pub made : Loaded → Choice → List Life → Lanes → Result Among Fault
 made image (Run p) lives lanes = born_too image p (lives_run image p lanes lives)
 made image (Deliver p q) lives lanes = lives_told p q lanes lives
-made image (Expire p) lives lanes = beside lanes (lives_expired p lives)
+made image (Expire p) lives lanes = lives_expired p lanes lives
 
 abbrev pub trap_of : ℕ → Turn → Option (Trap × ℕ)
 trap_of p (turns.Trapped kind) = Some (kind, p)

@@ -4,7 +4,7 @@ use Rattle.std.specs.Prelude.{ℕ, if◌then◌else◌, Option, Some, None, Resu
 use Rattle.bx_terms.specs.Tree.{Tree, atom}
 use Rattle.bx_terms.specs.declared.fixed.TheConstants.{KILLED, NOPROC}
 use Rattle.bx_terms.specs.declared.faults.Fault.{Fault}
-use Rattle.bx_terms.specs.declared.faults.Fault.TheVariants.{NotEnabled}
+use Rattle.bx_terms.specs.declared.faults.Fault.TheVariants.{NotEnabled, Memory}
 use Rattle.bx_terms.specs.declared.kinds.Trap.TheVariants.{TermHeight}
 use Rattle.bx_signals.specs.Waiting.{first}
 use Rattle.bx_signals.specs.Channels.{waiting}
@@ -65,3 +65,8 @@ gone_received p q lanes = gone_heard p q lanes (first (waiting lanes.channels (p
 abbrev pub lost : ℕ → ℕ → Lanes → Option Signal → Result (Lanes × Unit {0}) Fault
 lost p q lanes None = Err NotEnabled
 lost p q lanes (Some signal) = Ok (hearing (p, q) lanes, tt)
+
+-- memory ran out before it was known what waits first in a channel: where nothing does, its delivery is not enabled
+abbrev pub lacked_for : Option Signal → Fault
+lacked_for (Some signal) = Memory
+lacked_for None = NotEnabled

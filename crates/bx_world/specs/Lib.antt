@@ -1,4 +1,3 @@
-pub mod AtOnce
 pub mod World
 pub mod Sharing
 pub mod Requests
@@ -9,6 +8,7 @@ pub mod Lives
 pub mod Enabled
 pub mod Lifetimes
 pub mod Births
+pub mod Acting
 pub mod Choosing
 pub mod Running
 pub mod Seen

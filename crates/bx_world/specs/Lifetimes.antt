@@ -45,9 +45,9 @@ life_told p q lanes (Live x) = lived_if (received p q x lanes)
 life_told p q lanes (Gone reason) = gone_if reason (gone_received p q lanes)
 
 -- a wait that can expire is over
-abbrev pub life_expired : Life → Result (Life × Unit {0}) Fault
-life_expired (Live x) = if can_expire x then Ok (Live (expired x), tt) else Err NotEnabled
-life_expired (Gone reason) = Err NotEnabled
+abbrev pub life_expired : Lanes → Life → Result Lived Fault
+life_expired lanes (Live x) = if can_expire x then Ok ((Live (expired x), lanes), Ran) else Err NotEnabled
+life_expired lanes (Gone reason) = Err NotEnabled
 
 -- the same among the others
 abbrev pub Among : Type 0
@@ -64,21 +64,8 @@ at_life does p lives None = Err NotEnabled
 abbrev pub lives_run : Loaded → ℕ → Lanes → List Life → Result Among Fault
 lives_run image p lanes lives = at_life (life_run image p lanes) p lives (slice_get lives p)
 
-abbrev pub set_back : ℕ → List Life → Result (Life × Unit {0}) Fault → Result (List Life × Unit {0}) Fault
-set_back p lives (Ok done) = Ok (slice_set lives p done.0, tt)
-set_back p lives (Err fault) = Err fault
-
-abbrev pub expired_at : ℕ → List Life → Option Life → Result (List Life × Unit {0}) Fault
-expired_at p lives (Some one) = set_back p lives (life_expired one)
-expired_at p lives None = Err NotEnabled
-
-abbrev pub lives_expired : ℕ → List Life → Result (List Life × Unit {0}) Fault
-lives_expired p lives = expired_at p lives (slice_get lives p)
-
--- the lanes have no part in it
-abbrev pub beside : Lanes → Result (List Life × Unit {0}) Fault → Result Among Fault
-beside lanes (Ok done) = Ok ((done.0, lanes), Ran)
-beside lanes (Err fault) = Err fault
+abbrev pub lives_expired : ℕ → Lanes → List Life → Result Among Fault
+lives_expired p lanes lives = at_life (life_expired lanes) p lives (slice_get lives p)
 
 -- to a pid that no process has a signal is lost
 abbrev pub lost_if : List Life → Result (Lanes × Unit {0}) Fault → Result Among Fault

@@ -1,20 +1,12 @@
 -- What a native asks of the world, told by its arguments.
 -- Source: module `erlang` of the ERTS Reference Manual.
-use Rattle.std.specs.Prelude.{ℕ, List, [], ◌∷◌, Bool, true, false, Option, Some, None, option_map}
-use Rattle.bx_terms.specs.Tree.{Tree, int, atom, pid, tuple, nil, cons}
+use Rattle.std.specs.Prelude.{ℕ, List, [], ◌∷◌, Bool, true, false, Option, Some, None}
+use Rattle.bx_terms.specs.Tree.{Tree, atom, pid}
+use Rattle.bx_bifs.specs.Values.{elements}
 use Rattle.bx_bifs.specs.declared.natives.Native.{Native}
 use Rattle.bx_bifs.specs.declared.natives.Native.TheVariants as natives
 use Rattle.bx_world.specs.declared.requests.Request.{Request}
 use Rattle.bx_world.specs.declared.requests.Request.TheVariants.{Refused, Send, Exit, Link, Unlink, Display, Spawn}
-
--- the elements of a proper list
-abbrev pub elements : Tree → Option (List Tree)
-elements nil = Some []
-elements (cons t more) = option_map (λ ts. t ∷ ts) (elements more)
-elements (int n) = None
-elements (atom a) = None
-elements (pid p) = None
-elements (tuple t) = None
 
 -- an argument that has to be a pid
 abbrev pub of_pid : (ℕ → Request) → Tree → Request
@@ -39,3 +31,8 @@ requested natives.Display (term ∷ []) = Display term
 requested natives.Spawn (m ∷ f ∷ arguments ∷ []) = bearing false m f arguments
 requested natives.SpawnLink (m ∷ f ∷ arguments ∷ []) = bearing true m f arguments
 requested native arguments = Refused
+
+-- one whose arguments are of the kinds that its native takes
+abbrev pub IsMeant : Request → Type 0
+IsMeant Refused = ⊥
+IsMeant request = Unit {0}

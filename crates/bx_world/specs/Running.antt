@@ -1,7 +1,6 @@
 -- A list of choices in a world: how many were applied, and the one that was refused. Nothing more happens after a trap, nor after the
 -- first choice that is not enabled.
-use Rattle.std.specs.Prelude.{◌≡◌, IsTrue, ℕ, ◌+◌, List, [], ◌∷◌, Option, Some, None, is_some, ◌||◌, if◌then◌else◌, refl, Result, Ok, Err}
-use Rattle.std.specs.declared.alloc.AllocError.{AllocError}
+use Rattle.std.specs.Prelude.{◌≡◌, IsTrue, ℕ, ◌+◌, List, [], ◌∷◌, Option, Some, None, is_some, ◌||◌, if◌then◌else◌, refl}
 use Rattle.std.specs.Coded.{Coded, code_by, coded×, coded_ℕ, coded_option}
 use Rattle.bx_load.specs.Image.{Loaded}
 use Rattle.bx_world.specs.declared.choices.Choice.{Choice}
@@ -45,8 +44,3 @@ ended_code state choice =
 -- memory is taken only for a choice that is applied
 abbrev pub AdvanceTakes : Choice → Ended → Type 0
 AdvanceTakes choice end = (end.refused ≡ None) × IsTrue (can end.world choice)
-
--- how a run's change stands to its rule, where memory is all that it may lack
-abbrev pub Moves : Type 0 → Ended → Ended → Result (Unit {0}) AllocError → Ended → Type 0
-Moves takes old new (Ok done) said = new ≡ said
-Moves takes old new (Err failed) said = takes × (new ≡ old)

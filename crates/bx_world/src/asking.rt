@@ -2,7 +2,7 @@
 //!
 //! What is put into the lanes is put before the process goes on, since it can be taken back without memory.
 
-ghost use Rattle.std.specs.Prelude.{◌≡◌, Ok, IfOk, IfErr, OnErr};
+ghost use Rattle.std.specs.Prelude.{◌≡◌, Ok, IsSome, IfOk, IfErr, OnErr};
 ghost use Rattle.bx_terms.specs.Outcomes.{Does};
 ghost use Rattle.bx_terms.specs.declared.faults.Fault.TheVariants.{Memory};
 ghost use Rattle.bx_proc.specs.Signals.{with_link};
@@ -10,15 +10,16 @@ ghost use Rattle.bx_proc.specs.Stepping.{settled, settled_with};
 ghost use Rattle.bx_world.specs.declared.requests.Request.TheVariants as requests;
 ghost use Rattle.bx_world.specs.declared.turns.Turn.TheVariants as turns;
 ghost use Rattle.bx_world.specs.Sharing.{parting};
-ghost use Rattle.bx_world.specs.Asking.{whole, closing, sending, exiting_oneself, linking, unlinking, done_by, unlinked_done, exit_message, low_enough, is_the_atom, yes, IsEnded};
+ghost use Rattle.bx_world.specs.Asking.{whole, closing, sending, exiting_oneself, linking, unlinking, done_by, unlinked_done, exit_message, low_enough, yes, IsEnded, ExitTakes};
 
 use crate::lanes::Lanes;
 use crate::requests::Request;
 use crate::turns::Turn;
+use bx_bifs::is_the_atom;
 use bx_load::Image;
 use bx_proc::{Answer, Effect, Proc};
 use bx_signals::Signal;
-use bx_terms::{AtomId, Class, Fault, Term, TermRefusal, Trap, View, fixed};
+use bx_terms::{Class, Fault, MAX_HEIGHT, Term, TermRefusal, Trap, fixed};
 use std::alloc::{AllocError, Global};
 
 /// What a native that asked answers, where it has nothing else to say.
@@ -51,16 +52,6 @@ pub(crate) fn perform(
         Request::Unlink(to) => unlink(alloc, image, process, lanes, pid, to),
         Request::Display(term) => display(alloc, image, process, lanes, pid, term),
         Request::Spawn(birth) => Ok(Turn::Bears(birth)),
-    }
-}
-
-/// Whether a term is that atom.
-pub(crate) fn is_atom(term: &Term, atom: AtomId) -> bool
-    ensures { result ≡ is_the_atom atom term.now }
-{
-    match term.view() {
-        View::Atom(id) => id == atom,
-        _ => false,
     }
 }
 
@@ -235,7 +226,7 @@ fn exit(
     )
 }
 
-/// A process asks itself to end.
+/// A process asks itself to end. No reason that is too high for the message is told as a want of memory.
 fn exit_itself(
     alloc: Global,
     image: &Image,
@@ -244,10 +235,10 @@ fn exit_itself(
     pid: u32,
     reason: Term,
 ) -> Result<Turn, Fault>
-    ensures { Does (Unit {0}) (process.old, lanes.old) (process.new, lanes.new) result (Ok (whole
+    ensures { Does (ExitTakes pid reason process.old.trap_exit) (process.old, lanes.old) (process.new, lanes.new) result (Ok (whole
         (process.old, lanes.old) (exiting_oneself image.now pid reason process.old lanes.old))) }
 {
-    if is_atom(&reason, fixed::KILL) {
+    if is_the_atom(fixed::KILL, &reason) {
         return leave(alloc, process, lanes, pid, Term::atom(fixed::KILLED));
     }
     if !process.traps_exits() {
@@ -259,14 +250,19 @@ fn exit_itself(
     note(alloc, image, process, lanes, pid, &yes(), message)
 }
 
-/// The message that an exit signal becomes; `None` where it would be too high.
+/// The message that an exit signal becomes; `None` where it would be too high. Memory is taken only where it is not.
+#[tactic(auto, using(crate::proofs::Exiting::too_high, crate::proofs::Exiting::fits_on_err))]
 pub(crate) fn exit_message(
     alloc: Global,
     from: u32,
     reason: Term,
 ) -> Result<Option<Term>, AllocError>
-    ensures { IfOk result (λ message. message ≡ low_enough (exit_message from reason)) }
+    ensures ok { IfOk result (λ message. message ≡ low_enough (exit_message from reason)) }
+    ensures err { OnErr result (IsSome (low_enough (exit_message from reason))) }
 {
+    if reason.height() == MAX_HEIGHT {
+        return Ok(None);
+    }
     let mut elements = Vec::with_capacity(alloc, 3)?;
     elements.push(Term::atom(fixed::EXIT_TAG))?;
     elements.push(Term::pid(from))?;

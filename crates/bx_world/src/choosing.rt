@@ -3,9 +3,10 @@
 ghost use Rattle.std.specs.Prelude.{◌≡◌, ◌≢◌, ◌++◌, [], IsTrue, OnOk, OnErr, slice_get};
 ghost use Rattle.bx_terms.specs.Outcomes.{Does};
 ghost use Rattle.bx_world.specs.Enabled.{able, may_at, may_run, deliveries};
-ghost use Rattle.bx_world.specs.Lifetimes.{lives_run, lives_told, Waits};
+ghost use Rattle.bx_world.specs.Lifetimes.{lives_run};
 ghost use Rattle.bx_world.specs.Choosing.{made, born_too};
 
+use crate::acts::Act;
 use crate::choices::Choice;
 use crate::lanes::Lanes;
 use crate::procs::Procs;
@@ -17,7 +18,7 @@ use bx_signals::Channels;
 use bx_terms::Fault;
 use std::alloc::{AllocError, Global};
 
-/// Makes a choice that is enabled; another changes nothing.
+/// Makes a choice that is enabled; another changes nothing. Where a run asks for a spawn, there is a child.
 #[inline(always)]
 pub(crate) fn make<P: Hold<Proc>, C: Hold<Lanes>>(
     alloc: Global,
@@ -32,15 +33,13 @@ pub(crate) fn make<P: Hold<Proc>, C: Hold<Lanes>>(
 {
     match choice {
         Choice::Run(pid) => run(alloc, image, procs, lanes, pid),
-        Choice::Deliver(from, to) => deliver(alloc, procs, lanes, from, to),
-        Choice::Expire(pid) => {
-            procs.expire(alloc, pid)?;
-            Ok(Turn::Ran)
-        }
+        Choice::Deliver(from, to) => procs.act(alloc, image, lanes, to, Act::Hear(from)),
+        Choice::Expire(pid) => procs.act(alloc, image, lanes, pid, Act::Expire),
     }
 }
 
-/// Runs one instruction of a process; where that asks for a birth, there is a child.
+/// Runs one instruction of a process; where that asks for a spawn, there is a child.
+#[inline(always)]
 fn run<P: Hold<Proc>, C: Hold<Lanes>>(
     alloc: Global,
     image: &Image,
@@ -52,28 +51,10 @@ fn run<P: Hold<Proc>, C: Hold<Lanes>>(
         (procs.old, C.shown lanes.old) (procs.new, C.shown lanes.new) result
         (born_too image.now pid (lives_run image.now pid (C.shown lanes.old) procs.old)) }
 {
-    match procs.run(alloc, image, lanes, pid)? {
+    match procs.act(alloc, image, lanes, pid, Act::Run)? {
         Turn::Bears(birth) => procs.bear(alloc, image, lanes, pid, birth),
         turn => Ok(turn),
     }
-}
-
-/// The first signal of a channel takes effect. No memory is taken where none waits.
-#[inline(never)]
-fn deliver<P: Hold<Proc>, C: Hold<Lanes>>(
-    alloc: Global,
-    procs: &mut Procs<P>,
-    lanes: &mut C,
-    from: u32,
-    to: u32,
-) -> Result<Turn, Fault>
-    ensures { Does (Waits from to (C.shown lanes.old)) (procs.old, C.shown lanes.old)
-        (procs.new, C.shown lanes.new) result (lives_told from to (C.shown lanes.old) procs.old) }
-{
-    if lanes.see().channels.first(from, to).is_none() {
-        return Err(Fault::NotEnabled);
-    }
-    procs.tell(alloc, lanes, from, to)
 }
 
 /// Puts a delivery from each channel in which something waits last, by rising pair. Memory is taken only where there is one.

@@ -1,21 +1,24 @@
-//! A signal takes effect at a process, beside the lanes. It is taken last, when nothing can be refused any more.
+//! A signal takes effect at a process, beside the lanes.
 
-ghost use Rattle.std.specs.Prelude.{◌≡◌, Ok};
+ghost use Rattle.std.specs.Prelude.{◌≡◌, None, Ok};
 ghost use Rattle.bx_terms.specs.Outcomes.{Does};
-ghost use Rattle.bx_world.specs.Delivering.{received, messaged, ending, exiting, by_link, by_exit, gone_received, lost};
+ghost use Rattle.bx_world.specs.Delivering.{received, messaged, ending, exiting, by_link, by_exit, gone_received};
+ghost use Rattle.bx_signals.specs.Handing.{message_of};
 ghost use Rattle.bx_signals.specs.Waiting.{first};
 ghost use Rattle.bx_signals.specs.Channels.{waiting};
-ghost use Rattle.bx_world.specs.Asking.{exit_message, low_enough};
 
-use crate::asking::{exit_message, is_atom};
+use crate::asking::exit_message;
 use crate::lanes::Lanes;
 use crate::turns::Turn;
+use bx_bifs::is_the_atom;
 use bx_proc::Proc;
 use bx_signals::Signal;
 use bx_terms::{Fault, Term, Trap, fixed};
 use std::alloc::Global;
 
-/// The first signal between two processes takes effect at the second.
+/// The first signal between two processes takes effect at the second. A message goes from its channel into the mailbox.
+#[inline(always)]
+#[tactic(auto, using(crate::proofs::Heard::was_heard, crate::proofs::Heard::not_heard, crate::proofs::Heard::not_held))]
 pub(crate) fn receive(
     alloc: Global,
     process: &mut Proc,
@@ -26,28 +29,41 @@ pub(crate) fn receive(
     ensures { Does (Unit {0}) (process.old, lanes.old) (process.new, lanes.new) result
         (received from pid process.old lanes.old) }
 {
-    let Some(signal) = lanes.channels.first(from, pid) else {
-        return Err(Fault::NotEnabled);
-    };
-    match signal {
-        Signal::Message(message) => {
-            let message = message.copy(alloc)?;
-            if let Err(_message) = process.add_message(message) {
-                return Err(Fault::Memory);
-            }
-        }
-        Signal::Link => process.add_link(from)?,
-        Signal::Unlink => {
+    match process.hear(&mut lanes.channels, from, pid) {
+        Ok(true) => Ok(Turn::Ran),
+        Ok(false) => receive_other(alloc, process, lanes, from, pid),
+        Err(_) => Err(Fault::Memory),
+    }
+}
+
+/// The same of a signal that is no message. It is taken last, when nothing can be refused any more.
+#[cold]
+#[inline(never)]
+fn receive_other(
+    alloc: Global,
+    process: &mut Proc,
+    lanes: &mut Lanes,
+    from: u32,
+    pid: u32,
+) -> Result<Turn, Fault>
+    requires { message_of (first (waiting lanes.old.channels (from, pid))) ≡ None }
+    ensures { Does (Unit {0}) (process.old, lanes.old) (process.new, lanes.new) result
+        (received from pid process.old lanes.old) }
+{
+    match lanes.channels.first(from, pid) {
+        Some(Signal::Link) => process.add_link(from)?,
+        Some(Signal::Unlink) => {
             let _ = process.drop_link(from);
         }
-        Signal::LinkExit(reason) => {
+        Some(Signal::LinkExit(reason)) => {
             let reason = reason.copy(alloc)?;
             return hear_link_exit(alloc, process, lanes, from, pid, reason);
         }
-        Signal::Exit(reason) => {
+        Some(Signal::Exit(reason)) => {
             let reason = reason.copy(alloc)?;
             return hear_exit(alloc, process, lanes, from, pid, reason);
         }
+        Some(Signal::Message(_)) | None => return Err(Fault::NotEnabled),
     }
     lanes.drop_first(from, pid);
     Ok(Turn::Ran)
@@ -80,7 +96,7 @@ fn hear_link_exit(
         lanes.drop_first(from, pid);
         return Ok(Turn::Ran);
     }
-    if is_atom(&reason, fixed::NORMAL) {
+    if is_the_atom(fixed::NORMAL, &reason) {
         process.drop_link(from);
         lanes.drop_first(from, pid);
         return Ok(Turn::Ran);
@@ -104,7 +120,7 @@ fn hear_exit(
     ensures { Does (Unit {0}) (process.old, lanes.old) (process.new, lanes.new) result
         (Ok (by_exit from pid process.old reason lanes.old)) }
 {
-    if is_atom(&reason, fixed::KILL) {
+    if is_the_atom(fixed::KILL, &reason) {
         return end(alloc, process, lanes, from, pid, Term::atom(fixed::KILLED));
     }
     if process.traps_exits() {
@@ -117,7 +133,7 @@ fn hear_exit(
         lanes.drop_first(from, pid);
         return Ok(Turn::Ran);
     }
-    if is_atom(&reason, fixed::NORMAL) {
+    if is_the_atom(fixed::NORMAL, &reason) {
         lanes.drop_first(from, pid);
         return Ok(Turn::Ran);
     }
@@ -163,18 +179,6 @@ pub(crate) fn receive_gone(
         {
             return Err(Fault::Memory);
         }
-    }
-    lanes.drop_first(from, pid);
-    Ok(())
-}
-
-/// The first signal to a pid that no process has is lost.
-pub(crate) fn lose(lanes: &mut Lanes, from: u32, pid: u32) -> Result<(), Fault>
-    ensures { Does ⊥ lanes.old lanes.new result
-        (lost from pid lanes.old (first (waiting lanes.old.channels (from, pid)))) }
-{
-    if lanes.channels.first(from, pid).is_none() {
-        return Err(Fault::NotEnabled);
     }
     lanes.drop_first(from, pid);
     Ok(())

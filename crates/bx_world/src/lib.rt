@@ -1,8 +1,8 @@
 //! Worlds of processes and channels, stepped by one choice at a time.
 #![tactic(auto)]
 
+mod acts;
 mod asking;
-mod at_once;
 mod choices;
 mod choosing;
 mod delivering;

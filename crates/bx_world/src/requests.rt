@@ -1,40 +1,12 @@
 //! What natives ask of the world.
 
-ghost use Rattle.std.specs.Prelude.{◌≡◌, IfOk, option_map};
-ghost use Rattle.bx_world.specs.Requests.{requested, elements, bearing};
+ghost use Rattle.std.specs.Prelude.{◌≡◌, IfOk, OnErr};
+ghost use Rattle.bx_world.specs.Requests.{requested, bearing, IsMeant};
 
-use bx_bifs::Native;
+use bx_bifs::{Native, elements};
+use bx_proc::Arguments;
 use bx_terms::{AtomId, Term, View};
 use std::alloc::{AllocError, Global};
-use std::marker::Model;
-
-/// Terms in a row.
-#[derive(Debug, Drop)]
-pub struct Terms {
-    items: Vec<Term>,
-}
-
-impl Model for Terms {
-    ghost use Rattle.std.specs.Prelude.{List};
-    ghost use Rattle.std.specs.Coded.{coded_list};
-    ghost use Rattle.bx_terms.specs.Tree.{Tree};
-    ghost use Rattle.bx_terms.specs.contracts.terms.Term as term;
-
-    ghost Value = { List Tree };
-
-    ghost coded = { coded_list term.the_row.coded };
-
-    ghost view = { λ a. a.items.items };
-}
-
-impl Terms {
-    /// The terms in order.
-    pub fn as_slice(&self) -> &[Term]
-        ensures { result.now ≡ self.now }
-    {
-        self.items.as_slice()
-    }
-}
 
 /// A process that is to be born.
 #[derive(Debug, Drop)]
@@ -43,7 +15,7 @@ pub struct Birth {
     pub linked: bool,
     pub module: AtomId,
     pub function: AtomId,
-    pub arguments: Terms,
+    pub arguments: Arguments,
 }
 
 /// What a native asks of the world. The pid is the other process's.
@@ -59,13 +31,14 @@ pub enum Request {
     Spawn(Birth),
 }
 
-/// What a native asks with these arguments.
+/// What a native asks with these arguments. Memory is taken only where none of them is of a wrong kind.
 pub(crate) fn request_of(
     alloc: Global,
     native: Native,
     arguments: &[Term],
 ) -> Result<Request, AllocError>
-    ensures { IfOk result (λ r. r ≡ requested native arguments.now) }
+    ensures ok { IfOk result (λ r. r ≡ requested native arguments.now) }
+    ensures err { OnErr result (IsMeant (requested native arguments.now)) }
 {
     match (native, arguments) {
         (Native::Send, [to, message]) => match to.view() {
@@ -102,35 +75,19 @@ fn birth_of(
     name: &Term,
     list: &Term,
 ) -> Result<Request, AllocError>
-    ensures { IfOk result (λ r. r ≡ bearing linked home.now name.now list.now) }
+    ensures ok { IfOk result (λ r. r ≡ bearing linked home.now name.now list.now) }
+    ensures err { OnErr result (IsMeant (bearing linked home.now name.now list.now)) }
 {
     let (View::Atom(module), View::Atom(function)) = (home.view(), name.view()) else {
         return Ok(Request::Refused);
     };
-    let Some(arguments) = elements_of(alloc, list)? else {
+    let Some(arguments) = elements(alloc, list)? else {
         return Ok(Request::Refused);
     };
     Ok(Request::Spawn(Birth {
         linked,
         module,
         function,
-        arguments,
+        arguments: Arguments::of(arguments),
     }))
-}
-
-/// The elements of a proper list, and `None` for any other term.
-#[tactic(auto, using(crate::proofs::Elements::one_more, crate::proofs::Elements::at_start, crate::proofs::Elements::at_end))]
-fn elements_of(alloc: Global, list: &Term) -> Result<Option<Terms>, AllocError>
-    ensures { IfOk result (λ found. found ≡ elements list.now) }
-{
-    let mut items = Vec::new(alloc);
-    let mut rest = list;
-    while let View::Cons(head, tail) = rest.view() {
-        items.push(head.copy(alloc)?)?;
-        rest = tail;
-    }
-    match rest.view() {
-        View::Nil => Ok(Some(Terms { items })),
-        _ => Ok(None),
-    }
 }

@@ -1,17 +1,17 @@
 //! Runs: what a list of choices leads to.
 
-ghost use Rattle.std.specs.Prelude.{◌≡◌, ◌↔◌, ◌<◌, IsTrue, None, Ok};
+ghost use Rattle.std.specs.Prelude.{◌≡◌, ◌↔◌, ◌<◌, IsTrue, Ok};
 ghost use Rattle.bx_terms.specs.Outcomes.{Does};
-ghost use Rattle.bx_world.specs.Running.{advanced, AdvanceTakes, Moves};
+ghost use Rattle.bx_world.specs.Running.{advanced, AdvanceTakes};
 
 use crate::choices::Choice;
 use crate::lanes::Lanes;
 use crate::world::World;
 use bx_load::Image;
-use bx_proc::{Proc, Undone};
+use bx_proc::Proc;
 use bx_share::Hold;
 use bx_terms::Fault;
-use std::alloc::{AllocError, Global};
+use std::alloc::Global;
 use std::marker::Model;
 
 /// Where a list of choices has led: the world, how many of the choices were applied, and the one that was refused, where one was.
@@ -69,52 +69,10 @@ pub fn advance<P: Hold<Proc>, C: Hold<Lanes>>(
     if end.refused.is_some() {
         return Ok(());
     }
-    match end.world.hurry(alloc, image, choice) {
-        Ok(()) => end.applied += 1,
-        Err(Undone::Left) => advance_anyhow(alloc, end, image, choice)?,
-        Err(Undone::Memory) => return Err(Fault::Memory),
-    }
-    Ok(())
-}
-
-/// The same of a run that has not come to its end, whatever the choice takes. The choice is made anew, so that it need not lie
-/// in memory where it is made at once.
-#[inline(always)]
-fn advance_anyhow<P: Hold<Proc>, C: Hold<Lanes>>(
-    alloc: Global,
-    end: &mut RunEnd<P, C>,
-    image: &Image,
-    choice: Choice,
-) -> Result<(), AllocError>
-    requires few { end.old.applied < u64.MAX }
-    requires goes_on { end.old.refused ≡ None }
-    ensures { Moves (AdvanceTakes choice end.old) end.old end.new result
-        (advanced image.now choice end.old) }
-{
-    match choice {
-        Choice::Run(pid) => advance_whole(alloc, end, image, Choice::Run(pid)),
-        Choice::Deliver(from, to) => advance_whole(alloc, end, image, Choice::Deliver(from, to)),
-        Choice::Expire(pid) => advance_whole(alloc, end, image, Choice::Expire(pid)),
-    }
-}
-
-/// The same as a function of its own.
-#[inline(never)]
-fn advance_whole<P: Hold<Proc>, C: Hold<Lanes>>(
-    alloc: Global,
-    end: &mut RunEnd<P, C>,
-    image: &Image,
-    choice: Choice,
-) -> Result<(), AllocError>
-    requires few { end.old.applied < u64.MAX }
-    requires goes_on { end.old.refused ≡ None }
-    ensures { Moves (AdvanceTakes choice end.old) end.old end.new result
-        (advanced image.now choice end.old) }
-{
-    match end.world.apply_whole(alloc, image, choice) {
+    match end.world.apply(alloc, image, choice) {
         Ok(()) => end.applied += 1,
         Err(Fault::NotEnabled) => end.refused = Some(choice),
-        Err(Fault::Memory) => return Err(AllocError),
+        Err(Fault::Memory) => return Err(Fault::Memory),
         Err(_) => {} // the world has trapped: nothing changes any more
     }
     Ok(())

@@ -1,12 +1,23 @@
 //! The life of one pid, as it is kept.
 
-ghost use Rattle.std.specs.Prelude.{◌≡◌, ◌↔◌, IsTrue, IfOk};
+ghost use Rattle.std.specs.Prelude.{◌≡◌, ◌↔◌, Some, IsTrue, IfOk};
+ghost use Rattle.bx_terms.specs.Outcomes.{Does};
+ghost use Rattle.bx_terms.specs.Tree.{Tree};
+ghost use Rattle.bx_world.specs.Acting.{life_acted, exited_acted, MayLack};
+ghost use Rattle.bx_world.specs.Enabled.{may_run, may_expire};
 ghost use Rattle.bx_world.specs.Lives.{life};
 ghost use Rattle.bx_world.specs.Seen.{status_of, place_of};
+ghost use Rattle.bx_world.specs.World.{Gone};
 
+use crate::acts::Act;
+use crate::delivering::receive_gone;
+use crate::lanes::Lanes;
+use crate::lives::act_on;
+use crate::turns::Turn;
+use bx_load::Image;
 use bx_proc::{Proc, Status};
 use bx_share::{Hold, Same};
-use bx_terms::{Place, Term};
+use bx_terms::{Fault, Place, Term};
 use std::alloc::{AllocError, Global};
 
 /// A process behind its holder, or of one that has ended the reason alone.
@@ -14,6 +25,94 @@ use std::alloc::{AllocError, Global};
 pub enum Slot<P> {
     Live(P),
     Gone(Term),
+}
+
+impl<P: Hold<Proc>> Slot<P> {
+    /// What the process of this pid is to do. Where it ends, its reason takes its place.
+    #[inline(always)]
+    #[tactic(auto, using(crate::proofs::Acted::ended, crate::proofs::Acted::went))]
+    pub(crate) fn act<C: Hold<Lanes>>(
+        &mut self,
+        alloc: Global,
+        image: &Image,
+        lanes: &mut C,
+        pid: u32,
+        act: Act,
+    ) -> Result<Turn, Fault>
+        ensures { Does (MayLack act pid (C.shown lanes.old) (Some (life P.shown self.old)))
+            (life P.shown self.old, C.shown lanes.old) (life P.shown self.new, C.shown lanes.new)
+            result (life_acted image.now pid act (C.shown lanes.old) (life P.shown self.old)) }
+    {
+        let Slot::Live(holder) = self else {
+            return act_exited(alloc, image, lanes, pid, act);
+        };
+        match act_on(alloc, image, holder, lanes, pid, act)? {
+            Turn::Ended(reason) => {
+                *self = Slot::Gone(reason);
+                Ok(Turn::Ran)
+            }
+            turn => Ok(turn),
+        }
+    }
+}
+
+/// A process that has ended does nothing more; signals to it take effect without it.
+#[cold]
+#[inline(never)]
+fn act_exited<C: Hold<Lanes>>(
+    alloc: Global,
+    image: &Image,
+    lanes: &mut C,
+    pid: u32,
+    act: Act,
+) -> Result<Turn, Fault>
+    ensures { (reason : Tree) → Does (MayLack act pid (C.shown lanes.old) (Some (Gone reason)))
+        (Gone reason, C.shown lanes.old) (Gone reason, C.shown lanes.new) result
+        (life_acted image.now pid act (C.shown lanes.old) (Gone reason)) }
+{
+    match hear_exited(alloc, lanes, pid, act) {
+        Ok(()) => Ok(Turn::Ran),
+        Err(refused) => Err(refused),
+    }
+}
+
+fn hear_exited<C: Hold<Lanes>>(
+    alloc: Global,
+    lanes: &mut C,
+    pid: u32,
+    act: Act,
+) -> Result<(), Fault>
+    ensures { (reason : Tree) → Does (MayLack act pid (C.shown lanes.old) (Some (Gone reason)))
+        (C.shown lanes.old) (C.shown lanes.new) result (exited_acted act pid (C.shown lanes.old)) }
+{
+    let Act::Hear(from) = act else {
+        return Err(Fault::NotEnabled);
+    };
+    if lanes.see().channels.first(from, pid).is_none() {
+        return Err(Fault::NotEnabled);
+    }
+    let lanes = lanes.edit(alloc)?;
+    receive_gone(alloc, lanes, from, pid)
+}
+
+#[inline(always)]
+pub(crate) fn slot_may_run<P: Hold<Proc>>(slot: &Slot<P>) -> bool
+    ensures { result ≡ may_run (life P.shown slot.now) }
+{
+    match slot {
+        Slot::Live(holder) => holder.see().can_run(),
+        Slot::Gone(_) => false,
+    }
+}
+
+#[inline(always)]
+pub(crate) fn slot_may_expire<P: Hold<Proc>>(slot: &Slot<P>) -> bool
+    ensures { result ≡ may_expire (life P.shown slot.now) }
+{
+    match slot {
+        Slot::Live(holder) => holder.see().can_expire(),
+        Slot::Gone(_) => false,
+    }
 }
 
 #[inline(always)]

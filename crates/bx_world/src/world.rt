@@ -2,9 +2,8 @@
 
 ghost use Rattle.std.specs.Prelude.{◌≡◌, ◌≢◌, ◌↔◌, [], IsTrue, IsSome, IfOk, OnErr, Ok};
 ghost use Rattle.bx_terms.specs.Outcomes.{Does, Gives};
-ghost use Rattle.bx_load.specs.Image.{export, Loaded};
+ghost use Rattle.bx_load.specs.Image.{export};
 ghost use Rattle.bx_world.specs.World.{started};
-ghost use Rattle.bx_world.specs.AtOnce.{Hurries};
 ghost use Rattle.bx_world.specs.Enabled.{enabled, open_choices, can};
 ghost use Rattle.bx_world.specs.Choosing.{applied};
 ghost use Rattle.bx_world.specs.Seen.{seen, standing_of, place_in};
@@ -16,7 +15,7 @@ use crate::outcomes::{Outcome, Standing};
 use crate::procs::Procs;
 use crate::turns::Turn;
 use bx_load::Image;
-use bx_proc::{Proc, Undone};
+use bx_proc::Proc;
 use bx_share::{ArcHold, Hold, RcHold, Same};
 use bx_terms::{AtomId, Fault, Place, Trap};
 use std::alloc::{AllocError, Global};
@@ -127,66 +126,7 @@ impl<P: Hold<Proc>, C: Hold<Lanes>> World<P, C> {
     /// `Halted` exactly where the world has trapped, else `NotEnabled` exactly where the choice is not enabled. After any
     /// refusal, want of memory among them, nothing has changed.
     #[inline(always)]
-    #[tactic(auto, using(crate::proofs::AtOnce::applied_after))]
     pub fn apply(&mut self, alloc: Global, image: &Image, choice: Choice) -> Result<(), Fault>
-        ensures { Does (IsTrue (can self.old choice)) self.old self.new result
-            (applied image.now choice self.old) }
-    {
-        match self.hurry(alloc, image, choice) {
-            Ok(()) => Ok(()),
-            Err(Undone::Left) => self.apply_whole(alloc, image, choice),
-            Err(Undone::Memory) => Err(Fault::Memory),
-        }
-    }
-
-    /// Makes a choice where that is done at once. Where it was not, nothing has changed.
-    #[inline(always)]
-    pub(crate) fn hurry(
-        &mut self,
-        alloc: Global,
-        image: &Image,
-        choice: Choice,
-    ) -> Result<(), Undone>
-        ensures { Hurries (IsTrue (can self.old choice)) self.old self.new result
-            (applied image.now choice self.old) }
-    {
-        match choice {
-            Choice::Run(pid) => self.hurry_run(alloc, image, pid),
-            Choice::Deliver(from, to) => self.hurry_delivery(alloc, from, to),
-            Choice::Expire(_) => Err(Undone::Left),
-        }
-    }
-
-    #[inline(always)]
-    fn hurry_run(&mut self, alloc: Global, image: &Image, pid: u32) -> Result<(), Undone>
-        ensures { Hurries (IsTrue (can self.old (Choice.Run pid))) self.old self.new result
-            (applied image.now (Choice.Run pid) self.old) }
-    {
-        if self.trap.is_some() {
-            return Err(Undone::Left);
-        }
-        self.procs.hurry(alloc, image, &mut self.lanes, pid)
-    }
-
-    #[inline(always)]
-    fn hurry_delivery(&mut self, alloc: Global, from: u32, to: u32) -> Result<(), Undone>
-        ensures { (image : Loaded) → Hurries (IsTrue (can self.old (Choice.Deliver from to)))
-            self.old self.new result (applied image (Choice.Deliver from to) self.old) }
-    {
-        if self.trap.is_some() {
-            return Err(Undone::Left);
-        }
-        self.procs.hand(alloc, &mut self.lanes, from, to)
-    }
-
-    /// Applies a choice, whatever it takes.
-    #[inline(never)]
-    pub(crate) fn apply_whole(
-        &mut self,
-        alloc: Global,
-        image: &Image,
-        choice: Choice,
-    ) -> Result<(), Fault>
         ensures { Does (IsTrue (can self.old choice)) self.old self.new result
             (applied image.now choice self.old) }
     {

@@ -1,18 +1,20 @@
 use Rattle.std.proofs.Common.{◌≡◌, Ok, sym, ap, ◌∙◌, arith}
 use Rattle.std.proofs.lemmas.List.{length-map}
-use Rattle.std.specs.Prelude.{ℕ, List, [], ◌∷◌, ◌++◌, Some, length}
-use Rattle.bx_terms.specs.Tree.{Tree, pid}
+use Rattle.std.specs.Prelude.{ℕ, List, [], ◌∷◌, ◌++◌, length}
+use Rattle.bx_terms.specs.Tree.{pid}
 use Rattle.bx_proc.specs.declared.parts.Answer.TheVariants.{Value}
 use Rattle.bx_world.specs.declared.turns.Turn.{Turn}
 use Rattle.bx_world.specs.declared.turns.Turn.TheVariants.{Trapped}
 use Rattle.bx_world.specs.World.{Life, Live}
 use Rattle.bx_world.specs.Lives.{life}
+use Rattle.bx_world.specs.declared.acts.Act.TheVariants.{Spawned}
+use Rattle.bx_world.specs.Acting.{lives_acted}
 use Rattle.bx_world.specs.Births.{other_if, newborn, lives_answered, unborn_at_trap, lives_grown}
+use Rattle.bx_world.proofs.Acted.{spawned_is}
 use Rattle.bx_world.proofs.Changing.{err_through}
 use Rattle.bx_world.proofs.Keeping.{lives_answered_kept}
-use Rattle.bx_world.proofs.Growing.{popped, grown_trapped}
+use Rattle.bx_world.proofs.Growing.{popped, grown_trapped, grown_stands}
 use Rattle.bx_world.proofs.procs.Procs.grow.Goals as goal
-use Rattle.bx_world.proofs.procs.Procs.grow.Goals.{then-birth, else-birth}
 
 pub returns-in-Ok-Trapped : goal.returns-in-Ok-Trapped
 returns-in-Ok-Trapped g c =
@@ -21,54 +23,44 @@ returns-in-Ok-Trapped g c =
     let birth = c.args.birth.now in
     let lives = c.args.self.now in
     let l = g.C.Hold.shown c.args.lanes.now in
-    let n = g.C.Hold.shown c.answer.new.lanes in
+    let n = g.C.Hold.shown c.act.new.lanes in
     let kind = c.in-Ok-Trapped.kind in
     let child = newborn image p birth in
-    let r = lives_answered image p c.if-birth.other (Value c.pid.result) l c.push.new.self in
-    let count : c.len-child.result ≡ length lives = omega (arith, length-map c.self.inside.slots.items (life g.P.Hold.shown), ap length c.self.view_is) in
-    let other : c.if-birth.other ≡ other_if birth.linked (length lives) = elim c.if-birth.branch [
-      | then-birth w ↦ w.other-is ∙ ap (λ (k : ℕ). Some k) count ∙ ap (λ b. other_if b (length lives)) (sym w.if-birth.true)
-      | else-birth w ↦ w.other-is ∙ ap (λ b. other_if b (length lives)) (sym w.if-birth.false)
-    ] in
-    let value : c.pid.result ≡ pid (length lives) = c.pid.ensures ∙ ap pid count in
+    let k = c.len-child.result in
+    let r = lives_answered image p (other_if birth.linked k) (Value (pid k)) l c.push.new.self in
+    let count : k ≡ length lives = omega (arith, length-map c.self.inside.slots.items (life g.P.Hold.shown), ap length c.self.view_is) in
     let made : child ≡ c.in_ok-process.process = let e = c.in_ok-process.ensures in cc in
     let pushed : c.push.new.self ≡ lives ++ Live child ∷ [] = c.in_ok-push.ensures.ok ∙ ap (λ x. lives ++ Live x ∷ []) (sym made) in
     let whole : lives_grown image p birth l lives ≡ unborn_at_trap lives l r =
-    ap (λ o. unborn_at_trap lives l (lives_answered image p o (Value (pid (length lives))) l (lives ++ Live child ∷ []))) (sym other)
-    ∙ ap (λ (t : Tree). unborn_at_trap lives l (lives_answered image p c.if-birth.other (Value t) l (lives ++ Live child ∷ []))) (sym value)
-    ∙ ap (λ (more : List Life). unborn_at_trap lives l (lives_answered image p c.if-birth.other (Value c.pid.result) l more)) (sym pushed) in
+    ap (λ (m : ℕ). unborn_at_trap lives l (lives_answered image p (other_if birth.linked m) (Value (pid m)) l (lives ++ Live child ∷ []))) (sym count)
+    ∙ ap (λ (more : List Life). unborn_at_trap lives l (lives_answered image p (other_if birth.linked k) (Value (pid k)) l more)) (sym pushed) in
     whole
-    ∙ grown_trapped lives c.push.new.self c.answer.new.self (Live child) l n kind r pushed (lives_answered_kept image p c.if-birth.other (Value c.pid.result) l c.push.new.self)
-    (c.in-Ok-Trapped.ensures ∙ ap (λ (t : Turn). Ok ((c.answer.new.self, n), t)) c.in-Ok-Trapped.field-0-is)
+    ∙ grown_trapped lives c.push.new.self c.act.new.self (Live child) l n kind r pushed (lives_answered_kept image p (other_if birth.linked k) (Value (pid k)) l c.push.new.self)
+    (sym (spawned_is image p k birth.linked l c.push.new.self) ∙ c.in-Ok-Trapped.ensures ∙ ap (λ (t : Turn). Ok ((c.act.new.self, n), t)) c.in-Ok-Trapped.field-0-is)
     ∙ ap (λ (more : List Life). Ok ((more, n), Trapped kind)) (sym c.pop.ensures)
 
-pub returns : goal.returns
-returns g c =
+pub returns-in-Err : goal.returns-in-Err
+returns-in-Err g c =
     let image = c.args.image.now in
     let p = c.args.pid in
     let birth = c.args.birth.now in
     let lives = c.args.self.now in
     let l = g.C.Hold.shown c.args.lanes.now in
-    let n = g.C.Hold.shown c.answer.new.lanes in
+    let n = g.C.Hold.shown c.act.new.lanes in
     let child = newborn image p birth in
-    let r = lives_answered image p c.if-birth.other (Value c.pid.result) l c.push.new.self in
-    let count : c.len-child.result ≡ length lives = omega (arith, length-map c.self.inside.slots.items (life g.P.Hold.shown), ap length c.self.view_is) in
-    let other : c.if-birth.other ≡ other_if birth.linked (length lives) = elim c.if-birth.branch [
-      | then-birth w ↦ w.other-is ∙ ap (λ (k : ℕ). Some k) count ∙ ap (λ b. other_if b (length lives)) (sym w.if-birth.true)
-      | else-birth w ↦ w.other-is ∙ ap (λ b. other_if b (length lives)) (sym w.if-birth.false)
-    ] in
-    let value : c.pid.result ≡ pid (length lives) = c.pid.ensures ∙ ap pid count in
+    let k = c.len-child.result in
+    let r = lives_answered image p (other_if birth.linked k) (Value (pid k)) l c.push.new.self in
+    let count : k ≡ length lives = omega (arith, length-map c.self.inside.slots.items (life g.P.Hold.shown), ap length c.self.view_is) in
     let made : child ≡ c.in_ok-process.process = let e = c.in_ok-process.ensures in cc in
     let pushed : c.push.new.self ≡ lives ++ Live child ∷ [] = c.in_ok-push.ensures.ok ∙ ap (λ x. lives ++ Live x ∷ []) (sym made) in
     let whole : lives_grown image p birth l lives ≡ unborn_at_trap lives l r =
-    ap (λ o. unborn_at_trap lives l (lives_answered image p o (Value (pid (length lives))) l (lives ++ Live child ∷ []))) (sym other)
-    ∙ ap (λ (t : Tree). unborn_at_trap lives l (lives_answered image p c.if-birth.other (Value t) l (lives ++ Live child ∷ []))) (sym value)
-    ∙ ap (λ (more : List Life). unborn_at_trap lives l (lives_answered image p c.if-birth.other (Value c.pid.result) l more)) (sym pushed) in
-    err_through (Unit {0}) (Unit {0}) (c.push.new.self, l) (c.answer.new.self, n) (lives, l) (c.pop-in-Err.new.self, n) c.in-Err.refused r (lives_grown image p birth l lives)
+    ap (λ (m : ℕ). unborn_at_trap lives l (lives_answered image p (other_if birth.linked m) (Value (pid m)) l (lives ++ Live child ∷ []))) (sym count)
+    ∙ ap (λ (more : List Life). unborn_at_trap lives l (lives_answered image p (other_if birth.linked k) (Value (pid k)) l more)) (sym pushed) in
+    err_through (Unit {0}) (Unit {0}) (c.push.new.self, l) (c.act.new.self, n) (lives, l) (c.pop-in-Err.new.self, n) c.in-Err.refused (lives_acted image p (Spawned k birth.linked) l c.push.new.self) (lives_grown image p birth l lives)
     (λ u. u)
-    (λ fault said. whole ∙ ap (unborn_at_trap lives l) said)
+    (λ fault said. whole ∙ ap (unborn_at_trap lives l) (sym (spawned_is image p k birth.linked l c.push.new.self) ∙ said))
     (λ same.
-    (let first : c.pop-in-Err.new.self ≡ lives = c.pop-in-Err.ensures ∙ popped lives c.push.new.self c.answer.new.self (Live child) pushed (ap (λ w. w.0) same) in
+    (let first : c.pop-in-Err.new.self ≡ lives = c.pop-in-Err.ensures ∙ popped lives c.push.new.self c.act.new.self (Live child) pushed (ap (λ w. w.0) same) in
     let second : n ≡ l = ap (λ w. w.1) same in
     λ i. (first i, second i)))
     c.in-Err.ensures

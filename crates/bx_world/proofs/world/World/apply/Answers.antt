@@ -6,8 +6,8 @@ use Rattle.bx_world.specs.World.{State}
 use Rattle.bx_world.specs.Enabled.{can}
 use Rattle.bx_world.specs.Choosing.{applied}
 use Rattle.bx_world.proofs.Applying.{refused_through, choice_trapped, choice_went}
-use Rattle.bx_world.proofs.world.World.apply_whole.Goals as goal
-use Rattle.bx_world.proofs.world.World.apply_whole.Goals.{in-Trapped, in_default}
+use Rattle.bx_world.proofs.world.World.apply.Goals as goal
+use Rattle.bx_world.proofs.world.World.apply.Goals.{in-Trapped, in_default}
 
 no_trap : {A : Type 0} (t : Option A) → is_some t ≡ false → t ≡ None
 no_trap None e = refl

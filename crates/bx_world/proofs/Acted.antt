@@ -1,0 +1,170 @@
+-- What is asked of one process, carried to its life and to the others.
+use Rattle.std.proofs.Common.{◌≡◌, ◌≢◌, ◌<◌, ℕ, true, false, length, get_or, map, refl, ap, sym, subst, ◌∙◌}
+use Rattle.std.proofs.lemmas.Option.{slice_get-map, slice_get-get_or}
+use Rattle.std.specs.Prelude.{Bool, option_map, List, Option, None, Some, Result, Ok, Err, slice_get, if◌then◌else◌}
+use Rattle.std.proofs.Math.ListN.{set}
+use Rattle.std.proofs.Math.Seq.{map-set_same}
+use Rattle.std.proofs.lemmas.List.{map-set}
+use Rattle.bx_terms.specs.Tree.{Tree, pid}
+use Rattle.bx_terms.specs.Outcomes.{Does}
+use Rattle.bx_terms.specs.declared.faults.Fault.{Fault}
+use Rattle.bx_terms.specs.declared.faults.Fault.TheVariants.{NotEnabled, Memory}
+use Rattle.bx_terms.specs.declared.places.Place.{Place}
+use Rattle.bx_load.specs.Image.{Loaded}
+use Rattle.bx_proc.specs.Process.{Process, can_run, can_run_in, can_expire}
+use Rattle.bx_proc.specs.AtOnce.{StandsFree}
+use Rattle.bx_proc.specs.Signals.{expired}
+use Rattle.bx_proc.specs.declared.parts.Answer.TheVariants.{Value}
+use Rattle.bx_world.specs.declared.acts.Act.{Act}
+use Rattle.bx_world.specs.declared.acts.Act.TheVariants.{Run, Hear, Expire, Spawned, Unspawned}
+use Rattle.bx_world.specs.declared.lanes.Lanes.{Lanes}
+use Rattle.bx_world.specs.declared.slots.Slot.{Slot}
+use Rattle.bx_world.specs.declared.slots.Slot.TheVariants as slots
+use Rattle.bx_world.specs.Lives.{life}
+use Rattle.bx_world.specs.declared.turns.Turn.{Turn}
+use Rattle.bx_world.specs.declared.turns.Turn.TheVariants as turns
+use Rattle.bx_world.specs.World.{Life, Live, Gone}
+use Rattle.bx_world.specs.Asking.{Done}
+use Rattle.bx_world.specs.Turning.{runs}
+use Rattle.bx_world.specs.Lifetimes.{Lived, Among, lived, lived_if, gone_if, life_run, life_expired, put_back, at_life, lives_run, told_at, lives_told, lives_expired, lost_if}
+use Rattle.bx_world.specs.Births.{other_if, system_limit, life_answered, lives_answered}
+use Rattle.bx_world.specs.Acting.{process_acted, exited_acted, missed, life_acted, acted_at, lives_acted, MayLack}
+use Rattle.bx_world.proofs.Changing.{does_through, err_through}
+
+-- the life that is seen at a place
+pub seen_at : {S : Type 0} (f : S → Life) (xs : List S) (p : ℕ) (x : S) → p < length xs → x ≡ get_or xs p x → slice_get (map f xs) p ≡ Some (f x)
+seen_at f xs p x here is = slice_get-map f xs p ∙ ap (option_map f) (slice_get-get_or xs p x here) ∙ ap (λ y. Some (f y)) (sym is)
+
+-- what is done where it is enabled
+pub where_able : {S A : Type 0} (old new : S) (r : Result A Fault) (done : S × A) (b : Bool) → b ≡ true → Does {S = S} {A = A} (Unit {0}) old new r (Ok done)
+    → Does {S = S} {A = A} (b ≡ true) old new r (if b then Ok done else Err NotEnabled)
+where_able old new r done false able h = absurd (cc)
+where_able old new (Ok x) done true able h = h
+where_able old new (Err Memory) done true able h = (able, h.1)
+where_able old new (Err fault) done true able h = h
+
+-- a slot in which no process lives any more
+pub only_exited : {P : Type 0} (shown : P → Process) (s : Slot P) (D : Life → Type 0) → ((h : P) → s ≢ slots.Live h) → ((reason : Tree) → D (Gone reason)) → D (life shown s)
+only_exited shown (slots.Live h) D dead f = absurd (dead h refl)
+only_exited shown (slots.Gone reason) D dead f = f reason
+
+-- a process that is free to run can run
+pub free_runs : (here : Place) (x : Process) → StandsFree here x → can_run x ≡ true
+free_runs here x free = ap (λ s. can_run_in s x.mailbox) free.0
+
+module _ (image : Loaded) (p : ℕ) where
+  -- a process that lives
+  of_live : (act : Act) (l : Lanes) (x : Process) → life_acted image p act l (Live x) ≡ lived_if (process_acted image p act l x)
+  of_live Run l x = go (can_run x)
+    where
+      go : (b : Bool) → ◌≡◌ {A = Result Lived Fault} (if b then Ok (lived (runs image p l x)) else Err NotEnabled) (lived_if (if b then Ok (runs image p l x) else Err NotEnabled))
+      go true = refl
+      go false = refl
+  of_live (Hear q) l x = refl
+  of_live Expire l x = go (can_expire x)
+    where
+      go : (b : Bool) → ◌≡◌ {A = Result Lived Fault} (if b then Ok ((Live (expired x), l), turns.Ran) else Err NotEnabled) (lived_if (if b then Ok ((expired x, l), turns.Ran) else Err NotEnabled))
+      go true = refl
+      go false = refl
+  of_live (Spawned child linked) l x = refl
+  of_live Unspawned l x = refl
+
+  -- one that has exited
+  of_exited : (act : Act) (l : Lanes) (reason : Tree) → life_acted image p act l (Gone reason) ≡ gone_if reason (exited_acted act p l)
+  of_exited Run l reason = refl
+  of_exited (Hear q) l reason = refl
+  of_exited Expire l reason = refl
+  of_exited (Spawned child linked) l reason = refl
+  of_exited Unspawned l reason = refl
+
+  living : (w : Process × Lanes) (turn : Turn) → ((reason : Tree) → turn ≢ turns.Ended reason) → lived (w, turn) ≡ ((Live w.0, w.1), turn)
+  living w turns.Ran other = refl
+  living w (turns.Ended reason) other = absurd (other reason refl)
+  living w (turns.Trapped kind) other = refl
+  living w (turns.Bears birth) other = refl
+
+  pub went : (act : Act) (x y : Process) (l m : Lanes) (turn : Turn) → ((reason : Tree) → turn ≢ turns.Ended reason) → process_acted image p act l x ≡ Ok ((y, m), turn)
+      → life_acted image p act l (Live x) ≡ Ok ((Live y, m), turn)
+  went act x y l m turn other is = of_live act l x ∙ ap lived_if is ∙ ap Ok (living (y, m) turn other)
+
+  pub ended : (act : Act) (x y : Process) (l m : Lanes) (reason : Tree) → process_acted image p act l x ≡ Ok ((y, m), turns.Ended reason)
+      → life_acted image p act l (Live x) ≡ Ok ((Gone reason, m), turns.Ran)
+  ended act x y l m reason is = of_live act l x ∙ ap lived_if is
+
+  pub live_refused : (act : Act) (x y : Process) (l m : Lanes) (takes : Type 0) (f : Fault) → Does {A = Turn} takes (x, l) (y, m) (Err f) (process_acted image p act l x)
+      → Does {A = Turn} takes (Live x, l) (Live y, m) (Err f) (life_acted image p act l (Live x))
+  live_refused act x y l m takes f h =
+      err_through takes takes (x, l) (y, m) (Live x, l) (Live y, m) f (process_acted image p act l x) (life_acted image p act l (Live x)) (λ t. t) (λ fault said. of_live act l x ∙ ap lived_if said)
+      (λ same. ap (λ (w : Process × Lanes). (Live w.0, w.1)) same) h
+
+  pub exited_went : (act : Act) (reason : Tree) (l m : Lanes) → exited_acted act p l ≡ Ok (m, tt) → life_acted image p act l (Gone reason) ≡ Ok ((Gone reason, m), turns.Ran)
+  exited_went act reason l m is = of_exited act l reason ∙ ap (gone_if reason) is
+
+  pub exited_refused : (act : Act) (reason : Tree) (l m : Lanes) (takes : Type 0) (f : Fault) → Does {A = Unit {0}} takes l m (Err f) (exited_acted act p l)
+      → Does {A = Turn} takes (Gone reason, l) (Gone reason, m) (Err f) (life_acted image p act l (Gone reason))
+  exited_refused act reason l m takes f h =
+      err_through takes takes l m (Gone reason, l) (Gone reason, m) f (exited_acted act p l) (life_acted image p act l (Gone reason)) (λ t. t) (λ fault said. of_exited act l reason ∙ ap (gone_if reason) said)
+      (λ same. ap (λ (n : Lanes). (Gone reason, n)) same) h
+
+  -- among the others
+  pub acted_among : {S : Type 0} (f : S → Life) (act : Act) (xs : List S) (x y : S) (old new : Lanes) (r : Result Turn Fault) → p < length xs → x ≡ get_or xs p x
+      → Does (MayLack act p old (Some (f x))) (f x, old) (f y, new) r (life_acted image p act old (f x))
+      → Does (MayLack act p old (slice_get (map f xs) p)) (map f xs, old) (map f (set xs p y), new) r (lives_acted image p act old (map f xs))
+  acted_among f act xs x y old new r here is did =
+      let at = seen_at f xs p x here is in
+      let all : lives_acted image p act old (map f xs) ≡ put_back p (map f xs) (life_acted image p act old (f x)) = ap (acted_at image p act old (map f xs)) at in
+      does_through (MayLack act p old (Some (f x))) (MayLack act p old (slice_get (map f xs) p)) (f x, old) (f y, new) (map f xs, old) (map f (set xs p y), new) r
+      (life_acted image p act old (f x)) (lives_acted image p act old (map f xs))
+      (λ takes. subst (λ o. MayLack act p old o) (sym at) takes)
+      (λ turn said. all ∙ ap (put_back p (map f xs)) said ∙ ap (λ lives. Ok ((lives, new), turn)) (sym (map-set f xs p y)))
+      (λ fault said. all ∙ ap (put_back p (map f xs)) said)
+      (λ same. let first = map-set_same f xs p y x (ap (λ (w : Life × Lanes). w.0) same ∙ ap f is) in let second = ap (λ (w : Life × Lanes). w.1) same in λ i. (first i, second i))
+      did
+
+  -- and where there is none of that pid
+  pub missed_went : (act : Act) (lives : List Life) (l m : Lanes) → slice_get lives p ≡ None → missed act p l ≡ Ok (m, tt) → lives_acted image p act l lives ≡ Ok ((lives, m), turns.Ran)
+  missed_went act lives l m none is = ap (acted_at image p act l lives) none ∙ ap (lost_if lives) is
+
+  pub missed_refused : (act : Act) (lives : List Life) (l m : Lanes) (f : Fault) → slice_get lives p ≡ None → Does {A = Unit {0}} (MayLack act p l None) l m (Err f) (missed act p l)
+      → Does {A = Turn} (MayLack act p l (slice_get lives p)) (lives, l) (lives, m) (Err f) (lives_acted image p act l lives)
+  missed_refused act lives l m f none h =
+      err_through (MayLack act p l None) (MayLack act p l (slice_get lives p)) l m (lives, l) (lives, m) f (missed act p l) (lives_acted image p act l lives)
+      (λ takes. subst (λ o. MayLack act p l o) (sym none) takes)
+      (λ fault said. ap (acted_at image p act l lives) none ∙ ap (lost_if lives) said)
+      (λ same. ap (λ (n : Lanes). (lives, n)) same) h
+
+  -- what each is among the others
+  pub run_is : (l : Lanes) (lives : List Life) → lives_acted image p Run l lives ≡ lives_run image p l lives
+  run_is l lives = go (slice_get lives p)
+    where
+      go : (o : Option Life) → acted_at image p Run l lives o ≡ at_life (life_run image p l) p lives o
+      go None = refl
+      go (Some one) = refl
+
+  pub told_is : (q : ℕ) (l : Lanes) (lives : List Life) → lives_acted image p (Hear q) l lives ≡ lives_told q p l lives
+  told_is q l lives = go (slice_get lives p)
+    where
+      go : (o : Option Life) → acted_at image p (Hear q) l lives o ≡ told_at q p l lives o
+      go None = refl
+      go (Some one) = refl
+
+  pub expired_is : (l : Lanes) (lives : List Life) → lives_acted image p Expire l lives ≡ lives_expired p l lives
+  expired_is l lives = go (slice_get lives p)
+    where
+      go : (o : Option Life) → acted_at image p Expire l lives o ≡ at_life (life_expired l) p lives o
+      go None = refl
+      go (Some one) = refl
+
+  pub spawned_is : (child : ℕ) (linked : Bool) (l : Lanes) (lives : List Life) → lives_acted image p (Spawned child linked) l lives ≡ lives_answered image p (other_if linked child) (Value (pid child)) l lives
+  spawned_is child linked l lives = go (slice_get lives p)
+    where
+      go : (o : Option Life) → acted_at image p (Spawned child linked) l lives o ≡ at_life (life_answered image p (other_if linked child) (Value (pid child)) l) p lives o
+      go None = refl
+      go (Some one) = refl
+
+  pub unspawned_is : (l : Lanes) (lives : List Life) → lives_acted image p Unspawned l lives ≡ lives_answered image p None system_limit l lives
+  unspawned_is l lives = go (slice_get lives p)
+    where
+      go : (o : Option Life) → acted_at image p Unspawned l lives o ≡ at_life (life_answered image p None system_limit l) p lives o
+      go None = refl
+      go (Some one) = refl

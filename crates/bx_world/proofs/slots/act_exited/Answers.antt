@@ -1,0 +1,14 @@
+use Rattle.std.specs.Prelude.{Some}
+use Rattle.bx_world.specs.World.{Gone}
+use Rattle.bx_world.specs.Acting.{MayLack}
+use Rattle.bx_world.proofs.Acted.{exited_went, exited_refused}
+use Rattle.bx_world.proofs.slots.act_exited.Goals as goal
+
+pub returns-in-Ok : goal.returns-in-Ok
+returns-in-Ok g c = λ reason.
+    exited_went c.args.image.now c.args.pid c.args.act reason (g.C.Hold.shown c.args.lanes.now) (g.C.Hold.shown c.hear_exited.new.lanes) (c.in-Ok.ensures reason)
+
+pub returns-in-Err : goal.returns-in-Err
+returns-in-Err g c = λ reason.
+    exited_refused c.args.image.now c.args.pid c.args.act reason (g.C.Hold.shown c.args.lanes.now) (g.C.Hold.shown c.hear_exited.new.lanes)
+    (MayLack c.args.act c.args.pid (g.C.Hold.shown c.args.lanes.now) (Some (Gone reason))) c.in-Err.refused (c.in-Err.ensures reason)
