@@ -58,7 +58,7 @@ const NUMBERS: [(usize, u32, usize); 15] = [
 
 fn is_numbered(unit: &Unit, item: usize, number: u32, operands: usize) -> bool {
     match unit.item(item) {
-        Some(numbered) => numbered.number == number && numbered.len() == operands,
+        Some(numbered) => bx_ops::number(numbered.op()) == number && numbered.len() == operands,
         None => false,
     }
 }

@@ -81,7 +81,6 @@ const TURNS: [(&str, &[(Turn, &str)]); 5] = [
 
 /// What a step or an answer was.
 fn told(alloc: Global, image: &Image, effect: &Effect) -> Result<String, AllocError> {
-    let text = |term: &Term| print(alloc, image.atoms(), term);
     match effect {
         Effect::Ran => String::from_str(alloc, "ran"),
         Effect::Trap(trap) => {
@@ -89,18 +88,18 @@ fn told(alloc: Global, image: &Image, effect: &Effect) -> Result<String, AllocEr
             format!(in alloc; "trap {name}")
         }
         Effect::Ended(reason) => {
-            let reason = text(reason)?;
+            let reason = print(alloc, image.atoms(), reason)?;
             format!(in alloc; "ended {reason}")
         }
         Effect::Send(to, message) => {
-            let message = text(message)?;
+            let message = print(alloc, image.atoms(), message)?;
             format!(in alloc; "sends {message} to {to}")
         }
         Effect::Ask(native, arguments) => {
             let mut asked = format!(in alloc; "asks for {native:?}")?;
             for argument in arguments.as_slice() {
                 asked.push_str(" ")?;
-                asked.push_str(text(argument)?.as_str())?;
+                asked.push_str(print(alloc, image.atoms(), argument)?.as_str())?;
             }
             Ok(asked)
         }
