@@ -31,7 +31,7 @@ pub enum Sort {
     Bif1,
     /// `B`: a BIF of two arguments.
     Bif2,
-    /// `T` of `{line,T}`, which is dropped.
+    /// `T` of `{line,T}`, which is ignored.
     Mark,
     /// `{KIND,N}` of `{alloc,[{KIND,N},..]}`: how much of a kind of heap is asked for.
     Amount,

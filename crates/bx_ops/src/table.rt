@@ -1,5 +1,5 @@
 //! What the table says of each opcode, and look-ups.
-ghost use Rattle.std.specs.Prelude.{◌≡◌, ◌==◌, bytes_eq};
+ghost use Rattle.std.specs.Prelude.{◌≡◌, ◌==◌, ◌&&◌, bytes_eq, length};
 ghost use Rattle.bx_ops.specs.Rows.{first_with, op_in, said_of_op};
 ghost use Rattle.bx_ops.specs.Classes.{is_local as local_op};
 ghost use Rattle.bx_ops.specs.Opcodes.{opcode, with_number, with_name};
@@ -81,9 +81,12 @@ pub fn op_named(text: &str) -> Option<Op>
 
 #[tactic(auto, unfolding(crate::specs::Rows::first_with))]
 fn named(rows: &[Row], text: &str) -> Option<Op>
-    ensures { result ≡ first_with op_in said_of_op (λ row. bytes_eq row.name text.now) rows.now }
+    ensures { result ≡ first_with op_in said_of_op
+        (λ row. (length row.name == length text.now) && bytes_eq row.name text.now) rows.now }
 {
-    let row = rows.iter().find(|row| row.2 == text)?;
+    let row = rows
+        .iter()
+        .find(|row| row.2.len() == text.len() && row.2 == text)?;
     Some(row.0)
 }
 
