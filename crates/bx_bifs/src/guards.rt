@@ -28,7 +28,7 @@ use std::alloc::{AllocError, Global};
 /// What the guard BIF gives on `arguments`.
 ///
 /// Another number of arguments than the BIF's own gives the fault `undef`, as `self/0` does, which only a process can
-/// answer. Memory is all that it may lack, and only where the value is a tuple or a list cell.
+/// answer. It can only run out of memory, and only where the value is a tuple or a list cell.
 pub fn guard_decoded(
     alloc: Global,
     atoms: &Atoms,
@@ -61,7 +61,7 @@ pub fn guard(alloc: Global, atoms: &Atoms, name: AtomId, arguments: &[Term]) -> 
 
 /// What the guard BIF gives on one argument: the fault `undef` where it is no BIF of one argument.
 ///
-/// Memory is all that it may lack, and only where the value is a tuple or a list cell.
+/// It can only run out of memory, and only where the value is a tuple or a list cell.
 #[tactic(auto, unfolding(crate::specs::Guards::guard_one))]
 pub fn guard_of_one(alloc: Global, bif: Bif, argument: &Term) -> Result<Given, AllocError>
     ensures { MatchResult result (λ given. given ≡ guard_one bif argument.now) (λ _. TakesMemory (guard_one bif argument.now)) }
@@ -89,7 +89,7 @@ pub fn guard_of_one(alloc: Global, bif: Bif, argument: &Term) -> Result<Given, A
 
 /// What the guard BIF gives on two arguments: the fault `undef` where it is no BIF of two arguments.
 ///
-/// Memory is all that it may lack, and only where the value is a tuple or a list cell.
+/// It can only run out of memory, and only where the value is a tuple or a list cell.
 #[tactic(auto, unfolding(crate::specs::Guards::guard_two))]
 pub fn guard_of_two(
     alloc: Global,

@@ -19,7 +19,7 @@ use std::alloc::{AllocError, Global};
 /// a value, the fault `badarg`, or the trap `TermHeight` where the value would be higher than 10,000. Another native, and
 /// another number of arguments than the native's own, gives the fault `undef`.
 ///
-/// Memory is all that it may lack, and only where the value is a tuple or a list cell.
+/// It can only run out of memory, and only where the value is a tuple or a list cell.
 #[tactic(auto, unfolding(crate::specs::Values::native_value))]
 pub fn native_value(alloc: Global, native: Native, arguments: &[Term]) -> Result<Given, AllocError>
     ensures { MatchResult result (λ given. given ≡ native_value native arguments.now)

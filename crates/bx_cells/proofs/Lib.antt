@@ -5,3 +5,4 @@ pub mod Writing
 pub mod StackRows
 pub mod Linked
 pub mod Crossing
+pub mod Listed

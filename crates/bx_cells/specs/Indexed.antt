@@ -9,6 +9,12 @@ indexed n [] = map.empty
 indexed n (None ∷ cells) = indexed (n + 1) cells
 indexed n (Some v ∷ cells) = map.insert (indexed (n + 1) cells) n v
 
+-- those that hold something, by rising number
+abbrev pub listed : {A : Type 0} → ℕ → List (Option A) → List (ℕ × A)
+listed n [] = []
+listed n (None ∷ cells) = listed (n + 1) cells
+listed n (Some v ∷ cells) = (n, v) ∷ listed (n + 1) cells
+
 -- what the register at this place of the row holds
 abbrev pub held_in : {A : Type 0} → Option (Option A) → Option A
 held_in None = None

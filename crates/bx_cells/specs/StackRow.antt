@@ -23,6 +23,6 @@ abbrev pub index_of : List Head → ℕ → ℕ → Result ℕ Trap
 index_of [] cells n = Err NoFrame
 index_of (h ∷ hs) cells n = if nat_lt (h.first + n) cells then Ok (h.first + n) else Err FrameSize
 
--- where a fault is caught: how many frames stand above, and the tag's place
+-- where a fault is caught: how many frames stand above, and the tag's address
 abbrev pub Catches : List StackFrame → Option (ℕ × Place) → Type 0
 Catches frames found = MatchOption found (unwound frames ≡ None) (λ h. unwound frames ≡ Some (h.1, drop h.0 frames))

@@ -7,20 +7,20 @@ use Rattle.bx_cells.specs.declared.values.Value.{Value}
 use Rattle.bx_cells.specs.declared.values.Value.TheVariants.{Tag}
 use Rattle.bx_cells.specs.StackFrame.{StackFrame}
 
--- the register of this number holds a tag with that place
+-- the register of this number holds a tag with that address
 abbrev pub TagAt : List (Option Value) → ℕ → Place → Type 0
 TagAt cells y place = slice_get cells y ≡ Some (Some (Tag place))
 
 abbrev pub HasNoTag : List (Option Value) → Type 0
 HasNoTag cells = (y : ℕ) (place : Place) → TagAt cells y place → ⊥
 
--- a register holds a tag with that place, and no lower one holds a tag
+-- a register holds a tag with that address, and no lower one holds a tag
 pub record IsLowestTag (cells : List (Option Value)) (place : Place) : Type 0 where
   pub y : ℕ
   pub holds : TagAt cells y place
   pub none_lower : (k : ℕ) (other : Place) → k < y → TagAt cells k other → ⊥
 
--- of a stack, these frames are left once a fault was caught at that place
+-- of a stack, these frames are left once a fault was caught at that address
 pub record IsCaught (frames kept : List StackFrame) (place : Place) : Type 0 where
   pub above : List StackFrame
   pub frame : StackFrame

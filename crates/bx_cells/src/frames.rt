@@ -3,7 +3,7 @@
 ghost use Rattle.std.specs.Prelude.{◌≡◌, ◌≢◌, ◌↔◌, ◌++◌, ◌∷◌, [], ◌<◌, ◌≤◌, length, take, drop, reverse, replicate, slice_set, IfOk, IfSome, OnOk, OnErr, IsTrue, None, Some, Ok, Err, MatchOption, MatchResult, option_map};
 ghost use Rattle.bx_cells.specs.StackRow.{frames_of, Fits, index_of, Catches};
 ghost use Rattle.bx_cells.specs.Stack.{unwound, lowest_tag};
-ghost use Rattle.bx_cells.specs.TopFrame.{y_cell, with_y, empty_frame, top_of, trimmed};
+ghost use Rattle.bx_cells.specs.TopFrame.{y_cell, with_y, empty_frame, top_of, top_cells, trimmed};
 
 use crate::values::Value;
 use bx_share::{Same, same_rows};
@@ -11,7 +11,7 @@ use bx_terms::{Place, Trap};
 use std::alloc::{AllocError, Global};
 use std::marker::Model;
 
-/// Where a frame's y registers begin in the row of all of them, and the place to return to that it saved.
+/// Where a frame's y registers begin in the row of all of them, and the address to return to that it saved.
 #[derive(Clone, Copy, Debug)]
 pub struct Head {
     pub(crate) first: usize,
@@ -79,7 +79,7 @@ impl Frames {
         Ok(())
     }
 
-    /// How many y registers the topmost frame has, and the place to return to that it saved; `None` where there is no frame.
+    /// How many y registers the topmost frame has, and the address to return to that it saved; `None` where there is no frame.
     #[inline(always)]
     #[tactic(auto, using(crate::proofs::Stacks::reverse_last))]
     pub fn top(&self) -> Option<(usize, Option<Place>)>
@@ -91,6 +91,18 @@ impl Frames {
         }
         let head = self.heads[count - 1];
         Some((self.cells.len() - head.first, head.return_to))
+    }
+
+    /// What the y registers of the topmost frame hold, by their numbers from 0 on; none where there is no frame.
+    #[tactic(auto, using(crate::proofs::Stacks::reverse_last))]
+    pub fn top_cells(&self) -> &[Option<Value>]
+        ensures { result.now ≡ top_cells self.now }
+    {
+        let count = self.heads.len();
+        if count == 0 {
+            return &[];
+        }
+        &self.cells[self.heads[count - 1].first..]
     }
 
     /// Takes the topmost frame away, where there is one.
@@ -143,7 +155,7 @@ impl Frames {
         }
     }
 
-    /// Where a fault is caught: how many frames stand above the topmost one that holds a catch tag, and the place of that
+    /// Where a fault is caught: how many frames stand above the topmost one that holds a catch tag, and the address of that
     /// frame's lowest tag.
     pub fn handler(&self) -> Option<(usize, Place)>
         ensures { Catches self.now result }
@@ -257,7 +269,7 @@ fn cloned_heads(heads: &Vec<Head>) -> Result<Vec<Head>, AllocError>
     heads.clone()
 }
 
-/// Where a fault is caught: how many frames stand above, and the place of the lowest tag.
+/// Where a fault is caught: how many frames stand above, and the address of the lowest tag.
 fn catcher(heads: &[Head], cells: &[Option<Value>]) -> Option<(usize, Place)>
     requires { Fits (reverse heads.now) (length cells.now) }
     ensures found { Catches (frames_of (reverse heads.now) cells.now) result }
@@ -274,7 +286,7 @@ fn catcher(heads: &[Head], cells: &[Option<Value>]) -> Option<(usize, Place)>
     None
 }
 
-/// The place of the lowest tag of a frame, by where its registers begin and end.
+/// The address of the lowest tag of a frame, by where its registers begin and end.
 fn lowest_between(cells: &[Option<Value>], first: usize, end: usize) -> Option<Place>
     requires begins { first ≤ end }
     requires ends { end ≤ length cells.now }

@@ -2,7 +2,7 @@
 
 ghost use Rattle.std.specs.Prelude.{◌≡◌, ◌≢◌, ◌↔◌, ◌⊎◌, ◌<◌, ◌≤◌, ℕ, [], length, IfOk, OnOk, IfErr, OnErr, IsTrue, None, option_map};
 ghost use Rattle.std.specs.FinMap as map;
-ghost use Rattle.bx_cells.specs.Indexed.{cell_at, indexed};
+ghost use Rattle.bx_cells.specs.Indexed.{cell_at, indexed, listed};
 ghost use Rattle.bx_cells.specs.Held.{IsFlat, all_held, holding};
 
 use crate::values::Value;
@@ -136,6 +136,15 @@ impl Registers {
         write(&mut self.cells, 1, second);
         write(&mut self.cells, 2, third);
         Ok(())
+    }
+
+    /// What the registers hold, by their numbers from 0 on; those past the end hold nothing.
+    #[tactic(auto, using(crate::proofs::Listed::entries_listed))]
+    pub fn as_slice(&self) -> &[Option<Value>]
+        ensures held { indexed 0 result.now ≡ self.now }
+        ensures listed { map.entries self.now ≡ listed 0 result.now }
+    {
+        &self.cells
     }
 
     /// The same registers. Terms are shared. Memory is taken only where a register holds something.

@@ -14,14 +14,14 @@ use std::alloc::{AllocError, Global};
 pub enum Value {
     /// A term.
     Term(Term),
-    /// A catch tag, with the place at which its fault is caught.
+    /// A catch tag, with the address at which its fault is caught.
     Tag(Place),
     /// What a caught fault leaves to be raised again, with the fault's class. It has no contents.
     Trace(Class),
 }
 
 impl Value {
-    /// The same value. A term's content is shared. Want of memory is the answer only for a tuple or a list cell.
+    /// The same value. A term's content is shared. Out of memory is the answer only for a tuple or a list cell.
     #[inline]
     pub fn copy(&self, alloc: Global) -> Result<Value, AllocError>
         ensures copied { IfOk result (λ v. v ≡ self.now) }

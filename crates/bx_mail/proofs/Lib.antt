@@ -5,3 +5,4 @@ pub mod Adding
 pub mod Rows
 pub mod Histories
 pub mod Crossing
+pub mod Emptying

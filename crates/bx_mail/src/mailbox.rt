@@ -1,6 +1,6 @@
 //! The mailbox of a process.
 
-ghost use Rattle.std.specs.Prelude.{◌≡◌, ◌≢◌, ◌↔◌, ◌+◌, length, IfOk, OnOk, IfErr, OnErr, IsTrue, IsSome, option_map};
+ghost use Rattle.std.specs.Prelude.{◌≡◌, ◌≢◌, ◌↔◌, ◌+◌, ◌++◌, [], length, IfOk, OnOk, IfErr, OnErr, IsTrue, IsSome, option_map};
 ghost use Rattle.bx_mail.specs.Mail.{Mail, empty, added, current, passed_over, taken, reset};
 
 use crate::slots::{Slots, last_behind, same_row};
@@ -129,6 +129,22 @@ impl Mailbox {
         self.len
     }
 
+    /// How many messages are passed over.
+    pub fn passed(&self) -> usize
+        ensures { result ≡ length self.now.passed }
+    {
+        self.passed
+    }
+
+    /// The messages, those passed over first, each part oldest first. Terms are shared.
+    pub fn messages(&self, alloc: Global) -> Result<Vec<Term>, AllocError>
+        ensures { IfOk result (λ messages. messages.items ≡ self.now.passed ++ self.now.rest) }
+    {
+        let mut left = self.copy(alloc)?;
+        left.reset();
+        take_all(alloc, &mut left)
+    }
+
     /// The same mailbox. Terms are shared. Memory is taken only where there is a message.
     pub fn copy(&self, alloc: Global) -> Result<Mailbox, AllocError>
         ensures copied { IfOk result (λ m. m ≡ self.now) }
@@ -157,4 +173,20 @@ impl Mailbox {
             && self.len == other.len
             && same_row(&self.slots, self.first, &other.slots, other.first, self.len)
     }
+}
+
+/// Takes the messages out, none of which is passed over.
+#[tactic(auto, using(crate::proofs::Emptying::out_next, crate::proofs::Emptying::none_passed, crate::proofs::Emptying::one_less, crate::proofs::Emptying::all_out, crate::proofs::Emptying::turns_out))]
+fn take_all(alloc: Global, mailbox: &mut Mailbox) -> Result<Vec<Term>, AllocError>
+    requires { mailbox.old.passed ≡ [] }
+    ensures { IfOk result (λ messages. messages.items ≡ mailbox.old.rest) }
+{
+    let mut messages = Vec::new(alloc);
+    for _turn in 0..mailbox.len() {
+        let Some(message) = mailbox.take() else {
+            return Ok(messages);
+        };
+        messages.push(message)?;
+    }
+    Ok(messages)
 }

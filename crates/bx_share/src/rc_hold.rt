@@ -60,7 +60,7 @@ fn own<T: Copied>(alloc: Global, inner: &mut Rc<T>) -> Result<(), AllocError>
     Ok(())
 }
 
-// Puts a copy in the value's place. It stands apart so that the edit of a value that isn't shared stays short.
+// Puts a copy in the value's place. It is a function of its own so that the edit of a value that isn't shared stays short.
 #[cold]
 #[inline(never)]
 fn part<T: Copied>(alloc: Global, inner: &mut Rc<T>) -> Result<(), AllocError>

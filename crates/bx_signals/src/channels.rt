@@ -103,6 +103,14 @@ impl Channels {
         first_in(&self.rows, from as usize, to)
     }
 
+    /// The signals that wait in that channel, oldest first. Terms are shared.
+    #[tactic(auto, using(crate::proofs::Maps::waiting_rows))]
+    pub fn waiting(&self, alloc: Global, from: u32, to: u32) -> Result<Vec<Signal>, AllocError>
+        ensures { IfOk result (λ signals. signals.items ≡ waiting self.now (from, to)) }
+    {
+        waiting_in(alloc, &self.rows, from as usize, to)
+    }
+
     /// Takes the signal that waits first in that channel.
     #[inline(always)]
     pub fn take(&mut self, from: u32, to: u32) -> Option<Signal>
@@ -247,6 +255,15 @@ fn first_in(rows: &[Row], from: usize, to: u32) -> Option<&Signal>
     ensures { option_map (λ s. s.now) result ≡ first (queue_at rows.now from to) }
 {
     rows.get(from)?.first(to)
+}
+
+fn waiting_in(alloc: Global, rows: &[Row], from: usize, to: u32) -> Result<Vec<Signal>, AllocError>
+    ensures { IfOk result (λ signals. signals.items ≡ queue_at rows.now from to) }
+{
+    match rows.get(from) {
+        Some(row) => row.waiting(alloc, to),
+        None => Ok(Vec::new(alloc)),
+    }
 }
 
 #[inline(always)]

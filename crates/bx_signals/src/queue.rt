@@ -23,7 +23,7 @@ pub(crate) struct Queue {
 }
 
 /// One signal lies in the queue itself, so that one which gets empty over and over takes no memory. Once there were two they
-/// lie in a row apart.
+/// lie in a row of their own.
 #[derive(Debug, Drop)]
 pub enum Held {
     Nothing,
@@ -101,7 +101,7 @@ impl Queue {
         }
     }
 
-    /// Keeps a signal, and puts a second behind it, in a row apart.
+    /// Keeps a signal, and puts a second behind it, in a row of their own.
     #[cold]
     #[inline(never)]
     fn put_second(&mut self, alloc: Global, first: Signal, second: Signal) -> Result<(), Signal>
@@ -297,6 +297,21 @@ impl Queue {
             (Held::Row(signals), _) => signals.get(at),
             _ => None,
         }
+    }
+
+    /// The signals in their order.
+    #[tactic(auto, using(crate::proofs::Turned::taken_there, crate::proofs::Turned::is_there))]
+    pub(crate) fn all(&self, alloc: Global) -> Result<Vec<Signal>, AllocError>
+        ensures { IfOk result (λ signals. signals.items ≡ self.now) }
+    {
+        let mut signals = Vec::with_capacity(alloc, self.len())?;
+        for at in 0..self.len() {
+            let Some(signal) = self.get(at) else {
+                unreachable!() // as many are there
+            };
+            signals.push(signal.clone()?)?;
+        }
+        Ok(signals)
     }
 
     /// Whether both hold the same signals in the same order.

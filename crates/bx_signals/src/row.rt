@@ -91,6 +91,26 @@ impl Row {
         }
     }
 
+    /// The queue of that receiver, where it ever had one.
+    fn queue(&self, to: u32) -> Option<&Queue>
+        ensures { or_empty (option_map (λ queue. queue.now) result) ≡ queue_in self.now to }
+    {
+        match place_near(&self.lines, self.near, to) {
+            Ok(at) => Some(&self.lines[at].1),
+            Err(_) => None,
+        }
+    }
+
+    /// The signals to that receiver, oldest first.
+    pub(crate) fn waiting(&self, alloc: Global, to: u32) -> Result<Vec<Signal>, AllocError>
+        ensures { IfOk result (λ signals. signals.items ≡ queue_in self.now to) }
+    {
+        match self.queue(to) {
+            Some(queue) => queue.all(alloc),
+            None => Ok(Vec::new(alloc)),
+        }
+    }
+
     /// Takes the first signal to that receiver out.
     #[inline(always)]
     pub(crate) fn take(&mut self, to: u32) -> Option<Signal>

@@ -3,7 +3,7 @@ use Rattle.std.specs.Prelude.{ℕ, List, Option, Some, None, codes}
 use Rattle.bx_terms.specs.declared.faults.Fault.{Fault}
 use Rattle.bx_terms.specs.declared.faults.Fault.TheVariants.{TooManyAtoms, AtomTooLong, BadToken, BadTerm, TooDeep, Truncated, NotUtf8, BadForm, Unsupported, BadOperand, LiteralRange, LabelTwice, LabelMissing, EntryMissing, RegisterRange, TooLarge, ModuleTwice, ExportMissing, TooManyModules, NotEnabled, Halted, BeforeStart, AfterEnd, BadLine, NameTwice, TooLong, NotIndependent, NotLeased, Foreign, Twice, Unfinished, NoEntry, BadCommand, Workers, Memory}
 
--- want of memory is no refusal and has no number
+-- out of memory is no refusal and has no number
 abbrev pub refusal : Fault → Option (ℕ × List ℕ)
 refusal (TooManyAtoms _) = Some (1, codes "TooManyAtoms")
 refusal (AtomTooLong _) = Some (2, codes "AtomTooLong")

@@ -48,7 +48,7 @@ impl Atoms {
 
     /// The table of the fixed atoms.
     ///
-    /// Memory is all that it may lack.
+    /// It can only run out of memory.
     #[tactic(auto, using(crate::proofs::AtomTables::fixed_table))]
     pub fn new(alloc: Global) -> Result<Atoms, Fault>
         ensures { Gives (Unit {0}) (λ atoms. atoms) result (Ok fixed_atoms) }

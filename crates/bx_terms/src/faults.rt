@@ -1,4 +1,4 @@
-//! Every refusal of the product, by its number, and want of memory.
+//! Every refusal of the product, by its number, and out of memory.
 
 ghost use Rattle.std.specs.Prelude.{◌≡◌, IfOk};
 
@@ -26,7 +26,7 @@ impl Model for Name {
 impl Name {
     /// The name that `text` spells, in UTF-8.
     ///
-    /// Memory is all that it may lack.
+    /// It can only run out of memory.
     pub fn new(alloc: Global, text: &str) -> Result<Name, AllocError>
         ensures { IfOk result (λ name. name ≡ text.now) }
     {
@@ -78,7 +78,7 @@ impl fmt::Display for Name {
     }
 }
 
-/// Why a call was refused: a number from 1 to 34 with what it names, or want of memory.
+/// Why a call was refused: a number from 1 to 34 with what it names, or out of memory.
 ///
 /// Lines count from 1.
 #[derive(Debug, Drop, Error, PartialEq, Eq)]
@@ -160,7 +160,7 @@ impl Fault {
     ghost use Rattle.std.specs.Option.{option_map_or};
     ghost use Rattle.bx_terms.specs.Refusals.{refusal, at_line};
 
-    /// The number of the refusal, 1 to 34, or `None` for want of memory.
+    /// The number of the refusal, 1 to 34, or `None` for out of memory.
     pub fn number(&self) -> Option<u8>
         ensures { result ≡ option_map (λ row. row.0) (refusal self.now) }
     {

@@ -53,7 +53,7 @@ pub enum Trap {
     NoTag,
     /// No fault is pending where one is wanted.
     NoPending,
-    /// There is no instruction at the process's place.
+    /// There is no instruction at the process's address.
     BadPlace,
     /// An integer left 64 bits.
     IntegerRange,

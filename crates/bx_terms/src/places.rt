@@ -2,7 +2,7 @@
 
 use bx_share::Same;
 
-/// A place in loaded code: the number of its module, in the order of loading, and the number of an item of that
+/// An address in loaded code: the number of its module, in the order of loading, and the number of an item of that
 /// module, both from 0.
 #[derive(Clone, Copy, Debug, PartialEq, Eq)]
 pub struct Place {

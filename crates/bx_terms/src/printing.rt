@@ -11,7 +11,7 @@ use itoa::Buffer;
 use std::alloc::{AllocError, Global};
 
 /// The text of `term`: integers in decimal, `{a,b}`, `[a,b|c]`, pid p as `<0.p.0>`, atoms as [`push_atom`] prints them,
-/// and `?` for an atom that is not in `atoms`. Memory is all that it may lack.
+/// and `?` for an atom that is not in `atoms`. It can only run out of memory.
 pub fn print(alloc: Global, atoms: &Atoms, term: &Term) -> Result<String, AllocError>
     ensures { IfOk result (λ text. string_bytes text ≡ printed atoms.now term.now) }
 {

@@ -211,7 +211,7 @@ impl Term {
 
     /// The same term, sharing what this one holds.
     ///
-    /// It takes time and memory in no proportion to the term's size. Want of memory is also the answer where the count of
+    /// It takes time and memory in no proportion to the term's size. Out of memory is also the answer where the count of
     /// sharers is full; a term of height 0 is always copied.
     #[inline(always)]
     pub fn copy(&self, _alloc: Global) -> Result<Term, AllocError>

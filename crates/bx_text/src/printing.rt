@@ -101,7 +101,7 @@ fn push_tail(alloc: Global, out: &mut String, tail: Option<&Node<'_>>) -> Result
 }
 
 /// The text of a node, without spaces. An integer is written by its value, an atom bare or in quotes, a list never as a string;
-/// what stands for no value here is written as it was read. Memory is all that it may lack.
+/// what stands for no value here is written as it was read. It can only run out of memory.
 ///
 /// Source: Erlang Reference Manual, "Data Types".
 pub fn print_node(alloc: Global, node: &Node<'_>) -> Result<String, Fault>
