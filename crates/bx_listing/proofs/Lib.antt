@@ -1,7 +1,10 @@
 pub mod Stores
 pub mod Placed
+pub mod Places
+pub mod LocatedForms
 pub mod Elements
 pub mod Readings
+pub mod NamedAtoms
 pub mod LiteralLists
 pub mod LiteralRows
 pub mod Each

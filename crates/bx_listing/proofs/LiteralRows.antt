@@ -1,5 +1,5 @@
 -- The row of a literal's elements, read one after another: what was kept so far stands before what is still read.
-use Rattle.std.proofs.Common.{◌≡◌, ℕ, ◌+◌, ◌<◌, ◌≤◌, zero, suc, List, [], ◌∷◌, ◌++◌, Option, Some, None, length, get_or, drop, refl, sym, ap, subst, ◌∙◌, append_assoc, add-one, arith}
+use Rattle.std.proofs.Common.{◌≡◌, ℕ, ◌+◌, ◌<◌, ◌≤◌, zero, suc, true, List, [], ◌∷◌, ◌++◌, Option, Some, None, length, get_or, drop, refl, sym, ap, subst, ◌∙◌, append_assoc, add-one, arith}
 use Rattle.std.proofs.lemmas.List.{append-nil}
 use Rattle.std.proofs.Math.Seq.{drop-cons}
 use Rattle.std.proofs.Math.ListN.{drop_of_length-le}
@@ -8,10 +8,10 @@ use Rattle.bx_terms.specs.declared.faults.Fault.{Fault}
 use Rattle.bx_terms.specs.declared.faults.Fault.TheVariants.{Memory}
 use Rattle.bx_text.specs.Tree as texts
 use Rattle.bx_text.specs.Tree.{Tree, integer, atom, tuple, list, nil, cons, chain, nodes}
-use Rattle.bx_listing.specs.Reading.{Table, Outcome, read, refused, table_of, Begins, Begins-refl, Begins-trans, Reading, and_then, ◌>>=◌, give, Refuses}
+use Rattle.bx_listing.specs.Reading.{Table, Outcome, read, refused, table_of, Begins, Begins-trans, Reading, and_then, ◌>>=◌, give, stored, Takes, Refused}
 use Rattle.bx_listing.specs.Literals.{Row, with_first, longer, parts, literal, IsNode, ended}
 use Rattle.bx_listing.specs.LiteralRows.{with_last}
-use Rattle.bx_listing.proofs.Readings.{refuses_first, refuses_after}
+use Rattle.bx_listing.proofs.Readings.{refused_first, refused_stored, takes_first, takes_after, wanting_stored}
 
 abbrev pub Kept : Type 0
 Kept = Option (List term.Tree)
@@ -55,23 +55,33 @@ resumed_next line es u i e front x t mid here at h =
     let stepped : resumed front ((row line (e ∷ drop (i + 1) es) u).run t) ≡ resumed front (and_then ((row line (drop (i + 1) es) u).run mid) (λ r. give (longer x r))) = ap (λ o. resumed front (and_then o (λ y. row line (drop (i + 1) es) u >>= λ r. give (longer y r)))) h in
     unfolded ∙ (stepped ∙ resumed_longer front x ((row line (drop (i + 1) es) u).run mid))
 
-pub refuses_resumed : (front : Kept) (old t new : Table) (fault : Fault) (inner whole : Reading Row) → Begins old t → resumed front (inner.run t) ≡ whole.run old → Refuses (Unit {0}) t new fault inner → Refuses (Unit {0}) old new fault whole
-refuses_resumed front old t new Memory inner whole grown e h =
-    (tt, Begins-trans old t new grown h.1, subst (λ o. Begins new o) (sym (resumed-table front (inner.run t)) ∙ ap table_of e) h.2)
-refuses_resumed front old t new _ inner whole grown e h = sym e ∙ ap (resumed front) h
+refused_resumed : (front : Kept) (old t new : Table) (fault : Fault) (inner whole : Reading Row) → Begins old t → resumed front (inner.run t) ≡ whole.run old → (Takes inner t → Takes whole old) → Refused t new fault inner → Refused old new fault whole
+refused_resumed front old t new Memory inner whole grown e wants h =
+    (wants h.0, Begins-trans old t new grown h.1, subst (λ o. Begins new o) (sym (resumed-table front (inner.run t)) ∙ ap table_of e) h.2)
+refused_resumed front old t new _ inner whole grown e wants h = sym e ∙ ap (resumed front) h
 
-pub refuses_element : (line : ℕ) (es : List Tree) (u : Tree) (i : ℕ) (e : Tree) (front : Kept) (old t new : Table) (fault : Fault) → i < length es → e ≡ get_or es i e → Begins old t → resumed front ((row line (drop i es) u).run t) ≡ (row line es u).run old → Refuses (Unit {0}) t new fault (literal line e) → Refuses (Unit {0}) old new fault (row line es u)
-refuses_element line es u i e front old t new fault here at grown so_far h =
-    let first : Refuses (Unit {0}) t new fault (row line (e ∷ drop (i + 1) es) u) = refuses_first (Unit {0}) t new fault (literal line e) (λ y. row line (drop (i + 1) es) u >>= λ r. give (longer y r)) h in
-    let unfolded : resumed front ((row line (e ∷ drop (i + 1) es) u).run t) ≡ (row line es u).run old = ap (λ ts. resumed front ((row line ts u).run t)) (sym (next_element es i e here at)) ∙ so_far in
-    refuses_resumed front old t new fault (row line (e ∷ drop (i + 1) es) u) (row line es u) grown unfolded first
+-- what is done with the elements behind the first
+abbrev row_behind : ℕ → List Tree → Tree → Option term.Tree → Reading Row
+row_behind line es u x = row line es u >>= λ r. give (longer x r)
 
-pub memory_after_element : (line : ℕ) (es : List Tree) (u : Tree) (i : ℕ) (e : Tree) (front : Kept) (x : Option term.Tree) (old t mid : Table) → i < length es → e ≡ get_or es i e → Begins old t → resumed front ((row line (drop i es) u).run t) ≡ (row line es u).run old → (literal line e).run t ≡ read mid x → Refuses (Unit {0}) old mid Memory (row line es u)
-memory_after_element line es u i e front x old t mid here at grown so_far h =
-    let next : Option term.Tree → Reading Row = λ y. row line (drop (i + 1) es) u >>= λ r. give (longer y r) in
-    let after : Refuses (Unit {0}) t mid Memory (row line (e ∷ drop (i + 1) es) u) = refuses_after (Unit {0}) t mid mid Memory (literal line e) x next h (tt, Begins-refl mid, (next x).grows mid) in
+left_takes : (line : ℕ) (es : List Tree) (u : Tree) (i : ℕ) (e : Tree) (old t : Table) → i < length es → e ≡ get_or es i e → (Takes (row line (drop i es) u) t → Takes (row line es u) old) → Takes (row line (e ∷ drop (i + 1) es) u) t → Takes (row line es u) old
+left_takes line es u i e old t here at wants k = wants (ap (λ ts. (row line ts u).takes t) (next_element es i e here at) ∙ k)
+
+pub element_takes : (line : ℕ) (es : List Tree) (u : Tree) (i : ℕ) (e : Tree) (x : Option term.Tree) (old t mid : Table) → i < length es → e ≡ get_or es i e → (Takes (row line (drop i es) u) t → Takes (row line es u) old) → (literal line e).run t ≡ read mid x → Takes (row line (drop (i + 1) es) u) mid → Takes (row line es u) old
+element_takes line es u i e x old t mid here at wants h k =
+    left_takes line es u i e old t here at wants (takes_after t mid (stored (literal line e)) x (row_behind line (drop (i + 1) es) u) h (takes_first mid (row line (drop (i + 1) es) u) (λ r. give (longer x r)) k))
+
+pub refuses_element : (line : ℕ) (es : List Tree) (u : Tree) (i : ℕ) (e : Tree) (front : Kept) (old t new : Table) (fault : Fault) → i < length es → e ≡ get_or es i e → Begins old t → resumed front ((row line (drop i es) u).run t) ≡ (row line es u).run old → (Takes (row line (drop i es) u) t → Takes (row line es u) old) → Refused t new fault (literal line e) → Refused old new fault (row line es u)
+refuses_element line es u i e front old t new fault here at grown so_far wants h =
+    let first : Refused t new fault (row line (e ∷ drop (i + 1) es) u) = refused_first t new fault (stored (literal line e)) (row_behind line (drop (i + 1) es) u) (refused_stored (λ _. true) t new fault (literal line e) h) in
     let unfolded : resumed front ((row line (e ∷ drop (i + 1) es) u).run t) ≡ (row line es u).run old = ap (λ ts. resumed front ((row line ts u).run t)) (sym (next_element es i e here at)) ∙ so_far in
-    refuses_resumed front old t mid Memory (row line (e ∷ drop (i + 1) es) u) (row line es u) grown unfolded after
+    refused_resumed front old t new fault (row line (e ∷ drop (i + 1) es) u) (row line es u) grown unfolded (left_takes line es u i e old t here at wants) first
+
+pub memory_after_element : (line : ℕ) (es : List Tree) (u : Tree) (i : ℕ) (e : Tree) (front : Kept) (x : Option term.Tree) (old t mid : Table) → i < length es → e ≡ get_or es i e → Begins old t → resumed front ((row line (drop i es) u).run t) ≡ (row line es u).run old → (Takes (row line (drop i es) u) t → Takes (row line es u) old) → (literal line e).run t ≡ read mid x → Refused old mid Memory (row line es u)
+memory_after_element line es u i e front x old t mid here at grown so_far wants h =
+    let after : Refused t mid Memory (row line (e ∷ drop (i + 1) es) u) = wanting_stored (λ _. true) t mid (literal line e) x (row_behind line (drop (i + 1) es) u) h refl in
+    let unfolded : resumed front ((row line (e ∷ drop (i + 1) es) u).run t) ≡ (row line es u).run old = ap (λ ts. resumed front ((row line ts u).run t)) (sym (next_element es i e here at)) ∙ so_far in
+    refused_resumed front old t mid Memory (row line (e ∷ drop (i + 1) es) u) (row line es u) grown unfolded (left_takes line es u i e old t here at wants) after
 
 pub grown_after : (line : ℕ) (e : Tree) (x : Option term.Tree) (old t mid : Table) → Begins old t → (literal line e).run t ≡ read mid x → Begins old mid
 grown_after line e x old t mid grown h = Begins-trans old t mid grown (subst (λ o. Begins t (table_of o)) h ((literal line e).grows t))
@@ -96,10 +106,14 @@ ends_with line es u i front x old t new past node so_far h =
     let alone : (parts line u).row.run t ≡ read new (ended x) = ap (λ r. r.run t) (row_of_node line u node) ∙ ap (λ o. and_then o (λ y. give (ended y))) h in
     sym (at_end line es u i front old t past so_far) ∙ (ap (resumed front) alone ∙ ap (λ f. read new (record { elements = f; tail = x })) (joined-nil front))
 
-pub refuses_tail : (line : ℕ) (es : List Tree) (u : Tree) (i : ℕ) (front : Kept) (old t new : Table) (fault : Fault) → length es ≤ i → IsNode u → Begins old t → resumed front ((row line (drop i es) u).run t) ≡ (row line es u).run old → Refuses (Unit {0}) t new fault (literal line u) → Refuses (Unit {0}) old new fault (row line es u)
-refuses_tail line es u i front old t new fault past node grown so_far h =
-    let first : Refuses (Unit {0}) t new fault ((parts line u).row) = subst (λ r. Refuses (Unit {0}) t new fault r) (sym (row_of_node line u node)) (refuses_first (Unit {0}) t new fault (literal line u) (λ y. give (ended y)) h) in
-    refuses_resumed front old t new fault ((parts line u).row) (row line es u) grown (at_end line es u i front old t past so_far) first
+-- at the end of the elements, what is left is the tail
+end_takes : (line : ℕ) (es : List Tree) (u : Tree) (i : ℕ) (old t : Table) → length es ≤ i → (Takes (row line (drop i es) u) t → Takes (row line es u) old) → Takes ((parts line u).row) t → Takes (row line es u) old
+end_takes line es u i old t past wants k = wants (ap (λ ts. (row line ts u).takes t) (drop_of_length-le es past) ∙ k)
+
+pub refuses_tail : (line : ℕ) (es : List Tree) (u : Tree) (i : ℕ) (front : Kept) (old t new : Table) (fault : Fault) → length es ≤ i → IsNode u → Begins old t → resumed front ((row line (drop i es) u).run t) ≡ (row line es u).run old → (Takes (row line (drop i es) u) t → Takes (row line es u) old) → Refused t new fault (literal line u) → Refused old new fault (row line es u)
+refuses_tail line es u i front old t new fault past node grown so_far wants h =
+    let first : Refused t new fault ((parts line u).row) = subst (λ r. Refused t new fault r) (sym (row_of_node line u node)) (refused_first t new fault (literal line u) (λ y. give (ended y)) h) in
+    refused_resumed front old t new fault ((parts line u).row) (row line es u) grown (at_end line es u i front old t past so_far) (end_takes line es u i old t past wants) first
 
 -- the parts of a row are smaller than the row
 pub element_falls : (es : List Tree) (u : Tree) (i : ℕ) (e : Tree) → i < length es → e ≡ get_or es i e → nodes e < nodes (chain es u)

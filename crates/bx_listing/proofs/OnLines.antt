@@ -28,7 +28,7 @@ use Rattle.bx_listing.specs.declared.words.FormWord.{FormWord}
 use Rattle.bx_listing.specs.declared.words.FormWord.TheVariants as forms
 use Rattle.bx_listing.specs.declared.words.OperandWord.{OperandWord}
 use Rattle.bx_listing.specs.declared.words.OperandWord.TheVariants as operands
-use Rattle.bx_listing.specs.Reading.{Table, Outcome, read, refused, Reading, and_then, ◌>>=◌, give, refuse, from_result, wanted, outcome, named}
+use Rattle.bx_listing.specs.Reading.{Table, Outcome, read, refused, Reading, and_then, ◌>>=◌, give, refuse, stored, from_result, wanted, outcome, named}
 use Rattle.bx_listing.specs.Shape.{Shape, bare, tagged, other, shape, number, word, list_elements}
 use Rattle.bx_listing.specs.Words.{form_word, operand_word}
 use Rattle.bx_listing.specs.Literals.{sort_name, small, kept_list, kept_tuple, ended, longer, Parts, no_row, parts, literal}
@@ -108,9 +108,9 @@ parts_lined line (integer s n) =
 parts_lined line (atom s text) =
     no_row_lined line (named line text >>= λ a. give (Some (term.atom a.0))) (then_lined line (named line text) (λ a. give (Some (term.atom a.0))) (named_lined line text) (λ a. give_lined line (Some (term.atom a.0))))
 parts_lined line (tuple s row) =
-    no_row_lined line ((parts line row).row >>= λ r. give (kept_tuple r.elements)) (then_lined line (parts line row).row (λ r. give (kept_tuple r.elements)) (parts_lined line row).row (λ r. give_lined line (kept_tuple r.elements)))
+    no_row_lined line (stored (parts line row).row >>= λ r. give (kept_tuple r.elements)) (then_lined line (parts line row).row (λ r. give (kept_tuple r.elements)) (parts_lined line row).row (λ r. give_lined line (kept_tuple r.elements)))
 parts_lined line (list s row) =
-    no_row_lined line ((parts line row).row >>= λ r. give (kept_list r.elements r.tail)) (then_lined line (parts line row).row (λ r. give (kept_list r.elements r.tail)) (parts_lined line row).row (λ r. give_lined line (kept_list r.elements r.tail)))
+    no_row_lined line (stored (parts line row).row >>= λ r. give (kept_list r.elements r.tail)) (then_lined line (parts line row).row (λ r. give (kept_list r.elements r.tail)) (parts_lined line row).row (λ r. give_lined line (kept_list r.elements r.tail)))
 parts_lined line (texts.other s k w) =
     no_row_lined line (refuse (faults.Unsupported line (sort_name k))) (refuse_lined line (faults.Unsupported line (sort_name k)) refl)
 parts_lined line nil = no_row_lined line (give (Some term.nil)) (give_lined line (Some term.nil))

@@ -1,8 +1,8 @@
 -- How the answers of calls in a row stand to readings in a row.
-use Rattle.std.proofs.Common.{◌≡◌, Result, Ok, Err, sym, ap, subst, ◌∙◌}
+use Rattle.std.proofs.Common.{◌≡◌, Bool, true, false, ◌||◌, Result, Ok, Err, refl, sym, ap, subst, ◌∙◌}
 use Rattle.bx_terms.specs.declared.faults.Fault.{Fault}
 use Rattle.bx_terms.specs.declared.faults.Fault.TheVariants.{Memory}
-use Rattle.bx_listing.specs.Reading.{Table, Outcome, read, refused, table_of, Begins, Begins-refl, Begins-trans, Reading, and_then, ◌>>=◌, give, from_result, Refuses, Reads}
+use Rattle.bx_listing.specs.Reading.{Table, Outcome, read, refused, table_of, Begins, Begins-refl, Begins-trans, Reading, and_then, takes_then, ◌>>=◌, give, from_result, is_stored, stored_if, after_storing, Refuses, Reads, Takes, Refused, Answers}
 use Rattle.bx_terms.specs.Outcomes.{Gives}
 
 -- what follows only adds names
@@ -16,7 +16,7 @@ refuses_first takes old new Memory first next h = (h.0, h.1, Begins-trans _ _ _ 
 refuses_first takes old new _ first next h = ap (λ o. and_then o next) h
 
 -- after a first part that was good, the refusal of what follows is the whole's
-pub refuses_after : {A B : Type 0} (takes : Type 0) (old mid new : Table) (fault : Fault) (first : Reading A) (x : A) (next : A → Reading B) → first.run old ≡ read mid x → Refuses takes mid new fault (next x) → Refuses takes old new fault (first >>= next)
+refuses_after : {A B : Type 0} (takes : Type 0) (old mid new : Table) (fault : Fault) (first : Reading A) (x : A) (next : A → Reading B) → first.run old ≡ read mid x → Refuses takes mid new fault (next x) → Refuses takes old new fault (first >>= next)
 refuses_after takes old mid new Memory first x next e h =
     let before : Begins old mid = subst (λ o. Begins old (table_of o)) e (first.grows old) in
     (h.0, Begins-trans old mid new before h.1, subst (λ o. Begins new (table_of (and_then o next))) (sym e) h.2)
@@ -27,11 +27,7 @@ pub reads_after : {Y A B : Type 0} (takes : Type 0) (seen : Y → B) (old mid ne
 reads_after takes seen old mid new (Ok y) first x next e h = ap (λ o. and_then o next) e ∙ h
 reads_after takes seen old mid new (Err fault) first x next e h = refuses_after takes old mid new fault first x next e h
 
--- memory that is wanting after a first part that was good
-pub memory_after : {A B : Type 0} (old mid : Table) (first : Reading A) (x : A) (next : A → Reading B) → first.run old ≡ read mid x → Refuses (Unit {0}) old mid Memory (first >>= next)
-memory_after old mid first x next e = refuses_after (Unit {0}) old mid mid Memory first x next e (tt, Begins-refl mid, (next x).grows mid)
-
--- memory that is wanting before anything was read
+-- memory that runs out before anything was read
 pub memory_before : {A : Type 0} (texts : Table) (reading : Reading A) → Refuses (Unit {0}) texts texts Memory reading
 memory_before texts reading = (tt, Begins-refl texts, reading.grows texts)
 
@@ -60,11 +56,79 @@ refuses_left old t new _ left whole grown e h = sym e ∙ h
 pub grown_after : {B : Type 0} (first : Reading B) (y : B) (old t mid : Table) → Begins old t → first.run t ≡ read mid y → Begins old mid
 grown_after first y old t mid grown h = Begins-trans old t mid grown (subst (λ o. Begins t (table_of o)) h (first.grows t))
 
+-- an answer may be taken for one that may want memory anyway
+pub refuses_anyway : {A : Type 0} (old new : Table) (fault : Fault) (reading : Reading A) → Refused old new fault reading → Refuses (Unit {0}) old new fault reading
+refuses_anyway old new Memory reading h = (tt, h.1, h.2)
+refuses_anyway old new _ reading h = h
+
+pub reads_anyway : {X A : Type 0} (view : X → A) (old new : Table) (answer : Result X Fault) (reading : Reading A) → Answers view old new answer reading → Reads (Unit {0}) view old new answer reading
+reads_anyway view old new (Ok x) reading h = h
+reads_anyway view old new (Err fault) reading h = refuses_anyway old new fault reading h
+
+-- where the first part takes memory, the whole does
+pub takes_first : {A B : Type 0} (old : Table) (first : Reading A) (next : A → Reading B) → Takes first old → Takes (first >>= next) old
+takes_first old first next h = ap (λ (b : Bool). b || takes_then (first.run old) next) h
+
+or_second : (a b : Bool) → b ≡ true → (a || b) ≡ true
+or_second true b h = refl
+or_second false b h = h
+
+-- and where what follows does
+pub takes_after : {A B : Type 0} (old mid : Table) (first : Reading A) (x : A) (next : A → Reading B) → first.run old ≡ read mid x → Takes (next x) mid → Takes (first >>= next) old
+takes_after old mid first x next e h = or_second (first.takes old) (takes_then (first.run old) next) (ap (λ o. takes_then o next) e ∙ h)
+
+-- what is read is stored
+pub takes_stored : {A B : Type 0} (test : A → Bool) (old mid : Table) (first : Reading A) (x : A) (next : A → Reading B) → first.run old ≡ read mid x → test x ≡ true → Takes (stored_if test first >>= next) old
+takes_stored test old mid first x next e h = takes_first old (stored_if test first) next (or_second (first.takes old) (is_stored test (first.run old)) (ap (is_stored test) e ∙ h))
+
+-- a part that was refused is refused where it is stored too
+pub refused_stored : {A : Type 0} (test : A → Bool) (old new : Table) (fault : Fault) (first : Reading A) → Refused old new fault first → Refused old new fault (stored_if test first)
+refused_stored test old new Memory first h = (ap (λ (b : Bool). b || is_stored test (first.run old)) h.0, h.1, h.2)
+refused_stored test old new _ first h = h
+
+-- the first part's refusal is the whole's
+pub refused_first : {A B : Type 0} (old new : Table) (fault : Fault) (first : Reading A) (next : A → Reading B) → Refused old new fault first → Refused old new fault (first >>= next)
+refused_first old new Memory first next h = (takes_first old first next h.0, h.1, Begins-trans _ _ _ h.2 (Begins-and_then (first.run old) next))
+refused_first old new _ first next h = ap (λ o. and_then o next) h
+
+-- after a first part that was good, the refusal of what follows is the whole's
+pub refused_after : {A B : Type 0} (old mid new : Table) (fault : Fault) (first : Reading A) (x : A) (next : A → Reading B) → first.run old ≡ read mid x → Refused mid new fault (next x) → Refused old new fault (first >>= next)
+refused_after old mid new Memory first x next e h =
+    let before : Begins old mid = subst (λ o. Begins old (table_of o)) e (first.grows old) in
+    (takes_after old mid first x next e h.0, Begins-trans old mid new before h.1, subst (λ o. Begins new (table_of (and_then o next))) (sym e) h.2)
+refused_after old mid new _ first x next e h = ap (λ o. and_then o next) e ∙ h
+
+-- after a first part that was good, the answer to what follows is the answer to the whole
+pub answers_after : {Y A B : Type 0} (seen : Y → B) (old mid new : Table) (answer : Result Y Fault) (first : Reading A) (x : A) (next : A → Reading B) → first.run old ≡ read mid x → Answers seen mid new answer (next x) → Answers seen old new answer (first >>= next)
+answers_after seen old mid new (Ok y) first x next e h = ap (λ o. and_then o next) e ∙ h
+answers_after seen old mid new (Err fault) first x next e h = refused_after old mid new fault first x next e h
+
+-- memory that runs out for what was read, which is stored
+pub wanting_stored : {A B : Type 0} (test : A → Bool) (old mid : Table) (first : Reading A) (x : A) (next : A → Reading B) → first.run old ≡ read mid x → test x ≡ true → Refused old mid Memory (stored_if test first >>= next)
+wanting_stored test old mid first x next e h =
+    let grown : Begins old mid = subst (λ o. Begins old (table_of o)) e (first.grows old) in
+    (takes_stored test old mid first x next e h, grown, subst (λ o. Begins mid (table_of (and_then o next))) (sym e) ((next x).grows mid))
+
+-- memory that runs out before anything was read
+pub wanting_before : {A : Type 0} (texts : Table) (reading : Reading A) → Refused texts texts Memory (after_storing reading)
+wanting_before texts reading = (refl, Begins-refl texts, reading.grows texts)
+
+-- an answer to one reading is an answer to another that gives the same and takes memory where that does
+pub answers_same : {X A : Type 0} (view : X → A) (old new : Table) (answer : Result X Fault) (one other : Reading A) → one.run old ≡ other.run old → (Takes one old → Takes other old) → Answers view old new answer one → Answers view old new answer other
+answers_same view old new (Ok x) one other e k h = sym e ∙ h
+answers_same view old new (Err Memory) one other e k h = (k h.0, h.1, subst (λ o. Begins new (table_of o)) e h.2)
+answers_same view old new (Err _) one other e k h = sym e ∙ h
+
+-- what is left gives what all gave, so a refusal of it is the whole's
+pub refused_left : {A : Type 0} (old t new : Table) (fault : Fault) (left whole : Reading A) → Begins old t → left.run t ≡ whole.run old → (Takes left t → Takes whole old) → Refused t new fault left → Refused old new fault whole
+refused_left old t new Memory left whole grown e k h = (k h.0, Begins-trans old t new grown h.1, subst (λ o. Begins new (table_of o)) e h.2)
+refused_left old t new _ left whole grown e k h = sym e ∙ h
+
 -- what takes no names was good: the answer to what follows is the answer to the whole
-pub result_read : {A B X : Type 0} (see : X → B) (old new : Table) (answer : Result X Fault) (said : Result A Fault) (x : A) (next : A → Reading B) → said ≡ Ok x → Reads (Unit {0}) see old new answer (next x) → Reads (Unit {0}) see old new answer (from_result said >>= next)
-result_read see old new answer said x next e h = reads_same (Unit {0}) see old new answer (next x) (from_result said >>= next) (sym (ap (λ r. (from_result r >>= next).run old) e)) h
+pub result_read : {A B X : Type 0} (see : X → B) (old new : Table) (answer : Result X Fault) (said : Result A Fault) (x : A) (next : A → Reading B) → said ≡ Ok x → Answers see old new answer (next x) → Answers see old new answer (from_result said >>= next)
+result_read see old new answer said x next e h = answers_same see old new answer (next x) (from_result said >>= next) (sym (ap (λ r. (from_result r >>= next).run old) e)) (λ k. ap (λ r. (from_result r >>= next).takes old) e ∙ k) h
 
 -- what is made of the answer to a reading
-pub reads_given : {X A B : Type 0} (view : X → A) (make : A → B) (old new : Table) (answer : Result X Fault) (reading : Reading A) → Reads (Unit {0}) view old new answer reading → Reads (Unit {0}) (λ x. make (view x)) old new answer (reading >>= λ a. give (make a))
-reads_given view make old new (Ok x) reading h = ap (λ o. and_then o (λ a. give (make a))) h
-reads_given view make old new (Err fault) reading h = refuses_first (Unit {0}) old new fault reading (λ a. give (make a)) h
+pub answers_given : {X A B : Type 0} (view : X → A) (make : A → B) (old new : Table) (answer : Result X Fault) (reading : Reading A) → Answers view old new answer reading → Answers (λ x. make (view x)) old new answer (reading >>= λ a. give (make a))
+answers_given view make old new (Ok x) reading h = ap (λ o. and_then o (λ a. give (make a))) h
+answers_given view make old new (Err fault) reading h = refused_first old new fault reading (λ a. give (make a)) h

@@ -1,5 +1,5 @@
 -- The code form of a listing: module, exports and functions with their items. It is the listing without the lines on which
--- its items stand; what is dropped while a listing is read (attributes, annotations, types of registers, the number of
+-- its items stand; what is ignored while a listing is read (attributes, annotations, types of registers, the number of
 -- `labels`, the operand of `line`) is in neither.
 use Rattle.std.specs.Prelude.{ℕ, List, map, refl}
 use Rattle.std.specs.List.{flat_map}

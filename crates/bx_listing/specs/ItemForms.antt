@@ -1,4 +1,4 @@
--- The item that a form is; `None` for an annotation `{'%',T}`, which is dropped.
+-- The item that a form is; `None` for an annotation `{'%',T}`, which is ignored.
 use Rattle.std.specs.Prelude.{ℕ, [], Option, option_map}
 use Rattle.bx_listing.specs.Items.{Item}
 use Rattle.bx_listing.specs.Reading.{Reading, ◌>>=◌, give}

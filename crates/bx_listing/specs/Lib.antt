@@ -17,6 +17,8 @@ pub mod Forms
 pub mod FormsOf
 pub mod HeadForms
 pub mod Listing
+pub mod Locations
+pub mod Marks
 pub mod ListedTerms
 pub mod ListedItems
 pub mod Listed

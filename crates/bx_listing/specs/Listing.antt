@@ -1,6 +1,6 @@
 -- Which forms are a listing: `{module,M}`, `{exports,[{F,A},..]}`, `{attributes,T}`, which may be missing, `{labels,N}`, and
 -- then for each function `{function,F,A,Entry}` and its items, in this order.
-use Rattle.std.specs.Prelude.{ℕ, List, [], ◌∷◌, ◌++◌, Option, Some, None, IsSome, Result, Ok, Err, if◌then◌else◌}
+use Rattle.std.specs.Prelude.{ℕ, List, [], ◌∷◌, ◌++◌, Option, Some, None, IsSome, is_some, Result, Ok, Err, if◌then◌else◌}
 use Rattle.bx_terms.specs.declared.faults.Fault.{Fault}
 use Rattle.bx_terms.specs.declared.faults.Fault.TheVariants as faults
 use Rattle.bx_terms.specs.declared.atom_table.AtomId.{AtomId}
@@ -10,7 +10,7 @@ use Rattle.bx_listing.specs.declared.code_form.Export.{Export}
 use Rattle.bx_listing.specs.Items.{Item}
 use Rattle.bx_listing.specs.declared.words.FormWord.{FormWord}
 use Rattle.bx_listing.specs.declared.words.FormWord.TheVariants as words
-use Rattle.bx_listing.specs.Reading.{Reading, ◌>>=◌, from_result, give, refuse, named}
+use Rattle.bx_listing.specs.Reading.{Reading, ◌>>=◌, from_result, give, refuse, named, stored, stored_if}
 use Rattle.bx_listing.specs.Shape.{Shape, bare, tagged, other, shape}
 use Rattle.bx_listing.specs.Words.{form_word}
 use Rattle.bx_listing.specs.HeadForms.{bad_form, head, module_name, exports_form, is_attributes, is_labels, function_form}
@@ -45,10 +45,10 @@ with_optional line (Some item) done = with_item line item done
 with_optional line None done = done
 
 abbrev pub begun_function : ℕ → List ListedFunction → List Tree → Reading (List ListedFunction)
-begun_function line done parts = function_form line parts >>= λ f. give (done ++ f ∷ [])
+begun_function line done parts = stored (function_form line parts) >>= λ f. give (done ++ f ∷ [])
 
 abbrev pub with_form_item : ℕ → List ListedFunction → Shape → Reading (List ListedFunction)
-with_form_item line done t = item line t >>= λ i. give (with_optional line i done)
+with_form_item line done t = stored_if is_some (item line t) >>= λ i. give (with_optional line i done)
 
 -- there are no items before the first function
 abbrev pub with_form : ℕ → List ListedFunction → Shape → Reading (List ListedFunction)

@@ -8,7 +8,7 @@ use Rattle.bx_text.specs.declared.node.Sort.TheVariants as sorts
 use Rattle.bx_text.specs.Number.{is_large}
 use Rattle.bx_text.specs.Tree as texts
 use Rattle.bx_text.specs.Tree.{Tree, integer, atom, tuple, list, nil, cons}
-use Rattle.bx_listing.specs.Reading.{Reading, ◌>>=◌, give, refuse, named}
+use Rattle.bx_listing.specs.Reading.{Reading, ◌>>=◌, give, refuse, named, stored}
 
 -- an integer of 64 bits
 abbrev pub small : ℕ → ℤ → Reading ℤ
@@ -68,13 +68,13 @@ sort_name sorts.Fun = codes "fun"
 abbrev pub parts : ℕ → Tree → Parts
 parts line (integer s n) = no_row (small line n >>= λ n. give (Some (term.int n)))
 parts line (atom s text) = no_row (named line text >>= λ a. give (Some (term.atom a.0)))
-parts line (tuple s row) = no_row ((parts line row).row >>= λ r. give (kept_tuple r.elements))
-parts line (list s row) = no_row ((parts line row).row >>= λ r. give (kept_list r.elements r.tail))
+parts line (tuple s row) = no_row (stored (parts line row).row >>= λ r. give (kept_tuple r.elements))
+parts line (list s row) = no_row (stored (parts line row).row >>= λ r. give (kept_list r.elements r.tail))
 parts line (texts.other s k text) = no_row (refuse (faults.Unsupported line (sort_name k)))
 parts line nil = no_row (give (Some term.nil))
 parts line (cons t rest) = record {
   alone = give None;
-  row = (parts line t).alone >>= λ x. (parts line rest).row >>= λ r. give (longer x r);
+  row = stored (parts line t).alone >>= λ x. (parts line rest).row >>= λ r. give (longer x r);
 }
 
 abbrev pub literal : ℕ → Tree → Reading (Option term.Tree)

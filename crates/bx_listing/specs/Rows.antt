@@ -14,7 +14,7 @@ use Rattle.bx_listing.specs.declared.words.OperandWord.{OperandWord}
 use Rattle.bx_listing.specs.declared.words.OperandWord.TheVariants as words
 use Rattle.bx_listing.specs.declared.words.FormWord.{FormWord}
 use Rattle.bx_listing.specs.declared.words.FormWord.TheVariants as forms
-use Rattle.bx_listing.specs.Reading.{Reading, ◌>>=◌, give, from_result}
+use Rattle.bx_listing.specs.Reading.{Reading, ◌>>=◌, give, from_result, stored, after_storing}
 use Rattle.bx_listing.specs.Shape.{Shape, tagged, bare, other, shape, list_elements}
 use Rattle.bx_listing.specs.Words.{operand_word, form_word}
 use Rattle.bx_listing.specs.Operands.{bad_operand, operand, label, register, simple}
@@ -25,7 +25,7 @@ use Rattle.bx_listing.specs.Reading.{refuse}
 -- the members of a list, of two sorts in turn
 abbrev pub members : ℕ → List Operand → Sort → Sort → List Tree → Reading (List Operand)
 members line done this next [] = give done
-members line done this next (t ∷ ts) = simple line this t >>= λ o. members line (done ++ o ∷ []) next this ts
+members line done this next (t ∷ ts) = stored (simple line this t) >>= λ o. members line (done ++ o ∷ []) next this ts
 
 -- `{list,[T,..]}`
 abbrev pub listed_of : OperandWord → List Tree → Option (List Tree)
@@ -51,7 +51,7 @@ is_x n (Some (operands.X m)) = m == n
 is_x n _ = false
 
 abbrev pub list_of : ℕ → List Operand → Sort → Sort → List Tree → Reading (List Operand)
-list_of line done this next ts = members line (done ++ operands.List (length ts) ∷ []) this next ts
+list_of line done this next ts = after_storing (members line (done ++ operands.List (length ts) ∷ []) this next ts)
 
 abbrev pub pairs_of : ℕ → List Operand → Sort → Sort → List Tree → Reading (List Operand)
 pairs_of line done this next ts = if is_even ts then list_of line done this next ts else bad_operand line
@@ -71,14 +71,14 @@ amounts t = amounts_in (shape t)
 -- a heap's size: a number, or the amounts of its parts
 abbrev pub heap_of : ℕ → List Operand → Tree → Option (List Tree) → Reading (List Operand)
 heap_of line done t (Some ts) = list_of line done sorts.Amount sorts.Amount ts
-heap_of line done t None = simple line sorts.Number t >>= λ o. give (done ++ o ∷ [])
+heap_of line done t None = stored (simple line sorts.Number t) >>= λ o. give (done ++ o ∷ [])
 
 abbrev pub heap : ℕ → List Operand → Tree → Reading (List Operand)
 heap line done t = heap_of line done t (amounts t)
 
 -- one slot
 abbrev pub slot : ℕ → List Operand → Slot → Tree → Reading (List Operand)
-slot line done (slot_kinds.One s) t = simple line s t >>= λ o. give (done ++ o ∷ [])
+slot line done (slot_kinds.One s) t = stored (simple line s t) >>= λ o. give (done ++ o ∷ [])
 slot line done (slot_kinds.Many s) t = operand line (listed t) >>= list_of line done s s
 slot line done (slot_kinds.Pairs a b) t = operand line (listed t) >>= pairs_of line done a b
 slot line done slot_kinds.NoLabel t = if is_label 0 (label t) then give done else bad_operand line
@@ -96,7 +96,7 @@ abbrev pub agrees : List Operand → Bool
 agrees (operands.Arity a ∷ operands.Import i ∷ os) = a == i.arity
 agrees _ = true
 
--- an item, or an annotation, which is dropped; and the operands so far
+-- an item, or an annotation, which is ignored; and the operands so far
 abbrev pub Read : Type 0
 Read = Option Op × List Operand
 

@@ -1,4 +1,4 @@
--- Where memory is wanting at all: where something is kept.
+-- Where memory may run out at all: where something is kept.
 use Rattle.std.specs.Prelude.{◌<◌, ◌⊎◌, Result, Err, List, length}
 use Rattle.bx_terms.specs.Outcomes.{Gives}
 use Rattle.bx_terms.specs.declared.faults.Fault.{Fault}

@@ -103,9 +103,13 @@ way_text names ways.Bif name ss os = bif_text names os
 way_text names ways.GcBif name ss os = codes "{gc_bif" ++ grouped_text names 3 (length os - 1) os ++ codes "}"
 way_text names ways.Raise name ss os = codes "{raise,{f,0}" ++ grouped_text names 0 (length os) os ++ codes ",{x,0}}"
 
+-- an item in the way of its opcode
+abbrev pub item_words : Table → Item → List ℕ
+item_words names i = way_text names (way i.op) (printed_atom (opcode i.op).name) (slots i.op) i.operands
+
 -- a form's full stop ends its line
 abbrev pub item_text : Table → Item → List ℕ
-item_text names i = way_text names (way i.op) (printed_atom (opcode i.op).name) (slots i.op) i.operands ++ codes ".\n"
+item_text names i = item_words names i ++ codes ".\n"
 
 abbrev pub function_head_text : Table → CodeFunction → List ℕ
 function_head_text names f = codes "{function," ++ name_text names f.name ++ codes "," ++ decimal f.arity ++ codes "," ++ decimal f.entry ++ codes "}.\n"

@@ -121,7 +121,7 @@ impl CodeFunction {
         self.entry
     }
 
-    /// The same function once more. Memory is wanting only where it has items.
+    /// The same function once more. Memory may run out only where it has items.
     pub fn copy(&self, alloc: Global) -> Result<CodeFunction, AllocError>
         ensures copied { IfOk result (λ copy. copy ≡ self.now) }
         ensures memory { OnErr result (0 < length self.now.items) }

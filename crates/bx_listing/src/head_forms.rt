@@ -3,7 +3,7 @@
 ghost use Rattle.std.specs.Prelude.{◌≡◌, ◌++◌, option_map};
 ghost use Rattle.bx_listing.specs.HeadForms.{module_name, offer, are_offers, named_offer, named_offers, offers, exports_form, is_attributes, is_labels, begun, function_form};
 ghost use Rattle.bx_listing.specs.Seen.{seen};
-ghost use Rattle.bx_listing.specs.Reading.{Reads};
+ghost use Rattle.bx_listing.specs.Reading.{Answers};
 
 use crate::code_form::Export;
 use crate::listing::Function;
@@ -34,7 +34,7 @@ pub(crate) fn exports_form(
     line: usize,
     form: Shape,
 ) -> Result<Vec<Export>, Fault>
-    ensures { Reads (Unit {0}) (λ exports. exports.items) atoms.old atoms.new result
+    ensures { Answers (λ exports. exports.items) atoms.old atoms.new result
         (exports_form line (seen form.entry)) }
 {
     let Shape::Tagged(text, [list]) = form else {
@@ -52,7 +52,7 @@ fn offers(
     line: usize,
     list: &[Node],
 ) -> Result<Vec<Export>, Fault>
-    ensures { Reads (Unit {0}) (λ exports. exports.items) atoms.old atoms.new result
+    ensures { Answers (λ exports. exports.items) atoms.old atoms.new result
         (offers line list.now) }
 {
     if are_offers(list) {
@@ -80,7 +80,7 @@ fn named_offers(
     line: usize,
     list: &[Node],
 ) -> Result<Vec<Export>, Fault>
-    ensures { Reads (Unit {0}) (λ exports. exports.items) atoms.old atoms.new result
+    ensures { Answers (λ exports. exports.items) atoms.old atoms.new result
         (named_offers line list.now) }
 {
     let mut exports = Vec::new(alloc);
@@ -94,7 +94,7 @@ fn named_offers(
 }
 
 fn named_offer(alloc: Global, atoms: &mut Atoms, line: usize, node: &Node) -> Result<Export, Fault>
-    ensures { Reads (Unit {0}) (λ export. export) atoms.old atoms.new result
+    ensures { Answers (λ export. export) atoms.old atoms.new result
         (named_offer line node.now) }
 {
     match offer(node) {
@@ -145,7 +145,7 @@ pub(crate) fn function_form(
     line: usize,
     parts: &[Node],
 ) -> Result<Function, Fault>
-    ensures { Reads (Unit {0}) (λ function. function) atoms.old atoms.new result
+    ensures { Answers (λ function. function) atoms.old atoms.new result
         (function_form line parts.now) }
 {
     let [name, arity, entry] = parts else {

@@ -1,11 +1,11 @@
 //! The text of items, each a line of a listing.
 
-ghost use Rattle.std.specs.Prelude.{◌≡◌, ◌++◌, OnOk, string_bytes, codes, length, take, drop};
+ghost use Rattle.std.specs.Prelude.{◌≡◌, ◌++◌, IfOk, OnOk, string_bytes, codes, length, take, drop};
 ghost use Rattle.bx_ops.specs.Opcodes.{opcode};
 ghost use Rattle.bx_ops.specs.Table.{slots as table_slots, way as table_way};
 ghost use Rattle.bx_terms.specs.AtomText.{printed_atom};
 ghost use Rattle.bx_listing.specs.Items.{seen_item};
-ghost use Rattle.bx_listing.specs.Writing.{operand_text, list_text, slot_text, operand_span, slot_span, slots_text, grouped_text, bif_text, way_text, item_text};
+ghost use Rattle.bx_listing.specs.Writing.{operand_text, list_text, slot_text, operand_span, slot_span, slots_text, grouped_text, bif_text, way_text, item_words, item_text};
 
 use crate::items::{Item, Operand};
 use crate::operand_texts::{before, behind, push_added, push_list, push_operand};
@@ -269,4 +269,15 @@ pub(crate) fn push_item(
 {
     push_way(alloc, out, atoms, item.op, item.operands)?;
     out.push_str(".\n")
+}
+
+/// The text of an item as a listing writes it, without its full stop.
+///
+/// It can only run out of memory.
+pub fn item_words(alloc: Global, atoms: &Atoms, item: Item<'_>) -> Result<String, AllocError>
+    ensures { IfOk result (λ text. string_bytes text ≡ item_words atoms.now (seen_item item.entry)) }
+{
+    let mut out = String::new(alloc);
+    push_way(alloc, &mut out, atoms, item.op, item.operands)?;
+    Ok(out)
 }

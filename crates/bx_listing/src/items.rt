@@ -83,7 +83,7 @@ impl Same for Operand {
 }
 
 impl Operand {
-    /// The same operand once more; a literal's term is shared. Memory is wanting only where that is a tuple or a list cell.
+    /// The same operand once more; a literal's term is shared. Memory may run out only where that is a tuple or a list cell.
     pub fn copy(&self, alloc: Global) -> Result<Operand, AllocError>
         ensures { MatchResult result (λ operand. operand ≡ self.now) (λ _. SharesTerm self.now) }
     {

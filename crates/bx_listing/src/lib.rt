@@ -8,6 +8,7 @@ mod items;
 pub mod laws;
 mod listing;
 mod literals;
+mod locations;
 mod operand_texts;
 mod operands;
 mod parts;
@@ -19,7 +20,9 @@ mod words;
 mod writing;
 
 pub use code_form::{Code, CodeFunction, Export};
+pub use item_texts::item_words;
 pub use items::{Amount, Import, Item, Operand};
 pub use listing::{Function, Listing, code_of};
-pub use reading::read_listing;
+pub use locations::Locations;
+pub use reading::{read_listing, read_located};
 pub use writing::write_listing;

@@ -217,7 +217,7 @@ impl Same for Listing {
 
 /// The code form of a listing: what it holds without the lines.
 ///
-/// Memory is wanting only where it exports or has a function.
+/// Memory may run out only where it exports or has a function.
 pub fn code_of(alloc: Global, listing: &Listing) -> Result<Code, Fault>
     ensures { Gives (CopiesParts listing.now) (λ code. code) result (Ok (code listing.now)) }
 {

@@ -5,7 +5,7 @@ ghost use Rattle.bx_text.specs.Tree.{chain};
 ghost use Rattle.bx_text.specs.View.{tail_seen};
 ghost use Rattle.bx_listing.specs.Literals.{sort_name, kept_cons, kept_before, kept_list, kept_tuple, literal, parts, IsNode};
 ghost use Rattle.bx_listing.specs.LiteralRows.{row_of, with_last};
-ghost use Rattle.bx_listing.specs.Reading.{Reads};
+ghost use Rattle.bx_listing.specs.Reading.{Answers};
 
 use crate::operands::{name_atom, unsupported};
 use bx_terms::{Atoms, Fault, Term, TermRefusal};
@@ -29,7 +29,7 @@ pub(crate) fn literal(
     line: usize,
     node: &Node,
 ) -> Result<Option<Term>, Fault>
-    ensures read { Reads (Unit {0}) (λ term. term) atoms.old atoms.new result
+    ensures read { Answers (λ term. term) atoms.old atoms.new result
         (literal line node.now) }
     ensures node { IsNode node.now }
 {
@@ -72,7 +72,7 @@ fn literal_row(
     elements: &[Node],
     tail: Option<&Node>,
 ) -> Result<Row, Fault>
-    ensures { Reads (Unit {0}) row_of atoms.old atoms.new result
+    ensures { Answers row_of atoms.old atoms.new result
         (parts line (chain elements.now (tail_seen tail.entry))).row }
 {
     let mut kept = Some(Vec::new(alloc));

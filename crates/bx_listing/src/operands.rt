@@ -4,7 +4,7 @@ ghost use Rattle.std.specs.Prelude.{◌≡◌, IfOk, option_map};
 ghost use Rattle.bx_terms.specs.declared.faults.Fault.TheVariants.{Unsupported};
 ghost use Rattle.bx_listing.specs.Operands.{untyped, register, only_y, label, atom_word, atom_operand, integer_source, atom_source, literal_source, source_of, source, value, external, callee, amount, fail_label, bif_named, plain, simple};
 ghost use Rattle.bx_listing.specs.Shape.{word};
-ghost use Rattle.bx_listing.specs.Reading.{Table, named, Reads};
+ghost use Rattle.bx_listing.specs.Reading.{Table, named, Answers};
 
 use crate::items::{Amount, Import, Operand};
 use crate::literals::literal;
@@ -22,7 +22,7 @@ pub(crate) fn name_atom(
     line: usize,
     text: &str,
 ) -> Result<AtomId, Fault>
-    ensures { Reads (Unit {0}) (λ atom. atom) atoms.old atoms.new result (named line text.now) }
+    ensures { Answers (λ atom. atom) atoms.old atoms.new result (named line text.now) }
 {
     match atoms.name(alloc, text) {
         Ok(atom) => Ok(atom),
@@ -82,7 +82,7 @@ pub(crate) fn label(node: &Node) -> Option<u32>
 
 /// An atom that stands alone.
 fn atom_word(alloc: Global, atoms: &mut Atoms, line: usize, node: &Node) -> Result<AtomId, Fault>
-    ensures { Reads (Unit {0}) (λ atom. atom) atoms.old atoms.new result (atom_word line node.now) }
+    ensures { Answers (λ atom. atom) atoms.old atoms.new result (atom_word line node.now) }
 {
     match word(node) {
         Some(text) => name_atom(alloc, atoms, line, text),
@@ -97,7 +97,7 @@ fn atom_operand(
     line: usize,
     node: &Node,
 ) -> Result<Operand, Fault>
-    ensures { Reads (Unit {0}) (λ atom. atom) atoms.old atoms.new result
+    ensures { Answers (λ atom. atom) atoms.old atoms.new result
         (atom_operand line node.now) }
 {
     let Shape::Tagged(word, [operand]) = shape_of(node) else {
@@ -111,7 +111,7 @@ fn atom_operand(
 
 /// A register, or a value that stands in the instruction.
 fn source(alloc: Global, atoms: &mut Atoms, line: usize, node: &Node) -> Result<Operand, Fault>
-    ensures { Reads (Unit {0}) (λ source. source) atoms.old atoms.new result
+    ensures { Answers (λ source. source) atoms.old atoms.new result
         (source line node.now) }
 {
     match shape_of(node) {
@@ -140,7 +140,7 @@ fn tagged_source(
     word: OperandWord,
     parts: &[Node],
 ) -> Result<Operand, Fault>
-    ensures { Reads (Unit {0}) (λ source. source) atoms.old atoms.new result
+    ensures { Answers (λ source. source) atoms.old atoms.new result
         (source_of line node.now word parts.now) }
 {
     match (word, parts) {
@@ -154,7 +154,7 @@ fn tagged_source(
 
 /// An atom or an integer.
 fn value(alloc: Global, atoms: &mut Atoms, line: usize, node: &Node) -> Result<Operand, Fault>
-    ensures { Reads (Unit {0}) (λ value. value) atoms.old atoms.new result (value line node.now) }
+    ensures { Answers (λ value. value) atoms.old atoms.new result (value line node.now) }
 {
     let Shape::Tagged(word, [operand]) = shape_of(node) else {
         return Err(Fault::BadOperand { line });
@@ -169,7 +169,7 @@ fn value(alloc: Global, atoms: &mut Atoms, line: usize, node: &Node) -> Result<O
 
 // The integer of `{integer,I}`.
 fn integer_source(line: usize, node: &Node) -> Result<Operand, Fault>
-    ensures { (texts : Table) → Reads (Unit {0}) (λ source. source) texts texts result
+    ensures { (texts : Table) → Answers (λ source. source) texts texts result
         (integer_source line node.now) }
 {
     match node.view() {
@@ -180,9 +180,9 @@ fn integer_source(line: usize, node: &Node) -> Result<Operand, Fault>
 }
 
 // The atom of `{atom,A}`.
-#[tactic(auto, using(crate::proofs::Readings::refuses_first))]
+#[tactic(auto, using(crate::proofs::Readings::refused_first))]
 fn atom_source(alloc: Global, atoms: &mut Atoms, line: usize, node: &Node) -> Result<Operand, Fault>
-    ensures { Reads (Unit {0}) (λ source. source) atoms.old atoms.new result
+    ensures { Answers (λ source. source) atoms.old atoms.new result
         (atom_source line node.now) }
 {
     let atom = atom_word(alloc, atoms, line, node)?;
@@ -190,14 +190,14 @@ fn atom_source(alloc: Global, atoms: &mut Atoms, line: usize, node: &Node) -> Re
 }
 
 // The term of `{literal,T}`.
-#[tactic(auto, using(crate::proofs::Readings::refuses_first))]
+#[tactic(auto, using(crate::proofs::Readings::refused_first))]
 fn literal_source(
     alloc: Global,
     atoms: &mut Atoms,
     line: usize,
     node: &Node,
 ) -> Result<Operand, Fault>
-    ensures { Reads (Unit {0}) (λ source. source) atoms.old atoms.new result
+    ensures { Answers (λ source. source) atoms.old atoms.new result
         (literal_source line node.now) }
 {
     match literal(alloc, atoms, line, node)? {
@@ -216,7 +216,7 @@ pub(crate) fn unsupported(alloc: Global, line: usize, name: &str) -> Result<Faul
 
 /// The function of `{extfunc,M,F,A}`.
 fn callee(alloc: Global, atoms: &mut Atoms, line: usize, node: &Node) -> Result<Operand, Fault>
-    ensures { Reads (Unit {0}) (λ callee. callee) atoms.old atoms.new result
+    ensures { Answers (λ callee. callee) atoms.old atoms.new result
         (callee line node.now) }
 {
     let Shape::Tagged(word, [module, function, count]) = shape_of(node) else {
@@ -228,7 +228,7 @@ fn callee(alloc: Global, atoms: &mut Atoms, line: usize, node: &Node) -> Result<
     }
 }
 
-#[tactic(auto, using(crate::proofs::Readings::refuses_first, crate::proofs::Readings::refuses_after))]
+#[tactic(auto, using(crate::proofs::Readings::refused_first, crate::proofs::Readings::refused_after))]
 fn external(
     alloc: Global,
     atoms: &mut Atoms,
@@ -237,7 +237,7 @@ fn external(
     function: &Node,
     count: &Node,
 ) -> Result<Operand, Fault>
-    ensures { Reads (Unit {0}) (λ callee. callee) atoms.old atoms.new result
+    ensures { Answers (λ callee. callee) atoms.old atoms.new result
         (external line module.now function.now count.now) }
 {
     let module = atom_word(alloc, atoms, line, module)?;
@@ -253,9 +253,9 @@ fn external(
 }
 
 /// `{KIND,N}`, which a tuple of two is whose first is an atom.
-#[tactic(auto, using(crate::proofs::Readings::refuses_first))]
+#[tactic(auto, using(crate::proofs::Readings::refused_first))]
 fn amount(alloc: Global, atoms: &mut Atoms, line: usize, node: &Node) -> Result<Operand, Fault>
-    ensures { Reads (Unit {0}) (λ amount. amount) atoms.old atoms.new result
+    ensures { Answers (λ amount. amount) atoms.old atoms.new result
         (amount line node.now) }
 {
     let Shape::Tagged(kind, [count]) = shape_of(node) else {
@@ -312,7 +312,7 @@ pub(crate) fn simple(
     sort: Sort,
     node: &Node,
 ) -> Result<Operand, Fault>
-    ensures { Reads (Unit {0}) (λ operand. operand) atoms.old atoms.new result
+    ensures { Answers (λ operand. operand) atoms.old atoms.new result
         (simple line sort node.now) }
 {
     match sort {

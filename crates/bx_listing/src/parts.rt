@@ -1,10 +1,10 @@
 //! What each form behind the head adds to the functions before it.
 
-ghost use Rattle.std.specs.Prelude.{◌≡◌, OnOk};
+ghost use Rattle.std.specs.Prelude.{◌≡◌, OnOk, OnErr, IsSome};
 ghost use Rattle.bx_listing.specs.Listing.{with_item, with_optional, part, part_of, with_form_item, with_form, begun_function};
 ghost use Rattle.bx_listing.specs.ItemForms.{read_as, item};
 ghost use Rattle.bx_listing.specs.Seen.{seen};
-ghost use Rattle.bx_listing.specs.Reading.{Reads};
+ghost use Rattle.bx_listing.specs.Reading.{Answers};
 
 use crate::head_forms::function_form;
 use crate::items::Operand;
@@ -26,7 +26,7 @@ pub(crate) fn part(
     line: usize,
     form: Shape,
 ) -> Result<(), Fault>
-    ensures { Reads (Unit {0}) (λ done. functions.new.items) atoms.old atoms.new result
+    ensures { Answers (λ done. functions.new.items) atoms.old atoms.new result
         (part line functions.old.items (seen form.entry)) }
 {
     match form {
@@ -38,7 +38,7 @@ pub(crate) fn part(
     }
 }
 
-#[tactic(auto, using(crate::proofs::Readings::refuses_first, crate::proofs::Readings::memory_after))]
+#[tactic(auto, using(crate::proofs::Readings::refused_first, crate::proofs::Readings::refused_stored))]
 fn begin_function(
     alloc: Global,
     atoms: &mut Atoms,
@@ -46,7 +46,7 @@ fn begin_function(
     line: usize,
     parts: &[Node],
 ) -> Result<(), Fault>
-    ensures { Reads (Unit {0}) (λ done. functions.new.items) atoms.old atoms.new result
+    ensures { Answers (λ done. functions.new.items) atoms.old atoms.new result
         (begun_function line functions.old.items parts.now) }
 {
     let function = function_form(alloc, atoms, line, parts)?;
@@ -63,7 +63,7 @@ fn add_form(
     line: usize,
     form: Shape,
 ) -> Result<(), Fault>
-    ensures { Reads (Unit {0}) (λ done. functions.new.items) atoms.old atoms.new result
+    ensures { Answers (λ done. functions.new.items) atoms.old atoms.new result
         (with_form line functions.old.items (seen form.entry)) }
 {
     if functions.is_empty() {
@@ -72,7 +72,7 @@ fn add_form(
     add_form_item(alloc, atoms, functions, operands, line, form)
 }
 
-#[tactic(auto, using(crate::proofs::Readings::refuses_first, crate::proofs::Readings::memory_after))]
+#[tactic(auto, using(crate::proofs::Readings::refused_first, crate::proofs::Readings::refused_stored))]
 fn add_form_item(
     alloc: Global,
     atoms: &mut Atoms,
@@ -81,7 +81,7 @@ fn add_form_item(
     line: usize,
     form: Shape,
 ) -> Result<(), Fault>
-    ensures { Reads (Unit {0}) (λ done. functions.new.items) atoms.old atoms.new result
+    ensures { Answers (λ done. functions.new.items) atoms.old atoms.new result
         (with_form_item line functions.old.items (seen form.entry)) }
 {
     let op = item(alloc, atoms, operands, line, form)?;
@@ -97,7 +97,7 @@ fn item(
     line: usize,
     form: Shape,
 ) -> Result<Option<Op>, Fault>
-    ensures { Reads (Unit {0}) (λ op. read_as (op, operands.new.items)) atoms.old atoms.new result
+    ensures { Answers (λ op. read_as (op, operands.new.items)) atoms.old atoms.new result
         (item line (seen form.entry)) }
 {
     operands.clear();
@@ -111,8 +111,9 @@ fn add_item(
     line: usize,
     op: Option<Op>,
 ) -> Result<(), AllocError>
-    ensures { OnOk result (functions.new.items ≡ with_optional line
+    ensures added { OnOk result (functions.new.items ≡ with_optional line
         (read_as (op, operands.old.items)) functions.old.items) }
+    ensures wanting { OnErr result (IsSome op) }
 {
     let Some(op) = op else {
         return Ok(());

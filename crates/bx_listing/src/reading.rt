@@ -1,6 +1,6 @@
 //! Listings, read form by form.
 
-ghost use Rattle.std.specs.Prelude.{◌≡◌, ◌<◌, ◌⊎◌, [], length, option_map, IfOk, IfSome, IsSome};
+ghost use Rattle.std.specs.Prelude.{◌≡◌, ◌<◌, ◌⊎◌, [], None, length, option_map, IfOk, IfSome, IsSome, OnOk};
 ghost use Rattle.bx_terms.specs.Outcomes.{Gives};
 ghost use Rattle.bx_text.specs.Place.{place, place_in};
 ghost use Rattle.bx_text.specs.Forms.{takes_memory};
@@ -8,18 +8,20 @@ ghost use Rattle.bx_text.specs.Tree.{span_of};
 ghost use Rattle.bx_listing.specs.Shape.{shape};
 ghost use Rattle.bx_listing.specs.Forms.{next_form, forms, last_line};
 ghost use Rattle.bx_listing.specs.Listing as listings;
-ghost use Rattle.bx_listing.specs.Reading.{Reads};
+ghost use Rattle.bx_listing.specs.Locations.{located, located_behind, located_exports, locations, passed};
+ghost use Rattle.bx_listing.specs.Reading.{Reads, Answers};
 
 use crate::code_form::Export;
 use crate::head_forms::{exports_form, is_attributes, is_labels, module_name};
 use crate::items::Operand;
 use crate::listing::{Function, Listing};
+use crate::locations::Locations;
 use crate::operands::name_atom;
 use crate::parts::part;
 use crate::shapes::shape_of;
 use bx_terms::{AtomId, Atoms, Fault};
 use bx_text::{Node, Reader};
-use std::alloc::Global;
+use std::alloc::{AllocError, Global};
 
 /// The next form and a reader behind it; `None` where only blanks follow.
 #[tactic(auto, unfolding(crate::specs::Forms::next_form))]
@@ -88,19 +90,26 @@ fn behind_labels<'a>(form: Node<'a>, behind: Reader<'a>) -> Result<Reader<'a>, F
     }
 }
 
-/// The functions, each with its items, up to the end of the text.
-fn functions(alloc: Global, atoms: &mut Atoms, reader: Reader) -> Result<Vec<Function>, Fault>
-    ensures { Reads (Unit {0}) (λ functions. functions.items) atoms.old atoms.new result
+/// The functions, each with its items, up to the end of the text, and where the items stand in its sources.
+fn functions(
+    alloc: Global,
+    atoms: &mut Atoms,
+    reader: Reader,
+) -> Result<(Vec<Function>, Locations), Fault>
+    ensures read { Reads (Unit {0}) (λ r. r.0.items) atoms.old atoms.new result
         (listings.functions [] (forms (place reader.entry))) }
+    ensures located { IfOk result (λ r. r.1.items ≡ located None (forms (place reader.entry))) }
 {
     let mut functions = Vec::new(alloc);
     let mut operands = Vec::new(alloc);
+    let mut locations = Locations::new(alloc);
     let mut here = reader;
     while let Some((form, behind)) = next_form(alloc, here)? {
-        take_form(alloc, atoms, &mut functions, &mut operands, form)?;
+        take_form(alloc, atoms, &mut functions, &mut operands, &form)?;
+        place_form(alloc, &mut locations, form)?;
         here = behind;
     }
-    Ok(functions)
+    Ok((functions, locations.fitted()))
 }
 
 fn take_form(
@@ -108,19 +117,25 @@ fn take_form(
     atoms: &mut Atoms,
     functions: &mut Vec<Function>,
     operands: &mut Vec<Operand>,
-    form: Node,
+    form: &Node,
 ) -> Result<(), Fault>
-    ensures { Reads (Unit {0}) (λ done. functions.new.items) atoms.old atoms.new result
-        (listings.part (span_of form.entry).line functions.old.items (shape form.entry)) }
+    ensures { Answers (λ done. functions.new.items) atoms.old atoms.new result
+        (listings.part (span_of form.now).line functions.old.items (shape form.now)) }
 {
     let line = form.span().line;
-    part(alloc, atoms, functions, operands, line, shape_of(&form))
+    part(alloc, atoms, functions, operands, line, shape_of(form))
+}
+
+fn place_form(alloc: Global, locations: &mut Locations, form: Node) -> Result<(), AllocError>
+    ensures { OnOk result (locations.new ≡ passed locations.old (shape form.entry)) }
+{
+    locations.pass(alloc, shape_of(&form))
 }
 
 /// Reads a listing: the forms `{module,M}`, `{exports,[{F,A},..]}`, `{attributes,T}` (which may be missing) and
 /// `{labels,N}`, and then for each function `{function,F,A,Entry}` and its items, each form ended by a full stop.
 ///
-/// The atoms of the code are numbered in `atoms`, in reading order; what is dropped (attributes, annotations `{'%',T}`,
+/// The atoms of the code are numbered in `atoms`, in reading order; what is ignored (attributes, annotations `{'%',T}`,
 /// the types of registers, the operand of `line`, the number of `labels`) names none.
 ///
 /// A refusal is the first fault in reading order, form by form, with the line on which its form begins, and stands for what
@@ -134,6 +149,26 @@ pub fn read_listing(alloc: Global, atoms: &mut Atoms, text: &[u8]) -> Result<Lis
         (λ listing. listing) atoms.old atoms.new result
         (listings.listing (last_line text.now) (forms (place_in text.now 0))) }
 {
+    match read_located(alloc, atoms, text) {
+        Ok((listing, _)) => Ok(listing),
+        Err(fault) => Err(fault),
+    }
+}
+
+/// Reads a listing, and where its items stand in its sources: `{line,[{location,STRING,N},..]}` says it of itself and of the
+/// items behind it in its function. A `line` that names no place is read all the same.
+pub fn read_located(
+    alloc: Global,
+    atoms: &mut Atoms,
+    text: &[u8],
+) -> Result<(Listing, Locations), Fault>
+    ensures read { Reads
+        (takes_memory (place_in text.now 0) ⊎ listings.IsNamed (forms (place_in text.now 0)))
+        (λ r. r.0) atoms.old atoms.new result
+        (listings.listing (last_line text.now) (forms (place_in text.now 0))) }
+    ensures located { IfOk result
+        (λ r. r.1.items ≡ locations (last_line text.now) (forms (place_in text.now 0))) }
+{
     let (form, behind) = head_form(alloc, text, Reader::at(text, 0))?;
     let line = form.span().line;
     match module_name(shape_of(&form)) {
@@ -142,7 +177,6 @@ pub fn read_listing(alloc: Global, atoms: &mut Atoms, text: &[u8]) -> Result<Lis
     }
 }
 
-#[tactic(auto, using(crate::proofs::Readings::refuses_first))]
 fn named_listing(
     alloc: Global,
     atoms: &mut Atoms,
@@ -150,10 +184,12 @@ fn named_listing(
     line: usize,
     module: &str,
     behind: Reader,
-) -> Result<Listing, Fault>
-    ensures { Reads (Unit {0}) (λ listing. listing) atoms.old atoms.new result
+) -> Result<(Listing, Locations), Fault>
+    ensures read { Reads (Unit {0}) (λ r. r.0) atoms.old atoms.new result
         (listings.named_listing (last_line text.now) line (forms (place behind.entry))
         «module».now) }
+    ensures located { IfOk result (λ r. r.1.items ≡ located_exports (last_line text.now)
+        (forms (place behind.entry))) }
 {
     let name = name_atom(alloc, atoms, line, module)?;
     behind_name(alloc, atoms, text, name, behind)
@@ -165,15 +201,16 @@ fn behind_name(
     text: &[u8],
     name: AtomId,
     behind: Reader,
-) -> Result<Listing, Fault>
-    ensures { Reads (Unit {0}) (λ listing. listing) atoms.old atoms.new result
+) -> Result<(Listing, Locations), Fault>
+    ensures read { Reads (Unit {0}) (λ r. r.0) atoms.old atoms.new result
         (listings.behind_name (last_line text.now) (forms (place behind.entry)) name) }
+    ensures located { IfOk result (λ r. r.1.items ≡ located_exports (last_line text.now)
+        (forms (place behind.entry))) }
 {
     let (form, behind) = head_form(alloc, text, behind)?;
     exported(alloc, atoms, text, name, form, behind)
 }
 
-#[tactic(auto, using(crate::proofs::Readings::refuses_first))]
 fn exported(
     alloc: Global,
     atoms: &mut Atoms,
@@ -181,9 +218,11 @@ fn exported(
     name: AtomId,
     form: Node,
     behind: Reader,
-) -> Result<Listing, Fault>
-    ensures { Reads (Unit {0}) (λ listing. listing) atoms.old atoms.new result (listings.exported
+) -> Result<(Listing, Locations), Fault>
+    ensures read { Reads (Unit {0}) (λ r. r.0) atoms.old atoms.new result (listings.exported
         (last_line text.now) name (listings.taken_at form.entry (place behind.entry))) }
+    ensures located { IfOk result (λ r. r.1.items ≡ located_behind
+        (listings.behind_head (last_line text.now) (forms (place behind.entry)))) }
 {
     let exports = exports_form(alloc, atoms, form.span().line, shape_of(&form))?;
     behind_exports(alloc, atoms, text, name, exports, behind)
@@ -196,10 +235,12 @@ fn behind_exports(
     name: AtomId,
     exports: Vec<Export>,
     behind: Reader,
-) -> Result<Listing, Fault>
-    ensures { Reads (Unit {0}) (λ listing. listing) atoms.old atoms.new result
+) -> Result<(Listing, Locations), Fault>
+    ensures read { Reads (Unit {0}) (λ r. r.0) atoms.old atoms.new result
         (listings.behind_exports (last_line text.now) name (forms (place behind.entry))
         exports.items) }
+    ensures located { IfOk result (λ r. r.1.items ≡ located_behind
+        (listings.behind_head (last_line text.now) (forms (place behind.entry)))) }
 {
     let behind = behind_head(alloc, text, behind)?;
     listed(alloc, atoms, name, exports, behind)
@@ -212,10 +253,11 @@ fn listed(
     name: AtomId,
     exports: Vec<Export>,
     behind: Reader,
-) -> Result<Listing, Fault>
-    ensures { Reads (Unit {0}) (λ listing. listing) atoms.old atoms.new result
+) -> Result<(Listing, Locations), Fault>
+    ensures read { Reads (Unit {0}) (λ r. r.0) atoms.old atoms.new result
         (listings.listed name exports.items (forms (place behind.entry))) }
+    ensures located { IfOk result (λ r. r.1.items ≡ located None (forms (place behind.entry))) }
 {
-    let functions = functions(alloc, atoms, behind)?;
-    Ok(Listing::new(name, exports, functions))
+    let (functions, locations) = functions(alloc, atoms, behind)?;
+    Ok((Listing::new(name, exports, functions), locations))
 }

@@ -6,7 +6,7 @@ ghost use Rattle.bx_listing.specs.Seen.{seen};
 ghost use Rattle.bx_listing.specs.Formed.{formed};
 ghost use Rattle.bx_listing.specs.Operands.{label, register};
 ghost use Rattle.bx_listing.specs.Rows.{members, listed, is_even, is_label, is_x, list_of, pairs_of, slot, row, agrees, amounts, heap, formed_item, written_item, tuple_item, bare_item, item_row};
-ghost use Rattle.bx_listing.specs.Reading.{Reads};
+ghost use Rattle.bx_listing.specs.Reading.{Answers};
 
 use crate::items::Operand;
 use crate::operands::{label, register, simple};
@@ -28,7 +28,7 @@ fn members(
     second: Sort,
     nodes: &[Node],
 ) -> Result<(), Fault>
-    ensures { Reads (Unit {0}) (λ done. operands.new.items) atoms.old atoms.new result
+    ensures { Answers (λ done. operands.new.items) atoms.old atoms.new result
         (members line operands.old.items first second nodes.now) }
 {
     let mut this = first;
@@ -98,7 +98,7 @@ fn is_x0(node: &Node) -> bool
 }
 
 /// A list's length, and its members.
-#[tactic(auto, using(crate::proofs::Readings::memory_before))]
+#[tactic(auto, using(crate::proofs::Readings::wanting_before))]
 fn list_of(
     alloc: Global,
     atoms: &mut Atoms,
@@ -108,14 +108,14 @@ fn list_of(
     second: Sort,
     nodes: &[Node],
 ) -> Result<(), Fault>
-    ensures { Reads (Unit {0}) (λ done. operands.new.items) atoms.old atoms.new result
+    ensures { Answers (λ done. operands.new.items) atoms.old atoms.new result
         (list_of line operands.old.items first second nodes.now) }
 {
     operands.push(Operand::List(nodes.len()))?;
     members(alloc, atoms, line, operands, first, second, nodes)
 }
 
-#[tactic(auto, using(crate::proofs::Readings::refuses_first, crate::proofs::Readings::memory_after))]
+#[tactic(auto, using(crate::proofs::Readings::refused_first, crate::proofs::Readings::refused_stored))]
 fn one(
     alloc: Global,
     atoms: &mut Atoms,
@@ -124,7 +124,7 @@ fn one(
     sort: Sort,
     node: &Node,
 ) -> Result<(), Fault>
-    ensures { Reads (Unit {0}) (λ done. operands.new.items) atoms.old atoms.new result
+    ensures { Answers (λ done. operands.new.items) atoms.old atoms.new result
         (slot line operands.old.items (Slot.One sort) node.now) }
 {
     let operand = simple(alloc, atoms, line, sort, node)?;
@@ -141,7 +141,7 @@ fn read_slot(
     kind: Slot,
     node: &Node,
 ) -> Result<(), Fault>
-    ensures { Reads (Unit {0}) (λ done. operands.new.items) atoms.old atoms.new result
+    ensures { Answers (λ done. operands.new.items) atoms.old atoms.new result
         (slot line operands.old.items kind node.now) }
 {
     match kind {
@@ -180,7 +180,7 @@ fn heap(
     operands: &mut Vec<Operand>,
     node: &Node,
 ) -> Result<(), Fault>
-    ensures { Reads (Unit {0}) (λ done. operands.new.items) atoms.old atoms.new result
+    ensures { Answers (λ done. operands.new.items) atoms.old atoms.new result
         (heap line operands.old.items node.now) }
 {
     match amounts(node) {
@@ -206,7 +206,7 @@ fn pairs_of(
     second: Sort,
     nodes: &[Node],
 ) -> Result<(), Fault>
-    ensures { Reads (Unit {0}) (λ done. operands.new.items) atoms.old atoms.new result
+    ensures { Answers (λ done. operands.new.items) atoms.old atoms.new result
         (pairs_of line operands.old.items first second nodes.now) }
 {
     if is_even(nodes) {
@@ -245,7 +245,7 @@ fn read_row(
     slots: &[Slot],
     form: Form,
 ) -> Result<(), Fault>
-    ensures { Reads (Unit {0}) (λ done. operands.new.items) atoms.old atoms.new result
+    ensures { Answers (λ done. operands.new.items) atoms.old atoms.new result
         (row line operands.old.items slots.now (formed form.entry).1) }
 {
     for i in 0..slots.len() {
@@ -280,7 +280,7 @@ fn operands_from(operands: &[Operand], from: usize) -> &[Operand]
     }
 }
 
-#[tactic(auto, using(crate::proofs::Readings::refuses_first, crate::proofs::Readings::reads_after))]
+#[tactic(auto, using(crate::proofs::Readings::refused_first, crate::proofs::Readings::answers_after))]
 fn formed_item(
     alloc: Global,
     atoms: &mut Atoms,
@@ -288,7 +288,7 @@ fn formed_item(
     operands: &mut Vec<Operand>,
     form: Form,
 ) -> Result<Option<Op>, Fault>
-    ensures { Reads (Unit {0}) (λ op. (op, operands.new.items)) atoms.old atoms.new result
+    ensures { Answers (λ op. (op, operands.new.items)) atoms.old atoms.new result
         (formed_item line operands.old.items (formed form.entry)) }
 {
     let from = operands.len();
@@ -315,7 +315,7 @@ fn written_item(
     word: FormWord,
     parts: &[Node],
 ) -> Result<Option<Op>, Fault>
-    ensures { Reads (Unit {0}) (λ op. (op, operands.new.items)) atoms.old atoms.new result
+    ensures { Answers (λ op. (op, operands.new.items)) atoms.old atoms.new result
         (written_item line operands.old.items text.now word parts.now) }
 {
     match tuple_form(alloc, line, text, word, parts) {
@@ -333,7 +333,7 @@ fn tuple_item(
     word: FormWord,
     parts: &[Node],
 ) -> Result<Option<Op>, Fault>
-    ensures { Reads (Unit {0}) (λ op. (op, operands.new.items)) atoms.old atoms.new result
+    ensures { Answers (λ op. (op, operands.new.items)) atoms.old atoms.new result
         (tuple_item line operands.old.items text.now word parts.now) }
 {
     match (word, parts) {
@@ -350,7 +350,7 @@ fn bare_item(
     operands: &mut Vec<Operand>,
     text: &str,
 ) -> Result<Option<Op>, Fault>
-    ensures { Reads (Unit {0}) (λ op. (op, operands.new.items)) atoms.old atoms.new result
+    ensures { Answers (λ op. (op, operands.new.items)) atoms.old atoms.new result
         (bare_item line operands.old.items text.now) }
 {
     match bare_form(alloc, line, text, form_word(text)) {
@@ -359,7 +359,7 @@ fn bare_item(
     }
 }
 
-/// Reads an item: its opcode, or `None` for an annotation, which is dropped. Its operands go behind those that are there.
+/// Reads an item: its opcode, or `None` for an annotation, which is ignored. Its operands go behind those that are there.
 pub(crate) fn read_item(
     alloc: Global,
     atoms: &mut Atoms,
@@ -367,7 +367,7 @@ pub(crate) fn read_item(
     operands: &mut Vec<Operand>,
     form: Shape,
 ) -> Result<Option<Op>, Fault>
-    ensures { Reads (Unit {0}) (λ op. (op, operands.new.items)) atoms.old atoms.new result
+    ensures { Answers (λ op. (op, operands.new.items)) atoms.old atoms.new result
         (item_row line operands.old.items (seen form.entry)) }
 {
     match form {

@@ -246,7 +246,7 @@ fn push_functions(
 /// The text of a listing with this code: each form on a line of its own, without spaces. What a code form lacks is written
 /// empty, as `{attributes,[]}` and `{line,[]}`, and `{labels,N}` has one more than the greatest label.
 ///
-/// An atom that is not in `atoms` is written `?`. Memory is all that it may lack.
+/// An atom that is not in `atoms` is written `?`. It can only run out of memory.
 pub fn write_listing(alloc: Global, atoms: &Atoms, code: &Code) -> Result<String, Fault>
     ensures { Gives (Unit {0}) (λ text. string_bytes text) result
         (Ok (code_text atoms.now code.now)) }

@@ -211,7 +211,7 @@ mark_operand : (d : ℕ) (names : Table) (o : Operand) → is_one sorts.Mark o �
 mark_operand d names operands.Nil e = weaker (λ u i. (refl, refl)) (nil_printed d names)
 mark_operand d names _ e = absurd (cc)
 
--- whether a literal of a sort that nests k deep may stand where d are left; a BIF's label is said apart
+-- whether a literal of a sort that nests k deep may stand where d are left; a BIF's label is said separately
 abbrev pub suits : ℕ → ℕ → Sort → Bool
 suits d k sorts.Source = nat_le k d
 suits d k sorts.Fail = false

@@ -10,7 +10,7 @@ use Rattle.bx_text_laws.specs.Quoted.{IsQuote, Quoted}
 use Rattle.bx_text_laws.specs.Spelling.{InUtf8}
 use Rattle.bx_text_laws.specs.Tokens.{lines}
 
--- the beginning of an escape that has to go on: a backslash alone, or with `x`, with `x` and a
+-- the prefix of an escape that has to go on: a backslash alone, or with `x`, with `x` and a
 -- digit of base 16, with `x{`, with `x{` and such digits, whatever they count, or with `^`
 pub data Unfinished : List ℕ → Type 0 where
   slash : Unfinished (92 ∷ [])

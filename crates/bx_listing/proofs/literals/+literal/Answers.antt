@@ -1,29 +1,30 @@
-use Rattle.std.proofs.Common.{sym, ◌∙◌, subst, arith}
+use Rattle.std.proofs.Common.{true, refl, sym, ◌∙◌, subst, arith}
 use Rattle.std.proofs.lemmas.Result.{err_from_is_err_and}
 use Rattle.bx_terms.specs.declared.faults.Fault.TheVariants.{Memory}
 use Rattle.bx_text.specs.Tree.{tuple, list, nil, chain}
 use Rattle.bx_text.specs.Tree.{span_of}
 use Rattle.bx_text.specs.View.{tail_seen}
-use Rattle.bx_listing.specs.Reading.{Begins-refl, give, Refuses}
+use Rattle.bx_listing.specs.Reading.{Begins-refl, give, Refused}
 use Rattle.bx_listing.specs.Literals.{parts, literal, kept_list, kept_tuple}
-use Rattle.bx_listing.proofs.Readings.{memory_after}
-use Rattle.bx_listing.proofs.LiteralRows.{resumed-start, resumed_next, refuses_element, memory_after_element, grown_after, ends_without, ends_with, refuses_tail, element_falls, tail_le}
+use Rattle.bx_listing.proofs.Readings.{wanting_stored}
+use Rattle.bx_listing.proofs.LiteralRows.{resumed-start, resumed_next, element_takes, refuses_element, memory_after_element, grown_after, ends_without, ends_with, refuses_tail, element_falls, tail_le}
 use Rattle.bx_listing.proofs.literals.+literal.Goals as goal
 
 pub literal_row-loop-i-init : goal.literal_row-loop-i-init
-literal_row-loop-i-init t c = record { so_far = rw c.new.ensures.items (resumed-start _); grown = Begins-refl _ }
+literal_row-loop-i-init t c = record { so_far = rw c.new.ensures.items (resumed-start _); wants = λ k. k; grown = Begins-refl _ }
 
 pub literal_row-returns-in_err-kept-in-Ok : goal.literal_row-returns-in_err-kept-in-Ok
 literal_row-returns-in_err-kept-in-Ok t c =
     let p = err_from_is_err_and c.from_residual.result c.from_residual.ensures.1 in
-    rw (p.1, p.2) (memory_after_element _ _ _ _ _ _ _ _ _ _ c.loop-i-test.true c.index-elements-i.is c.loop-i.invariant.grown c.loop-i.invariant.so_far c.in-Ok.ensures.read)
+    rw (p.1, p.2) (memory_after_element _ _ _ _ _ _ _ _ _ _ c.loop-i-test.true c.index-elements-i.is c.loop-i.invariant.grown c.loop-i.invariant.so_far c.loop-i.invariant.wants c.in-Ok.ensures.read)
 
 pub literal_row-returns-in-Err : goal.literal_row-returns-in-Err
-literal_row-returns-in-Err t c = refuses_element _ _ _ _ _ _ _ _ _ _ c.loop-i-test.true c.index-elements-i.is c.loop-i.invariant.grown c.loop-i.invariant.so_far c.in-Err.ensures.read
+literal_row-returns-in-Err t c = refuses_element _ _ _ _ _ _ _ _ _ _ c.loop-i-test.true c.index-elements-i.is c.loop-i.invariant.grown c.loop-i.invariant.so_far c.loop-i.invariant.wants c.in-Err.ensures.read
 
 pub literal_row-loop-i-preserved : goal.literal_row-loop-i-preserved
 literal_row-loop-i-preserved t c = record {
   so_far = rw c.in_ok-kept-in-Ok.ensures (sym (resumed_next c.args.line c.args.elements.now _ _ c.index-elements-i.result _ _ _ _ c.loop-i-test.true c.index-elements-i.is c.in-Ok.ensures.read) ∙ c.loop-i.invariant.so_far);
+  wants = element_takes c.args.line c.args.elements.now _ _ c.index-elements-i.result _ _ _ _ c.loop-i-test.true c.index-elements-i.is c.loop-i.invariant.wants c.in-Ok.ensures.read;
   grown = grown_after c.args.line c.index-elements-i.result _ _ _ _ c.loop-i.invariant.grown c.in-Ok.ensures.read;
 }
 
@@ -45,7 +46,7 @@ literal_row-returns-in-Ok-literal t c =
 
 pub literal_row-returns-in-Err-literal : goal.literal_row-returns-in-Err-literal
 literal_row-returns-in-Err-literal t c =
-    rw c.in-Some.is (refuses_tail c.args.line c.args.elements.now c.in-Some.node.now _ _ _ _ _ _ c.loop-i-test.false c.in-Err-literal.ensures.node c.loop-i.invariant.grown (rw c.in-Some.is at c.loop-i.invariant.so_far) c.in-Err-literal.ensures.read)
+    rw c.in-Some.is (refuses_tail c.args.line c.args.elements.now c.in-Some.node.now _ _ _ _ _ _ c.loop-i-test.false c.in-Err-literal.ensures.node c.loop-i.invariant.grown (rw c.in-Some.is at c.loop-i.invariant.so_far) (rw c.in-Some.is at c.loop-i.invariant.wants) c.in-Err-literal.ensures.read)
 
 pub literal_row-returns-in-None : goal.literal_row-returns-in-None
 literal_row-returns-in-None t c =
@@ -54,11 +55,11 @@ literal_row-returns-in-None t c =
 pub literal-returns-in_err-tuple-in-Tuple-clause-read : goal.literal-returns-in_err-tuple-in-Tuple-clause-read
 literal-returns-in_err-tuple-in-Tuple-clause-read t c =
     let p = err_from_is_err_and c.from_residual-in_err-tuple-in-Tuple.result c.from_residual-in_err-tuple-in-Tuple.ensures.1 in
-    let said : Refuses (Unit {0}) c.args.atoms.now c.literal_row.new.atoms Memory (literal c.args.line (tuple (span_of c.args.node.now) (chain c.in-Tuple.elements.now nil))) = memory_after _ _ ((parts c.args.line (chain c.in-Tuple.elements.now nil)).row) _ (λ r. give (kept_tuple r.elements)) c.in_ok-row-in-Tuple.ensures in
-    rw (p.1, p.2) (subst (λ n. Refuses (Unit {0}) c.args.atoms.now c.literal_row.new.atoms Memory (literal c.args.line n)) c.in-Tuple.ensures.content said)
+    let said : Refused c.args.atoms.now c.literal_row.new.atoms Memory (literal c.args.line (tuple (span_of c.args.node.now) (chain c.in-Tuple.elements.now nil))) = wanting_stored (λ _. true) _ _ ((parts c.args.line (chain c.in-Tuple.elements.now nil)).row) _ (λ r. give (kept_tuple r.elements)) c.in_ok-row-in-Tuple.ensures refl in
+    rw (p.1, p.2) (subst (λ n. Refused c.args.atoms.now c.literal_row.new.atoms Memory (literal c.args.line n)) c.in-Tuple.ensures.content said)
 
 pub literal-returns-in_err-list-in-List-clause-read : goal.literal-returns-in_err-list-in-List-clause-read
 literal-returns-in_err-list-in-List-clause-read t c =
     let p = err_from_is_err_and c.from_residual-in_err-list-in-List.result c.from_residual-in_err-list-in-List.ensures.1 in
-    let said : Refuses (Unit {0}) c.args.atoms.now c.literal_row-in-List.new.atoms Memory (literal c.args.line (list (span_of c.args.node.now) (chain c.in-List.elements.now (tail_seen c.in-List.tail)))) = memory_after _ _ ((parts c.args.line (chain c.in-List.elements.now (tail_seen c.in-List.tail))).row) _ (λ r. give (kept_list r.elements r.tail)) c.in_ok-row-in-List.ensures in
-    rw (p.1, p.2) (subst (λ n. Refuses (Unit {0}) c.args.atoms.now c.literal_row-in-List.new.atoms Memory (literal c.args.line n)) c.in-List.ensures.content said)
+    let said : Refused c.args.atoms.now c.literal_row-in-List.new.atoms Memory (literal c.args.line (list (span_of c.args.node.now) (chain c.in-List.elements.now (tail_seen c.in-List.tail)))) = wanting_stored (λ _. true) _ _ ((parts c.args.line (chain c.in-List.elements.now (tail_seen c.in-List.tail))).row) _ (λ r. give (kept_list r.elements r.tail)) c.in_ok-row-in-List.ensures refl in
+    rw (p.1, p.2) (subst (λ n. Refused c.args.atoms.now c.literal_row-in-List.new.atoms Memory (literal c.args.line n)) c.in-List.ensures.content said)

@@ -1,15 +1,17 @@
-use Rattle.std.proofs.Common.{◌≡◌, [], length}
+use Rattle.std.proofs.Common.{◌≡◌, [], ◌++◌, None, length}
 use Rattle.bx_text.specs.Place.{place}
 use Rattle.bx_listing.specs.Reading.{Begins}
 use Rattle.bx_listing.specs.Forms.{forms}
 use Rattle.bx_listing.specs.Listing as listings
+use Rattle.bx_listing.specs.Locations.{located}
 use Rattle.bx_listing.proofs.reading.functions.Given as goal
 
-abbrev pub invariant-loop-operands : goal.invariant-loop-operands
-invariant-loop-operands l = record {
+abbrev pub invariant-loop-locations : goal.invariant-loop-locations
+invariant-loop-locations l = record {
   so_far : (listings.functions l.functions.items (forms (place l.here))).run l.atoms ≡ (listings.functions [] (forms (place l.fn.reader))).run l.fn.atoms;
   grown : Begins l.fn.atoms l.atoms;
+  placed : l.locations.items ++ located l.locations.here (forms (place l.here)) ≡ located None (forms (place l.fn.reader));
 }
 
-abbrev pub decreases-loop-operands : goal.decreases-loop-operands
-decreases-loop-operands l = length l.here.rest.now
+abbrev pub decreases-loop-locations : goal.decreases-loop-locations
+decreases-loop-locations l = length l.here.rest.now

@@ -1,12 +1,12 @@
 use Rattle.std.proofs.lemmas.Result.{err_from_is_err_and}
-use Rattle.std.proofs.Common.{[], ◌∷◌, ◌++◌}
+use Rattle.std.proofs.Common.{true, refl, [], ◌∷◌, ◌++◌}
 use Rattle.bx_listing.specs.Reading.{give}
 use Rattle.bx_listing.specs.declared.items.Operand.{Operand}
 use Rattle.bx_listing.specs.Operands.{simple}
-use Rattle.bx_listing.proofs.Readings.{memory_after}
+use Rattle.bx_listing.proofs.Readings.{wanting_stored}
 use Rattle.bx_listing.proofs.rows.one.Goals as goal
 
 pub returns-in_err-push : goal.returns-in_err-push
 returns-in_err-push c =
     let p = err_from_is_err_and c.from_residual-in_err-push.result c.from_residual-in_err-push.ensures.1 in
-    rw (p.1, p.2) (memory_after _ _ (simple c.args.line c.args.sort c.args.node.now) _ (λ (o : Operand). give (c.args.operands.now.items ++ o ∷ [])) c.in_ok-operand.ensures)
+    rw (p.1, p.2) (wanting_stored (λ _. true) _ _ (simple c.args.line c.args.sort c.args.node.now) _ (λ (o : Operand). give (c.args.operands.now.items ++ o ∷ [])) c.in_ok-operand.ensures refl)

@@ -2,7 +2,7 @@ use Rattle.std.proofs.Common.{get_or, sym}
 use Rattle.bx_listing.specs.Formed.{formed}
 use Rattle.bx_listing.specs.Rows.{row, slot}
 use Rattle.bx_listing.proofs.Readings.{grown_after}
-use Rattle.bx_listing.proofs.Loops.{row_next, row_refuses, row_no_more}
+use Rattle.bx_listing.proofs.Loops.{row_next, row_takes, row_refuses, row_no_more}
 use Rattle.bx_listing.proofs.rows.read_row.Goals as goal
 
 pub returns-in_default : goal.returns-in_default
@@ -10,10 +10,11 @@ returns-in_default c = row_no_more c.args.line _ c.args.slots.now (formed c.args
 
 pub returns-in-Err : goal.returns-in-Err
 returns-in-Err c =
-    row_refuses c.args.line _ c.args.slots.now (formed c.args.form).1 c.loop-i.i _ _ _ _ _ _ (row c.args.line c.args.operands.now.items c.args.slots.now (formed c.args.form).1) c.loop-i-test.true (sym c.in-Some.ensures) c.loop-i.invariant.grown c.loop-i.invariant.so_far c.in-Err.ensures
+    row_refuses c.args.line _ c.args.slots.now (formed c.args.form).1 c.loop-i.i _ _ _ _ _ _ (row c.args.line c.args.operands.now.items c.args.slots.now (formed c.args.form).1) c.loop-i-test.true (sym c.in-Some.ensures) c.loop-i.invariant.grown c.loop-i.invariant.so_far c.loop-i.invariant.wants c.in-Err.ensures
 
 pub loop-i-preserved : goal.loop-i-preserved
 loop-i-preserved c = record {
   so_far = row_next c.args.line _ c.args.slots.now (formed c.args.form).1 c.loop-i.i _ _ _ _ _ _ c.loop-i-test.true (sym c.in-Some.ensures) c.loop-i.invariant.so_far c.in-Ok.ensures;
+  wants = row_takes c.args.line _ c.args.slots.now (formed c.args.form).1 c.loop-i.i _ _ _ _ _ _ (row c.args.line c.args.operands.now.items c.args.slots.now (formed c.args.form).1) c.loop-i-test.true (sym c.in-Some.ensures) c.loop-i.invariant.wants c.in-Ok.ensures;
   grown = grown_after (slot c.args.line c.loop-i.operands.items (get_or c.args.slots.now c.loop-i.i _) c.in-Some.node.now) _ _ _ _ c.loop-i.invariant.grown c.in-Ok.ensures;
 }

@@ -10,10 +10,11 @@ use Rattle.bx_listing.specs.Forms.{forms, last_line}
 use Rattle.bx_listing.specs.Listing as listings
 use Rattle.bx_listing.proofs.Readings.{refuses_first, refuses_result, reads_taking, reads_same}
 use Rattle.bx_listing.proofs.Heads.{listing-named, is_named}
-use Rattle.bx_listing.proofs.reading.read_listing.Goals as goal
+use Rattle.bx_listing.proofs.LocatedForms.{behind_first}
+use Rattle.bx_listing.proofs.reading.read_located.Goals as goal
 
-pub returns-in_err-form : goal.returns-in_err-form
-returns-in_err-form c =
+pub returns-in_err-form-clause-read : goal.returns-in_err-form-clause-read
+returns-in_err-form-clause-read c =
     let p = err_from_is_err_and c.from_residual.result c.from_residual.ensures.1 in
     let start = place_in c.args.text.now 0 in
     let said = listings.taken (last_line c.args.text.now) (forms start) in
@@ -22,8 +23,8 @@ returns-in_err-form c =
     let given : Gives {X = listings.Taken} (takes_memory start) (λ x. x) (Err fault) said = subst (λ q. Gives {X = listings.Taken} (takes_memory q) (λ x. x) (Err fault) (listings.taken (last_line c.args.text.now) (forms q))) c.at.ensures c.in_err-form.ensures in
     rw (p.1, p.2) (refuses_first takes _ _ _ (from_result said) (listings.listing_from (last_line c.args.text.now)) (refuses_result (takes_memory start) takes _ _ said inl given))
 
-pub returns-in-Some : goal.returns-in-Some
-returns-in-Some c =
+pub returns-in-Some-clause-read : goal.returns-in-Some-clause-read
+returns-in-Some-clause-read c =
     let start = place_in c.args.text.now 0 in
     let last = last_line c.args.text.now in
     let form = listings.taken_at c.in_ok-form.form (place c.in_ok-form.behind) in
@@ -31,4 +32,12 @@ returns-in-Some c =
     let named : Some c.in-Some.name.now ≡ module_name (shape c.in_ok-form.form) = rw c.shape_of.ensures at c.in-Some.ensures in
     let takes : Type 0 = takes_memory start ⊎ listings.IsNamed (forms start) in
     reads_same takes _ _ _ _ (listings.named_listing last form.line form.rest c.in-Some.name.now) (listings.listing last (forms start)) (listing-named last (forms start) form c.in-Some.name.now _ taken named)
-    (reads_taking takes _ _ _ _ _ (inr (is_named last (forms start) form c.in-Some.name.now taken named)) (rw c.span-line.ensures at c.named_listing.ensures))
+    (reads_taking takes _ _ _ _ _ (inr (is_named last (forms start) form c.in-Some.name.now taken named)) (rw c.span-line.ensures at c.named_listing.ensures.read))
+
+pub returns-in-Some-clause-located : goal.returns-in-Some-clause-located
+returns-in-Some-clause-located c =
+    let start = place_in c.args.text.now 0 in
+    let last = last_line c.args.text.now in
+    let form = listings.taken_at c.in_ok-form.form (place c.in_ok-form.behind) in
+    let taken : listings.taken last (forms start) ≡ Ok form = rw c.at.ensures at c.in_ok-form.ensures in
+    rw (behind_first last (forms start) form taken) c.named_listing.ensures.located
