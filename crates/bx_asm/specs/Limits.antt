@@ -155,7 +155,7 @@ first_call fs = first (λ f. first as_import (operands_of f)) fs
 abbrev pub first_label : List ListedFunction → Option ℕ
 first_label fs = first (λ f. first as_place (operands_of f)) fs
 
--- the first label that stands twice; memory is wanting only where there is a label
+-- the first label that stands twice; memory may run out only where there is a label
 abbrev pub RefusesLabels : List ListedFunction → Fault → Type 0
 RefusesLabels fs (LabelTwice n) = again [] (all_labels fs) ≡ Some n
 RefusesLabels fs Memory = IsSome (first_label fs)

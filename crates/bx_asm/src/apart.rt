@@ -13,7 +13,7 @@ use smallvec::SmallVec;
 use std::alloc::{AllocError, Global};
 
 /// Takes so much of the room that is left, as where memory runs out once there is less.
-fn take_room(room: &mut usize, count: usize) -> Result<(), AllocError>
+pub(crate) fn take_room(room: &mut usize, count: usize) -> Result<(), AllocError>
     ensures taken { OnOk result (room.new + count ≡ room.old) }
     ensures short { OnErr result (room.old < count) }
     ensures kept { OnErr result (room.new ≡ room.old) }
@@ -81,6 +81,7 @@ impl Named {
         ensures imports { IfOk result (λ n. n.imports.keys ≡ self.now.imports.keys) }
     {
         let literals = terms_apart(alloc, room, &self.literals)?;
+        take_room(room, self.imports.len())?;
         let imports = self.imports.clone()?;
         Ok(Named { literals, imports })
     }

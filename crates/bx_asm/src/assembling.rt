@@ -18,7 +18,7 @@ const MOST_IMPORTS: usize = 65_535;
 /// The numbered code of a listing, or the first fault: R16, R15, R12, R13, R14 in this order, each over the whole listing, the
 /// first in item order.
 ///
-/// Memory is wanting only where the listing calls a function by its name and is within all other limits of size, where it has
+/// Memory may run out only where the listing calls a function by its name and is within all other limits of size, where it has
 /// a label that is looked at, or where it has no fault.
 pub fn assemble(alloc: Global, listing: &Listing) -> Result<Unit, Fault>
     ensures { Gives (TakesMemory listing.now) (λ u. u) result (assembled listing.now) }

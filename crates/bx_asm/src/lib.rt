@@ -3,7 +3,6 @@
 
 mod apart;
 mod assembling;
-mod decoding;
 mod instruction;
 mod limits;
 mod lookup;
@@ -15,7 +14,7 @@ mod sameness;
 mod unit;
 
 pub use assembling::assemble;
-pub use instruction::{CallKind, Comparison, Instruction, Key, Kind, Mismatch, Register, Source};
+pub use instruction::{CallKind, Comparison, Key, Kind, Mismatch, Register, Source};
 pub use lookup::Lookup;
 pub use members::{Pairs, Sources, YRegisters};
 pub use numbered::{Numbered, Spelt};

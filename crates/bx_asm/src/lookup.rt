@@ -2,7 +2,7 @@
 
 ghost use Rattle.std.specs.Prelude.{◌≡◌, Option, option_map, length};
 ghost use Rattle.bx_asm.specs.Operands.{operand_of, row_of};
-ghost use Rattle.bx_asm.specs.Decoding.{as_source, as_register, as_y, as_label, as_fail, as_place, as_number, as_atom, as_import, as_bif, members, sources_behind, registers_behind, pairs_behind, label_alone, y_alone, source_alone, first_number};
+ghost use Rattle.bx_asm.specs.Decoding.{as_source, as_register, as_y, as_label, as_fail, as_place, as_number, as_atom, as_import, as_bif, members, sources_behind, registers_behind, pairs_behind, label_alone, y_alone, first_number};
 ghost use Rattle.bx_asm.specs.Instructed.{source_of, sources_of, registers_of, pairs_of};
 ghost use Rattle.bx_asm.specs.Looked.{tables};
 
@@ -207,17 +207,6 @@ impl<'a> Lookup<'a> {
     {
         match row {
             [tag] => self.y(*tag),
-            _ => None,
-        }
-    }
-
-    /// The source that is the only operand.
-    #[inline(always)]
-    pub fn source_alone(self, row: &[Operand]) -> Option<Source<'a>>
-        ensures { option_map source_of result ≡ source_alone (row_of (tables self.entry) row.now) }
-    {
-        match row {
-            [value] => Some(self.source(*value)),
             _ => None,
         }
     }

@@ -2,13 +2,11 @@
 
 ghost use Rattle.std.specs.Prelude.{◌≡◌, ◌↔◌, ◌||◌, ◌==◌, IsTrue, option_map, slice_get, length};
 ghost use Rattle.bx_asm.specs.Decoding.{instruction_of};
-ghost use Rattle.bx_asm.specs.Instructed.{instr_of};
 ghost use Rattle.bx_asm.specs.Looked.{tables};
 ghost use Rattle.bx_asm.specs.Marks.{is_mark, label_of, label_in_row};
 ghost use Rattle.bx_asm.specs.Numbered.{item_of, spelt_of};
 ghost use Rattle.bx_asm.specs.Operands.{operand_of};
 
-use crate::instruction::Instruction;
 use crate::lookup::Lookup;
 use crate::operands::Operand;
 use bx_listing::{Amount, Import};
@@ -123,14 +121,6 @@ impl<'a> Numbered<'a> {
         ensures { result ≡ (item_of self.entry).op }
     {
         self.op
-    }
-
-    /// The instruction that the item is; `None` where it is a label or a line.
-    #[inline(always)]
-    pub fn instruction(self) -> Option<Instruction<'a>>
-        ensures { option_map instr_of result ≡ instruction_of (item_of self.entry) }
-    {
-        self.tables.instruction(self.op(), self.operands)
     }
 
     /// Whether the item is a mark: a label or a line, and no instruction.
