@@ -15,7 +15,7 @@ use std::alloc::{AllocError, Global};
 
 /// The code form of a module: what its numbers and its tables spell.
 ///
-/// Memory is wanting only where it exports or has a function.
+/// Memory may run out only where it exports or has a function.
 pub fn disassemble(alloc: Global, unit: &Unit) -> Result<Code, Fault>
     ensures { Gives (TakesMemory unit.now) (λ code. code) result (Ok unit.now) }
 {
@@ -25,7 +25,7 @@ pub fn disassemble(alloc: Global, unit: &Unit) -> Result<Code, Fault>
 
 /// The code form of the module of that name; `None` where there is no such module.
 ///
-/// Memory is wanting only where there is such a module, which exports or has a function.
+/// Memory may run out only where there is such a module, which exports or has a function.
 pub fn disassemble_image(
     alloc: Global,
     image: &Image,

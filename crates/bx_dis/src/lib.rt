@@ -3,5 +3,7 @@
 
 mod disassembling;
 mod operands;
+mod texts;
 
 pub use disassembling::{disassemble, disassemble_image};
+pub use texts::item_text;

@@ -51,7 +51,11 @@ fn add_operand(
 
 /// Puts an item's operands into an empty row.
 #[tactic(auto, using(bx_asm::proofs::Growing::take_at))]
-fn fill(alloc: Global, row: &mut Vec<Operand>, item: Numbered<'_>) -> Result<(), AllocError>
+pub(crate) fn fill(
+    alloc: Global,
+    row: &mut Vec<Operand>,
+    item: Numbered<'_>,
+) -> Result<(), AllocError>
     requires { row.old.items ≡ [] }
     ensures { OnOk result (row.new.items ≡ (item_of item.entry).operands) }
 {

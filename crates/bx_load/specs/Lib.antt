@@ -5,6 +5,7 @@ pub mod Behind
 pub mod Items
 pub mod Labels
 pub mod Exports
+pub mod Functions
 pub mod Linking
 pub mod Loading
 pub mod Names

@@ -32,6 +32,6 @@ load_fault ms =
 abbrev pub loaded : List (List ℕ) → List Code → Result Loaded Fault
 loaded atoms ms = or_refused (record { atoms = atoms; modules = ms }) (load_fault ms)
 
--- loading takes memory once the modules are counted and their names are told apart, where there is one
+-- loading takes memory where there is a module and nothing is wrong
 abbrev pub TakesMemory : List Code → Type 0
-TakesMemory ms = (0 < length ms) × ((nat_lt 64 (length ms) ≡ false) × (has_twice ms ≡ false))
+TakesMemory ms = (0 < length ms) × (load_fault ms ≡ None)

@@ -1,4 +1,4 @@
--- Places in print.
+-- Addresses in print.
 use Rattle.std.specs.Prelude.{ℕ, List, ◌++◌, Option, codes, decimal, slice_get}
 use Rattle.bx_terms.specs.declared.places.Place.{Place}
 use Rattle.bx_terms.specs.Printed.{printed_name}

@@ -10,15 +10,14 @@ use std::alloc::{AllocError, Global};
 #[tactic(auto, using(std::proofs::lemmas::List::take_more))]
 pub(crate) fn units_apart(
     alloc: Global,
-    room: usize,
+    room: &mut usize,
     units: &[Unit],
 ) -> Result<Vec<Unit>, AllocError>
     ensures { IfOk result (λ copies. copies.items ≡ units.now) }
 {
-    let mut room = room;
     let mut copies = Vec::with_capacity(alloc, units.len())?;
     for at in 0..units.len() {
-        let copy = units[at].apart(alloc, &mut room)?;
+        let copy = units[at].apart(alloc, room)?;
         copies.push(copy)?;
     }
     Ok(copies)

@@ -1,19 +1,21 @@
 //! Where calls of a module's exported functions begin.
 
 ghost use Rattle.std.specs.Prelude.{◌≡◌, ℕ, IfOk, OnOk, MatchOption, true, false};
+ghost use Rattle.std.specs.List.{list_any};
 ghost use Rattle.bx_terms.specs.declared.atom_table.AtomId.{AtomId as Name};
 ghost use Rattle.bx_listing.specs.Code.{items};
 ghost use Rattle.bx_asm.specs.Limits.{or_else};
 ghost use Rattle.bx_load.specs.Exports.{found, exported_item, led};
-ghost use Rattle.bx_load.specs.Heads.{head_entry, entry_if};
+ghost use Rattle.bx_load.specs.Heads.{head_entry, entry_if, is_head};
 ghost use Rattle.bx_load.specs.Image.{is_export, entry_of, target_in};
 ghost use Rattle.bx_load.specs.Labels.{leads_to};
-ghost use Rattle.bx_load.specs.Loading.{lacks_export};
+ghost use Rattle.bx_load.specs.Loading.{is_missing, lacks_export};
 
 use crate::by_name::ByName;
 use crate::labels::Labels;
 use bx_asm::{Head, Unit};
 use bx_listing::Export;
+use bx_terms::AtomId;
 use std::alloc::{AllocError, Global};
 
 /// Puts in a function's entry, where there is none of that name and arity yet.
@@ -83,4 +85,28 @@ pub(crate) fn exports_of(
         }
     }
     Ok(Some(exports))
+}
+
+/// Whether one of these functions has that name and arity.
+fn has_head(functions: &[Head], function: AtomId, arity: u32) -> bool
+    ensures { result ≡ list_any (is_head function arity) functions.now }
+{
+    functions
+        .iter()
+        .any(|head| head.name == function && head.arity == arity)
+}
+
+/// Whether the module has no function of that name and arity.
+#[tactic(auto, using(crate::proofs::FunctionHeads::any_head))]
+fn is_missing(unit: &Unit, export: &Export) -> bool
+    ensures { result ≡ is_missing unit.now.functions export.now }
+{
+    !has_head(unit.functions(), export.function, export.arity)
+}
+
+/// Whether an export names no function of the module. They are looked for one by one, which takes no memory.
+pub(crate) fn lacks_export(unit: &Unit) -> bool
+    ensures { result ≡ lacks_export unit.now }
+{
+    unit.exports().iter().any(|export| is_missing(unit, export))
 }

@@ -8,7 +8,7 @@ ghost use Rattle.bx_load.specs.Image.{Loaded, item_at, after, target, export, pl
 ghost use Rattle.bx_load.specs.Loading.{load_fault};
 ghost use Rattle.bx_load.specs.Standing.{Stands, AreLoaded};
 
-/// A place that is given by the number of its item holds an instruction. Where a run goes on, and where a label or a call
+/// An address that is given by the number of its item holds an instruction. Where a run goes on, and where a label or a call
 /// of an exported function leads to, there stands an instruction too, or it is behind the last item of a module.
 ///
 /// Source: The BEAM Book, "Loading".

@@ -1,4 +1,4 @@
-//! Loaded code: the modules of a program, the places in them, and where calls and jumps lead.
+//! Loaded code: the modules of a program, the addresses in them, and where calls and jumps lead.
 #![tactic(auto)]
 
 mod apart;
@@ -6,6 +6,7 @@ mod behind;
 mod by_name;
 mod callees;
 mod exports;
+mod heads;
 mod image;
 mod labels;
 pub mod laws;

@@ -1,23 +1,12 @@
-//! The items of one module: marks, labels and the instructions behind them.
+//! The items of one module: marks, and labels.
 
 ghost use Rattle.std.specs.Prelude.{◌≡◌, is_some, option_map, option_and_then, slice_get};
 ghost use Rattle.bx_listing.specs.Code.{items};
-ghost use Rattle.bx_asm.specs.Decoding.{instruction_of};
-ghost use Rattle.bx_asm.specs.Instructed.{instr_of};
 ghost use Rattle.bx_asm.specs.Marks.{label_of};
 ghost use Rattle.bx_load.specs.Image.{is_mark, unmarked};
 ghost use Rattle.bx_load.specs.Items.{passes_at};
 
-use bx_asm::{Instruction, Unit};
-
-/// The instruction of that number; none past the last item and at a mark.
-#[inline(always)]
-pub(crate) fn instruction_in(unit: &Unit, number: u32) -> Option<Instruction<'_>>
-    ensures { option_map instr_of result ≡ option_and_then instruction_of
-        (slice_get (items unit.now) number) }
-{
-    unit.item(number as usize)?.instruction()
-}
+use bx_asm::Unit;
 
 #[inline(always)]
 pub(crate) fn is_mark_at(unit: &Unit, number: u32) -> bool
