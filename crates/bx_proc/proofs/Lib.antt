@@ -12,13 +12,13 @@ pub mod KeptRows
 pub mod Linking
 pub mod Living
 pub mod Noting
-pub mod OnItsWay
 pub mod Refusing
 pub mod Registers
 pub mod Resuming
 pub mod Sent
-pub mod Shown
 pub mod Told
 pub mod Unsent
 pub mod Woken
 pub mod Writing
+pub mod Alone
+pub mod Own

@@ -7,10 +7,10 @@ ghost use Rattle.std.specs.FinMap as finite;
 ghost use Rattle.bx_load.specs.Image.{after, instruction_at};
 ghost use Rattle.bx_proc.specs.declared.parts.Answer.TheVariants as answers;
 ghost use Rattle.bx_proc.specs.Asking.{finished_with};
-ghost use Rattle.bx_proc.specs.Runs.{Runs, asking};
+ghost use Rattle.bx_proc.specs.Runs.{Runs};
 ghost use Rattle.bx_proc.specs.Spelled.{spelled};
-ghost use Rattle.bx_proc.specs.Stepping.{asked_at, called_in, given_to, settling, settled, settled_with, SettlingTakes, SettlingWithTakes, NotingTakes, GivenTakes, noting, leads_to, leads_on, unasked, rested, resumed, resumed_with, ResumedTakes};
-ghost use Rattle.bx_proc.specs.Telling.{Resumes};
+ghost use Rattle.bx_proc.specs.Stepping.{asked_at, called_in, given_to, settling, settled, settled_with, SettlingTakes, SettlingWithTakes, NotingTakes, GivenTakes, noting, leads_to, leads_on, unasked, rested, asking_still, resumed, ResumedTakes};
+ghost use Rattle.bx_proc.specs.Telling.{Resumes, Settles};
 
 use crate::operands::{import_of, number_of};
 use crate::parts::{Answer, Status};
@@ -40,50 +40,8 @@ impl Proc {
             return Err(Stop::trapped(Trap::WrongShape));
         };
         self.withdraw();
-        let ran = self.settle_call(alloc, image, answer);
-        self.rest(native, &ran);
-        ran
-    }
-
-    /// The same with a message to the process itself: where the answer is a value with which it goes on, the message joins
-    /// its mailbox, and else there is none.
-    #[tactic(auto, using(crate::proofs::Resuming::unnoted))]
-    pub fn resume_noting(
-        &mut self,
-        alloc: Global,
-        image: &Image,
-        answer: &Answer,
-        message: Term,
-    ) -> Result<(), Stop>
-        ensures { Resumes (ResumedTakes
-            (SettlingWithTakes image.now answer.now (unasked self.old)) self.old.asked)
-            self.old self.new result
-            (resumed_with image.now answer.now message self.old.asked (unasked self.old)) }
-    {
-        match answer {
-            Answer::Value(value) => self.resume_with(alloc, image, value, message),
-            Answer::Fault(_, _) => self.resume(alloc, image, answer),
-        }
-    }
-
-    /// The same with a value.
-    fn resume_with(
-        &mut self,
-        alloc: Global,
-        image: &Image,
-        value: &Term,
-        message: Term,
-    ) -> Result<(), Stop>
-        ensures { Resumes (ResumedTakes (NotingTakes image.now (unasked self.old)) self.old.asked)
-            self.old self.new result (resumed_with image.now (answers.Value value.now) message
-            self.old.asked (unasked self.old)) }
-    {
-        let Some(native) = self.asked else {
-            return Err(Stop::trapped(Trap::WrongShape));
-        };
-        self.withdraw();
-        let ran = self.note(alloc, image, value, message);
-        self.rest(native, &ran);
+        let ran = self.settle(alloc, image, answer);
+        self.ask_still(native, &ran);
         ran
     }
 
@@ -95,20 +53,70 @@ impl Proc {
         self.asked = None;
     }
 
-    /// Asks for this native again, which was withdrawn.
-    #[inline]
-    pub fn ask_again(&mut self, native: Native)
-        ensures { self.new ≡ asking native self.old }
-    {
-        self.asked = Some(native);
-    }
-
-    /// A process that was answered and goes on is ready; else it asks as before.
-    fn rest(&mut self, native: Native, ran: &Result<(), Stop>)
-        ensures { self.new ≡ rested native self.old ran.now }
+    /// A process that was answered and does not go on asks as before.
+    fn ask_still(&mut self, native: Native, ran: &Result<(), Stop>)
+        ensures { self.new ≡ asking_still native self.old ran.now }
     {
         if ran.is_err() {
             self.asked = Some(native);
+        }
+    }
+
+    /// Ends what the process asked for or sent, at the `send` or the call by name that stands there, where it asks for
+    /// nothing any more.
+    ///
+    /// Where it does not go on, nothing has changed, but that the reason of an end waits until it is taken.
+    #[tactic(auto, using(crate::proofs::Resuming::settled_told))]
+    pub fn settle(&mut self, alloc: Global, image: &Image, answer: &Answer) -> Result<(), Stop>
+        ensures { Settles (SettlingTakes image.now answer.now self.old) self.old self.new result
+            (settled image.now answer.now self.old) }
+    {
+        let ran = self.settle_call(alloc, image, answer);
+        self.rest(&ran);
+        ran
+    }
+
+    /// The same with a message to the process itself: where the answer is a value with which it goes on, the message joins
+    /// its mailbox, and else there is none.
+    #[tactic(auto, unfolding(crate::specs::Stepping::settled_with))]
+    pub fn settle_with(
+        &mut self,
+        alloc: Global,
+        image: &Image,
+        answer: &Answer,
+        message: Term,
+    ) -> Result<(), Stop>
+        ensures { Settles (SettlingWithTakes image.now answer.now self.old) self.old self.new result
+            (settled_with image.now answer.now message self.old) }
+    {
+        match answer {
+            Answer::Value(value) => self.settle_noting(alloc, image, value, message),
+            Answer::Fault(_, _) => self.settle(alloc, image, answer),
+        }
+    }
+
+    /// The same with a value.
+    #[tactic(auto, using(crate::proofs::Resuming::noted_told))]
+    fn settle_noting(
+        &mut self,
+        alloc: Global,
+        image: &Image,
+        value: &Term,
+        message: Term,
+    ) -> Result<(), Stop>
+        ensures { Settles (NotingTakes image.now self.old) self.old self.new result
+            (settled_with image.now (answers.Value value.now) message self.old) }
+    {
+        let ran = self.note(alloc, image, value, message);
+        self.rest(&ran);
+        ran
+    }
+
+    /// A process that was answered and goes on is ready.
+    fn rest(&mut self, ran: &Result<(), Stop>)
+        ensures { self.new ≡ rested self.old ran.now }
+    {
+        if ran.is_err() {
             return;
         }
         self.status = Status::Ready;
@@ -117,12 +125,7 @@ impl Proc {
     }
 
     /// Ends the `send` or the call by name that stands there.
-    pub(crate) fn settle_call(
-        &mut self,
-        alloc: Global,
-        image: &Image,
-        answer: &Answer,
-    ) -> Result<(), Stop>
+    fn settle_call(&mut self, alloc: Global, image: &Image, answer: &Answer) -> Result<(), Stop>
         ensures { Runs (SettlingTakes image.now answer.now self.old) self.old self.new result
             (settling image.now answer.now self.old) }
     {
@@ -173,7 +176,7 @@ impl Proc {
     }
 
     /// The same with a message to itself.
-    pub(crate) fn note(
+    fn note(
         &mut self,
         alloc: Global,
         image: &Image,
@@ -207,7 +210,7 @@ impl Proc {
         }
     }
 
-    /// The message joins the mailbox, and the process goes on with the value. What may lack memory comes first.
+    /// The message joins the mailbox, and the process goes on with the value. What may run out of memory comes first.
     #[tactic(auto, using(crate::proofs::Noting::noted_on))]
     fn go_on_with(
         &mut self,
@@ -231,7 +234,7 @@ impl Proc {
     }
 }
 
-/// In which way the instruction at a place calls that may have asked others.
+/// In which way the instruction at an address calls that may have asked others.
 #[tactic(auto, using(crate::proofs::Decoded::called_item, crate::proofs::Decoded::called_none))]
 fn called_there(image: &Image, here: Place) -> Result<CallKind, Trap>
     ensures { result ≡ called_in (instruction_at image.now here) }

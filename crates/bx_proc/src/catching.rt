@@ -61,7 +61,7 @@ impl Proc {
         }
     }
 
-    /// The place of the tag that a y register holds.
+    /// The address of the tag that a y register holds.
     fn tag_of(&self, number: u16) -> Result<Place, Trap>
         ensures { result ≡ tag_at number self.now }
     {

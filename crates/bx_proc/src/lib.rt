@@ -3,7 +3,6 @@
 
 mod answering;
 mod asking;
-mod attempting;
 mod building;
 mod calls;
 mod catching;
@@ -15,6 +14,7 @@ mod moving;
 mod operands;
 mod parts;
 mod process;
+mod readers;
 mod reading;
 mod receiving;
 mod running;
@@ -27,4 +27,4 @@ mod stops;
 pub use parts::{Answer, Arguments, Effect, Pending, Status};
 pub use process::Proc;
 pub use sending::Sending;
-pub use stops::{Stop, Undone, Why};
+pub use stops::{Stop, Why};

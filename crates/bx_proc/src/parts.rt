@@ -9,7 +9,7 @@ use bx_terms::{Class, Term, Trap};
 use std::alloc::{AllocError, Global};
 use std::marker::Model;
 
-/// A fault that was caught, until the instruction at the place where it is caught looks at it.
+/// A fault that was caught, until the instruction at the address where it is caught looks at it.
 ///
 /// Source: The BEAM Book, "Exceptions".
 #[derive(Debug, Drop)]

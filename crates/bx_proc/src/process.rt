@@ -68,7 +68,7 @@ impl Model for Proc {
 }
 
 impl Proc {
-    /// A process that stands at `place`, the beginning of its function, with its arguments in x0 on; without a place its
+    /// A process that stands at `place`, the entry of its function, with its arguments in x0 on; without an address its
     /// function is not there, which it finds at its first run. Memory is taken only where there are arguments.
     pub fn new(alloc: Global, place: Option<Place>, arguments: &[Term]) -> Result<Proc, Fault>
         ensures { Gives (arguments.now ≢ []) (λ p. p) result (Ok (born place arguments.now)) }
@@ -97,7 +97,7 @@ impl Proc {
         &self.status
     }
 
-    /// The place at which the process stands, if its function was there.
+    /// The address at which the process stands, if its function was there.
     #[inline]
     pub fn place(&self) -> Option<Place>
         ensures { result ≡ self.now.place }
@@ -128,7 +128,7 @@ impl Proc {
             && self.mailbox.same(&other.mailbox)
     }
 
-    /// Whether both stand at the same place in the same state, whatever they hold.
+    /// Whether both stand at the same address in the same state, whatever they hold.
     fn stands_as(&self, other: &Proc) -> bool
         ensures { IsTrue result ↔ StandsAs self.now other.now }
     {

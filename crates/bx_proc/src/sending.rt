@@ -7,14 +7,14 @@ ghost use Rattle.bx_proc.specs.declared.parts.Answer.TheVariants as answers;
 ghost use Rattle.bx_proc.specs.declared.parts.Effect.TheVariants as effects;
 ghost use Rattle.bx_proc.specs.Stepping.{settled};
 ghost use Rattle.bx_proc.specs.Reading.{term_in};
-ghost use Rattle.bx_proc.specs.Sending.{Addresses, AddressesNone, StandsAtSend, StandsSending};
+ghost use Rattle.bx_proc.specs.Sending.{Addresses, AddressesNone, StandsSending};
 
 use crate::parts::Status;
 use crate::process::Proc;
 use bx_asm::Register;
 use bx_cells::Value;
 use bx_load::Image;
-use bx_terms::{Place, Term, View};
+use bx_terms::{Term, View};
 
 /// A message that a process is about to send.
 #[derive(Clone, Copy, Debug)]
@@ -55,7 +55,7 @@ impl Proc {
     /// Goes on behind the `send` at which the process stands, with the message in x0.
     #[inline(always)]
     #[tactic(auto, using(crate::proofs::Unsent::settled_sent))]
-    pub(crate) fn go_on_sent(&mut self, image: &Image, message: Term)
+    pub fn sent(&mut self, image: &Image, message: Term)
         requires { StandsSending image.now self.old }
         ensures { settled image.now (answers.Value message) self.old ≡ (self.new, effects.Ran) }
     {
@@ -69,22 +69,6 @@ impl Proc {
         self.status = Status::Ready;
         self.expires = None;
         self.asked = None;
-    }
-}
-
-impl Proc {
-    /// Goes on behind the `send` at which the process stands, which is ready, with the message in x0.
-    #[inline(always)]
-    #[tactic(auto, using(crate::proofs::OnItsWay::settled_sent))]
-    pub fn sent(&mut self, image: &Image, here: Place, message: Term)
-        requires { StandsAtSend image.now here self.old }
-        ensures { settled image.now (answers.Value message) self.old ≡ (self.new, effects.Ran) }
-    {
-        if let Err(_value) = self.x.set(0, Value::Term(message)) {
-            return; // not reached: x0 holds something
-        }
-        self.place = Some(image.after(here));
-        self.expires = None;
     }
 }
 

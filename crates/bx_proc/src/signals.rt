@@ -44,7 +44,7 @@ impl Proc {
 
     /// The pids of the processes that it is linked to, but that one.
     ///
-    /// Memory is all that it may lack, and only where there is a link.
+    /// It can only run out of memory, and only where there is a link.
     pub fn links_but(&self, alloc: Global, pid: u32) -> Result<Vec<u32>, Fault>
         ensures { Gives (self.now.links ≢ []) (λ v. v.items) result
             (Ok (unlinked pid self.now.links)) }
@@ -84,7 +84,7 @@ impl Proc {
         channels.hand(from, pid, &mut self.mailbox)
     }
 
-    /// One link more. Memory is all that it may lack, and only for a link that is not there; then nothing has changed.
+    /// One link more. It can only run out of memory, and only for a link that is not there; then nothing has changed.
     pub fn add_link(&mut self, pid: u32) -> Result<(), Fault>
         ensures { Does (among pid self.old.links ≡ false) self.old self.new result
             (Ok (with_link pid self.old, tt)) }

@@ -164,27 +164,6 @@ impl Stop {
     }
 }
 
-/// Why an instruction was not done at once. Nothing has changed then.
-#[derive(Clone, Copy, Debug, PartialEq, Eq)]
-pub enum Undone {
-    /// It is left to what does all instructions.
-    Left,
-    /// Memory ran out.
-    Memory,
-}
-
-impl From<AllocError> for Undone {
-    ghost use Rattle.std.specs.Prelude.{◌≡◌};
-    ghost use Rattle.bx_proc.specs.declared.stops.Undone.TheVariants.{Memory};
-
-    ghost from_gives = { λ _ undone. undone ≡ Memory };
-
-    #[inline(always)]
-    fn from(_: AllocError) -> Undone {
-        Undone::Memory
-    }
-}
-
 impl From<AllocError> for Stop {
     ghost use Rattle.std.specs.Prelude.{◌≡◌};
     ghost use Rattle.bx_proc.specs.declared.stops.Why.TheVariants.{Memory};
