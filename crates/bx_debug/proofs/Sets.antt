@@ -1,4 +1,4 @@
--- Sets of places, kept as numbers in order.
+-- Sets of breakpoints, kept as numbers in order.
 use Rattle.std.proofs.Common.{◌≡◌, ℕ, BTreeSet, List, [], ◌∷◌, length, Bool, true, false, cond, not, refl, sym, ap, subst, ◌∙◌}
 use Rattle.std.specs.Prelude.{◌||◌, ◌&&◌, IsTrue}
 use Rattle.std.specs.BTreeSet.{IsSubset}

@@ -1,4 +1,4 @@
--- Choices given one after another to a run, where no place is set: none is looked behind, and why it went no further is known
+-- Choices given one after another to a run, where no breakpoint is set: none is looked behind, and why it went no further is known
 -- at the end.
 use Rattle.std.proofs.Common.{◌≡◌, ℕ, ◌+◌, ◌<◌, ◌≤◌, ◌⊎◌, inl, inr, List, length, get_or, Bool, true, false, Option, Some, None, refl, sym, ap, ◌∙◌, subst, arith}
 use Rattle.std.specs.Prelude.{◌||◌, if◌then◌else◌, is_some}

@@ -255,7 +255,7 @@ told_whole image places choices from applied here whole lead =
     ∙ ap (λ (cs : List Choice). resumed (take applied choices) (walked image places cs here)) (drop_all applied choices whole)
     ∙ (λ j. (append-nil (take applied choices) j, Done))
 
--- where no place is set nothing breaks
+-- where no breakpoint is set nothing breaks
 set_nowhere : (place : Place) → is_set set.empty place ≡ false
 set_nowhere place = set.contains-empty pair_cmp (numbers place)
 

@@ -36,12 +36,12 @@ abbrev pub stop_at_once : List Choice → State → Option Stop
 stop_at_once [] w = Some Done
 stop_at_once (choice ∷ more) w = stop_before choice w
 
--- where a process stands, if it is at a place of the set
+-- where a process stands, if it is at a breakpoint
 abbrev pub break_at : PlaceSet → ℕ → Option Place → Option Stop
 break_at places p None = None
 break_at places p (Some place) = if is_set places place then Some (Break p place) else None
 
--- a run that left its process, not ended, at a place of the set; no other choice is a run
+-- a run that left its process, not ended, at a breakpoint; no other choice is a run
 abbrev pub break_behind : PlaceSet → Choice → State → Option Stop
 break_behind places (Run p) w = break_at places p (place_in p w)
 break_behind places _ w = None

@@ -1,4 +1,4 @@
--- Sets of places in loaded code. A place is kept as the numbers of its module and of its item.
+-- Sets of breakpoints in loaded code. One is kept as the numbers of its module and of its item.
 use Rattle.std.specs.Prelude.{ℕ, Bool}
 use Rattle.std.specs.declared.cmp.Ordering.{Ordering}
 use Rattle.std.specs.Ordering.{nat_cmp, on, then_cmp}

@@ -1,4 +1,4 @@
--- Sessions: choices that were made, a position among them, and places at which a run breaks off.
+-- Sessions: choices that were made, a position among them, and breakpoints.
 use Rattle.std.specs.Prelude.{◌≢◌, ℕ, ◌+◌, ◌-◌, List, [], ◌∷◌, ◌++◌, length, take, if◌then◌else◌, nat_lt, Option, Some, None, Result, Ok, Err, refl}
 use Rattle.std.specs.Coded.{Coded, code_by, coded×, coded_ℕ, coded_list}
 use Rattle.std.specs.FinSet as set
@@ -34,14 +34,14 @@ behind s = take s.at s.choices
 abbrev pub world_of : History → State
 world_of s = (ran s.image (behind s) (unchosen s.start)).world
 
--- at the start, with no choice made and no place set
+-- at the start, with no choice made and no breakpoint set
 abbrev pub begun : Loaded → State → History
 begun image w = record { image = image; start = w; choices = []; at = 0; places = set.empty }
 
 abbrev pub opened : Loaded → AtomId → AtomId → Result History Fault
 opened image m f = started image m f >>= λ w. Ok (begun image w)
 
--- choices more are made from the position on, and those that stood behind it are dropped; where there are none, nothing is
+-- choices more are made from the position on, and those that stood behind it are removed; where there are none, nothing is
 abbrev pub with_made : List Choice → History → History
 with_made [] s = s
 with_made (choice ∷ more) s = record s { choices = behind s ++ choice ∷ more; at = s.at + length (choice ∷ more) }
@@ -73,7 +73,7 @@ gone choices s = went s (walked s.image s.places choices (world_of s))
 abbrev pub GoTakes : List Choice → History → Type 0
 GoTakes choices s = (walked s.image s.places choices (world_of s)).0 ≢ []
 
--- a place more, and a place less
+-- a breakpoint more, and one less
 abbrev pub with_break : Place → History → History
 with_break place s = record s { places = with_place s.places place }
 

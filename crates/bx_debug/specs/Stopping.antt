@@ -13,7 +13,7 @@ use Rattle.bx_debug.specs.Sessions.{History, behind, world_of}
 use Rattle.bx_debug.specs.declared.stops.Stop.{Stop}
 use Rattle.bx_debug.specs.declared.stops.Stop.TheVariants.{Done, Break, NotEnabled, Trapped}
 
--- all were applied; or the last was a run of this process, which stands at this place of the set in a world that has not
+-- all were applied; or the last was a run of this process, which stands at this breakpoint in a world that has not
 -- trapped; or the next is this one, which is not enabled in a world that has not trapped; or the world has trapped
 abbrev pub IsWhy : PlaceSet → List Choice → List Choice → State → Stop → Type 0
 IsWhy places choices made w Done = made ≡ choices

@@ -31,7 +31,7 @@ pub fn forward_undoes_back()
         t ≡ Ok (s, tt) }
 {}
 
-/// What is applied is a beginning of the choices, each of which was enabled.
+/// What is applied is a prefix of the choices, each of which was enabled.
 pub fn a_beginning_is_applied()
     ensures beginning { (image : Loaded) (places : PlaceSet) (choices : List Choice) (w : State)
         → (rest : List Choice) × (choices ≡ (walked image places choices w).0 ++ rest) }
@@ -39,7 +39,7 @@ pub fn a_beginning_is_applied()
         → all_enabled image (walked image places choices w).0 w ≡ true }
 {}
 
-/// No choice but the last that is applied traps, or is a run that leaves its process at a place of the set.
+/// No choice but the last that is applied traps, or is a run that leaves its process at a breakpoint.
 pub fn nothing_stops_it_earlier()
     ensures { (image : Loaded) (places : PlaceSet) (choices : List Choice) (w : State) (before : List Choice) (choice : Choice) (after : List Choice)
         → (walked image places choices w).0 ≡ before ++ choice ∷ after → after ≢ [] → stop_behind places choice (led image (before ++ choice ∷ []) w) ≡ None }

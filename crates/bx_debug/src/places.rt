@@ -1,4 +1,4 @@
-//! Sets of places in loaded code.
+//! Sets of breakpoints in loaded code.
 
 ghost use Rattle.std.specs.Prelude.{◌≡◌, ◌↔◌, false, IsTrue, OnOk, OnErr};
 ghost use Rattle.std.specs.FinSet as set;
@@ -9,7 +9,7 @@ use std::alloc::{AllocError, Global};
 use std::collections::BTreeSet;
 use std::marker::Model;
 
-/// A set of places.
+/// A set of breakpoints.
 #[derive(Drop)]
 pub(crate) struct Places {
     numbers: BTreeSet<(u32, u32)>,
@@ -28,7 +28,7 @@ impl Model for Places {
 }
 
 impl Places {
-    /// No place.
+    /// No breakpoint.
     pub(crate) fn new(alloc: Global) -> Places
         ensures { result ≡ set.empty }
     {
@@ -37,7 +37,7 @@ impl Places {
         }
     }
 
-    /// Whether no place is in the set.
+    /// Whether there is no breakpoint.
     #[inline(always)]
     pub(crate) fn is_empty(&self) -> bool
         ensures { IsTrue result ↔ (self.now ≡ set.empty) }
@@ -45,7 +45,7 @@ impl Places {
         self.numbers.is_empty()
     }
 
-    /// Whether the place is in the set.
+    /// Whether it is a breakpoint.
     #[inline(always)]
     pub(crate) fn contains(&self, place: Place) -> bool
         ensures { result ≡ is_set self.now place }
@@ -53,14 +53,14 @@ impl Places {
         self.numbers.contains(&(place.module, place.item))
     }
 
-    /// Whether both hold the same places.
+    /// Whether both hold the same breakpoints.
     pub(crate) fn same(&self, other: &Places) -> bool
         ensures { IsTrue result ↔ (self.now ≡ other.now) }
     {
         self.numbers.is_subset(&other.numbers) && other.numbers.is_subset(&self.numbers)
     }
 
-    /// Puts a place into the set. Memory is taken only where it is not in it; where it runs out, nothing has changed.
+    /// Sets a breakpoint. Memory is taken only for one that is not set; where it runs out, nothing has changed.
     pub(crate) fn insert(&mut self, place: Place) -> Result<(), AllocError>
         ensures ok { OnOk result (self.new ≡ with_place self.old place) }
         ensures err { OnErr result (self.new ≡ self.old) }
@@ -70,7 +70,7 @@ impl Places {
         Ok(())
     }
 
-    /// Takes a place out of the set.
+    /// Clears a breakpoint.
     pub(crate) fn remove(&mut self, place: Place)
         ensures { self.new ≡ without_place self.old place }
     {

@@ -20,7 +20,7 @@ use bx_world::{Choice, RcWorld};
 use std::alloc::{AllocError, Global};
 use std::marker::Model;
 
-/// A world with the choices that led to it, which can be stepped back over and made anew, and the places at which a run breaks
+/// A world with the choices that led to it, which can be stepped back over and made anew, and the breakpoints at which a run breaks
 /// off.
 ///
 /// It keeps each choice, and the world at the start and behind each 64th choice, so that a move of the position makes at most
@@ -65,7 +65,7 @@ impl<'a> Model for Session<'a> {
 }
 
 impl<'a> Session<'a> {
-    /// A session at the start of that exported function of no arguments, with no choice made and no place set.
+    /// A session at the start of that exported function of no arguments, with no choice made and no breakpoint set.
     ///
     /// `NoEntry` exactly where the module does not export it; memory is taken only where it does.
     pub fn new(
@@ -142,7 +142,7 @@ impl<'a> Session<'a> {
         &self.start
     }
 
-    /// Whether both are sessions over equal code from equal starts, with the same choices and places, at the same position.
+    /// Whether both are sessions over equal code from equal starts, with the same choices and breakpoints, at the same position.
     #[tactic(auto, using(crate::proofs::Sameness::same_history))]
     pub fn same(&self, other: &Session<'_>) -> bool
         ensures { IsTrue result ↔ (self.now ≡ other.now) }
@@ -154,17 +154,17 @@ impl<'a> Session<'a> {
             && self.image.same(other.image)
     }
 
-    /// Whether a run breaks off at this place.
+    /// Whether there is a breakpoint at this address.
     pub fn breaks_at(&self, place: Place) -> bool
         ensures { result ≡ is_set self.now.places place }
     {
         self.places.contains(place)
     }
 
-    /// Makes a choice, and drops those behind the position.
+    /// Makes a choice, and removes those behind the position.
     ///
     /// `Halted` exactly where the world has trapped, else `NotEnabled` exactly where the choice is not enabled; a refused choice
-    /// drops nothing. Memory is taken only for a choice that is enabled.
+    /// removes nothing. Memory is taken only for a choice that is enabled.
     pub fn step(&mut self, alloc: Global, choice: Choice) -> Result<(), Fault>
         ensures { Does (refusal (world_of self.old) choice ≡ None) self.old self.new result
             (stepped choice self.old) }
@@ -204,10 +204,10 @@ impl<'a> Session<'a> {
         Ok(())
     }
 
-    /// Makes choices in order, up to the first that stops it, and drops those behind the position as soon as one is applied.
+    /// Makes choices in order, up to the first that stops it, and removes those behind the position as soon as one is applied.
     ///
     /// It stops before a choice that is not enabled, behind one that traps, and behind the first run that leaves its process, not
-    /// ended, at a place of the set; what was applied before stays. Memory is taken only where a choice is applied.
+    /// ended, at a breakpoint; what was applied before stays. Memory is taken only where a choice is applied.
     pub fn go(&mut self, alloc: Global, choices: &[Choice]) -> Result<Stop, Fault>
         ensures { Does (GoTakes choices.now self.old) self.old self.new result
             (Ok (gone choices.now self.old)) }
@@ -218,9 +218,9 @@ impl<'a> Session<'a> {
         Ok(self.make(alloc, choices)?)
     }
 
-    /// Lets runs break off at a place, whichever it is.
+    /// Sets a breakpoint at an address, whichever it is.
     ///
-    /// Memory is all that it may lack, and none is taken where they do already.
+    /// It can only run out of memory, and none is taken where it is set already.
     pub fn set_break(&mut self, _alloc: Global, place: Place) -> Result<(), Fault>
         ensures { Does (is_set self.old.places place ≡ false) self.old self.new result
             (Ok (with_break place self.old, tt)) }
@@ -229,7 +229,7 @@ impl<'a> Session<'a> {
         Ok(())
     }
 
-    /// Lets no run break off at a place, whichever it is.
+    /// Clears the breakpoint at an address, whichever it is.
     pub fn clear_break(&mut self, place: Place)
         ensures { self.new ≡ without_break place self.old }
     {
@@ -243,7 +243,7 @@ impl<'a> Session<'a> {
         refusal(choice, &self.world)
     }
 
-    /// Makes choices of which one is applied at least, and drops those behind the position: why no more were.
+    /// Makes choices of which one is applied at least, and removes those behind the position: why no more were.
     fn make(&mut self, alloc: Global, choices: &[Choice]) -> Result<Stop, AllocError>
         requires { GoTakes choices.now self.old }
         ensures ok { IfOk result (λ stop. gone choices.now self.old ≡ (self.new, stop)) }
@@ -280,8 +280,8 @@ impl<'a> Session<'a> {
         Ok(())
     }
 
-    /// The world that so many choices lead to.
-    fn world_at(&self, alloc: Global, at: usize) -> Result<RcWorld, AllocError>
+    /// The world that so many choices lead to. Only those behind the nearest world that was kept before it are made again.
+    pub fn world_at(&self, alloc: Global, at: usize) -> Result<RcWorld, AllocError>
         requires { at ≤ length self.now.choices }
         ensures { IfOk result (λ w. w ≡ led self.now.image (take at self.now.choices)
             self.now.start) }

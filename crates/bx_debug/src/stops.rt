@@ -22,7 +22,7 @@ pub(crate) type RcEnd = RunEnd<RcHold<Proc>, RcHold<Lanes>>;
 pub enum Stop {
     /// All were.
     Done,
-    /// The last one was a run of this process, which now stands, not ended, at this place of the set.
+    /// The last one was a run of this process, which now stands, not ended, at this breakpoint.
     Break(u32, Place),
     /// The next one is this, which is not enabled.
     NotEnabled(Choice),
@@ -149,7 +149,7 @@ fn break_behind(places: &Places, choice: Choice, world: &RcWorld) -> Option<Stop
     break_at(places, pid, world.place(pid))
 }
 
-/// That the process stands at a place of the set, if it does.
+/// That the process stands at a breakpoint, if it does.
 #[inline(always)]
 fn break_at(places: &Places, pid: u32, place: Option<Place>) -> Option<Stop>
     ensures { result ≡ break_at places.now pid place }

@@ -104,7 +104,7 @@ fn stretch_unbroken(
     Ok((first + end.applied as usize, ended_by(end)))
 }
 
-/// The one or the other of both, by whether some place is set.
+/// The one or the other of both, by whether some breakpoint is set.
 fn stretch_by_places(
     alloc: Global,
     image: &Image,
@@ -244,7 +244,7 @@ pub(crate) fn into_world(end: RcEnd) -> RcWorld
 }
 
 /// Applies choices in order, up to the first that stops them: one that is not applied, one that traps, and a run that leaves
-/// its process at a place of the set. `since` choices were made behind the last world that was kept. What was applied, and
+/// its process at a breakpoint. `since` choices were made behind the last world that was kept. What was applied, and
 /// the worlds that are kept on the way, are put behind the rows; where memory runs out, these are as they were.
 pub(crate) fn follow(
     alloc: Global,

@@ -12,7 +12,7 @@ use Rattle.bx_terms.specs.declared.faults.Fault.TheVariants.{NotEnabled, Memory}
 use Rattle.bx_terms.specs.declared.places.Place.{Place}
 use Rattle.bx_load.specs.Image.{Loaded}
 use Rattle.bx_proc.specs.Process.{Process, can_run, can_run_in, can_expire}
-use Rattle.bx_proc.specs.AtOnce.{StandsFree}
+use Rattle.bx_proc.specs.Stepping.{StandsFree}
 use Rattle.bx_proc.specs.Signals.{expired}
 use Rattle.bx_proc.specs.declared.parts.Answer.TheVariants.{Value}
 use Rattle.bx_world.specs.declared.acts.Act.{Act}

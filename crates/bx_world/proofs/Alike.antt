@@ -1,14 +1,13 @@
--- What a delivery or an expiration does to its own process, and what it sends, hangs on that process and on the signal that it takes, and on
--- nothing else of a world.
-use Rattle.std.proofs.Common.{◌≡◌, ◌≢◌, ℕ, List, [], ◌∷◌, ◌++◌, Bool, true, false, ◌⊎◌, inl, inr, Option, Some, None, Result, Ok, Err, length, refl, sym, ap, subst, ◌∙◌, length-set}
-use Rattle.std.specs.Prelude.{◌&&◌, ◌==◌, is_some, is_none, if◌then◌else◌, slice_get, slice_set}
-use Rattle.std.proofs.lemmas.Bool.{cases_eq, eqb-true, false_from_ne_true}
+-- What a delivery, an expiration or a local run does to its own process, and what it sends, hangs on that process and on the signal that it
+-- takes, and on nothing else of a world.
+use Rattle.std.proofs.Common.{◌≡◌, ◌≢◌, ℕ, List, [], ◌∷◌, ◌++◌, Bool, true, false, Option, Some, None, Result, Ok, Err, refl, sym, ap, subst, ◌∙◌}
+use Rattle.std.specs.Prelude.{is_some, if◌then◌else◌, slice_get, slice_set}
+use Rattle.std.proofs.lemmas.Bool.{false_from_ne_true}
 use Rattle.std.proofs.lemmas.Option.{slice_get_within}
 use Rattle.bx_terms.specs.Tree.{Tree, atom}
 use Rattle.bx_terms.specs.declared.fixed.TheConstants.{KILLED, NOPROC}
 use Rattle.bx_terms.specs.declared.faults.Fault.{Fault}
 use Rattle.bx_terms.specs.declared.faults.Fault.TheVariants.{NotEnabled}
-use Rattle.bx_terms.specs.declared.kinds.Trap.{Trap}
 use Rattle.bx_load.specs.Image.{Loaded}
 use Rattle.bx_signals.specs.Waiting.{first}
 use Rattle.bx_signals.specs.Channels.{waiting}
@@ -16,7 +15,10 @@ use Rattle.bx_signals.specs.declared.signal.Signal.{Signal}
 use Rattle.bx_signals.specs.declared.signal.Signal.TheVariants as signals
 use Rattle.bx_signals.proofs.Maps.{equal_pair}
 use Rattle.bx_cells.specs.Links.{among}
-use Rattle.bx_proc.specs.Process.{Process, can_expire}
+use Rattle.bx_proc.specs.Process.{Process, can_run, can_expire}
+use Rattle.bx_proc.specs.Stepping.{attempted}
+use Rattle.bx_proc.specs.declared.parts.Effect.{Effect}
+use Rattle.bx_proc.specs.declared.parts.Effect.TheVariants as effects
 use Rattle.bx_proc.specs.Signals.{without_link, expired}
 use Rattle.bx_world.specs.declared.choices.Choice.{Choice}
 use Rattle.bx_world.specs.declared.choices.Choice.TheVariants.{Run, Deliver, Expire}
@@ -24,16 +26,20 @@ use Rattle.bx_world.specs.declared.lanes.Lanes.{Lanes}
 use Rattle.bx_world.specs.declared.turns.Turn.{Turn}
 use Rattle.bx_world.specs.declared.turns.Turn.TheVariants as turns
 use Rattle.bx_world.specs.World.{Life, Live, Gone, State}
-use Rattle.bx_world.specs.Sharing.{hearing, telling}
+use Rattle.bx_world.specs.Sharing.{hearing}
 use Rattle.bx_world.specs.Asking.{Done, exit_message, is_kill, is_normal, low_enough}
 use Rattle.bx_world.specs.Delivering.{messaged, ending, exiting, heard, gone_heard, lost}
-use Rattle.bx_world.specs.Lifetimes.{Among, lived, lived_if, gone_if, life_expired, put_back, at_life, lost_if, told_at}
+use Rattle.bx_world.specs.Lifetimes.{Among, lived, lived_if, gone_if, life_run, life_expired, put_back, at_life, lost_if, told_at}
 use Rattle.bx_world.specs.Enabled.{able, actor, may_at, may_run, may_expire}
-use Rattle.bx_world.specs.Choosing.{made, made_or, chosen, trap_of}
-use Rattle.bx_world.specs.Posting.{Post, parting_posts, done_posts, heard_posts, gone_posts, signal_posts, posts, same_pair, in_channel, as_row, takes}
-use Rattle.bx_world.specs.Independent.{IsNoRun}
+use Rattle.bx_world.specs.Seen.{place_at}
+use Rattle.bx_world.specs.Turning.{turned, runs}
+use Rattle.bx_world.specs.Choosing.{born_too, made, made_or, chosen, trap_of}
+use Rattle.bx_world.specs.Posting.{Post, parting_posts, done_posts, effect_posts, turn_posts, run_posts, heard_posts, gone_posts, signal_posts, posts, same_pair, in_channel, as_row, takes}
+use Rattle.bx_world.specs.Independent.{is_local_at, IsNoRun, IsLocal}
 use Rattle.bx_world.proofs.Applying.{MadeAs, made_as}
 use Rattle.bx_world.proofs.Confined.{get_set_same}
+use Rattle.bx_proc.proofs.Own.{to_itself}
+use Rattle.bx_world.proofs.Own.{attempt_own}
 
 -- ---- a signal at a process
 
@@ -102,6 +108,36 @@ posts_is q w (turns.Ended reason) = refl
 posts_is q w (turns.Trapped kind) = refl
 posts_is q w (turns.Bears birth) = refl
 
+-- ---- a run that concerns its own process alone
+
+abbrev pub NoBirth : Turn → Type 0
+NoBirth turns.Ran = Unit {0}
+NoBirth (turns.Ended reason) = Unit {0}
+NoBirth (turns.Trapped kind) = Unit {0}
+NoBirth (turns.Bears birth) = ⊥
+
+-- it shows nothing, bears nobody, and does the same whatever the channels hold
+pub record Calm (l n : Lanes) (d e : Done) : Type 0 where
+  pub shows : d.0.1.output ≡ l.output
+  pub bears : NoBirth d.1
+  pub alike : part d ≡ part e
+
+turned_calm : (image : Loaded) (p : ℕ) (l n : Lanes) (x : Process) (d : Process × Effect) → to_itself d.1 ≡ true → Calm l n (turned image p l x d) (turned image p n x d)
+turned_calm image p l n x (y, effects.Ran) own = record { shows = refl; bears = tt; alike = refl }
+turned_calm image p l n x (y, effects.Ended reason) own = record { shows = refl; bears = tt; alike = refl }
+turned_calm image p l n x (y, effects.Trap kind) own = record { shows = refl; bears = tt; alike = refl }
+turned_calm image p l n x (y, effects.Send to message) own = absurd (cc)
+turned_calm image p l n x (y, effects.Ask native arguments) own = absurd (cc)
+
+pub runs_calm : (image : Loaded) (p : ℕ) (l n : Lanes) (x : Process) → is_local_at image x.place ≡ true → Calm l n (runs image p l x) (runs image p n x)
+runs_calm image p l n x local = turned_calm image p l n x (attempted image p x) (attempt_own image p x local)
+
+pub bears_none : (image : Loaded) (p : ℕ) (lives : List Life) (w : Process × Lanes) (turn : Turn) → NoBirth turn → born_too image p (put_back p lives (Ok (lived (w, turn)))) ≡ put_back p lives (Ok (lived (w, turn)))
+bears_none image p lives w turns.Ran h = refl
+bears_none image p lives w (turns.Ended reason) h = refl
+bears_none image p lives w (turns.Trapped kind) h = refl
+bears_none image p lives w (turns.Bears birth) h = absurd h
+
 -- ---- the same among others
 
 -- the same became of the life at q, by the same turn
@@ -140,6 +176,24 @@ module _ (q : ℕ) (lives others : List Life) (one : Life) (here : slice_get liv
   expired_among l n x true = (put_here (Live (expired x)), refl)
   expired_among l n x false = tt
 
+module _ (image : Loaded) (p : ℕ) (l n : Lanes) (lives others : List Life) where
+  able_local : (x : Process) (b : Bool) → is_local_at image x.place ≡ true → slice_get lives p ≡ Some (Live x) → slice_get others p ≡ Some (Live x)
+      → AmongAlike p (born_too image p (put_back p lives (if b then Ok (lived (runs image p l x)) else Err NotEnabled))) (born_too image p (put_back p others (if b then Ok (lived (runs image p n x)) else Err NotEnabled)))
+  able_local x true local here there =
+      let d = runs image p l x in
+      let e = runs image p n x in
+      let calm = runs_calm image p l n x local in
+      let quiet = runs_calm image p n n x local in
+      subst (λ r. AmongAlike p r (born_too image p (put_back p others (Ok (lived e))))) (sym (bears_none image p lives d.0 d.1 calm.bears))
+      (subst (λ r. AmongAlike p (put_back p lives (Ok (lived d))) r) (sym (bears_none image p others e.0 e.1 quiet.bears)) (back_alike p lives others (Live x) here there d e calm.alike))
+  able_local x false local here there = tt
+
+  local_alike : (o : Option Life) → is_local_at image (place_at o) ≡ true → slice_get lives p ≡ o → slice_get others p ≡ o
+      → AmongAlike p (born_too image p (at_life (life_run image p l) p lives o)) (born_too image p (at_life (life_run image p n) p others o))
+  local_alike None local here there = tt
+  local_alike (Some (Live x)) local here there = able_local x (can_run x) local here there
+  local_alike (Some (Gone reason)) local here there = tt
+
 -- a delivery, told by the signal that waits first
 abbrev told_with : ℕ → ℕ → Lanes → List Life → Option Life → Option Signal → Result Among Fault
 told_with p q l lives None s = lost_if lives (lost p q l s)
@@ -175,8 +229,11 @@ pub record Finds (c : Choice) (w v : State) : Type 0 where
   pub signal : heeds c w ≡ heeds c v
 
 module _ (image : Loaded) where
-  made_alike : (c : Choice) (w v : State) → IsNoRun c → Finds c w v → AmongAlike (actor c) (made image c w.processes w.lanes) (made image c v.processes v.lanes)
-  made_alike (Run p) w v idle finds = absurd idle
+  made_alike : (c : Choice) (w v : State) → IsLocal image w c → Finds c w v → AmongAlike (actor c) (made image c w.processes w.lanes) (made image c v.processes v.lanes)
+  made_alike (Run p) w v idle finds =
+      let o = slice_get w.processes p in
+      subst (λ x. AmongAlike p (made image (Run p) w.processes w.lanes) (born_too image p (at_life (life_run image p v.lanes) p v.processes x))) finds.life
+      (local_alike image p w.lanes v.lanes w.processes v.processes o idle refl (sym finds.life))
   made_alike (Deliver p q) w v idle finds =
       let s = first (waiting w.lanes.channels (p, q)) in
       let o = slice_get w.processes q in
@@ -204,7 +261,7 @@ able_alike (Run p) w v finds = ap (may_at may_run) finds.life
 able_alike (Deliver p q) w v finds = ap (λ o. is_some o) finds.signal
 able_alike (Expire p) w v finds = ap (may_at may_expire) finds.life
 
-pub chosen_alike : (image : Loaded) (c : Choice) (w v : State) → IsNoRun c → Finds c w v → able c w.processes w.lanes ≡ true → EndsAlike (actor c) (chosen image c w) (chosen image c v)
+pub chosen_alike : (image : Loaded) (c : Choice) (w v : State) → IsLocal image w c → Finds c w v → able c w.processes w.lanes ≡ true → EndsAlike (actor c) (chosen image c w) (chosen image c v)
 chosen_alike image c w v idle finds can =
     let made_here = subst (λ b. MadeAs b (made image c w.processes w.lanes)) can (made_as image c w.processes w.lanes) in
     let made_there = subst (λ b. MadeAs b (made image c v.processes v.lanes)) (sym (able_alike c w v finds) ∙ can) (made_as image c v.processes v.lanes) in
@@ -233,8 +290,33 @@ posts_with_alike p q l n (Some (Live x)) s = heard_posts_alike p q l n (heard p 
 posts_with_alike p q l n (Some (Gone reason)) s = refl
 posts_with_alike p q l n None s = refl
 
-pub posts_alike : (image : Loaded) (c : Choice) (w v : State) → IsNoRun c → Finds c w v → posts image c w ≡ posts image c v
-posts_alike image (Run p) w v idle finds = absurd idle
+-- of a run that bears nobody
+calm_posts : ℕ → List Post → Process × Turn → List Post
+calm_posts p own (x, turns.Ran) = own
+calm_posts p own (x, turns.Ended reason) = own ++ parting_posts p x.links reason
+calm_posts p own (x, turns.Trapped kind) = []
+calm_posts p own (x, turns.Bears birth) = []
+
+calm_is : (image : Loaded) (p : ℕ) (lives : List Life) (l : Lanes) (x : Process) (w : Process × Lanes) (turn : Turn) → NoBirth turn → turn_posts image p lives l x (w, turn) ≡ calm_posts p (effect_posts p x (attempted image p x).1) (w.0, turn)
+unfolding calm_posts
+calm_is image p lives l x w turns.Ran h = refl
+calm_is image p lives l x w (turns.Ended reason) h = refl
+calm_is image p lives l x w (turns.Trapped kind) h = refl
+calm_is image p lives l x w (turns.Bears birth) h = absurd h
+
+run_posts_alike : (image : Loaded) (p : ℕ) (l n : Lanes) (lives others : List Life) (o : Option Life) → is_local_at image (place_at o) ≡ true → run_posts image p lives l o ≡ run_posts image p others n o
+run_posts_alike image p l n lives others None local = refl
+run_posts_alike image p l n lives others (Some (Live x)) local =
+    let d = runs image p l x in
+    let e = runs image p n x in
+    let calm = runs_calm image p l n x local in
+    let quiet = runs_calm image p n n x local in
+    calm_is image p lives l x d.0 d.1 calm.bears ∙ ap (calm_posts p (effect_posts p x (attempted image p x).1)) calm.alike ∙ sym (calm_is image p others n x e.0 e.1 quiet.bears)
+run_posts_alike image p l n lives others (Some (Gone reason)) local = refl
+
+pub posts_alike : (image : Loaded) (c : Choice) (w v : State) → IsLocal image w c → Finds c w v → posts image c w ≡ posts image c v
+posts_alike image (Run p) w v idle finds =
+    run_posts_alike image p w.lanes v.lanes w.processes v.processes (slice_get w.processes p) idle ∙ ap (run_posts image p v.processes v.lanes) finds.life
 posts_alike image (Deliver p q) w v idle finds =
     posts_told p q w.lanes (slice_get w.processes q)
     ∙ posts_with_alike p q w.lanes v.lanes (slice_get w.processes q) (first (waiting w.lanes.channels (p, q)))
@@ -250,7 +332,7 @@ other_sender pair own other = false_from_ne_true (same_pair pair own) (λ e. oth
 pub other_receiver : (pair own : ℕ × ℕ) → pair.1 ≢ own.1 → same_pair pair own ≡ false
 other_receiver pair own other = false_from_ne_true (same_pair pair own) (λ e. other (ap (λ (k : ℕ × ℕ). k.1) (equal_pair pair own e)))
 
-in_other : (pair : ℕ × ℕ) (post : Post) (more : List Post) → pair.0 ≢ post.0.0 → in_channel pair (post ∷ more) ≡ in_channel pair more
+pub in_other : (pair : ℕ × ℕ) (post : Post) (more : List Post) → pair.0 ≢ post.0.0 → in_channel pair (post ∷ more) ≡ in_channel pair more
 in_other pair post more other = ap (λ b. if b then post.1 ∷ in_channel pair more else in_channel pair more) (other_sender pair post.0 other)
 
 none_parting : (p : ℕ) (links : List ℕ) (reason : Tree) (pair : ℕ × ℕ) → pair.0 ≢ p → in_channel pair (parting_posts p links reason) ≡ []

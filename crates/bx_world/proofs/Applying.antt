@@ -203,7 +203,7 @@ run_able image p l lives (Some (Live x)) among is = go (can_run x) is
 pub run_was_able : (image : Loaded) (p : ℕ) (l : Lanes) (lives : List Life) (among : Among) → lives_run image p l lives ≡ Ok among → IsTrue (may_at may_run (slice_get lives p))
 run_was_able image p l lives among is = unfold run_of in run_able image p l lives (slice_get lives p) among is
 
--- a run that asks for a birth has changed nothing yet
+-- a run that asks for a spawn has changed nothing yet
 pub bears_kept : (image : Loaded) (p : ℕ) (l : Lanes) (lives : List Life) (w : List Life × Lanes) (birth : Birth) → lives_run image p l lives ≡ Ok (w, turns.Bears birth) → w ≡ (lives, l)
 bears_kept image p l lives w birth is = subst (AmongKept (lives, l)) is (lives_run_kept image p l lives)
 

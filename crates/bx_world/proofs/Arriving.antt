@@ -63,7 +63,7 @@ Change = Channels Signal → Channels Signal
 none : Change
 none m = m
 
--- the channels after what was done: at a trap the same, else the posts were put and `took` was done; whether a birth may be asked for
+-- the channels after what was done: at a trap the same, else the posts were put and `took` was done; whether a spawn may be asked for
 abbrev DoneFits : Type 0 → Change → Channels Signal → List Post → Done → Type 0
 DoneFits bearing took m posts (w, turns.Ran) = w.1.channels ≡ took (put_posts posts m)
 DoneFits bearing took m posts (w, turns.Ended reason) = w.1.channels ≡ took (put_posts posts m)
@@ -115,7 +115,7 @@ module _ (bearing : Type 0) (p : ℕ) (x : Process) (l : Lanes) where
       choosing (is_kill reason) (leaving p x l (atom KILLED.0)) (if x.trap_exit then noted image p yes x l message else leaving p x l reason) (left (atom KILLED.0))
       (choosing x.trap_exit (noted image p yes x l message) (leaving p x l reason) (noted_fits image yes message) (left reason))
 
--- a run may ask for a birth
+-- a run may ask for a spawn
 module _ (p : ℕ) (x : Process) (l : Lanes) where
   doing_fits : (image : Loaded) (request : Request) → OwnFits (Unit {0}) p x l (own_posts p x request) (done_by image p request x l)
   doing_fits image requests.Refused = nothing (Unit {0}) p x l (settled image badarg x)
@@ -226,7 +226,7 @@ told_fits p q lives l None = lost_fits p q lives l (first (waiting l.channels (p
 told_fits p q lives l (Some (Live x)) = back_if_fits p q l lives (received p q x l) (heard_fits p q x l (first (waiting l.channels (p, q))))
 told_fits p q lives l (Some (Gone reason)) = gone_fits p q reason lives l (first (waiting l.channels (p, q)))
 
--- a birth
+-- a spawn
 unborn_fits : (m : Channels Signal) (ps : List Post) (lives : List Life) (l : Lanes) (r : Result Among Fault) → l.channels ≡ m → AmongFits (λ n. n) m ps r → AmongFits (λ n. n) m ps (unborn_at_trap lives l r)
 unborn_fits m ps lives l (Ok (w, turns.Ran)) is h = h
 unborn_fits m ps lives l (Ok (w, turns.Ended reason)) is h = h

@@ -1,7 +1,8 @@
--- Choices of different actors, none of them a run, lead to the same world in both orders.
-use Rattle.std.proofs.Common.{◌≡◌, ◌≢◌, ℕ, ◌<◌, List, [], ◌∷◌, ◌++◌, Bool, true, false, ◌⊎◌, inl, inr, Option, Some, None, Result, Ok, Err, length, refl, sym, ap, subst, ◌∙◌, append_assoc, append-nil, length-set}
-use Rattle.std.specs.Prelude.{◌&&◌, ◌==◌, is_some, is_none, if◌then◌else◌, slice_get, slice_set}
-use Rattle.std.proofs.lemmas.Bool.{cases_eq}
+-- Choices of different actors, of which one at least is local, lead to the same world in both orders.
+use Rattle.std.proofs.Common.{◌≡◌, ◌≢◌, ℕ, ◌<◌, ◌≤◌, List, [], ◌∷◌, ◌++◌, Bool, true, false, ◌⊎◌, inl, inr, Option, Some, None, Result, Ok, Err, length, refl, sym, ap, subst, ◌∙◌, arith, append_assoc, append-nil, length-set}
+use Rattle.std.specs.Prelude.{◌&&◌, ◌||◌, nat_lt, is_some, is_none, if◌then◌else◌, slice_get, slice_set}
+use Rattle.std.proofs.lemmas.Bool.{cases_eq, ltb-true, ltb-false}
+use Rattle.std.proofs.lemmas.Option.{slice_get_within, slice_get_past}
 use Rattle.bx_terms.specs.Tree.{Tree, atom}
 use Rattle.bx_terms.specs.declared.fixed.TheConstants.{KILLED}
 use Rattle.bx_terms.specs.declared.faults.Fault.{Fault}
@@ -9,13 +10,13 @@ use Rattle.bx_terms.specs.declared.faults.Fault.TheVariants.{NotEnabled}
 use Rattle.bx_terms.specs.declared.kinds.Trap.{Trap}
 use Rattle.bx_load.specs.Image.{Loaded}
 use Rattle.bx_signals.specs.Waiting.{first}
-use Rattle.bx_signals.specs.Channels.{Channels, waiting}
+use Rattle.bx_signals.specs.Channels.{waiting}
 use Rattle.bx_signals.specs.declared.signal.Signal.{Signal}
 use Rattle.bx_signals.specs.declared.signal.Signal.TheVariants as signals
 use Rattle.bx_signals.proofs.Maps.{same_channels}
 use Rattle.bx_signals.proofs.Turned.{same_everywhere}
 use Rattle.bx_cells.specs.Links.{among}
-use Rattle.bx_proc.specs.Process.{Process, can_expire}
+use Rattle.bx_proc.specs.Process.{Process, can_run, can_expire}
 use Rattle.bx_proc.specs.Signals.{with_message, with_link, without_link, expired}
 use Rattle.bx_world.specs.declared.choices.Choice.{Choice}
 use Rattle.bx_world.specs.declared.choices.Choice.TheVariants.{Run, Deliver, Expire}
@@ -25,15 +26,19 @@ use Rattle.bx_world.specs.declared.turns.Turn.TheVariants as turns
 use Rattle.bx_world.specs.World.{Life, Live, Gone, State}
 use Rattle.bx_world.specs.Sharing.{hearing}
 use Rattle.bx_world.specs.Asking.{Done, exit_message, is_kill, is_normal, low_enough}
-use Rattle.bx_world.specs.Delivering.{messaged, ending, exiting, heard, received, gone_heard, gone_received, lost}
-use Rattle.bx_world.specs.Lifetimes.{Among, lived, lived_if, gone_if, life_expired, put_back, at_life, lost_if, told_at}
-use Rattle.bx_world.specs.Enabled.{able, can, actor}
-use Rattle.bx_world.specs.Choosing.{made, made_or, chosen}
-use Rattle.bx_world.specs.Posting.{posts, unless_trap, where_made, in_channel, put_in, takes, taken_from, behind, all_behind}
-use Rattle.bx_world.specs.Independent.{one_is_local, AreIndependent, IsNoRun}
+use Rattle.bx_world.specs.Delivering.{messaged, ending, exiting, heard, gone_heard, lost}
+use Rattle.bx_world.specs.Lifetimes.{Among, lived, lived_if, gone_if, life_run, life_expired, put_back, at_life, lost_if, told_at}
+use Rattle.bx_world.specs.Enabled.{able, can, actor, may_at, may_run}
+use Rattle.bx_world.specs.Seen.{place_at}
+use Rattle.bx_world.specs.Turning.{runs}
+use Rattle.bx_world.specs.Choosing.{born_too, made, made_or, chosen, trap_of}
+use Rattle.bx_world.specs.Posting.{posts, run_posts, unless_trap, where_made, in_channel, put_in, takes, taken_from, behind, all_behind}
+use Rattle.bx_world.specs.Independent.{is_local_at, runs_local, one_is_local, AreIndependent, IsNoRun, IsLocal}
 use Rattle.bx_world.proofs.Arriving.{step}
-use Rattle.bx_world.proofs.Confined.{get_set_other}
-use Rattle.bx_world.proofs.Alike.{heeds, Finds, EndsAlike, able_alike, chosen_alike, posts_alike, puts_none, takes_none, takes_alike}
+use Rattle.bx_world.proofs.Applying.{MadeAs, made_as}
+use Rattle.bx_world.proofs.Beside.{AllSame, made_all as run_same, run_posts_same, run_puts_none}
+use Rattle.bx_world.proofs.Confined.{get_set_other, chosen_confined}
+use Rattle.bx_world.proofs.Alike.{runs_calm, bears_none, heeds, Finds, EndsAlike, able_alike, chosen_alike, posts_alike, puts_none, takes_none, takes_alike}
 
 -- ---- what stays
 
@@ -110,12 +115,25 @@ module _ (p q : ℕ) (lives : List Life) (l : Lanes) where
   expired_keeps (Some (Gone reason)) = tt
   expired_keeps (Some (Live x)) = over_keeps x (can_expire x)
 
-made_keeps : (image : Loaded) (c : Choice) (w : State) → IsNoRun c → Keeps (actor c) w.processes w.lanes (made image c w.processes w.lanes)
-made_keeps image (Run p) w idle = absurd idle
+-- a local run
+able_keeps : (image : Loaded) (p : ℕ) (lives : List Life) (l : Lanes) (x : Process) (b : Bool) → is_local_at image x.place ≡ true → Keeps p lives l (born_too image p (put_back p lives (if b then Ok (lived (runs image p l x)) else Err NotEnabled)))
+able_keeps image p lives l x true local =
+    let d = runs image p l x in
+    let calm = runs_calm image p l l x local in
+    subst (λ r. Keeps p lives l r) (sym (bears_none image p lives d.0 d.1 calm.bears)) (back_keeps p p lives l d calm.shows)
+able_keeps image p lives l x false local = tt
+
+run_keeps : (image : Loaded) (p : ℕ) (lives : List Life) (l : Lanes) (o : Option Life) → is_local_at image (place_at o) ≡ true → Keeps p lives l (born_too image p (at_life (life_run image p l) p lives o))
+run_keeps image p lives l None local = tt
+run_keeps image p lives l (Some (Live x)) local = able_keeps image p lives l x (can_run x) local
+run_keeps image p lives l (Some (Gone reason)) local = tt
+
+made_keeps : (image : Loaded) (c : Choice) (w : State) → IsLocal image w c → Keeps (actor c) w.processes w.lanes (made image c w.processes w.lanes)
+made_keeps image (Run p) w idle = run_keeps image p w.processes w.lanes (slice_get w.processes p) idle
 made_keeps image (Deliver p q) w idle = told_keeps p q w.processes w.lanes (slice_get w.processes q)
 made_keeps image (Expire p) w idle = expired_keeps p p w.processes w.lanes (slice_get w.processes p)
 
--- a world after a choice that is no run
+-- a world after a choice that is local
 pub record Kept (c : Choice) (w after : State) : Type 0 where
   pub count : length after.processes ≡ length w.processes
   pub others : (k : ℕ) → k ≢ actor c → slice_get after.processes k ≡ slice_get w.processes k
@@ -125,7 +143,7 @@ or_kept : (c : Choice) (w : State) (r : Result Among Fault) → Keeps (actor c) 
 or_kept c w (Ok (v, t)) h = record { count = h.0; others = h.1; output = h.2 }
 or_kept c w (Err f) h = record { count = refl; others = λ k other. refl; output = refl }
 
-pub chosen_kept : (image : Loaded) (c : Choice) (w : State) → IsNoRun c → Kept c w (chosen image c w)
+pub chosen_kept : (image : Loaded) (c : Choice) (w : State) → IsLocal image w c → Kept c w (chosen image c w)
 chosen_kept image c w idle = or_kept c w (made image c w.processes w.lanes) (made_keeps image c w idle)
 
 -- ---- one beside the other
@@ -172,10 +190,11 @@ module _ (image : Loaded) (c : Choice) (w : State) (enabled : can w c ≡ true) 
       front [] ys h = cc
       front (x ∷ xs) ys h = refl
 
--- what another choice finds behind one that is no run
-finds_again : (image : Loaded) (c d : Choice) (w : State) → IsNoRun c → actor c ≢ actor d → can w c ≡ true → (chosen image c w).trap ≡ None → can w d ≡ true → Finds d w (chosen image c w)
-finds_again image c d w idle apart enabled runs also = record {
-  life = sym ((chosen_kept image c w idle).others (actor d) (λ e. apart (sym e)));
+-- what another choice finds behind one that leaves its process as it was
+pub finds_again : (image : Loaded) (c d : Choice) (w : State) → slice_get (chosen image c w).processes (actor d) ≡ slice_get w.processes (actor d) → actor c ≢ actor d → can w c ≡ true → (chosen image c w).trap ≡ None → can w d ≡ true
+    → Finds d w (chosen image c w)
+finds_again image c d w stays apart enabled runs also = record {
+  life = sym stays;
   signal = one d apart (able_of w d also);
 } where
   one : (d : Choice) → actor c ≢ actor d → able d w.processes w.lanes ≡ true → heeds d w ≡ heeds d (chosen image c w)
@@ -216,26 +235,99 @@ pub one_then : (image : Loaded) (c d : Choice) (w : State) → can w c ≡ true 
 one_then image c d w can_c can_d =
     ap (λ b. behind image d (if b then chosen image c w else w)) can_c ∙ ap (λ b. if b then chosen image d (chosen image c w) else chosen image c w) can_d
 
-module _ (image : Loaded) (a b : Choice) (w : State) (no_a : IsNoRun a) (no_b : IsNoRun b) (apart : actor a ≢ actor b) (can_a : can w a ≡ true) (can_b : can w b ≡ true)
-    (a_runs : (chosen image a w).trap ≡ None) (b_runs : (chosen image b (chosen image a w)).trap ≡ None) where
+-- a process that may do something is there
+pub may_within : (may : Life → Bool) (w : State) (p : ℕ) → may_at may (slice_get w.processes p) ≡ true → p < length w.processes
+may_within may w p h = one (slice_get w.processes p) refl h where
+  one : (o : Option Life) → slice_get w.processes p ≡ o → may_at may o ≡ true → p < length w.processes
+  one None e k = cc
+  one (Some life) e k = slice_get_within w.processes p life e
+
+-- what a choice does in two worlds alike
+pub record Acts (image : Loaded) (c : Choice) (w v : State) : Type 0 where
+  pub trap : (chosen image c w).trap ≡ (chosen image c v).trap
+  pub here : slice_get (chosen image c w).processes (actor c) ≡ slice_get (chosen image c v).processes (actor c)
+  pub beyond : (k : ℕ) → length w.processes ≤ k → k ≢ actor c → slice_get (chosen image c w).processes k ≡ slice_get (chosen image c v).processes k
+  pub count : length (chosen image c w).processes ≡ length (chosen image c v).processes
+  pub output : (chosen image c w).lanes.output ≡ (chosen image c v).lanes.output
+  pub posts : posts image c w ≡ posts image c v
+
+-- what is local stays so where its process does
+local_again : (image : Loaded) (c : Choice) (w v : State) → Finds c w v → IsLocal image w c → IsLocal image v c
+local_again image (Run p) w v finds local = ap (λ o. is_local_at image (place_at o)) (sym finds.life) ∙ local
+local_again image (Deliver p q) w v finds local = tt
+local_again image (Expire p) w v finds local = tt
+
+quiet_acts : (image : Loaded) (c : Choice) (w v : State) → IsLocal image w c → Finds c w v → length w.processes ≡ length v.processes → w.lanes.output ≡ v.lanes.output → can w c ≡ true → Acts image c w v
+quiet_acts image c w v idle finds as_many same enabled =
+    let alike = chosen_alike image c w v idle finds (able_of w c enabled) in
+    let first = chosen_kept image c w idle in
+    let second = chosen_kept image c v (local_again image c w v finds idle) in
+    record {
+      trap = alike.trap;
+      here = alike.life;
+      beyond = λ k far other. first.others k other ∙ slice_get_past w.processes k far ∙ sym (slice_get_past v.processes k (omega (arith, as_many))) ∙ sym (second.others k other);
+      count = first.count ∙ as_many ∙ sym second.count;
+      output = first.output ∙ same ∙ sym second.output;
+      posts = posts_alike image c w v idle finds;
+    }
+
+run_acts : (image : Loaded) (p : ℕ) (w v : State) (r s : Result Among Fault) → r ≡ made image (Run p) w.processes w.lanes → s ≡ made image (Run p) v.processes v.lanes → MadeAs true r → MadeAs true s → AllSame p (length w.processes) r s
+    → posts image (Run p) w ≡ posts image (Run p) v → Acts image (Run p) w v
+run_acts image p w v (Ok (x, t)) (Ok (y, u)) is also m n h sent =
+    let first : chosen image (Run p) w ≡ made_or p w (Ok (x, t)) = ap (made_or p w) (sym is) in
+    let second : chosen image (Run p) v ≡ made_or p v (Ok (y, u)) = ap (made_or p v) (sym also) in
+    record {
+      trap = ap (λ (z : State). z.trap) first ∙ ap (trap_of p) h.turn ∙ ap (λ (z : State). z.trap) (sym second);
+      here = ap (λ (z : State). slice_get z.processes p) first ∙ h.here ∙ ap (λ (z : State). slice_get z.processes p) (sym second);
+      beyond = λ k far other. ap (λ (z : State). slice_get z.processes k) first ∙ h.beyond k far ∙ ap (λ (z : State). slice_get z.processes k) (sym second);
+      count = ap (λ (z : State). length z.processes) first ∙ h.count ∙ ap (λ (z : State). length z.processes) (sym second);
+      output = ap (λ (z : State). z.lanes.output) first ∙ h.output ∙ ap (λ (z : State). z.lanes.output) (sym second);
+      posts = sent;
+    }
+run_acts image p w v (Ok (x, t)) (Err g) is also m n h sent = absurd n
+run_acts image p w v (Err f) s is also m n h sent = absurd m
+
+pub acts : (image : Loaded) (c : Choice) (w v : State) → Finds c w v → length w.processes ≡ length v.processes → w.lanes.output ≡ v.lanes.output → can w c ≡ true → Acts image c w v
+acts image (Run p) w v finds as_many same enabled =
+    let able_here = able_of w (Run p) enabled in
+    let made_here = subst (λ b. MadeAs b (made image (Run p) w.processes w.lanes)) able_here (made_as image (Run p) w.processes w.lanes) in
+    let made_there = subst (λ b. MadeAs b (made image (Run p) v.processes v.lanes)) (sym (able_alike (Run p) w v finds) ∙ able_here) (made_as image (Run p) v.processes v.lanes) in
+    run_acts image p w v (made image (Run p) w.processes w.lanes) (made image (Run p) v.processes v.lanes) refl refl made_here made_there
+    (run_same image p w.processes v.processes w.lanes v.lanes same finds.life (may_within may_run w p able_here) as_many)
+    (run_posts_same image p w.processes v.processes w.lanes v.lanes same as_many (slice_get w.processes p) ∙ ap (run_posts image p v.processes v.lanes) finds.life)
+acts image (Deliver p q) w v finds as_many same enabled = quiet_acts image (Deliver p q) w v tt finds as_many same enabled
+acts image (Expire p) w v finds as_many same enabled = quiet_acts image (Expire p) w v tt finds as_many same enabled
+
+-- a choice puts into its own process's channels alone
+sends_none : (image : Loaded) (c : Choice) (w : State) (pair : ℕ × ℕ) → pair.0 ≢ actor c → in_channel pair (posts image c w) ≡ []
+sends_none image (Run p) w pair other = run_puts_none image p w.processes w.lanes (slice_get w.processes p) pair other
+sends_none image (Deliver p q) w pair other = puts_none image (Deliver p q) w pair tt other
+sends_none image (Expire p) w pair other = puts_none image (Expire p) w pair tt other
+
+-- a choice that is local, and another that leaves its process as it was
+module _ (image : Loaded) (a b : Choice) (w : State) (no_a : IsLocal image w a) (stays : (v : State) → length v.processes ≡ length w.processes → slice_get (chosen image b v).processes (actor a) ≡ slice_get v.processes (actor a))
+    (apart : actor a ≢ actor b) (can_a : can w a ≡ true) (can_b : can w b ≡ true) (a_runs : (chosen image a w).trap ≡ None) (b_runs : (chosen image b (chosen image a w)).trap ≡ None) where
   flipped : actor b ≢ actor a
   flipped e = apart (sym e)
 
   -- b behind a finds what it finds at first
   b_finds : Finds b w (chosen image a w)
-  b_finds = finds_again image a b w no_a apart can_a a_runs can_b
+  b_finds = finds_again image a b w ((chosen_kept image a w no_a).others (actor b) flipped) apart can_a a_runs can_b
 
-  b_alike : EndsAlike (actor b) (chosen image b w) (chosen image b (chosen image a w))
-  b_alike = chosen_alike image b w (chosen image a w) no_b b_finds (able_of w b can_b)
+  b_acts : Acts image b w (chosen image a w)
+  b_acts = acts image b w (chosen image a w) b_finds (sym (chosen_kept image a w no_a).count) (sym (chosen_kept image a w no_a).output) can_b
 
   b_first : (chosen image b w).trap ≡ None
-  b_first = b_alike.trap ∙ b_runs
+  b_first = b_acts.trap ∙ b_runs
 
   b_enabled : can (chosen image a w) b ≡ true
   b_enabled = can_from (chosen image a w) b a_runs (sym (able_alike b w (chosen image a w) b_finds) ∙ able_of w b can_b)
 
   a_finds : Finds a w (chosen image b w)
-  a_finds = finds_again image b a w no_b flipped can_b b_first can_a
+  a_finds = finds_again image b a w (stays w refl) flipped can_b b_first can_a
+
+  last_a : IsLocal image (chosen image b w) a
+  last_a = local_again image a w (chosen image b w) a_finds no_a
 
   a_alike : EndsAlike (actor a) (chosen image a w) (chosen image a (chosen image b w))
   a_alike = chosen_alike image a w (chosen image b w) no_a a_finds (able_of w a can_a)
@@ -247,23 +339,28 @@ module _ (image : Loaded) (a b : Choice) (w : State) (no_a : IsNoRun a) (no_b : 
   a_enabled = can_from (chosen image b w) a b_first (sym (able_alike a w (chosen image b w) a_finds) ∙ able_of w a can_a)
 
   -- life by life
+  kept_a : (k : ℕ) → k ≢ actor a → slice_get (chosen image a (chosen image b w)).processes k ≡ slice_get (chosen image b w).processes k
+  kept_a k other = (chosen_kept image a (chosen image b w) last_a).others k other
+
+  other_life : (k : ℕ) → k ≢ actor a → k ≢ actor b → slice_get (chosen image b (chosen image a w)).processes k ≡ slice_get (chosen image a (chosen image b w)).processes k
+  other_life k e f = one (nat_lt k (length w.processes)) refl where
+    one : (less : Bool) → nat_lt k (length w.processes) ≡ less → slice_get (chosen image b (chosen image a w)).processes k ≡ slice_get (chosen image a (chosen image b w)).processes k
+    one true h =
+        let lower = ltb-true k (length w.processes) h in
+        let count = (chosen_kept image a w no_a).count in
+        (chosen_confined image b (chosen image a w)).2 k f (omega arith) ∙ (chosen_kept image a w no_a).others k e ∙ sym ((chosen_confined image b w).2 k f lower) ∙ sym (kept_a k e)
+    one false h = sym (b_acts.beyond k (ltb-false k (length w.processes) h) f) ∙ sym (kept_a k e)
+
   same_life : (k : ℕ) → slice_get (chosen image b (chosen image a w)).processes k ≡ slice_get (chosen image a (chosen image b w)).processes k
   same_life k = one (cases_eq k (actor a)) (cases_eq k (actor b)) where
-    kept_a : k ≢ actor a → slice_get (chosen image a (chosen image b w)).processes k ≡ slice_get (chosen image b w).processes k
-    kept_a other = (chosen_kept image a (chosen image b w) no_a).others k other
-
-    kept_b : k ≢ actor b → slice_get (chosen image b (chosen image a w)).processes k ≡ slice_get (chosen image a w).processes k
-    kept_b other = (chosen_kept image b (chosen image a w) no_b).others k other
-
     one : (k ≡ actor a) ⊎ (k ≢ actor a) → (k ≡ actor b) ⊎ (k ≢ actor b) → slice_get (chosen image b (chosen image a w)).processes k ≡ slice_get (chosen image a (chosen image b w)).processes k
-    one (inl e) (inl f) = absurd (apart (sym e ∙ f))
-    one (inl e) (inr f) = kept_b f ∙ ap (slice_get (chosen image a w).processes) e ∙ a_alike.life ∙ ap (slice_get (chosen image a (chosen image b w)).processes) (sym e)
-    one (inr e) (inl f) = ap (slice_get (chosen image b (chosen image a w)).processes) f ∙ sym b_alike.life ∙ ap (slice_get (chosen image b w).processes) (sym f) ∙ sym (kept_a e)
-    one (inr e) (inr f) = kept_b f ∙ (chosen_kept image a w no_a).others k e ∙ sym ((chosen_kept image b w no_b).others k f) ∙ sym (kept_a e)
+    one (inl e) f =
+        ap (slice_get (chosen image b (chosen image a w)).processes) e ∙ stays (chosen image a w) (chosen_kept image a w no_a).count ∙ a_alike.life ∙ ap (slice_get (chosen image a (chosen image b w)).processes) (sym e)
+    one (inr e) (inl f) = ap (slice_get (chosen image b (chosen image a w)).processes) f ∙ sym b_acts.here ∙ ap (slice_get (chosen image b w).processes) (sym f) ∙ sym (kept_a k e)
+    one (inr e) (inr f) = other_life k e f
 
   as_many : length (chosen image b (chosen image a w)).processes ≡ length (chosen image a (chosen image b w)).processes
-  as_many =
-      (chosen_kept image b (chosen image a w) no_b).count ∙ (chosen_kept image a w no_a).count ∙ sym (chosen_kept image b w no_b).count ∙ sym (chosen_kept image a (chosen image b w) no_a).count
+  as_many = sym b_acts.count ∙ sym (chosen_kept image a (chosen image b w) last_a).count
 
   -- channel by channel
   same_row : (pair : ℕ × ℕ) → waiting (chosen image b (chosen image a w)).lanes.channels pair ≡ waiting (chosen image a (chosen image b w)).lanes.channels pair
@@ -272,7 +369,7 @@ module _ (image : Loaded) (a b : Choice) (w : State) (no_a : IsNoRun a) (no_b : 
       (waiting (chosen image b (chosen image a w)).lanes.channels pair) (waiting (chosen image a (chosen image b w)).lanes.channels pair)
       (in_channel pair (posts image a w)) (in_channel pair (posts image b w)) (takes a w pair) (takes b w pair)
       (stepped image a w can_a a_runs pair)
-      (ap (λ ps. waiting (chosen image a w).lanes.channels pair ++ in_channel pair ps) (posts_alike image b w (chosen image a w) no_b b_finds)
+      (ap (λ ps. waiting (chosen image a w).lanes.channels pair ++ in_channel pair ps) b_acts.posts
       ∙ stepped image b (chosen image a w) b_enabled b_runs pair
       ∙ ap (λ ss. ss ++ waiting (chosen image b (chosen image a w)).lanes.channels pair) (sym (takes_alike b w (chosen image a w) pair b_finds)))
       (stepped image b w can_b b_first pair)
@@ -282,8 +379,8 @@ module _ (image : Loaded) (a b : Choice) (w : State) (no_a : IsNoRun a) (no_b : 
       (puts_case (cases_eq pair.0 (actor a))) (takes_case (cases_eq pair.1 (actor a)))
     where
       puts_case : (pair.0 ≡ actor a) ⊎ (pair.0 ≢ actor a) → (in_channel pair (posts image a w) ≡ []) ⊎ (in_channel pair (posts image b w) ≡ [])
-      puts_case (inl e) = inr (puts_none image b w pair no_b (λ f. apart (sym e ∙ f)))
-      puts_case (inr other) = inl (puts_none image a w pair no_a other)
+      puts_case (inl e) = inr (sends_none image b w pair (λ f. apart (sym e ∙ f)))
+      puts_case (inr other) = inl (sends_none image a w pair other)
 
       takes_case : (pair.1 ≡ actor a) ⊎ (pair.1 ≢ actor a) → (takes a w pair ≡ []) ⊎ (takes b w pair ≡ [])
       takes_case (inl e) = inr (takes_none b w pair (λ f. apart (sym e ∙ f)))
@@ -294,16 +391,18 @@ module _ (image : Loaded) (a b : Choice) (w : State) (no_a : IsNoRun a) (no_b : 
       same_state (chosen image b (chosen image a w)) (chosen image a (chosen image b w))
       (same_everywhere (chosen image b (chosen image a w)).processes (chosen image a (chosen image b w)).processes as_many (λ k h. same_life k))
       (same_channels (chosen image b (chosen image a w)).lanes.channels (chosen image a (chosen image b w)).lanes.channels same_row)
-      ((chosen_kept image b (chosen image a w) no_b).output ∙ (chosen_kept image a w no_a).output ∙ sym (chosen_kept image b w no_b).output ∙ sym (chosen_kept image a (chosen image b w) no_a).output)
+      (sym b_acts.output ∙ sym (chosen_kept image a (chosen image b w) last_a).output)
       (b_runs ∙ sym a_last)
 
-  no_run_is_local : (a b : Choice) → IsNoRun a → one_is_local image w a b ≡ true
-  no_run_is_local (Run p) b idle = absurd idle
+  no_run_is_local : (a b : Choice) → IsLocal image w a → one_is_local image w a b ≡ true
+  no_run_is_local (Run p) (Run q) idle = ap (λ t. t || runs_local image q w) idle
+  no_run_is_local (Run p) (Deliver q r) idle = refl
+  no_run_is_local (Run p) (Expire q) idle = refl
   no_run_is_local (Deliver p q) b idle = refl
   no_run_is_local (Expire p) b idle = refl
 
-  pub independent : AreIndependent image w a b
-  independent = record {
+  may_exchange : AreIndependent image w a b
+  may_exchange = record {
     first_enabled = can_a;
     second_enabled = can_b;
     first_runs = a_runs;
@@ -313,3 +412,20 @@ module _ (image : Loaded) (a b : Choice) (w : State) (no_a : IsNoRun a) (no_b : 
     local = no_run_is_local a b no_a;
     same = one_then image a b w can_a b_enabled ∙ commute ∙ sym (one_then image b a w can_b a_enabled);
   }
+
+-- a choice that is no run is local
+pub no_run_local : (image : Loaded) (c : Choice) (w : State) → IsNoRun c → IsLocal image w c
+no_run_local image (Run p) w idle = absurd idle
+no_run_local image (Deliver p q) w idle = tt
+no_run_local image (Expire p) w idle = tt
+
+pub independent : (image : Loaded) (a b : Choice) (w : State) → IsNoRun a → IsNoRun b → actor a ≢ actor b → can w a ≡ true → can w b ≡ true → (chosen image a w).trap ≡ None → (chosen image b (chosen image a w)).trap ≡ None → AreIndependent image w a b
+independent image a b w no_a no_b apart =
+    may_exchange image a b w (no_run_local image a w no_a) (λ v e. (chosen_kept image b v (no_run_local image b v no_b)).others (actor a) apart) apart
+
+-- a process that is there stays as it was beside any choice of another
+pub untouched : (image : Loaded) (b : Choice) (w v : State) (p : ℕ) → p ≢ actor b → p < length w.processes → length v.processes ≡ length w.processes → slice_get (chosen image b v).processes p ≡ slice_get v.processes p
+untouched image b w v p apart there as_many = (chosen_confined image b v).2 p apart (omega (arith, there, as_many))
+
+pub beside_any : (image : Loaded) (a b : Choice) (w : State) → IsLocal image w a → actor a < length w.processes → actor a ≢ actor b → can w a ≡ true → can w b ≡ true → (chosen image a w).trap ≡ None → (chosen image b (chosen image a w)).trap ≡ None → AreIndependent image w a b
+beside_any image a b w local there apart = may_exchange image a b w local (λ v e. untouched image b w v (actor a) apart there e) apart

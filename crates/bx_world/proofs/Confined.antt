@@ -38,7 +38,7 @@ get_set_same [] n y h = absurd (omega arith)
 get_set_same (z ∷ xs) zero y h = refl
 get_set_same (z ∷ xs) (suc n) y h = get_set_same xs n y (omega arith)
 
-get_first : {A : Type 0} (xs ys : List A) (k : ℕ) → k < length xs → slice_get (xs ++ ys) k ≡ slice_get xs k
+pub get_first : {A : Type 0} (xs ys : List A) (k : ℕ) → k < length xs → slice_get (xs ++ ys) k ≡ slice_get xs k
 get_first [] ys k h = absurd (omega arith)
 get_first (x ∷ xs) ys zero h = refl
 get_first (x ∷ xs) ys (suc k) h = get_first xs ys k (omega arith)
@@ -92,7 +92,7 @@ told_confined : (p q : ℕ) (l : Lanes) (lives : List Life) (o : Option Life) �
 told_confined p q l lives None = lost_confined q lives (lost p q l (first (waiting l.channels (p, q))))
 told_confined p q l lives (Some one) = weaker q lives (put_back q lives (life_told p q l one)) (put_changed q lives (life_told p q l one))
 
--- a birth
+-- a spawn
 unborn_confined : (p : ℕ) (lives : List Life) (one : Life) (l : Lanes) (r : Result Among Fault) → AmongChanged p (lives ++ one ∷ []) r → AmongConfined p lives (unborn_at_trap lives l r)
 unborn_confined p lives one l (Ok (w, turns.Ran)) h = grown p lives w.0 one h
 unborn_confined p lives one l (Ok (w, turns.Ended reason)) h = grown p lives w.0 one h

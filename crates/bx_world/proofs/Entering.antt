@@ -201,7 +201,7 @@ turned_grows image p l x y (effects.Trap kind) h = no_more (Asks (effects.Trap k
 runs_grows : (image : Loaded) (p : ℕ) (l : Lanes) (x : Process) → DoneGrows (Asks (attempted image p x).1) x (runs image p l x)
 runs_grows image p l x = turned_grows image p l x (attempted image p x).0 (attempted image p x).1 (whole image p x (attempted image p x).0 (attempted image p x).1 refl)
 
--- a birth comes of asking for it
+-- a spawn comes of asking for it
 abbrev Bears : Option Request → Turn → Type 0
 Bears request turns.Ran = Unit {0}
 Bears request (turns.Ended reason) = Unit {0}
@@ -306,7 +306,7 @@ put_gains p E lives one after at grows k q h = ⊎_elim here there (cases_eq k p
     there : k ≢ p → (is_linked lives k q ≡ true) ⊎ At p E k q
     there other = inl (sym (ap (holds q) (get_set_other lives p k after other)) ∙ h)
 
--- a run without a birth
+-- a run without a spawn
 ran_gains : (p : ℕ) (E : ℕ → Type 0) (lives : List Life) (x : Process) (w : Process × Lanes) → slice_get lives p ≡ Some (Live x) → Grows E x w.0 → Gains (At p E) lives (slice_set lives p (Live w.0))
 ran_gains p E lives x w at h = put_gains p E lives (Live x) (Live w.0) at h
 
@@ -319,7 +319,7 @@ lived_gains p E lives x (w, turns.Ended reason) at h = ended_gains p E lives (Li
 lived_gains p E lives x (w, turns.Trapped kind) at h = ran_gains p E lives x w at h
 lived_gains p E lives x (w, turns.Bears birth) at h = ran_gains p E lives x w at h
 
--- a birth
+-- a spawn
 child_asked : (child : Option ℕ) (x y : Process) → Grows (λ q. child ≡ Some q) (linked_to child x) y → Grows (λ q. child ≡ Some q) x y
 child_asked None x y h = h
 child_asked (Some c) x y h = linked_grows c (λ q. Some c ≡ Some q) x y refl h
@@ -356,7 +356,7 @@ newborn_holds : (image : Loaded) (p : ℕ) (birth : Birth) (q : ℕ) → holds q
 newborn_holds image p birth q h =
     other_of birth.linked p q (only_one (other_if birth.linked p) (born (export image birth.«module» birth.function (length birth.arguments)) birth.arguments) q refl h)
 
--- by a birth: a child is linked to its parent, and the parent to its child
+-- by a spawn: a child is linked to its parent, and the parent to its child
 abbrev ByBirth : ℕ → ℕ → Birth → ℕ → ℕ → Type 0
 ByBirth p n birth k q = (birth.linked ≡ true) × (((p ≡ k) × (q ≡ n)) ⊎ ((p ≡ q) × (k ≡ n)))
 

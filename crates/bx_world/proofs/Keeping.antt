@@ -1,4 +1,4 @@
--- A choice that traps has changed nothing, nor has a run that asks for a birth.
+-- A choice that traps has changed nothing, nor has a run that asks for a spawn.
 use Rattle.std.proofs.Common.{◌≡◌, ℕ, List, Bool, true, false, Option, Some, None, Result, Ok, Err, refl, sym, ap, ◌∙◌}
 use Rattle.std.specs.Prelude.{if◌then◌else◌, not, ◌||◌, ◌==◌, slice_get, slice_set}
 use Rattle.std.proofs.Math.ListN.{set}
@@ -35,7 +35,7 @@ use Rattle.bx_world.specs.Delivering.{messaged, ending, exiting, heard, received
 use Rattle.bx_world.specs.Lifetimes.{Lived, Among, lived, lived_if, gone_if, life_run, life_told, put_back, at_life, lives_run, lost_if, told_at, lives_told}
 use Rattle.bx_world.specs.Births.{answering, life_answered, lives_answered, linked_to}
 
--- a trap and a birth that is asked for leave both as they were
+-- a trap and a spawn that is asked for leave both as they were
 abbrev pub Kept : Process × Lanes → Done → Type 0
 Kept before (after, turns.Ran) = Unit {0}
 Kept before (after, turns.Ended reason) = Unit {0}

@@ -10,12 +10,15 @@ pub mod Undoing
 pub mod Keeping
 pub mod Applying
 pub mod Growing
+pub mod Halting
 pub mod Members
 pub mod Lawful
 pub mod Arriving
 pub mod Confined
 pub mod Entering
+pub mod Own
 pub mod Alike
+pub mod Beside
 pub mod Commuting
 pub mod Orders
 pub mod Crossing

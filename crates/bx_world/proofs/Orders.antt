@@ -1,25 +1,18 @@
 -- Choices that are independent one way are independent the other way: each stays enabled beside the other.
 use Rattle.std.proofs.Common.{◌≡◌, ◌≢◌, ℕ, ◌<◌, [], ◌∷◌, Bool, true, false, Option, Some, None, length, refl, sym, ap, ◌∙◌}
-use Rattle.std.specs.Prelude.{◌&&◌, ◌||◌, is_some, is_none, if◌then◌else◌, slice_get}
-use Rattle.std.proofs.lemmas.Option.{slice_get_within}
+use Rattle.std.specs.Prelude.{◌&&◌, ◌||◌, is_some, is_none, if◌then◌else◌}
 use Rattle.bx_terms.specs.declared.kinds.Trap.{Trap}
 use Rattle.bx_load.specs.Image.{Loaded}
 use Rattle.bx_world.specs.declared.choices.Choice.{Choice}
 use Rattle.bx_world.specs.declared.choices.Choice.TheVariants.{Run, Deliver, Expire}
-use Rattle.bx_world.specs.World.{Life, State}
+use Rattle.bx_world.specs.World.{State}
 use Rattle.bx_world.specs.Enabled.{able, can, actor, may_at, may_run, may_expire}
 use Rattle.bx_world.specs.Choosing.{chosen}
 use Rattle.bx_world.specs.Posting.{behind, all_behind}
-use Rattle.bx_world.specs.Independent.{runs_local, one_is_local, AreIndependent}
+use Rattle.bx_world.specs.Independent.{runs_local, one_is_local, AreIndependent, IsLocal}
 use Rattle.bx_world.proofs.Confined.{chosen_confined}
-use Rattle.bx_world.proofs.Commuting.{able_of, can_from, first_stays, one_then}
-
--- a life of which something may be done is there
-may_within : (may : Life → Bool) (w : State) (p : ℕ) → may_at may (slice_get w.processes p) ≡ true → p < length w.processes
-may_within may w p h = one (slice_get w.processes p) refl h where
-  one : (o : Option Life) → slice_get w.processes p ≡ o → may_at may o ≡ true → p < length w.processes
-  one None e k = cc
-  one (Some life) e k = slice_get_within w.processes p life e
+use Rattle.bx_world.proofs.Commuting.{able_of, can_from, chosen_kept, first_stays, may_within, one_then, finds_again, acts, untouched, beside_any}
+use Rattle.bx_world.proofs.Alike.{chosen_alike}
 
 -- a choice stays enabled behind one of another actor that does not trap
 pub stays_enabled : (image : Loaded) (c d : Choice) (w : State) → actor c ≢ actor d → can w c ≡ true → (chosen image c w).trap ≡ None → can w d ≡ true → can (chosen image c w) d ≡ true
@@ -86,3 +79,14 @@ module _ (image : Loaded) (w : State) (a b : Choice) (is : AreIndependent image 
     local = sym (local_turned image w a b) ∙ is.local;
     same = sym is.same;
   }
+
+-- any choice, and then one that is local
+pub any_beside : (image : Loaded) (b a : Choice) (w : State) → IsLocal image w a → actor a < length w.processes → actor b ≢ actor a → can w b ≡ true → can w a ≡ true → (chosen image b w).trap ≡ None → (chosen image a (chosen image b w)).trap ≡ None → AreIndependent image w b a
+any_beside image b a w local there apart can_b can_a b_runs a_last =
+    let flipped : actor a ≢ actor b = λ e. apart (sym e) in
+    let kept = chosen_kept image a w local in
+    let a_finds = finds_again image b a w (untouched image b w w (actor a) flipped there refl) apart can_b b_runs can_a in
+    let a_runs : (chosen image a w).trap ≡ None = (chosen_alike image a w (chosen image b w) local a_finds (able_of w a can_a)).trap ∙ a_last in
+    let b_finds = finds_again image a b w (kept.others (actor b) apart) flipped can_a a_runs can_b in
+    let b_acts = acts image b w (chosen image a w) b_finds (sym kept.count) (sym kept.output) can_b in
+    either_way image w a b (beside_any image a b w local there flipped can_a can_b a_runs (sym b_acts.trap ∙ b_runs))

@@ -23,36 +23,19 @@ use Rattle.bx_proc.specs.Stepping.{settled, settled_with, Whole}
 use Rattle.bx_proc.specs.declared.parts.Answer.{Answer}
 use Rattle.bx_proc.specs.declared.parts.Effect.{Effect}
 use Rattle.bx_proc.specs.declared.parts.Effect.TheVariants as effects
-use Rattle.bx_world.specs.Turning.{Stays}
-use Rattle.bx_proc.specs.Stepping.{attempted}
-use Rattle.bx_proc.proofs.Attempts.{whole as attempt_whole, settled_whole, settled_with_whole}
+use Rattle.bx_proc.proofs.Attempts.{settled_whole, settled_with_whole}
 use Rattle.bx_proc.proofs.Linking.{link_undone, linked_there}
 use Rattle.bx_world.specs.declared.lanes.Lanes.{Lanes}
 use Rattle.bx_world.specs.declared.turns.Turn.{Turn}
 use Rattle.bx_world.specs.declared.turns.Turn.TheVariants as turns
 use Rattle.bx_world.specs.Sharing.{telling, showing}
-use Rattle.bx_world.specs.Asking.{Done, whole, closing, linking, yes, unlinked_done, IsEnded}
+use Rattle.bx_world.specs.Asking.{Done, whole, closing, linking, yes}
 
 abbrev Answered : Type 0
 Answered = Result Done Fault
 
 same_done : (d e : Done) → ◌≡◌ {A = Answered} (Ok d) (Ok e) → d ≡ e
 same_done d e is = cc
-
--- a process that ended, or could not be answered, is as it was
-pub end_kept : (image : Loaded) (a : Answer) (x y : Process) (e : Effect) → ◌≡◌ {A = Result (Process × Effect) Fault} (Ok (settled image a x)) (Ok (y, e)) → IsEnded e → y ≡ x
-end_kept image a x y (effects.Ended reason) is ended = settled_whole image a x y (effects.Ended reason) (let both : settled image a x ≡ (y, effects.Ended reason) = cc in both)
-end_kept image a x y effects.Ran is ended = absurd ended
-end_kept image a x y (effects.Trap kind) is ended = absurd ended
-end_kept image a x y (effects.Send to m) is ended = absurd ended
-end_kept image a x y (effects.Ask n ts) is ended = absurd ended
-
-pub end_kept_with : (image : Loaded) (a : Answer) (m : Tree) (x y : Process) (e : Effect) → ◌≡◌ {A = Result (Process × Effect) Fault} (Ok (settled_with image a m x)) (Ok (y, e)) → IsEnded e → y ≡ x
-end_kept_with image a m x y (effects.Ended reason) is ended = settled_with_whole image a m x y (effects.Ended reason) (let both : settled_with image a m x ≡ (y, effects.Ended reason) = cc in both)
-end_kept_with image a m x y effects.Ran is ended = absurd ended
-end_kept_with image a m x y (effects.Trap kind) is ended = absurd ended
-end_kept_with image a m x y (effects.Send to n) is ended = absurd ended
-end_kept_with image a m x y (effects.Ask n ts) is ended = absurd ended
 
 -- where nothing was put, a trap leaves nothing to take back
 alone : (p : ℕ) (l : Lanes) (x y : Process) (e : Effect) → Whole x y e → whole (x, l) (closing p l (y, e)) ≡ closing p l (y, e)
@@ -144,33 +127,6 @@ back_trapped p q s x y l m (w, turns.Ran) kind is = let no : turns.Ran ≡ turns
 back_trapped p q s x y l m (w, turns.Ended reason) kind is = let no : turns.Ended reason ≡ turns.Trapped kind = ap (λ (d : Done). d.1) (same_done (w, turns.Ended reason) ((y, m), turns.Trapped kind) is) in cc
 back_trapped p q s x y l m (w, turns.Bears birth) kind is = let no : turns.Bears birth ≡ turns.Trapped kind = ap (λ (d : Done). d.1) (same_done (w, turns.Bears birth) ((y, m), turns.Trapped kind) is) in cc
 
--- an answer that was refused, or meant nothing, left the process as it was
-settled_as : (image : Loaded) (a : Answer) (x y : Process) (e : Effect) → ◌≡◌ {A = Result (Process × Effect) Fault} (Ok (settled image a x)) (Ok (y, e)) → settled image a x ≡ (y, e)
-settled_as image a x y e is = let both : settled image a x ≡ (y, e) = cc in both
-
-pub ended_kept : (image : Loaded) (a : Answer) (x y : Process) (r : Tree) → ◌≡◌ {A = Result (Process × Effect) Fault} (Ok (settled image a x)) (Ok (y, effects.Ended r)) → y ≡ x
-ended_kept image a x y r is = settled_whole image a x y (effects.Ended r) (settled_as image a x y (effects.Ended r) is)
-
-unlinked_as : (image : Loaded) (p q : ℕ) (a : Answer) (x y : Process) (l : Lanes) (e : Effect) (kind : Trap) → settled image a x ≡ (y, e) → closing p l (unlinked_done q (y, e)) ≡ ((without_link q y, l), turns.Trapped kind) → y ≡ x
-    → ◌≡◌ {A = Answered} (Ok (whole (x, l) (closing p l (unlinked_done q (settled image a x))))) (Ok ((y, l), turns.Trapped kind))
-unlinked_as image p q a x y l e kind is closed same =
-    ap (λ d. Ok (whole (x, l) (closing p l (unlinked_done q d)))) is ∙ ap (λ (d : Done). Ok (whole (x, l) d)) closed ∙ ap (λ z. Ok ((z, l), turns.Trapped kind)) (sym same)
-
-pub unlinked_trapped : (image : Loaded) (p q : ℕ) (a : Answer) (x y : Process) (l : Lanes) (kind : Trap) → ◌≡◌ {A = Result (Process × Effect) Fault} (Ok (settled image a x)) (Ok (y, effects.Trap kind))
-    → ◌≡◌ {A = Answered} (Ok (whole (x, l) (closing p l (unlinked_done q (settled image a x))))) (Ok ((y, l), turns.Trapped kind))
-unlinked_trapped image p q a x y l kind is =
-    let e = settled_as image a x y (effects.Trap kind) is in unlinked_as image p q a x y l (effects.Trap kind) kind e refl (settled_whole image a x y (effects.Trap kind) e)
-
-pub unlinked_sent : (image : Loaded) (p q : ℕ) (a : Answer) (x y : Process) (l : Lanes) (to : ℕ) (t : Tree) → ◌≡◌ {A = Result (Process × Effect) Fault} (Ok (settled image a x)) (Ok (y, effects.Send to t))
-    → ◌≡◌ {A = Answered} (Ok (whole (x, l) (closing p l (unlinked_done q (settled image a x))))) (Ok ((y, l), turns.Trapped BadPlace))
-unlinked_sent image p q a x y l to t is =
-    let e = settled_as image a x y (effects.Send to t) is in unlinked_as image p q a x y l (effects.Send to t) BadPlace e refl (settled_whole image a x y (effects.Send to t) e)
-
-pub unlinked_asked : (image : Loaded) (p q : ℕ) (a : Answer) (x y : Process) (l : Lanes) (n : Native) (ts : List Tree) → ◌≡◌ {A = Result (Process × Effect) Fault} (Ok (settled image a x)) (Ok (y, effects.Ask n ts))
-    → ◌≡◌ {A = Answered} (Ok (whole (x, l) (closing p l (unlinked_done q (settled image a x))))) (Ok ((y, l), turns.Trapped BadPlace))
-unlinked_asked image p q a x y l n ts is =
-    let e = settled_as image a x y (effects.Ask n ts) is in unlinked_as image p q a x y l (effects.Ask n ts) BadPlace e refl (settled_whole image a x y (effects.Ask n ts) e)
-
 -- a link that was entered is taken away, and nothing has changed
 pub unlinked_back : (q : ℕ) (x y : Process) (l m : Lanes) → IsRising x.links → among q x.links ≡ false → ◌≡◌ {A = Process × Lanes} (y, m) (with_link q x, l) → ◌≡◌ {A = Process × Lanes} (without_link q y, m) (x, l)
 unlinked_back q x y l m rising new is =
@@ -216,14 +172,3 @@ linking_new image p q x l other new =
 -- a link that is there already changes nothing
 pub linked_already : (q : ℕ) (x : Process) → among q x.links ≡ true → with_link q x ≡ x
 linked_already q x there = linked_there q x there
-
--- a run that concerns others left the process as it was
-stays_by : (x y : Process) (e : Effect) → Whole x y e → Stays x y e
-stays_by x y effects.Ran w = tt
-stays_by x y (effects.Send to t) w = w
-stays_by x y (effects.Ask n ts) w = w
-stays_by x y (effects.Ended r) w = w
-stays_by x y (effects.Trap k) w = w
-
-pub stays : (image : Loaded) (pid : ℕ) (x y : Process) (e : Effect) → ◌≡◌ {A = Result (Process × Effect) Fault} (Ok (attempted image pid x)) (Ok (y, e)) → Stays x y e
-stays image pid x y e is = stays_by x y e (attempt_whole image pid x y e (let both : attempted image pid x ≡ (y, e) = cc in both))

@@ -43,14 +43,6 @@ closing p lanes (x, effects.Trap kind) = ((x, lanes), Trapped kind)
 closing p lanes (x, effects.Send to message) = ((x, lanes), Trapped BadPlace)
 closing p lanes (x, effects.Ask native arguments) = ((x, lanes), Trapped BadPlace)
 
--- a process that ended is as it was
-abbrev pub IsEnded : Effect → Type 0
-IsEnded (effects.Ended reason) = Unit {0}
-IsEnded effects.Ran = ⊥
-IsEnded (effects.Trap kind) = ⊥
-IsEnded (effects.Send to message) = ⊥
-IsEnded (effects.Ask native arguments) = ⊥
-
 -- a process ends
 abbrev pub leaving : ℕ → Process → Lanes → Tree → Done
 leaving p x lanes reason = ((x, parting p x.links reason lanes), Ended reason)
@@ -114,7 +106,7 @@ unlinking image p q x lanes =
     if (q == p) || not (among q x.links) then closing p lanes (settled image yes x)
     else closing p (telling (p, q) signals.Unlink lanes) (unlinked_done q (settled image yes x))
 
--- a birth concerns the other processes too, and is left to the world
+-- a spawn concerns the other processes too, and is left to the world
 abbrev pub doing : Loaded → ℕ → Request → Process → Lanes → Done
 doing image p requests.Refused x lanes = closing p lanes (settled image badarg x)
 doing image p (requests.Send q message) x lanes =

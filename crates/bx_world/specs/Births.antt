@@ -45,7 +45,7 @@ life_answered image p child answer lanes (Gone reason) = Err NotEnabled
 abbrev pub lives_answered : Loaded → ℕ → Option ℕ → Answer → Lanes → List Life → Result Among Fault
 lives_answered image p child answer lanes lives = at_life (life_answered image p child answer lanes) p lives (slice_get lives p)
 
--- the child stands at the beginning of its function, where its module exports one of that name and that many arguments
+-- the child stands at the entry of its function, where its module exports one of that name and that many arguments
 abbrev pub newborn : Loaded → ℕ → Birth → Process
 newborn image p birth = linked_to (other_if birth.linked p) (born (export image birth.«module» birth.function (length birth.arguments)) birth.arguments)
 

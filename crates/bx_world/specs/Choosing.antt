@@ -14,7 +14,7 @@ use Rattle.bx_world.specs.Enabled.{can, actor}
 use Rattle.bx_world.specs.Lifetimes.{Among, lives_run, lives_told, lives_expired}
 use Rattle.bx_world.specs.Births.{lives_born}
 
--- a run may ask for a birth
+-- a run may ask for a spawn
 abbrev pub born_too : Loaded → ℕ → Result Among Fault → Result Among Fault
 born_too image p (Ok (w, turns.Bears birth)) = lives_born image p birth w.1 w.0
 born_too image p answer = answer

@@ -33,7 +33,7 @@ exiting p q old x reason lanes =
     if old.trap_exit then messaged p q old x lanes (low_enough (exit_message p reason))
     else if is_normal reason then ((x, hearing (p, q) lanes), Ran) else ending p q x reason lanes
 
--- through a link: dropped where there is none
+-- through a link: ignored where there is none
 abbrev pub by_link : ℕ → ℕ → Process → Tree → Lanes → Done
 by_link p q x reason lanes = if among p x.links then exiting p q x (without_link p x) reason lanes else ((x, hearing (p, q) lanes), Ran)
 
@@ -52,7 +52,7 @@ heard p q x lanes (Some (Exit reason)) = Ok (by_exit p q x reason lanes)
 abbrev pub received : ℕ → ℕ → Process → Lanes → Result Done Fault
 received p q x lanes = heard p q x lanes (first (waiting lanes.channels (p, q)))
 
--- where q has ended, a link is answered by an exit signal, and all else is dropped
+-- where q has ended, a link is answered by an exit signal, and all else is ignored
 abbrev pub gone_heard : ℕ → ℕ → Lanes → Option Signal → Result (Lanes × Unit {0}) Fault
 gone_heard p q lanes None = Err NotEnabled
 gone_heard p q lanes (Some Link) = Ok (hearing (p, q) (telling (q, p) (LinkExit (atom NOPROC.0)) lanes), tt)

@@ -22,7 +22,7 @@ abbrev pub is_local_at : Loaded → Option Place → Bool
 is_local_at image (Some place) = is_local_item (numbered_at image place)
 is_local_at image None = false
 
--- p has a place, and a run of the item there concerns p alone
+-- p has an address, and a run of the item there concerns p alone
 abbrev pub runs_local : Loaded → ℕ → State → Bool
 runs_local image p w = is_local_at image (place_in p w)
 
@@ -54,3 +54,9 @@ abbrev pub IsNoRun : Choice → Type 0
 IsNoRun (Run p) = ⊥
 IsNoRun (Deliver p q) = Unit {0}
 IsNoRun (Expire p) = Unit {0}
+
+-- it concerns its own process alone: no run, or a run of a local item
+abbrev pub IsLocal : Loaded → State → Choice → Type 0
+IsLocal image w (Run p) = runs_local image p w ≡ true
+IsLocal image w (Deliver p q) = Unit {0}
+IsLocal image w (Expire p) = Unit {0}

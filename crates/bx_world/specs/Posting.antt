@@ -64,7 +64,7 @@ effect_posts p x (effects.Ask native arguments) = own_posts p x (requested nativ
 effect_posts p x (effects.Ended reason) = []
 effect_posts p x (effects.Trap kind) = []
 
--- the answer that a process gets which asks for a birth
+-- the answer that a process gets which asks for a spawn
 abbrev pub answered_birth : Loaded → ℕ → Birth → List Life → Lanes → Process → Done
 answered_birth image p birth lives lanes x =
     if past_limits birth lives then answering image p None system_limit x lanes

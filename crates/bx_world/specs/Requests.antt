@@ -13,7 +13,7 @@ abbrev pub of_pid : (ℕ → Request) → Tree → Request
 of_pid f (pid q) = f q
 of_pid f t = Refused
 
--- a process to be born: the names of its module and its function are atoms, its arguments a proper list
+-- a process to be spawned: the names of its module and its function are atoms, its arguments a proper list
 abbrev pub with_arguments : Bool → ℕ → ℕ → Option (List Tree) → Request
 with_arguments linked m f None = Refused
 with_arguments linked m f (Some arguments) = Spawn (record { linked = linked; «module» = record { 0 = m }; function = record { 0 = f }; arguments = arguments })

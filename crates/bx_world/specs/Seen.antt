@@ -8,6 +8,8 @@ use Rattle.bx_world.specs.declared.choices.Choice.{Choice}
 use Rattle.bx_world.specs.declared.outcomes.Outcome.{Outcome}
 use Rattle.bx_world.specs.declared.outcomes.Standing.{Standing}
 use Rattle.bx_world.specs.declared.outcomes.Standing.TheVariants.{Trapped, Quiet, Open}
+use Rattle.bx_world.specs.declared.shown.Shown.{Shown}
+use Rattle.bx_world.specs.declared.shown.Shown.TheVariants as shown
 use Rattle.bx_world.specs.World.{Life, Live, Gone, State}
 use Rattle.bx_world.specs.Enabled.{enabled}
 
@@ -35,3 +37,8 @@ place_at (Some one) = place_of one
 
 abbrev pub place_in : ℕ → State → Option Place
 place_in p w = place_at (slice_get w.processes p)
+
+-- what is shown of a process
+abbrev pub life_of : Shown → Life
+life_of (shown.Live process) = Live process.now
+life_of (shown.Gone reason) = Gone reason.now

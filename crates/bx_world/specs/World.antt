@@ -27,7 +27,7 @@ pub record State : Type 0 where
   -- why no choice is enabled any more, and whose run or signal it was
   pub trap : Option (Trap × ℕ)
 
--- at the start there is one process, at the beginning of its function
+-- at the start there is one process, at the entry of its function
 abbrev pub begun : Place → State
 begun place = record { processes = Live (born (Some place) []) ∷ []; lanes = record { channels = map.empty; output = [] }; trap = None }
 

@@ -2,22 +2,23 @@
 //!
 //! What is put into the lanes is put before the process goes on, since it can be taken back without memory.
 
-ghost use Rattle.std.specs.Prelude.{◌≡◌, Ok, IsSome, IfOk, IfErr, OnErr};
+ghost use Rattle.std.specs.Prelude.{◌≡◌, Ok, Err, IsSome, IfOk, OnErr};
 ghost use Rattle.bx_terms.specs.Outcomes.{Does};
-ghost use Rattle.bx_terms.specs.declared.faults.Fault.TheVariants.{Memory};
-ghost use Rattle.bx_proc.specs.Signals.{with_link};
+ghost use Rattle.bx_proc.specs.Process.{Process};
+ghost use Rattle.bx_proc.specs.Signals.{with_link, without_link};
 ghost use Rattle.bx_proc.specs.Stepping.{settled, settled_with};
+ghost use Rattle.bx_proc.specs.Telling.{Settles};
+ghost use Rattle.bx_proc.specs.declared.parts.Effect.{Effect};
 ghost use Rattle.bx_world.specs.declared.requests.Request.TheVariants as requests;
 ghost use Rattle.bx_world.specs.declared.turns.Turn.TheVariants as turns;
-ghost use Rattle.bx_world.specs.Sharing.{parting};
-ghost use Rattle.bx_world.specs.Asking.{whole, closing, sending, exiting_oneself, linking, unlinking, done_by, unlinked_done, exit_message, low_enough, yes, IsEnded, ExitTakes};
+ghost use Rattle.bx_world.specs.Asking.{whole, closing, sending, exiting_oneself, linking, unlinking, done_by, unlinked_done, exit_message, low_enough, yes, leaving, ExitTakes};
 
 use crate::lanes::Lanes;
 use crate::requests::Request;
 use crate::turns::Turn;
 use bx_bifs::is_the_atom;
 use bx_load::Image;
-use bx_proc::{Answer, Effect, Proc};
+use bx_proc::{Answer, Proc, Stop, Why};
 use bx_signals::Signal;
 use bx_terms::{Class, Fault, MAX_HEIGHT, Term, TermRefusal, Trap, fixed};
 use std::alloc::{AllocError, Global};
@@ -29,7 +30,7 @@ pub(crate) fn yes() -> Answer
     Answer::Value(Term::atom(fixed::TRUE))
 }
 
-/// Does what a process asks of the world, but for a birth, which is handed on.
+/// Does what a process asks of the world, but for a spawn, which is handed on.
 pub(crate) fn perform(
     alloc: Global,
     image: &Image,
@@ -63,8 +64,8 @@ pub(crate) fn leave(
     pid: u32,
     reason: Term,
 ) -> Result<Turn, Fault>
-    ensures { Does (Unit {0}) lanes.old lanes.new result
-        (Ok (parting pid process.now.links reason lanes.old, turns.Ended reason)) }
+    ensures { Does (Unit {0}) (process.now, lanes.old) (process.now, lanes.new) result
+        (Ok (leaving pid process.now lanes.old reason)) }
 {
     lanes
         .channels
@@ -72,30 +73,30 @@ pub(crate) fn leave(
     Ok(Turn::Ended(reason))
 }
 
-/// What an instruction that asked was, once its process has its answer.
+/// What an instruction that asked was, where its process does not go on with its answer.
 fn finish(
     alloc: Global,
-    process: &Proc,
+    process: &mut Proc,
     lanes: &mut Lanes,
     pid: u32,
-    effect: Effect,
+    stop: Stop,
 ) -> Result<Turn, Fault>
-    ensures ok { IfOk result
-        (λ turn. closing pid lanes.old (process.now, effect) ≡ ((process.now, lanes.new), turn)) }
-    ensures err { OnErr result (IsEnded effect × (lanes.new ≡ lanes.old)) }
-    ensures memory { IfErr result (λ fault. fault ≡ Memory) }
+    ensures { (old : Process) (said : Process × Effect) → Settles (Unit {0}) old process.old
+        (Err stop) said → Does (Unit {0}) (old, lanes.old) (process.new, lanes.new) result
+        (Ok (closing pid lanes.old said)) }
 {
-    match effect {
-        Effect::Ran => Ok(Turn::Ran),
-        Effect::Ended(reason) => leave(alloc, process, lanes, pid, reason),
-        Effect::Trap(kind) => Ok(Turn::Trapped(kind)),
-        Effect::Send(_, _) => Ok(Turn::Trapped(Trap::BadPlace)),
-        Effect::Ask(_, _) => Ok(Turn::Trapped(Trap::BadPlace)),
+    match stop.why() {
+        Why::Ends => match process.take_reason() {
+            Some(reason) => leave(alloc, process, lanes, pid, reason),
+            None => Err(Fault::Memory), // not reached: a reason waits
+        },
+        Why::Trapped(kind) => Ok(Turn::Trapped(kind)),
+        Why::Memory | Why::Asks(_) | Why::Sends => Err(Fault::Memory),
     }
 }
 
 /// Gives a process its answer: it goes on, or it ends and tells its links.
-#[tactic(auto, using(crate::proofs::Undoing::end_kept))]
+#[tactic(auto, using(crate::proofs::Halting::went_on, crate::proofs::Halting::any_takes))]
 pub(crate) fn close(
     alloc: Global,
     image: &Image,
@@ -107,12 +108,14 @@ pub(crate) fn close(
     ensures { Does (Unit {0}) (process.old, lanes.old) (process.new, lanes.new) result
         (Ok (closing pid lanes.old (settled image.now answer.now process.old))) }
 {
-    let effect = process.settle(alloc, image, answer)?;
-    finish(alloc, process, lanes, pid, effect)
+    match process.settle(alloc, image, answer) {
+        Ok(()) => Ok(Turn::Ran),
+        Err(stop) => finish(alloc, process, lanes, pid, stop),
+    }
 }
 
 /// The same with a message to itself.
-#[tactic(auto, using(crate::proofs::Undoing::end_kept_with, crate::proofs::Undoing::whole_alone_with))]
+#[tactic(auto, using(crate::proofs::Undoing::whole_alone_with, crate::proofs::Halting::went_on, crate::proofs::Halting::any_takes))]
 fn note(
     alloc: Global,
     image: &Image,
@@ -126,8 +129,10 @@ fn note(
         (process.old, lanes.old)
         (closing pid lanes.old (settled_with image.now answer.now message process.old)))) }
 {
-    let effect = process.settle_with(alloc, image, answer, message)?;
-    finish(alloc, process, lanes, pid, effect)
+    match process.settle_with(alloc, image, answer, message) {
+        Ok(()) => Ok(Turn::Ran),
+        Err(stop) => finish(alloc, process, lanes, pid, stop),
+    }
 }
 
 /// Gives a process its answer, where nothing else was done.
@@ -226,7 +231,7 @@ fn exit(
     )
 }
 
-/// A process asks itself to end. No reason that is too high for the message is told as a want of memory.
+/// A process asks itself to end. No reason that is too high for the message is answered as out of memory.
 fn exit_itself(
     alloc: Global,
     image: &Image,
@@ -336,7 +341,7 @@ fn unlink(
 }
 
 /// Gives a process its answer, and takes a link of it away: where it ends, that one does not hear of it.
-#[tactic(auto, using(crate::proofs::Undoing::ended_kept, crate::proofs::Undoing::unlinked_trapped, crate::proofs::Undoing::unlinked_sent, crate::proofs::Undoing::unlinked_asked))]
+#[tactic(auto, using(crate::proofs::Halting::any_takes))]
 fn close_without(
     alloc: Global,
     image: &Image,
@@ -349,21 +354,54 @@ fn close_without(
         (process.old, lanes.old)
         (closing pid lanes.old (unlinked_done to (settled image.now yes process.old))))) }
 {
-    match process.settle(alloc, image, &yes())? {
-        Effect::Ran => {
+    match process.settle(alloc, image, &yes()) {
+        Ok(()) => {
             process.drop_link(to);
             Ok(Turn::Ran)
         }
-        Effect::Ended(reason) => {
-            let others = process.links_but(alloc, to)?;
-            lanes.channels.put_exits(alloc, pid, &others, &reason)?;
-            process.drop_link(to);
-            Ok(Turn::Ended(reason))
-        }
-        Effect::Trap(kind) => Ok(Turn::Trapped(kind)),
-        Effect::Send(_, _) => Ok(Turn::Trapped(Trap::BadPlace)),
-        Effect::Ask(_, _) => Ok(Turn::Trapped(Trap::BadPlace)),
+        Err(stop) => finish_without(alloc, process, lanes, pid, to, stop),
     }
+}
+
+/// What an instruction that took a link away was, where its process does not go on.
+fn finish_without(
+    alloc: Global,
+    process: &mut Proc,
+    lanes: &mut Lanes,
+    pid: u32,
+    to: u32,
+    stop: Stop,
+) -> Result<Turn, Fault>
+    ensures { (old : Process) (said : Process × Effect) → Settles (Unit {0}) old process.old
+        (Err stop) said → Does (Unit {0}) (old, lanes.old) (process.new, lanes.new) result
+        (Ok (whole (old, lanes.old) (closing pid lanes.old (unlinked_done to said)))) }
+{
+    match stop.why() {
+        Why::Ends => match process.take_reason() {
+            Some(reason) => leave_without(alloc, process, lanes, pid, to, reason),
+            None => Err(Fault::Memory), // not reached: a reason waits
+        },
+        Why::Trapped(kind) => Ok(Turn::Trapped(kind)),
+        Why::Memory | Why::Asks(_) | Why::Sends => Err(Fault::Memory),
+    }
+}
+
+/// Tells the links of a process but one that it has ended.
+fn leave_without(
+    alloc: Global,
+    process: &mut Proc,
+    lanes: &mut Lanes,
+    pid: u32,
+    to: u32,
+    reason: Term,
+) -> Result<Turn, Fault>
+    ensures { Does (Unit {0}) (process.old, lanes.old) (process.new, lanes.new) result
+        (Ok (leaving pid (without_link to process.old) lanes.old reason)) }
+{
+    let others = process.links_but(alloc, to)?;
+    lanes.channels.put_exits(alloc, pid, &others, &reason)?;
+    process.drop_link(to);
+    Ok(Turn::Ended(reason))
 }
 
 #[tactic(auto, using(crate::proofs::Undoing::shown_trapped, crate::proofs::Undoing::stood, crate::proofs::Undoing::unshown))]

@@ -13,7 +13,7 @@ ghost use Rattle.bx_world.specs.Running.{Ended, advanced, ran};
 ghost use Rattle.bx_signals.specs.Channels.{waiting};
 ghost use Rattle.bx_terms.specs.declared.places.Place.{Place};
 ghost use Rattle.bx_world.specs.Posting.{all_put, all_taken, all_behind};
-ghost use Rattle.bx_world.specs.Independent.{AreIndependent, IsNoRun};
+ghost use Rattle.bx_world.specs.Independent.{AreIndependent, IsNoRun, IsLocal};
 ghost use Rattle.bx_world.specs.Entering.{is_linked, Enters, Entered};
 
 /// What is looked up of a choice is whether it is among those that are enabled.
@@ -61,7 +61,7 @@ pub fn each_choice_is_applied_once_at_most()
 {}
 
 /// Over every list of choices, what waited in a channel and was put into it is what was taken out of it, followed by what still
-/// waits. So from the start on, what was delivered from one process to another is the beginning of what was sent, in that order.
+/// waits. So from the start on, what was delivered from one process to another is a prefix of what was sent, in that order.
 pub fn signals_arrive_in_the_order_in_which_they_were_sent()
     ensures from_anywhere { (image : Loaded) (choices : List Choice) (w : State) (pair : ℕ × ℕ) →
         waiting w.lanes.channels pair ++ all_put image choices w pair ≡ all_taken image choices w
@@ -111,6 +111,22 @@ pub fn choices_that_are_no_runs_may_be_exchanged()
     ensures { (image : Loaded) (first second : Choice) (w : State) → IsNoRun first → IsNoRun second
         → actor first ≢ actor second → can w first ≡ true → can w second ≡ true →
         (chosen image first w).trap ≡ None →
+        (chosen image second (chosen image first w)).trap ≡ None → AreIndependent image w first
+        second }
+{}
+
+/// A choice that concerns its own process alone (a delivery or an expiration of a process that is there, or a run of a local item) and any choice
+/// of another actor, both enabled, of which neither traps where the second is made behind the first, are independent: that both orders lead to the
+/// same world follows, whichever is first.
+pub fn a_local_choice_may_be_exchanged_with_any()
+    ensures first { (image : Loaded) (first second : Choice) (w : State) → IsLocal image w first →
+        actor first < length w.processes → actor first ≢ actor second → can w first ≡ true → can w
+        second ≡ true → (chosen image first w).trap ≡ None →
+        (chosen image second (chosen image first w)).trap ≡ None → AreIndependent image w first
+        second }
+    ensures second { (image : Loaded) (first second : Choice) (w : State) → IsLocal image w second →
+        actor second < length w.processes → actor first ≢ actor second → can w first ≡ true → can w
+        second ≡ true → (chosen image first w).trap ≡ None →
         (chosen image second (chosen image first w)).trap ≡ None → AreIndependent image w first
         second }
 {}

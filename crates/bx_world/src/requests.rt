@@ -8,7 +8,7 @@ use bx_proc::Arguments;
 use bx_terms::{AtomId, Term, View};
 use std::alloc::{AllocError, Global};
 
-/// A process that is to be born.
+/// A process that is to be spawned.
 #[derive(Debug, Drop)]
 pub struct Birth {
     /// Whether it is linked to its parent.

@@ -54,7 +54,7 @@ impl<P: Hold<Proc>, C: Hold<Lanes>> RunEnd<P, C> {
 /// One choice more: it is applied, the trapping one too, or it is kept as the refused one where it is not enabled. Once a
 /// choice was refused or the world has trapped, nothing changes.
 ///
-/// Memory is all that it may lack, and then nothing has changed.
+/// It can only run out of memory, and then nothing has changed.
 #[inline(always)]
 pub fn advance<P: Hold<Proc>, C: Hold<Lanes>>(
     alloc: Global,

@@ -6,13 +6,14 @@ ghost use Rattle.bx_terms.specs.Tree.{Tree};
 ghost use Rattle.bx_world.specs.Acting.{life_acted, exited_acted, MayLack};
 ghost use Rattle.bx_world.specs.Enabled.{may_run, may_expire};
 ghost use Rattle.bx_world.specs.Lives.{life};
-ghost use Rattle.bx_world.specs.Seen.{status_of, place_of};
+ghost use Rattle.bx_world.specs.Seen.{life_of, status_of, place_of};
 ghost use Rattle.bx_world.specs.World.{Gone};
 
 use crate::acts::Act;
 use crate::delivering::receive_gone;
 use crate::lanes::Lanes;
 use crate::lives::act_on;
+use crate::shown::Shown;
 use crate::turns::Turn;
 use bx_load::Image;
 use bx_proc::{Proc, Status};
@@ -122,6 +123,15 @@ pub(crate) fn slot_place<P: Hold<Proc>>(slot: &Slot<P>) -> Option<Place>
     match slot {
         Slot::Live(holder) => holder.see().place(),
         Slot::Gone(_) => None,
+    }
+}
+
+pub(crate) fn slot_shown<P: Hold<Proc>>(slot: &Slot<P>) -> Shown<'_>
+    ensures { life_of result ≡ life P.shown slot.now }
+{
+    match slot {
+        Slot::Live(holder) => Shown::Live(holder.see()),
+        Slot::Gone(reason) => Shown::Gone(reason),
     }
 }
 

@@ -13,7 +13,7 @@ use std::alloc::{AllocError, Global};
 
 /// The text of a choice: `r0` runs process 0, `d0>1` delivers from 0 to 1, `e0` lets the wait of process 0 expire.
 ///
-/// Memory is all that it may lack.
+/// It can only run out of memory.
 pub fn choice_text(alloc: Global, choice: Choice) -> Result<String, Fault>
     ensures { Gives (Unit {0}) (λ text. string_bytes text) result (Ok (spelling choice)) }
 {
@@ -27,7 +27,7 @@ pub fn choice_text(alloc: Global, choice: Choice) -> Result<String, Fault>
 /// `state open C C ..`; for each process `process <0.P.0> ready`, `.. waiting` or `.. ended REASON`; for each displayed
 /// term `output <0.P.0> TERM`; and `end`. Each is ended by a line feed.
 ///
-/// Memory is all that it may lack.
+/// It can only run out of memory.
 pub fn outcome_text(
     alloc: Global,
     atoms: &Atoms,

@@ -1,22 +1,24 @@
 //! Worlds, stepped by one choice at a time.
 
-ghost use Rattle.std.specs.Prelude.{◌≡◌, ◌≢◌, ◌↔◌, [], IsTrue, IsSome, IfOk, OnErr, Ok};
+ghost use Rattle.std.specs.Prelude.{◌≡◌, ◌≢◌, ◌↔◌, ◌≤◌, [], length, option_map, slice_get, IsTrue, IsSome, IfOk, OnErr, Ok};
 ghost use Rattle.bx_terms.specs.Outcomes.{Does, Gives};
 ghost use Rattle.bx_load.specs.Image.{export};
 ghost use Rattle.bx_world.specs.World.{started};
 ghost use Rattle.bx_world.specs.Enabled.{enabled, open_choices, can};
 ghost use Rattle.bx_world.specs.Choosing.{applied};
-ghost use Rattle.bx_world.specs.Seen.{seen, standing_of, place_in};
+ghost use Rattle.bx_world.specs.Seen.{life_of, seen, standing_of, place_in};
 
 use crate::choices::{Choice, Choices};
 use crate::choosing::{make, push_deliveries};
 use crate::lanes::Lanes;
 use crate::outcomes::{Outcome, Standing};
 use crate::procs::Procs;
+use crate::shown::Shown;
 use crate::turns::Turn;
 use bx_load::Image;
 use bx_proc::Proc;
 use bx_share::{ArcHold, Hold, RcHold, Same};
+use bx_signals::Channels;
 use bx_terms::{AtomId, Fault, Place, Trap};
 use std::alloc::{AllocError, Global};
 use std::marker::Model;
@@ -52,7 +54,7 @@ impl<P: Hold<Proc>, C: Hold<Lanes>> Model for World<P, C> {
 }
 
 impl<P: Hold<Proc>, C: Hold<Lanes>> World<P, C> {
-    /// The world of one process, at the beginning of that exported function of no arguments.
+    /// The world of one process, at the entry of that exported function of no arguments.
     ///
     /// `NoEntry` exactly where the module does not export it; memory is taken only where it does.
     pub fn start(
@@ -81,7 +83,7 @@ impl<P: Hold<Proc>, C: Hold<Lanes>> World<P, C> {
     /// which something waits, by rising pair; then an expiration of each wait that can expire, by rising pid. None once the
     /// world has trapped.
     ///
-    /// Memory is all that it may lack, and none is taken where no choice is enabled.
+    /// It can only run out of memory, and none is taken where no choice is enabled.
     pub fn enabled(&self, alloc: Global) -> Result<Vec<Choice>, Fault>
         ensures { Gives (enabled self.now ≢ []) (λ choices. choices.items) result
             (Ok (enabled self.now)) }
@@ -124,7 +126,7 @@ impl<P: Hold<Proc>, C: Hold<Lanes>> World<P, C> {
     /// Applies a choice.
     ///
     /// `Halted` exactly where the world has trapped, else `NotEnabled` exactly where the choice is not enabled. After any
-    /// refusal, want of memory among them, nothing has changed.
+    /// refusal, out of memory among them, nothing has changed.
     #[inline(always)]
     pub fn apply(&mut self, alloc: Global, image: &Image, choice: Choice) -> Result<(), Fault>
         ensures { Does (IsTrue (can self.old choice)) self.old self.new result
@@ -146,7 +148,7 @@ impl<P: Hold<Proc>, C: Hold<Lanes>> World<P, C> {
 
     /// An equal world, which later choices in this one do not change.
     ///
-    /// Memory is all that it may lack.
+    /// It can only run out of memory.
     pub fn snapshot(&self, alloc: Global) -> Result<World<P, C>, Fault>
         ensures { Gives (Unit {0}) (λ w. w) result (Ok self.now) }
     {
@@ -161,7 +163,7 @@ impl<P: Hold<Proc>, C: Hold<Lanes>> World<P, C> {
 
     /// What can be seen of the world.
     ///
-    /// Memory is all that it may lack.
+    /// It can only run out of memory.
     pub fn outcome(&self, alloc: Global) -> Result<Outcome, Fault>
         ensures { Gives (Unit {0}) (λ o. o) result (Ok (seen self.now)) }
     {
@@ -197,12 +199,34 @@ impl<P: Hold<Proc>, C: Hold<Lanes>> World<P, C> {
         self.trap
     }
 
-    /// Where the process of that pid stands; `None` where there is none, where it has ended, and where it has no place.
+    /// Where the process of that pid stands; `None` where there is none, where it has ended, and where it has no address.
     #[inline(always)]
     pub fn place(&self, pid: u32) -> Option<Place>
         ensures { result ≡ place_in pid self.now }
     {
         self.procs.place(pid)
+    }
+
+    /// How many processes there are, those that have ended included.
+    pub fn len(&self) -> usize
+        ensures count { result ≡ length self.now.processes }
+        ensures few { result ≤ 1024 }
+    {
+        self.procs.len()
+    }
+
+    /// The process of that pid; `None` where there is none.
+    pub fn process(&self, pid: u32) -> Option<Shown<'_>>
+        ensures { option_map life_of result ≡ slice_get self.now.processes pid }
+    {
+        self.procs.get(pid)
+    }
+
+    /// The signals that wait.
+    pub fn channels(&self) -> &Channels
+        ensures { result.now ≡ self.now.lanes.channels }
+    {
+        &self.lanes.see().channels
     }
 
     /// Whether both are equal.

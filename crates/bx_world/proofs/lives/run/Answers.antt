@@ -1,6 +1,6 @@
 use Rattle.std.proofs.Common.{subst}
 use Rattle.bx_proc.specs.Process.{can_run}
-use Rattle.bx_proc.specs.AtOnce.{StandsFree}
+use Rattle.bx_proc.specs.Stepping.{StandsFree}
 use Rattle.bx_world.specs.Turning.{runs}
 use Rattle.bx_world.proofs.Acted.{where_able, free_runs}
 use Rattle.bx_world.proofs.lives.run.Goals as goal

@@ -1,0 +1,26 @@
+-- An answer that a process was given, told.
+use Rattle.std.proofs.Common.{◌≡◌, ℕ, ap}
+use Rattle.std.specs.Prelude.{Result, Ok, Err}
+use Rattle.bx_terms.specs.declared.faults.Fault.{Fault}
+use Rattle.bx_proc.specs.Process.{Process}
+use Rattle.bx_proc.specs.Telling.{Settles}
+use Rattle.bx_proc.specs.declared.parts.Effect.{Effect}
+use Rattle.bx_proc.specs.declared.parts.Effect.TheVariants as effects
+use Rattle.bx_proc.specs.declared.stops.Why.{Why}
+use Rattle.bx_proc.specs.declared.stops.Why.TheVariants as stops
+use Rattle.bx_world.specs.declared.lanes.Lanes.{Lanes}
+use Rattle.bx_world.specs.declared.turns.Turn.TheVariants as turns
+use Rattle.bx_world.specs.Asking.{Done, closing}
+
+-- wherever memory may run out
+pub any_takes : (takes : Type 0) (old new : Process) (r : Result (Unit {0}) Why) (said : Process × Effect) → Settles takes old new r said → Settles (Unit {0}) old new r said
+any_takes takes old new (Ok done) said h = h
+any_takes takes old new (Err stops.Memory) said h = (tt, h.1)
+any_takes takes old new (Err (stops.Trapped kind)) said h = h
+any_takes takes old new (Err (stops.Asks native)) said h = h
+any_takes takes old new (Err stops.Sends) said h = h
+any_takes takes old new (Err stops.Ends) said h = h
+
+-- a process that goes on with its answer
+pub went_on : (p : ℕ) (l : Lanes) (new : Process) (said : Process × Effect) → said ≡ (new, effects.Ran) → ◌≡◌ {A = Result Done Fault} (Ok (closing p l said)) (Ok ((new, l), turns.Ran))
+went_on p l new said is = ap (λ (d : Process × Effect). Ok (closing p l d)) is
