@@ -4,9 +4,10 @@ ghost use Rattle.std.specs.Prelude.{◌≡◌, ◌+◌, ◌<◌, length, OnOk, I
 ghost use Rattle.bx_chains.specs.Chains.{begun, extended, goes_on, owner, AreChains, AreSoFar};
 ghost use Rattle.bx_plan.specs.Planned.{Planned};
 
-use crate::chains::{Chains, Head, Kids};
+use crate::chains::{Chains, Head};
 use crate::marks::Marks;
 use bx_plan::Plan;
+use bx_share::List;
 use std::alloc::{AllocError, Global};
 
 impl Chains {
@@ -18,7 +19,7 @@ impl Chains {
         let mut heads = Vec::new(alloc);
         heads.push(Head { first: 0, above: 0 })?;
         let mut kids = Vec::new(alloc);
-        kids.push(Kids::new(alloc))?;
+        kids.push(List::new(alloc))?;
         let mut owners = Vec::new(alloc);
         owners.push(0)?;
         Ok(Chains {
@@ -49,7 +50,7 @@ impl Chains {
         let first = self.owners.len();
         self.heads.push(Head { first, above })?;
         self.kids[above].push(chain)?;
-        self.kids.push(Kids::new(alloc))?;
+        self.kids.push(List::new(alloc))?;
         self.owners.push(chain)?;
         Ok(())
     }

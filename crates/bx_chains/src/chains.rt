@@ -1,9 +1,9 @@
 //! Chains of nodes by number, and what stands above and below each.
 
-ghost use Rattle.std.specs.Prelude.{◌≡◌, ◌+◌, ◌<◌, ◌∷◌, ◌++◌, [], length, slice_index, slice_index_or, OnOk, OnErr};
+ghost use Rattle.std.specs.Prelude.{◌≡◌, ◌+◌, ◌<◌, length, slice_index, slice_index_or};
 ghost use Rattle.bx_chains.specs.Chains.{first, last, above, kids, owner};
 
-use std::alloc::{AllocError, Global};
+use bx_share::List;
 use std::marker::Model;
 
 /// Where a chain begins: its first node, and the chain on whose last node it stands.
@@ -13,44 +13,12 @@ pub(crate) struct Head {
     pub(crate) above: usize,
 }
 
-/// The chains that stand on a chain.
-#[derive(Drop)]
-pub(crate) struct Kids {
-    pub(crate) chains: Vec<usize>,
-}
-
-impl Model for Kids {
-    ghost use Rattle.std.specs.Prelude.{List, ℕ};
-
-    ghost Value = { List ℕ };
-
-    ghost view = { λ k. k.chains.items };
-}
-
-impl Kids {
-    pub(crate) fn new(alloc: Global) -> Kids
-        ensures { result ≡ [] }
-    {
-        Kids {
-            chains: Vec::new(alloc),
-        }
-    }
-
-    pub(crate) fn push(&mut self, chain: usize) -> Result<(), AllocError>
-        ensures ok { OnOk result (self.new ≡ self.old ++ chain ∷ []) }
-        ensures err { OnErr result (self.new ≡ self.old) }
-    {
-        self.chains.push(chain)?;
-        Ok(())
-    }
-}
-
 /// The chains of a plan's tree, by number: chain 0 is the root alone. Each other chain is a run of nodes of which each
 /// but the last has one child, the next one, and ends no schedule; no chain can be made longer.
 #[derive(Drop)]
 pub struct Chains {
     pub(crate) heads: Vec<Head>,
-    pub(crate) kids: Vec<Kids>,
+    pub(crate) kids: Vec<List<usize>>,
     pub(crate) owners: Vec<usize>,
 }
 
@@ -110,7 +78,7 @@ impl Chains {
         requires { chain < length self.now.kids }
         ensures { result.now ≡ kids self.now chain }
     {
-        self.kids[chain].chains.as_slice()
+        self.kids[chain].as_slice()
     }
 
     /// The chain of a node.

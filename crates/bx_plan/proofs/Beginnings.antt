@@ -1,4 +1,4 @@
--- The nodes are the beginnings of the schedules, each once.
+-- The nodes are the prefixes of the schedules, each once.
 use Rattle.std.proofs.Common.{◌≡◌, ◌⊎◌, inl, inr, ℕ, ◌<◌, Bool, true, false, cond, List, [], ◌∷◌, ◌++◌, length, get_or, refl, sym, ap, ◌∙◌, arith, subst, append_assoc, length-append}
 use Rattle.std.specs.Cmp.Lexicographic.{pointwise}
 use Rattle.std.proofs.Math.ListN.{get_or-append}
@@ -71,7 +71,7 @@ are_added nodes (to ∷ paths) path h = one (or_cases (pointwise choice_eq path 
   one (inl e) later = stay (with_node nodes to) paths path (subst (λ p. Has (with_node nodes to) p) (sym ((path_decides path to).0 e)) (is_added nodes to))
   one (inr k) later = later k
 
--- ---- the beginnings of one schedule
+-- ---- the prefixes of one schedule
 
 abbrev Begins : List Choice → List Choice → Type 0
 Begins schedule path = (rest : List Choice) × (schedule ≡ path ++ rest)
@@ -83,7 +83,7 @@ begins front (c ∷ choices) path h = one (or_cases (pointwise choice_eq path (f
   one (inl e) later = (choices, sym (append_assoc front (c ∷ []) choices) ∙ ap (λ p. p ++ choices) (sym ((path_decides path (front ++ c ∷ [])).0 e)))
   one (inr k) later = let there = later k in (there.0, sym (append_assoc front (c ∷ []) choices) ∙ there.1)
 
--- each beginning that is longer than the front
+-- each prefix that is longer than the front
 is_begun : (front more : List Choice) (c : Choice) (rest : List Choice) → Has (beginnings front (more ++ c ∷ rest)) (front ++ (more ++ c ∷ []))
 is_begun front [] c rest = has_first (front ++ c ∷ []) (beginnings (front ++ c ∷ []) rest)
 is_begun front (d ∷ more) c rest =

@@ -9,7 +9,7 @@ use Rattle.bx_plan.specs.Nodes.{has_node, with_node, with_nodes, beginnings, wit
 use Rattle.bx_plan.proofs.Members.{SameEnds, same_ends, no_last}
 use Rattle.bx_plan.proofs.Beginnings.{Has, has_append, has_append_left, has_append_right, has_one, has_first, stay}
 
--- with each node all its beginnings are there
+-- with each node all its prefixes are there
 abbrev Closed : List (List Choice) → Type 0
 Closed nodes = (path : List Choice) (c : Choice) → Has nodes (path ++ c ∷ []) → Has nodes path
 

@@ -25,7 +25,7 @@ pub record IsBuilding (builder : Builder) : Type 0 where
   pub planned : IsPlanned (planned builder)
   pub few : length builder.tree.paths ≤ 1000001
 
--- a step is what the definition says of the schedules before it; want of memory only where `takes` holds
+-- a step is what the definition says of the schedules before it; out of memory only where `takes` holds
 abbrev pub Adds : {A : Type 0} → Type 0 → Builder → Result A Fault → Result (List Named) Fault → Type 0
 Adds takes new (Ok x) said = (said ≡ Ok (so_far new)) × IsBuilding new
 Adds takes new (Err Memory) said = takes
@@ -36,6 +36,6 @@ abbrev pub Pushes : Builder → Builder → Named → Bool → Type 0
 Pushes old new schedule true = (so_far new ≡ so_far old ++ schedule ∷ []) × IsBuilding new
 Pushes old new schedule false = 1000000 < node_count (choices_of (so_far old ++ schedule ∷ []))
 
--- Want of memory comes before the tree has grown, or while another node has room.
+-- Out of memory comes before the tree has grown, or while another node has room.
 abbrev pub HasRoom : Builder → Builder → Type 0
 HasRoom old new = (new.tree ≡ old.tree) ⊎ (length new.tree.paths ≤ 1000001)

@@ -1,4 +1,4 @@
--- The nodes of a plan's tree: the beginnings of its schedules, each once, in the order of their first use.
+-- The nodes of a plan's tree: the prefixes of its schedules, each once, in the order of their first use.
 use Rattle.std.specs.Prelude.{◌≡◌, ◌⊎◌, ◌↔◌, ◌<◌, slice_index_or, ℕ, ◌+◌, ◌-◌, Bool, false, ◌&&◌, ◌==◌, if◌then◌else◌, List, [], ◌∷◌, ◌++◌, length}
 use Rattle.std.specs.List.{list_any}
 use Rattle.std.specs.Cmp.Lexicographic.{pointwise}
@@ -27,7 +27,7 @@ abbrev pub with_nodes : List (List Choice) → List (List Choice) → List (List
 with_nodes nodes [] = nodes
 with_nodes nodes (path ∷ paths) = with_nodes (with_node nodes path) paths
 
--- what the choices make of a beginning, one choice more each time
+-- what the choices make of a prefix, one choice more each time
 abbrev pub beginnings : List Choice → List Choice → List (List Choice)
 beginnings front [] = []
 beginnings front (choice ∷ choices) = (front ++ choice ∷ []) ∷ beginnings (front ++ choice ∷ []) choices
@@ -36,7 +36,7 @@ beginnings front (choice ∷ choices) = (front ++ choice ∷ []) ∷ beginnings 
 abbrev pub with_schedule_nodes : List (List Choice) → List Choice → List (List Choice)
 with_schedule_nodes nodes schedule = with_nodes nodes (beginnings [] schedule)
 
--- the root, which is the empty beginning, and then the nodes of each schedule
+-- the root, which is the empty prefix, and then the nodes of each schedule
 abbrev pub nodes_from : List (List Choice) → List (List Choice) → List (List Choice)
 nodes_from nodes [] = nodes
 nodes_from nodes (schedule ∷ schedules) = nodes_from (with_schedule_nodes nodes schedule) schedules
@@ -48,7 +48,7 @@ nodes_of schedules = nodes_from ([] ∷ []) schedules
 abbrev pub node_count : List (List Choice) → ℕ
 node_count schedules = length (nodes_of schedules) - 1
 
--- ---- what the nodes are, said apart from how they are numbered
+-- ---- what the nodes are, said separately from how they are numbered
 
 -- some schedule begins so
 abbrev pub IsBeginning : List (List Choice) → List Choice → Type 0
@@ -59,8 +59,8 @@ IsBeginning (schedule ∷ schedules) path = ((rest : List Choice) × (schedule �
 abbrev pub HasNode : List (List Choice) → List Choice → Type 0
 HasNode nodes path = (node : ℕ) × (node < length nodes) × (slice_index_or nodes node [] ≡ path)
 
--- node 0 is the empty beginning; each beginning of a schedule has its node, and no other node is there; no
--- two nodes are the same beginning
+-- node 0 is the empty prefix; each prefix of a schedule has its node, and no other node is there; no
+-- two nodes are the same prefix
 pub record AreNodes (schedules nodes : List (List Choice)) : Type 0 where
   pub root : slice_index_or nodes 0 [] ≡ []
   pub members : (path : List Choice) → HasNode nodes path ↔ ((path ≡ []) ⊎ IsBeginning schedules path)

@@ -17,7 +17,7 @@ schedule_at tree line = (line.0, path tree line.1)
 abbrev pub schedules : Planned → List Named
 schedules plan = map (schedule_at plan.tree) plan.lines
 
--- each end is a node, and the nodes are the distinct beginnings of the schedules
+-- each end is a node, and the nodes are the distinct prefixes of the schedules
 pub record IsPlanned (plan : Planned) : Type 0 where
   pub within : AllByRecursion (λ line. line.1 < length plan.tree.paths) plan.lines
   pub nodes : plan.tree.paths ≡ nodes_of (choices_of (schedules plan))

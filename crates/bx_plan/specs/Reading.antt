@@ -8,7 +8,7 @@ use Rattle.bx_plan.specs.Entry.{Entry}
 use Rattle.bx_world.specs.declared.choices.Choice.{Choice}
 use Rattle.bx_world.specs.declared.choices.Choice.TheVariants.{Run, Deliver, Expire}
 
--- the number so far, followed by these digits, where none of its beginnings is over `most`
+-- the number so far, followed by these digits, where none of its prefixes is over `most`
 abbrev pub digits_from : ℕ → ℕ → List ℕ → Option ℕ
 digits_from most n [] = Some n
 digits_from most n (b ∷ bs) = if is_ascii_digit b && nat_le (n * 10 + (b - 48)) most then digits_from most (n * 10 + (b - 48)) bs else None

@@ -73,7 +73,7 @@ fn push_times(choices: &mut Vec<Choice>, choice: Choice, times: u32) -> Result<(
 /// The choices that a text's entries make, in order, with one space between one entry and the next. An entry is a choice, or a
 /// choice with `*` and how many times it is made, from 1 to 100,000.
 ///
-/// `None` exactly where the text is no such list. Memory is all that it may lack, and none is taken there.
+/// `None` exactly where the text is no such list. It can only run out of memory, and none is taken there.
 pub fn read_choices(alloc: Global, text: &[u8]) -> Result<Option<Vec<Choice>>, Fault>
     ensures { Gives (IsSome (entries_of text.now)) (λ choices. option_map (λ v. v.items) choices) result
         (Ok (option_map spread (entries_of text.now))) }

@@ -50,7 +50,7 @@ pub fn the_first_line_at_fault_is_named()
     ensures { (text : List ℕ) (fault : Fault) → (plan_of text ≡ Err fault) ↔ IsFirstFault text fault }
 {}
 
-/// The nodes of a plan's tree are the beginnings of its schedules, each once.
+/// The nodes of a plan's tree are the prefixes of its schedules, each once.
 pub fn nodes_are_the_distinct_beginnings()
     ensures { (schedules : List (List Choice)) → AreNodes schedules (nodes_of schedules) }
 {}

@@ -60,9 +60,9 @@ fn is_utf8(bytes: &[u8]) -> bool
     str::from_utf8(bytes).is_ok()
 }
 
-/// The name that the bytes spell.
+/// The name of a schedule that the bytes spell: 1 to 64 ASCII letters, digits, `_` and `-`.
 #[tactic(auto, using(crate::proofs::Names::name_is_utf8))]
-fn name_of(name: &[u8]) -> Option<&str>
+pub fn name_of(name: &[u8]) -> Option<&str>
     ensures { MatchOption result (is_name name.now ≡ false)
         (λ text. (text.now ≡ name.now) × (is_name name.now ≡ true)) }
 {

@@ -12,7 +12,7 @@ mod sameness;
 
 use crate::parts::Parts;
 use crate::trees::{Growing, Step};
-use bx_terms::Fault;
+use bx_terms::{Fault, Name};
 use bx_world::Choice;
 use std::alloc::{AllocError, Global};
 use std::collections::BTreeSet;
@@ -34,6 +34,13 @@ impl Model for Schedule {
 }
 
 impl Schedule {
+    /// The schedule that makes these choices in order.
+    pub fn of(choices: Vec<Choice>) -> Schedule
+        ensures { result ≡ choices.items }
+    {
+        Schedule { choices }
+    }
+
     /// The choices in order.
     pub fn choices(&self) -> &[Choice]
         ensures { result.now ≡ self.now }
@@ -49,45 +56,14 @@ impl Schedule {
     }
 }
 
-/// The name of a schedule, as its line spells it.
-#[derive(Drop)]
-struct LineName {
-    text: String,
-}
-
-impl Model for LineName {
-    ghost use Rattle.std.specs.Prelude.{List, ℕ, string_bytes};
-
-    ghost Value = { List ℕ };
-
-    ghost view = { λ a. string_bytes a.text };
-}
-
-impl LineName {
-    /// The name that `text` spells.
-    fn new(alloc: Global, text: &str) -> Result<LineName, AllocError>
-        ensures { IfOk result (λ name. name ≡ text.now) }
-    {
-        let text = String::from_str(alloc, text)?;
-        Ok(LineName { text })
-    }
-
-    /// The name's text.
-    fn as_str(&self) -> &str
-        ensures { result.now ≡ self.now }
-    {
-        self.text.as_str()
-    }
-}
-
 /// A line that names a schedule: its name, and the node at which it ends.
 #[derive(Drop)]
 struct NamedEnd {
-    name: LineName,
+    name: Name,
     end: usize,
 }
 
-/// Named schedules, in the order of their lines, as a tree of their beginnings.
+/// Named schedules, in the order of their lines, as a prefix tree.
 #[derive(Drop)]
 pub struct Plan {
     lines: Vec<NamedEnd>,
@@ -149,14 +125,14 @@ struct Builder<'a> {
 ///
 /// An empty line and a comment, which begins with `#`, stand for nothing. Any other line names a schedule: a
 /// name of 1 to 64 ASCII letters, digits, `_` and `-`, a colon, and for each entry one space and a choice.
-/// `r0` runs process 0 and `d0>1` delivers from 0 to 1, with pids from 0 to 1023; `*N` behind a choice makes it
+/// `r0` runs process 0, `d0>1` delivers from 0 to 1 and `e0` ends the wait of 0, with pids to 1023; `*N` behind a choice makes it
 /// N times, from 1 to 100,000. Numbers are decimal without leading zeros.
 ///
 /// # Errors
 ///
 /// The fault of the first line at fault, lines counting from 1: `BadLine` where it is none of these,
 /// `NameTwice` where an earlier line has its name, `TooLong` where its schedule makes over 100,000 choices or
-/// the schedules up to it have over 1,000,000 distinct beginnings, the empty one aside. `Memory` only where
+/// the schedules up to it have over 1,000,000 distinct prefixes, the empty one aside. `Memory` only where
 /// a line that names a schedule stands before the first line at fault.
 pub fn read_plan(alloc: Global, text: &[u8]) -> Result<Plan, Fault>
     ensures { Gives (TakesMemory (parts_of 10 text.now)) (λ plan. schedules plan) result

@@ -8,11 +8,11 @@ ghost use Rattle.bx_plan.specs.Planned.{schedules};
 ghost use Rattle.bx_plan.specs.Plans.{with_read, with_schedule, choices_of, TakesFirst};
 ghost use Rattle.bx_plan.specs.Reading.{line_of, tail_of, spread};
 
-use super::{Builder, LineName, NamedEnd, Plan};
+use super::{Builder, NamedEnd, Plan};
 use crate::entries;
 use crate::lines::{Heading, Line, line_of};
 use crate::trees::Growing;
-use bx_terms::Fault;
+use bx_terms::{Fault, Name};
 use bx_world::Choice;
 use std::alloc::{AllocError, Global};
 use std::collections::BTreeSet;
@@ -80,7 +80,7 @@ impl<'a> Builder<'a> {
         let Some(end) = self.tree.walk(choices.as_slice())? else {
             return Ok(false);
         };
-        let name = LineName::new(self.alloc, heading.name)?;
+        let name = Name::new(self.alloc, heading.name)?;
         self.lines.push(NamedEnd { name, end })?;
         self.names.insert(heading.name)?;
         Ok(true)

@@ -43,7 +43,7 @@ impl Plan {
         Some(line.end)
     }
 
-    /// How many nodes the tree has, with the root, which is node 0: each distinct beginning of a schedule is one.
+    /// How many nodes the tree has, with the root, which is node 0: each distinct prefix of a schedule is one.
     pub fn nodes(&self) -> usize
         ensures count { result ≡ length self.now.tree.paths }
         ensures tree { IsTree self.now.tree }

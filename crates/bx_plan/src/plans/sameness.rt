@@ -2,7 +2,7 @@
 
 ghost use Rattle.std.specs.Prelude.{◌≡◌, ◌↔◌, IsTrue};
 
-use super::{LineName, NamedEnd, Plan};
+use super::{NamedEnd, Plan};
 use crate::trees::Step;
 use bx_share::{Same, same_rows};
 
@@ -19,12 +19,6 @@ impl Plan {
 impl Same for Step {
     fn same(&self, other: &Step) -> bool {
         self.parent == other.parent && self.choice.same(&other.choice)
-    }
-}
-
-impl Same for LineName {
-    fn same(&self, other: &LineName) -> bool {
-        self.as_str() == other.as_str()
     }
 }
 
