@@ -29,8 +29,8 @@ pub trait Gate: Sync {
     fn ended(&self) {}
 }
 
-/// How many items, operands, literals, and list cells and elements of these a worker's own code may hold: at most some
-/// fifteen megabytes.
+/// How many atoms, exports, functions, items, operands, imports, literals, and list cells and elements of these a worker's own
+/// code may hold: at most some fifteen megabytes.
 const MOST_COPIED: usize = 200_000;
 
 /// A gate that does nothing.
@@ -169,8 +169,8 @@ impl<'a, J: Campaign> Board<'a, J> {
         shelf.into_inner().into_book()
     }
 
-    /// Leases, works and submits until nothing is left for this worker. Where memory runs out, the worker's lease is given
-    /// back: what it did before stays done.
+    /// Leases, works and submits until nothing is left for this worker, over a copy of the code that it makes once it has a
+    /// lease. Where memory runs out, the worker's lease is given back: what it did before stays done.
     pub fn serve<R: Wait, G: Gate>(
         &self,
         rt: &R,
@@ -181,13 +181,18 @@ impl<'a, J: Campaign> Board<'a, J> {
         ensures { IfErr result (λ fault. fault ≡ Fault.Memory) }
     {
         let shared = self.code(rt);
-        let own = own_code(alloc, shared);
-        let code = own.as_ref().unwrap_or(shared);
+        let mut own = None;
+        let mut is_first = true;
         for _ in rt.forever() {
             let Some((chain, lease)) = self.next(rt, alloc, worker)? else {
                 return Ok(());
             };
             gate.leased(worker);
+            if is_first {
+                own = own_code(alloc, shared);
+                is_first = false;
+            }
+            let code = own.as_ref().unwrap_or(shared);
             match work_over(alloc, code, lease) {
                 Ok(piece) => {
                     gate.worked(worker, &piece);

@@ -23,7 +23,7 @@ use std::thread::Threads;
 const MOST_WORKERS: u32 = 64;
 
 /// Serves a board by so many workers, each in a thread where one can be made; worker 0 in the caller's. False where
-/// one of them met want of memory.
+/// one of them ran out of memory.
 fn serve_all<J: Campaign + Send + Sync, R: Threads + Wait + Sync, G: Gate + Sync>(
     rt: &R,
     alloc: Global,
@@ -88,7 +88,7 @@ fn settle(
 /// of the plan's tree. The caller's thread is worker 0; a thread that cannot be started is done without.
 ///
 /// `Workers` exactly where they are not 1 to 64; else `NoEntry` exactly where the module does not export that function of no
-/// arguments. `Memory` where a worker lacked it and chains are left, or the report lacks it, and only where neither of these
+/// arguments. `Memory` where it ran out for a worker and chains are left, or for the report, and only where neither of these
 /// faults is. The promise holds if the call returns, as it waits for its threads.
 pub fn campaign<R: Threads + Wait + Sync, G: Gate + Sync>(
     rt: &R,

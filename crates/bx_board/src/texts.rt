@@ -12,7 +12,7 @@ use std::alloc::Global;
 /// The text of a report: for each schedule in order a line `schedule NAME` and the lines of its outcome, each ended by a
 /// line feed.
 ///
-/// Memory is all that it may lack, and none is taken where there is no schedule.
+/// It can only run out of memory, and none is taken where there is no schedule.
 pub fn report_text(alloc: Global, atoms: &Atoms, report: &Report) -> Result<String, Fault>
     ensures { Gives (report.now ≢ []) (λ text. string_bytes text) result
         (Ok (report_lines atoms.now report.now)) }

@@ -162,7 +162,7 @@ impl<'a> Piece<'a> {
     }
 }
 
-/// An end that goes on apart from that one.
+/// An end that goes on independently of that one.
 fn branch(alloc: Global, from: &ArcEnd) -> Result<ArcEnd, Fault>
     ensures { Gives ⊤ (λ end. end) result (Ok from.now) }
 {
@@ -200,7 +200,7 @@ fn run_chain(
 
 /// Runs a leased chain, one choice at a time, from the end that the lease holds.
 ///
-/// Memory is all that it may lack, and then the lease comes back.
+/// It can only run out of memory, and then the lease comes back.
 pub fn work<'a>(alloc: Global, lease: Lease<'a>) -> Result<Piece<'a>, (Fault, Lease<'a>)>
     ensures ok { IfOk result (λ piece. piece ≡ lease.entry) }
     ensures err { IfErr result (λ refused. (refused.0 ≡ Fault.Memory) × (refused.1 ≡ lease.entry)) }

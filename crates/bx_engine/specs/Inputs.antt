@@ -17,7 +17,7 @@ pub record IsWhole (old new : Option (List ℕ)) (bytes : List ℕ) : Type 0 whe
   pub within : length bytes ≤ input_limit
 
 -- when reading stops short, by the bytes that were given: past the limit and not before it, and for
--- want of memory only where there was a byte to keep
+-- out of memory only where there was a byte to keep
 abbrev pub StopsAt : Unread → List ℕ → Type 0
 StopsAt TooLarge bytes = input_limit < length bytes
 StopsAt Failed bytes = length bytes ≤ input_limit
@@ -27,7 +27,7 @@ StopsAt Memory bytes = (0 < length bytes) × (length bytes ≤ input_limit)
 abbrev pub IsUnread : Option (List ℕ) → Option (List ℕ) → Unread → Type 0
 IsUnread old new unread = (bytes : List ℕ) × Consumes old new bytes × StopsAt unread bytes
 
--- the failure that this is, of the file of that number; want of memory is no file's fault
+-- the failure that this is, of the file of that number; out of memory is no file's fault
 abbrev pub failure_in : ℕ → Unread → Failure
 failure_in file TooLarge = Refused fault.TooLarge (Some file)
 failure_in file Failed = Read file

@@ -64,7 +64,7 @@ abbrev pub TakesMemory : List ℕ → Type 0
 TakesMemory start = IsSome (token_in start 0)
 
 -- What an engine wrote, of whose files the bytes are known: the whole text, or nothing; where the writer failed, nothing is said of how
--- much of the text it took. Want of memory comes only where `takes` holds, and is no file's fault.
+-- much of the text it took. Out of memory comes only where `takes` holds, and is no file's fault.
 abbrev pub Writes : Type 0 → Option (List ℕ) → Option (List ℕ) → Result (Unit {0}) Failure → (ℕ → Type 0) → Result (List ℕ) Failure → Type 0
 Writes takes old new (Ok done) clear (Ok text) = Appends old new text
 Writes takes old new (Ok done) clear (Err failure) = ⊥

@@ -34,7 +34,7 @@ begun_by text (Some m) = if has_colon (slice_get text m.1)
 abbrev pub start_in : List ℕ → Option (List ℕ × List ℕ)
 start_in text = begun_by text (token_in text 0)
 
--- the text names no start; memory may lack only where an atom begins it
+-- the text names no start; memory may run out only where an atom begins it
 abbrev pub IsNoStart : List ℕ → Failure → Type 0
 IsNoStart text Start = start_in text ≡ None
 IsNoStart text (Refused Memory None) = IsSome (token_in text 0)

@@ -19,7 +19,7 @@ abbrev pub ◌>>=◌ : {A B E : Type 0} → Result A E → (A → Result B E) �
 (Ok x) >>= f = f x
 (Err e) >>= f = Err e
 
--- a fault of the file of that number; want of memory is no file's fault
+-- a fault of the file of that number; out of memory is no file's fault
 abbrev pub fault_in : ℕ → Fault → Failure
 fault_in n Memory = Refused Memory None
 fault_in n fault = Refused fault (Some n)
@@ -59,7 +59,7 @@ units_from n texts done (text ∷ more) = unit_in n texts text >>= λ u. units_f
 abbrev pub units_of : Table → List (List ℕ) → Result (Table × List Code) Failure
 units_of texts given = units_from 0 texts [] given
 
--- The answer for the file of that number: what it comes to, or that it can't be read; want of memory is no file's fault.
+-- The answer for the file of that number: what it comes to, or that it can't be read; out of memory is no file's fault.
 abbrev pub FileGives : {X A : Type 0} → (X → A) → ℕ → Result X Failure → Result A Failure → Type 0
 FileGives view n (Ok x) said = said ≡ Ok (view x)
 FileGives view n (Err (Refused Memory file)) said = file ≡ None

@@ -79,7 +79,7 @@ fn text_of<T: Threads + Wait + Sync, R: Read, G: Gate>(
 /// The failure is the first of these: the start is no such thing; a listing, in the order given, can't be read or is refused when it
 /// is read or assembled; the listings can't be loaded together; the plan can't be read or is refused; `Workers`, where they are not
 /// 1 to 64; `NoEntry`, where the module does not export that function of no arguments. Nothing is written then, whatever the readers
-/// are. Want of memory may come at any time between the first atom of the start and the whole text, and is no file's fault. The
+/// are. Memory may run out at any time between the first atom of the start and the whole text, and is no file's fault. The
 /// promise holds if the call returns, as it waits for its threads.
 pub fn campaign_text<T: Threads + Wait + Sync, R: Read, W: Write>(
     rt: &T,

@@ -50,7 +50,7 @@ fn text_of<R: Read>(alloc: Global, listing: &mut R) -> Result<String, Failure>
 /// Writes the code form of a listing, each form on a line of its own: what the listing's code spells once it is numbered.
 ///
 /// The failure is the listing's first: it can't be read, or it is refused, 1 to 11 when it is read and 12 to 16 when it is
-/// assembled. Nothing is written then, whatever the reader is. Want of memory may come at any time, and is not the file's fault.
+/// assembled. Nothing is written then, whatever the reader is. Memory may run out at any time, and is not the file's fault.
 pub fn dis_text<R: Read, W: Write>(
     alloc: Global,
     listing: &mut R,

@@ -40,7 +40,7 @@ impl From<AllocError> for Failure {
 }
 
 impl Failure {
-    /// The fault of the file of that number; want of memory is no file's fault.
+    /// The fault of the file of that number; out of memory is no file's fault.
     pub(crate) fn in_file(fault: Fault, file: usize) -> Failure
         ensures { result ≡ fault_in file fault }
     {
@@ -101,7 +101,7 @@ fn write_text<W: Write>(failure: &Failure, names: &[String], writer: &mut W) -> 
     }
 }
 
-/// Writes what is said of a refused input, or of want of memory.
+/// Writes what is said of a refused input, or where memory ran out.
 fn write_refusal<W: Write>(fault: &Fault, file: Option<&str>, writer: &mut W) -> io::Result<()>
     ensures { OnOk result (Appends (W.contents writer.old) (W.contents writer.new)
         (refusal_text fault.now (option_map (λ name. name.now) file.entry))) }
@@ -123,7 +123,7 @@ fn write_unread<W: Write>(file: Option<&str>, writer: &mut W) -> io::Result<()>
     write_name(" ", file, writer)
 }
 
-/// The refusal's number and name, or `None` for want of memory.
+/// The refusal's number and name, or `None` for out of memory.
 #[tactic(auto, using(crate::proofs::LineLemmas::title_is, crate::proofs::LineLemmas::untitled))]
 fn title(fault: &Fault) -> Option<(u8, &'static str)>
     ensures { option_map (λ t. (t.0, t.1.now)) result ≡ refusal fault.now }

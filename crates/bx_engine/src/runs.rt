@@ -78,7 +78,7 @@ fn text_of<R: Read>(
 ///
 /// The failure is the first of these: the start is no such thing; a listing, in the order given, can't be read or is refused when it
 /// is read or assembled; the listings can't be loaded together; the plan can't be read or is refused; `NoEntry`, where the module
-/// does not export that function of no arguments. Nothing is written then, whatever the readers are. Want of memory may come at any
+/// does not export that function of no arguments. Nothing is written then, whatever the readers are. Memory may run out at any
 /// time between the first atom of the start and the whole text, and is no file's fault.
 pub fn run_text<R: Read, W: Write>(
     alloc: Global,

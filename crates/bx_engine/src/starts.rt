@@ -49,7 +49,7 @@ impl Start {
 
 /// The start that `M:F` names, each one atom's token, bare or quoted, with nothing around them.
 ///
-/// `Failure::Start` where the text is no such thing; memory may lack once an atom begins the text.
+/// `Failure::Start` where the text is no such thing; memory may run out once an atom begins the text.
 pub fn start_of(alloc: Global, text: &str) -> Result<Start, Failure>
     ensures ok { IfOk result (λ start. start_in text.now ≡ Some start) }
     ensures err { IfErr result (IsNoStart text.now) }

@@ -75,7 +75,7 @@ impl<'a> Book<'a> {
     /// Leases a free chain to the worker; none exactly where no chain is free, the campaign was stopped, or the worker
     /// holds one, and then nothing has changed.
     ///
-    /// Memory is all that it may lack, only where a chain may be leased to the worker, and then nothing has changed. Room is taken
+    /// It can only run out of memory, only where a chain may be leased to the worker, and then nothing has changed. Room is taken
     /// for the lease's end too.
     pub fn lease(&mut self, alloc: Global, worker: usize) -> Result<Option<Lease<'a>>, Fault>
         ensures ok { IfOk result (λ lease. Leases self.old worker lease self.new) }
