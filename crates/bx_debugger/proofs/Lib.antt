@@ -4,3 +4,7 @@ pub mod ByteRows
 pub mod TurnRows
 pub mod TitleRows
 pub mod OpeningRows
+pub mod LifeRows
+pub mod ItemRows
+pub mod PlanRows
+pub mod PlanLaw

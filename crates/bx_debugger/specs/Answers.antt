@@ -1,19 +1,27 @@
 -- What each line of a debugger is answered, and what it makes of the session.
-use Rattle.std.specs.Prelude.{◌≡◌, ℕ, ◌+◌, Bool, false, ◌||◌, if◌then◌else◌, List, [], ◌∷◌, ◌++◌, Option, Some, None, Result, Ok, Err, length, codes, decimal}
+use Rattle.std.specs.Prelude.{◌≡◌, ℕ, ◌+◌, nat_lt, Bool, false, ◌||◌, if◌then◌else◌, List, [], ◌∷◌, ◌++◌, Option, Some, None, Result, Ok, Err, length, codes, decimal, slice_get}
 use Rattle.std.specs.Str.{bytes_eq}
 use Rattle.bx_terms.specs.Kinds.{trap_name}
 use Rattle.bx_terms.specs.Printed.{printed_pid}
 use Rattle.bx_terms.specs.Refusals.{refusal}
 use Rattle.bx_terms.specs.declared.faults.Fault.{Fault}
-use Rattle.bx_terms.specs.declared.faults.Fault.TheVariants.{BadCommand, Memory}
+use Rattle.bx_terms.specs.declared.faults.Fault.TheVariants.{BadCommand, Memory, TooLong}
 use Rattle.bx_load.specs.Image.{Loaded}
 use Rattle.bx_load.specs.Names.{place_text}
 use Rattle.bx_world.specs.Texts.{outcome_lines, spelling}
 use Rattle.bx_world.specs.Seen.{seen}
-use Rattle.bx_debug.specs.Sessions.{History, world_of, stepped, back, forward, gone, with_break, without_break}
+use Rattle.bx_world.specs.declared.choices.Choice.{Choice}
+use Rattle.bx_world.specs.World.{Life}
+use Rattle.bx_debug.specs.Sessions.{History, behind, world_of, stepped, back, forward, gone, with_break, without_break}
 use Rattle.bx_debug.specs.declared.stops.Stop.{Stop}
 use Rattle.bx_debug.specs.declared.stops.Stop.TheVariants as stops
-use Rattle.bx_debugger.specs.Commands.{Ordered, Step, Back, Forward, Go, Break, Clear, Show, ordered_by}
+use Rattle.bx_debugger.specs.Commands.{Ordered, Step, Back, Forward, Go, Break, Clear, Show, Where, Look, Signals, Items, Plan, Help, ordered_by}
+use Rattle.bx_debugger.specs.Functions.{list_answer}
+use Rattle.bx_debugger.specs.Help.{help_answer}
+use Rattle.bx_debugger.specs.Look.{look_answer}
+use Rattle.bx_debugger.specs.Plan.{plan_line}
+use Rattle.bx_debugger.specs.Signals.{signals_answer}
+use Rattle.bx_debugger.specs.Where.{where_answer}
 
 -- a call that moves the session and its definition; where memory runs out, nothing is said
 abbrev pub Moves : History → History → Result (Unit {0}) Fault → Result (History × Unit {0}) Fault → Type 0
@@ -52,6 +60,17 @@ went_line went = standing went.0 ++ codes ": " ++ stop_words went.0.image went.1
 abbrev pub shown_lines : History → List ℕ
 shown_lines s = outcome_lines s.image.atoms s.at None (seen (world_of s))
 
+-- a process that is not there is refused
+abbrev pub looked : ℕ → Loaded → ℕ → Option Life → List ℕ
+looked n image p None = refused_line n (BadCommand n)
+looked n image p (Some life) = look_answer image p life
+
+-- the choices as a line of a plan, which takes 100,000 at most
+abbrev pub planned : ℕ → List ℕ → List Choice → List ℕ
+planned n name choices =
+    if nat_lt 100000 (length choices) then refused_line n (TooLong n)
+    else plan_line name choices ++ codes "\n"
+
 -- the answer to a command on line n, and the session behind it
 abbrev pub replied : ℕ → Ordered → History → List ℕ × History
 replied n (Step choice) s = moved n s (stepped choice s)
@@ -61,6 +80,12 @@ replied n (Go choices) s = (went_line (gone choices s), (gone choices s).0)
 replied n (Break place) s = (codes "ok\n", with_break place s)
 replied n (Clear place) s = (codes "ok\n", without_break place s)
 replied n Show s = (shown_lines s, s)
+replied n Where s = (where_answer s.image (world_of s).processes, s)
+replied n (Look p) s = (looked n s.image p (slice_get (world_of s).processes p), s)
+replied n Signals s = (signals_answer s.image.atoms (world_of s).lanes.channels, s)
+replied n (Items first past) s = (list_answer s.image first.«module» first.item past, s)
+replied n (Plan name) s = (planned n name (behind s), s)
+replied n Help s = (help_answer, s)
 
 -- a line that spells no command is refused
 abbrev pub ordered_so : ℕ → Option Ordered → History → List ℕ × History

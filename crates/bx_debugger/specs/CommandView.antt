@@ -1,7 +1,8 @@
 -- What is seen of a command.
+use Rattle.std.specs.Prelude.{string_bytes}
 use Rattle.bx_debugger.specs.declared.commands.Command.{Command}
 use Rattle.bx_debugger.specs.declared.commands.Command.TheVariants as commands
-use Rattle.bx_debugger.specs.Commands.{Ordered, Step, Back, Forward, Go, Break, Clear, Show}
+use Rattle.bx_debugger.specs.Commands.{Ordered, Step, Back, Forward, Go, Break, Clear, Show, Where, Look, Signals, Items, Plan, Help}
 
 abbrev pub ordered : Command → Ordered
 ordered (commands.Step choice) = Step choice
@@ -11,3 +12,9 @@ ordered (commands.Go choices) = Go choices.items
 ordered (commands.Break place) = Break place
 ordered (commands.Clear place) = Clear place
 ordered commands.Show = Show
+ordered commands.Where = Where
+ordered (commands.Look pid) = Look pid
+ordered commands.Signals = Signals
+ordered (commands.Items first past) = Items first past
+ordered (commands.Plan name) = Plan (string_bytes name)
+ordered commands.Help = Help

@@ -1,3 +1,11 @@
+pub mod Words
+pub mod Where
+pub mod Signals
+pub mod Look
+pub mod Functions
+pub mod Help
+pub mod Alike
+pub mod Plan
 pub mod Commands
 pub mod CommandView
 pub mod Answers

@@ -10,7 +10,7 @@ use Rattle.bx_engine.specs.Runs.{TakesMemory}
 use Rattle.bx_engine.specs.Starts.{start_in}
 use Rattle.bx_engine.specs.Units.{ClearBefore}
 use Rattle.bx_engine.specs.declared.failures.Failure.{Failure}
-use Rattle.bx_engine.specs.declared.failures.Failure.TheVariants.{Refused, Read, Write}
+use Rattle.bx_engine.specs.declared.failures.Failure.TheVariants.{Refused, Read, Write, Start}
 use Rattle.bx_debugger.specs.Answers.{after_lines, answered, answers, has_quit, is_quit}
 use Rattle.bx_debugger.specs.Lines.{begun_line, ended_lines, last_line}
 use Rattle.bx_debugger.specs.declared.talks.Next.{Next}
@@ -89,7 +89,7 @@ Breaks old new h bytes (Err (Refused Memory file)) = (file ≡ None) × Lacks ol
 Breaks old new h bytes (Err Write) = Unit {0}
 Breaks old new h bytes answer = ⊥
 
--- hearing broke off at the last of a beginning of these bytes
+-- hearing broke off at the last of a prefix of these bytes
 abbrev pub Broken : Option (List ℕ) → Option (List ℕ) → Hearing → List ℕ → Result Next Failure → Type 0
 Broken old new h bytes answer = (read : List ℕ) × (past : List ℕ) × (bytes ≡ read ++ past) × Breaks old new h read answer
 
@@ -137,12 +137,22 @@ Turns file h after old new had rest (Ok Over) = Talks file h old new had rest (O
 Turns file h after old new had rest (Err failure) = Talks file h old new had rest (Err failure)
 
 -- it ended before a line was asked for: at the first fault, at a file before which nothing is at fault and that can't be read, or for
--- want of memory, which comes only where an atom begins the start and is no file's fault
+-- out of memory, which comes only where an atom begins the start and is no file's fault
 abbrev pub IsBefore : List ℕ → List (List ℕ) → Result History Failure → Result (Unit {0}) Failure → Type 0
 IsBefore start given said (Ok done) = ⊥
 IsBefore start given said (Err (Refused Memory file)) = TakesMemory start × (file ≡ None)
 IsBefore start given said (Err (Read n)) = IsSome (start_in start) × ClearBefore fixed_atoms given n
 IsBefore start given said (Err failure) = said ≡ Err failure
+
+-- a failure that comes before a line is asked for, whatever the readers give: the start's, one of so many listings', or another of no
+-- file but out of memory
+abbrev pub IsEarly : ℕ → Failure → Type 0
+IsEarly files (Refused Memory file) = ⊥
+IsEarly files (Refused fault None) = Unit {0}
+IsEarly files (Refused fault (Some n)) = n < files
+IsEarly files (Read n) = n < files
+IsEarly files Write = ⊥
+IsEarly files Start = Unit {0}
 
 -- What a debugger did, whose listings are known: it ended before a line was asked for, and neither read one nor wrote; or the
 -- session was opened, and lines were read and answered.

@@ -1,18 +1,22 @@
 //! Commands, as lines spell them.
 
-ghost use Rattle.std.specs.Prelude.{⊤, ◌≡◌, ◌+◌, ◌≤◌, Ok, Some, IfOk, drop, length, option_map, slice_get};
+ghost use Rattle.std.specs.Prelude.{⊤, ◌≡◌, ◌+◌, ◌≤◌, Ok, Some, IfOk, IfSome, drop, length, option_map, slice_get};
 ghost use Rattle.bx_terms.specs.AtomTable as atoms;
 ghost use Rattle.bx_terms.specs.Outcomes.{Gives};
 ghost use Rattle.bx_plan.specs.Reading.{number_of};
-ghost use Rattle.bx_debugger.specs.Commands.{about, alone, most_number, ordered_by, place_in, place_there};
+ghost use Rattle.bx_debugger.specs.Commands.{about, alone, beginning, function_in, function_there, items_of, most_number, ordered_by, place_in, place_named, place_there, plan_named};
 ghost use Rattle.bx_debugger.specs.CommandView.{ordered};
 
+use bx_asm::Head;
 use bx_engine::token_at;
 use bx_load::Image;
-use bx_plan::{choice_of, cut, number_of, read_choices};
+use bx_plan::{choice_of, cut, number_of, read_choices, read_plan};
 use bx_terms::{Fault, Place};
 use bx_world::Choice;
 use std::alloc::{AllocError, Global};
+
+/// The greatest pid that a line may name.
+const MOST_PID: u32 = 1023;
 
 /// What a line orders.
 #[derive(Drop)]
@@ -25,17 +29,29 @@ pub(crate) enum Command {
     Forward(u32),
     /// Makes choices in order, up to the first that stops it.
     Go(Vec<Choice>),
-    /// Lets runs break off at a place.
+    /// Sets a breakpoint.
     Break(Place),
     /// Lets runs break off there no more.
     Clear(Place),
     /// Shows the outcome of the choices so far.
     Show,
+    /// Shows where each process stands.
+    Where,
+    /// Shows what a process holds.
+    Look(u32),
+    /// Shows the signals that wait.
+    Signals,
+    /// Shows the items of a function: from an address up to a number.
+    Items(Place, u32),
+    /// Shows the choices so far as a line of a plan, of this name.
+    Plan(String),
+    /// Shows the commands.
+    Help,
 }
 
 /// The command that a line spells, over the loaded code; `None` where it spells none.
 ///
-/// Memory is all that it may lack.
+/// It can only run out of memory.
 pub(crate) fn command_of(
     alloc: Global,
     image: &Image,
@@ -60,6 +76,15 @@ fn alone(alloc: Global, word: &[u8]) -> Option<Command>
     if word == b"show".as_slice() {
         return Some(Command::Show);
     }
+    if word == b"where".as_slice() {
+        return Some(Command::Where);
+    }
+    if word == b"signals".as_slice() {
+        return Some(Command::Signals);
+    }
+    if word == b"help".as_slice() {
+        return Some(Command::Help);
+    }
     None
 }
 
@@ -81,15 +106,24 @@ fn about(alloc: Global, image: &Image, word: &[u8], rest: &[u8]) -> Result<Optio
         return Ok(read_choices(alloc, rest)?.map(Command::Go));
     }
     if word == b"break".as_slice() {
-        return Ok(place_in(alloc, image, rest)?.map(Command::Break));
+        return Ok(place_named(alloc, image, rest)?.map(Command::Break));
     }
     if word == b"clear".as_slice() {
-        return Ok(place_in(alloc, image, rest)?.map(Command::Clear));
+        return Ok(place_named(alloc, image, rest)?.map(Command::Clear));
+    }
+    if word == b"look".as_slice() {
+        return Ok(number_of(rest, MOST_PID).map(Command::Look));
+    }
+    if word == b"list".as_slice() {
+        return items_named(alloc, image, rest);
+    }
+    if word == b"plan".as_slice() {
+        return plan_named(alloc, rest);
     }
     Ok(None)
 }
 
-/// The place of the instruction that `M:I` names, where there is one.
+/// The address of the instruction that `M:I` names, where there is one.
 fn place_in(alloc: Global, image: &Image, text: &[u8]) -> Result<Option<Place>, AllocError>
     ensures { IfOk result (λ place. place ≡ place_in image.now text.now) }
 {
@@ -103,9 +137,104 @@ fn place_in(alloc: Global, image: &Image, text: &[u8]) -> Result<Option<Place>, 
     Ok(place_there(image, module.as_str(), item))
 }
 
-/// The place of the instruction of that number, in the module of that name.
+/// The address of the instruction of that number, in the module of that name.
 fn place_there(image: &Image, module: &str, item: Option<u32>) -> Option<Place>
     ensures { result ≡ place_there image.now (atoms.number_of image.now.atoms module.now) item }
 {
     image.place(image.atoms().find(module)?, item?)
+}
+
+/// The first function of the name and the arity that `M:F/A` names: the address of its first item, and its head.
+fn function_in(
+    alloc: Global,
+    image: &Image,
+    text: &[u8],
+) -> Result<Option<(Place, Head)>, AllocError>
+    ensures named { IfOk result (λ function. function ≡ function_in image.now text.now) }
+    ensures within { IfOk result (λ function. IfSome function (λ f. f.0.item + f.1.count ≤ 1000000)) }
+{
+    let Some((module, colon)) = token_at(alloc, text, 0)? else {
+        return Ok(None);
+    };
+    if text.get(colon).copied() != Some(b':') {
+        return Ok(None);
+    }
+    let Some((function, slash)) = token_at(alloc, text, colon + 1)? else {
+        return Ok(None);
+    };
+    if text.get(slash).copied() != Some(b'/') {
+        return Ok(None);
+    }
+    let arity = number_of(&text[slash + 1..], u32::MAX);
+    Ok(function_there(image, module.as_str(), function.as_str(), arity))
+}
+
+/// The first function of that name and arity, in the module of that name.
+fn function_there(
+    image: &Image,
+    module: &str,
+    function: &str,
+    arity: Option<u32>,
+) -> Option<(Place, Head)>
+    ensures named { result ≡ function_there image.now (atoms.number_of image.now.atoms module.now)
+        (atoms.number_of image.now.atoms function.now) arity }
+    ensures within { IfSome result (λ f. f.0.item + f.1.count ≤ 1000000) }
+{
+    let module = image.atoms().find(module)?;
+    let function = image.atoms().find(function)?;
+    image.function(module, function, arity?)
+}
+
+/// Where a call of a function begins, where an instruction stands there.
+fn beginning(image: &Image, function: Option<(Place, Head)>) -> Option<Place>
+    ensures { result ≡ beginning image.now function }
+{
+    let (first, head) = function?;
+    let place = image.target(first.module, head.entry)?;
+    if image.has_instruction(place) {
+        Some(place)
+    } else {
+        None
+    }
+}
+
+/// The address that `M:I` names, or at which a call of the function begins that `M:F/A` names.
+fn place_named(alloc: Global, image: &Image, text: &[u8]) -> Result<Option<Place>, AllocError>
+    ensures { IfOk result (λ place. place ≡ place_named image.now text.now) }
+{
+    if let Some(place) = place_in(alloc, image, text)? {
+        return Ok(Some(place));
+    }
+    Ok(beginning(image, function_in(alloc, image, text)?))
+}
+
+/// The command to show the items of the function that `M:F/A` names, where there is one.
+fn items_named(alloc: Global, image: &Image, text: &[u8]) -> Result<Option<Command>, Fault>
+    ensures { Gives ⊤ (λ command. option_map ordered command) result
+        (Ok (option_map items_of (function_in image.now text.now))) }
+{
+    match function_in(alloc, image, text)? {
+        Some((first, head)) => Ok(Some(Command::Items(first, first.item + head.count))),
+        None => Ok(None),
+    }
+}
+
+/// The command to show the choices as a line of a plan of this name, where a plan takes it.
+fn plan_named(alloc: Global, name: &[u8]) -> Result<Option<Command>, Fault>
+    ensures { Gives ⊤ (λ command. option_map ordered command) result (Ok (plan_named name.now)) }
+{
+    let mut line = Vec::from_slice(alloc, name)?;
+    line.push(b':')?;
+    let plan = match read_plan(alloc, &line) {
+        Ok(plan) => plan,
+        Err(Fault::Memory) => return Err(Fault::Memory),
+        Err(_) => return Ok(None),
+    };
+    match plan.label(0) {
+        Some(label) if label.as_bytes() == name => {
+            let label = String::from_str(alloc, label)?;
+            Ok(Some(Command::Plan(label)))
+        }
+        _ => Ok(None),
+    }
 }

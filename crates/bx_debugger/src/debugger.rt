@@ -1,10 +1,12 @@
 //! `debug`: a session at a start over listings, told line by line what to do.
 
-ghost use Rattle.std.specs.Prelude.{◌≡◌, List, ℕ, IsOk, Some, map};
+ghost use Rattle.std.specs.Prelude.{◌≡◌, List, ℕ, IfErr, IsOk, Some, length, map};
+ghost use Rattle.std.specs.Io.KnownBytes.{Keeps};
 ghost use Rattle.bx_terms.specs.Outcomes.{Gives};
 ghost use Rattle.bx_debugger.specs.Opening.{session_at, session_of};
-ghost use Rattle.bx_debugger.specs.Talks.{Debugs};
+ghost use Rattle.bx_debugger.specs.Talks.{Debugs, IsEarly};
 
+use crate::prompts::{NoPrompt, Prompt};
 use crate::talks::answer_all;
 use bx_debug::Session;
 use bx_engine::{Failure, Start, image_of, start_of};
@@ -19,7 +21,7 @@ use std::io::{Read, Write};
 /// The failure is the first of these: the start is no such thing; a listing, in the order given, can't be read or is refused when it
 /// is read or assembled; the listings can't be loaded together; `NoEntry`, where the module does not export that function of no
 /// arguments. Nothing is read of the commands then, and nothing is written. While lines are read, a reader of commands that fails, one
-/// that gives more than `INPUT_LIMIT` bytes, and want of memory end it behind the answers to the lines before. In a failure the
+/// that gives more than `INPUT_LIMIT` bytes, and memory that runs out end it behind the answers to the lines before. In a failure the
 /// commands are the file behind the listings.
 pub fn debug_text<R: Read, C: Read, W: Write>(
     alloc: Global,
@@ -28,9 +30,33 @@ pub fn debug_text<R: Read, C: Read, W: Write>(
     commands: &mut C,
     writer: &mut W,
 ) -> Result<(), Failure>
-    ensures { (given : List (List ℕ)) → map R.remaining listings.old ≡ map (λ text. Some text) given
+    ensures talked { (given : List (List ℕ)) → map R.remaining listings.old ≡ map (λ text. Some text) given
         → Debugs start.now given (session_of start.now given) (W.contents writer.old) (W.contents writer.new)
         (C.remaining commands.old) (C.remaining commands.new) result }
+    ensures unwritten { IfErr result (λ failure. IsEarly (length listings.old) failure
+        → Keeps (W.contents writer.old) (W.contents writer.new)) }
+    ensures unread { IfErr result (λ failure. IsEarly (length listings.old) failure
+        → Keeps (C.remaining commands.old) (C.remaining commands.new)) }
+{
+    prompted_debug_text(alloc, listings, start, commands, writer, &NoPrompt)
+}
+
+/// The same with a prompt, which is called before the commands are asked for more.
+pub fn prompted_debug_text<R: Read, C: Read, W: Write, P: Prompt>(
+    alloc: Global,
+    listings: &mut [R],
+    start: &str,
+    commands: &mut C,
+    writer: &mut W,
+    prompt: &P,
+) -> Result<(), Failure>
+    ensures talked { (given : List (List ℕ)) → map R.remaining listings.old ≡ map (λ text. Some text) given
+        → Debugs start.now given (session_of start.now given) (W.contents writer.old) (W.contents writer.new)
+        (C.remaining commands.old) (C.remaining commands.new) result }
+    ensures unwritten { IfErr result (λ failure. IsEarly (length listings.old) failure
+        → Keeps (W.contents writer.old) (W.contents writer.new)) }
+    ensures unread { IfErr result (λ failure. IsEarly (length listings.old) failure
+        → Keeps (C.remaining commands.old) (C.remaining commands.new)) }
 {
     let start = match start_of(alloc, start) {
         Ok(start) => start,
@@ -45,7 +71,7 @@ pub fn debug_text<R: Read, C: Read, W: Write>(
         Ok(session) => session,
         Err(fault) => return Err(Failure::Refused(fault, None)),
     };
-    answer_all(alloc, file, session, commands, writer)
+    answer_all(alloc, file, session, commands, writer, prompt)
 }
 
 /// A session at the start that was named; `NoEntry` where the module does not export that function of no arguments.

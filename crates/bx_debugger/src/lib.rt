@@ -3,7 +3,18 @@
 
 mod commands;
 mod debugger;
+mod help;
+mod holdings;
+pub mod laws;
+mod listings;
+mod plan_lines;
+mod prompts;
 mod replies;
+mod signal_lines;
+mod standings;
 mod talks;
+mod words;
 
-pub use debugger::debug_text;
+pub use debugger::{debug_text, prompted_debug_text};
+pub use help::SESSION_HELP;
+pub use prompts::{NoPrompt, Prompt};

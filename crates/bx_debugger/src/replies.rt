@@ -1,22 +1,35 @@
 //! What a session answers to a line.
 
-ghost use Rattle.std.specs.Prelude.{◌≡◌, ◌++◌, IfOk, IsSome, Result, Some, codes, string_bytes};
+ghost use Rattle.std.specs.Prelude.{◌≡◌, ◌++◌, IfOk, IsSome, Result, Some, codes, slice_get, string_bytes};
 ghost use Rattle.bx_terms.specs.Refusals.{refusal};
 ghost use Rattle.bx_terms.specs.declared.faults.Fault.{Fault};
-ghost use Rattle.bx_debug.specs.Sessions.{History};
-ghost use Rattle.bx_debugger.specs.Answers.{Moves, answered, moved, refused_line, refused_text, replied, standing, stop_words, went_line, shown_lines};
+ghost use Rattle.bx_debug.specs.Sessions.{History, behind, world_of};
+ghost use Rattle.bx_debugger.specs.Answers.{Moves, answered, looked, moved, planned, refused_line, refused_text, replied, standing, stop_words, went_line, shown_lines};
 ghost use Rattle.bx_debugger.specs.CommandView.{ordered};
+ghost use Rattle.bx_debugger.specs.Functions.{list_answer};
+ghost use Rattle.bx_debugger.specs.Help.{help_answer};
+ghost use Rattle.bx_debugger.specs.Signals.{signals_answer};
+ghost use Rattle.bx_debugger.specs.Where.{where_answer};
 
 use crate::commands::{Command, command_of};
+use crate::help::push_help;
+use crate::holdings::push_look;
+use crate::listings::push_list;
+use crate::plan_lines::push_plan;
+use crate::signal_lines::push_signals;
+use crate::standings::push_where;
 use bx_debug::{Session, Stop};
 use bx_load::Image;
-use bx_terms::Fault;
+use bx_terms::{Fault, Place};
 use bx_world::{choice_text, outcome_text};
 use std::alloc::{AllocError, Global};
 
+/// How many choices a line of a plan makes at most.
+const MOST_CHOICES: usize = 100_000;
+
 /// Does what a line orders, and gives the text of the answer; `number` is the line's, from 1.
 ///
-/// Memory is all that it may lack.
+/// It can only run out of memory.
 pub(crate) fn answer_line(
     alloc: Global,
     session: &mut Session<'_>,
@@ -68,7 +81,26 @@ fn reply(
             Ok(String::from_str(alloc, "ok\n")?)
         }
         Command::Show => shown_lines(alloc, session),
+        Command::Look(pid) => looked(alloc, session, number, *pid),
+        Command::Where => Ok(standings(alloc, session)?),
+        Command::Signals => Ok(signal_lines(alloc, session)?),
+        Command::Items(first, past) => Ok(item_lines(alloc, session.image(), *first, *past)?),
+        Command::Plan(name) => planned(alloc, session, number, name),
+        Command::Help => Ok(help_lines(alloc)?),
     }
+}
+
+/// The answer to `look P`: what the process holds, or that there is none.
+fn looked(alloc: Global, session: &Session<'_>, number: usize, pid: u32) -> Result<String, Fault>
+    ensures { IfOk result (λ text. string_bytes text ≡ looked number session.now.image pid
+        (slice_get (world_of session.now).processes pid)) }
+{
+    let Some(shown) = session.world().process(pid) else {
+        return refusal_line(alloc, number, &Fault::BadCommand { line: number });
+    };
+    let mut out = String::new(alloc);
+    push_look(alloc, &mut out, session.image(), pid, &shown)?;
+    Ok(out)
 }
 
 /// The answer to a move: where the session stands, or why it was refused.
@@ -97,7 +129,7 @@ fn standing_line(alloc: Global, session: &Session<'_>) -> Result<String, AllocEr
     Ok(text)
 }
 
-/// A refusal by number and name, and the line that was refused. Want of memory is none, and is handed on.
+/// A refusal by number and name, and the line that was refused. Out of memory is none, and is handed on.
 fn refusal_line(alloc: Global, number: usize, fault: &Fault) -> Result<String, Fault>
     ensures text { IfOk result (λ text. string_bytes text ≡ refused_line number fault.now) }
     ensures refusal { IfOk result (λ _. IsSome (refusal fault.now)) }
@@ -165,4 +197,58 @@ fn shown_lines(alloc: Global, session: &Session<'_>) -> Result<String, Fault>
         None,
         &outcome,
     )
+}
+
+/// How each process stands.
+fn standings(alloc: Global, session: &Session<'_>) -> Result<String, AllocError>
+    ensures { IfOk result (λ text. string_bytes text
+        ≡ where_answer session.now.image (world_of session.now).processes) }
+{
+    let mut out = String::new(alloc);
+    push_where(alloc, &mut out, session.image(), session.world())?;
+    Ok(out)
+}
+
+/// The signals that wait.
+fn signal_lines(alloc: Global, session: &Session<'_>) -> Result<String, AllocError>
+    ensures { IfOk result (λ text. string_bytes text
+        ≡ signals_answer session.now.image.atoms (world_of session.now).lanes.channels) }
+{
+    let mut out = String::new(alloc);
+    let channels = session.world().channels();
+    push_signals(alloc, &mut out, session.image().atoms(), channels)?;
+    Ok(out)
+}
+
+/// The items from an address up to a number.
+fn item_lines(alloc: Global, image: &Image, first: Place, past: u32) -> Result<String, AllocError>
+    ensures { IfOk result
+        (λ text. string_bytes text ≡ list_answer image.now first.«module» first.item past) }
+{
+    let mut out = String::new(alloc);
+    push_list(alloc, &mut out, image, first, past)?;
+    Ok(out)
+}
+
+/// The choices before the position as a line of a plan, which takes 100,000 at most.
+fn planned(alloc: Global, session: &Session<'_>, number: usize, name: &str) -> Result<String, Fault>
+    ensures { IfOk result
+        (λ text. string_bytes text ≡ planned number name.now (behind session.now)) }
+{
+    let choices = &session.choices()[..session.at()];
+    if choices.len() > MOST_CHOICES {
+        return refusal_line(alloc, number, &Fault::TooLong { line: number });
+    }
+    let mut out = String::new(alloc);
+    push_plan(alloc, &mut out, name, choices)?;
+    Ok(out)
+}
+
+/// The commands.
+fn help_lines(alloc: Global) -> Result<String, AllocError>
+    ensures { IfOk result (λ text. string_bytes text ≡ help_answer) }
+{
+    let mut out = String::new(alloc);
+    push_help(&mut out)?;
+    Ok(out)
 }

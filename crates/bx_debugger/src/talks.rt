@@ -4,6 +4,7 @@ ghost use Rattle.std.specs.Prelude.{◌<◌, ◌≤◌, [], ◌∷◌, OnOk, len
 ghost use Rattle.std.specs.Io.KnownBytes.{Appends};
 ghost use Rattle.bx_debugger.specs.Talks.{Feeds, Finishes, Replies, Talks, Turns, begins};
 
+use crate::prompts::Prompt;
 use crate::replies::answer_line;
 use bx_debug::Session;
 use bx_engine::{Failure, INPUT_LIMIT, MOST_ASKS};
@@ -66,12 +67,13 @@ impl<'a> Model for Talk<'a> {
 /// Answers the lines that a reader gives, each before the next is asked for, up to one that quits or to the reader's end.
 ///
 /// `file` is the reader's number in a failure. The reader is asked at most `MOST_ASKS` times, and then counts as one that failed.
-pub(crate) fn answer_all<C: Read, W: Write>(
+pub(crate) fn answer_all<C: Read, W: Write, P: Prompt>(
     alloc: Global,
     file: usize,
     session: Session<'_>,
     commands: &mut C,
     writer: &mut W,
+    prompt: &P,
 ) -> Result<(), Failure>
     ensures { Talks file (begins session.entry) (W.contents writer.old) (W.contents writer.new)
         (C.remaining commands.old) (C.remaining commands.new) result }
@@ -84,6 +86,7 @@ pub(crate) fn answer_all<C: Read, W: Write>(
     };
     let mut chunk = [0; PIECE];
     for _ in 0..MOST_ASKS {
+        prompt.ask(talk.session.at(), talk.session.len());
         match talk.turn(alloc, file, commands, &mut chunk, writer) {
             Ok(Next::More) => {}
             Ok(Next::Over) => return Ok(()),

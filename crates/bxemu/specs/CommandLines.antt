@@ -57,9 +57,9 @@ debug_command = with_rule (with_rule (new_app (codes "debug")) (option_rule (cod
 abbrev pub dis_command : App
 dis_command = with_rule (new_app (codes "dis")) file_rule
 
--- the program, of which a subcommand is wanted
+-- the program, of which a subcommand is wanted, or its version
 abbrev pub bare_program : App
-bare_program = on_top (λ top. record top { subcommand_required = true }) (new_app (codes "bxemu"))
+bare_program = on_top (λ top. record top { subcommand_required = true; has_version = true }) (new_app (codes "bxemu"))
 
 -- with the subcommands that run the schedules of a plan
 abbrev pub plan_program : App

@@ -10,7 +10,7 @@ abbrev pub status_after : {A : Type 0} → Result A Failure → ℕ
 status_after (Ok done) = 0
 status_after (Err failure) = status_of failure
 
--- by the kind of what `clap` answered in place of an order: 3 for want of memory, 0 or 4 for a help, and else 2
+-- by the kind of what `clap` answered in place of an order: 3 where memory ran out, 0 or 4 for a help, and else 2
 abbrev pub EndsByKind : ErrorKind → ℕ → Type 0
 EndsByKind kind status = ((kind ≡ OutOfMemory) × (status ≡ 3))
     ⊎ (((kind ≡ DisplayHelp) ⊎ (kind ≡ DisplayVersion)) × ((status ≡ 0) ⊎ (status ≡ 4)))

@@ -5,6 +5,7 @@ mod commands;
 mod laws;
 mod program;
 mod progress;
+mod prompt;
 mod syntax;
 
 use std::process::ExitCode;

@@ -10,7 +10,8 @@ ghost use Rattle.bxemu.specs.Statuses.{EndsByKind, status_after};
 
 use crate::commands::{Order, command_of};
 use crate::progress::Progress;
-use bx_debugger::debug_text;
+use crate::prompt::Asking;
+use bx_debugger::{debug_text, prompted_debug_text};
 use bx_engine::{
     Failure, campaign_text, dis_text, fault_line, run_text, start_of, watched_campaign_text,
 };
@@ -30,7 +31,7 @@ use std::{env, fs, io};
 pub fn status_of_program<R, I, O, W>(rt: &R, input: &mut I, output: &mut O, errors: &mut W) -> u8
 where
     R: Files + Env + Print + Eprint + Clock + AllocGlobal + Threads + Wait + Sync,
-    I: Read,
+    I: Read + IsTerminal,
     O: Write,
     W: Write + IsTerminal,
     ensures { result ≤ 4 }
@@ -51,7 +52,7 @@ fn status_of_words<R, I, O, W>(
 ) -> u8
 where
     R: Files + Print + Eprint + Clock + AllocGlobal + Threads + Wait + Sync,
-    I: Read,
+    I: Read + IsTerminal,
     O: Write,
     W: Write + IsTerminal,
     ensures few { result ≤ 4 }
@@ -84,7 +85,7 @@ fn status_of_order<R, I, O, W>(
 ) -> u8
 where
     R: Files + Eprint + Clock + AllocGlobal + Threads + Wait + Sync,
-    I: Read,
+    I: Read + IsTerminal,
     O: Write,
     W: Write + IsTerminal,
     ensures few { result ≤ 4 }
@@ -160,7 +161,8 @@ where
     told(&ended, names.as_slice(), errors)
 }
 
-/// Does what `debug` orders, and gives the status to end with.
+/// Does what `debug` orders, and gives the status to end with. Where `input` and `errors` are terminals, lines are asked for
+/// there.
 fn status_of_session<R, I, O, W>(
     rt: &R,
     start: &str,
@@ -170,17 +172,18 @@ fn status_of_session<R, I, O, W>(
     errors: &mut W,
 ) -> u8
 where
-    R: Files + AllocGlobal,
-    I: Read,
+    R: Files + Eprint + AllocGlobal,
+    I: Read + IsTerminal,
     O: Write,
-    W: Write,
+    W: Write + IsTerminal,
     ensures { result ≤ 4 }
 {
     let names = match names_of(rt.alloc(), files, "-") {
         Ok(names) => names,
         Err(_) => return fault_line(&memory(), &[], errors),
     };
-    let ended = debug(rt, start, names.as_slice(), input, output);
+    let asks = input.is_terminal() && errors.is_terminal();
+    let ended = debug(rt, start, names.as_slice(), asks, input, output);
     told(&ended, names.as_slice(), errors)
 }
 
@@ -256,7 +259,7 @@ fn explain<R: Print + Eprint, W: Write>(rt: &R, error: &Error, errors: &mut W) -
     }
 }
 
-/// Want of memory, which is no file's fault.
+/// Out of memory, which is no file's fault.
 fn memory() -> Failure
     ensures { result ≡ Failure.Refused Memory None }
 {
@@ -348,11 +351,12 @@ fn debug<R, I, W>(
     rt: &R,
     start: &str,
     names: &[String],
+    asks: bool,
     commands: &mut I,
     writer: &mut W,
 ) -> Result<(), Failure>
 where
-    R: Files + AllocGlobal,
+    R: Files + Eprint + AllocGlobal,
     I: Read,
     W: Write,
 {
@@ -361,7 +365,12 @@ where
         return Ok(());
     };
     let mut inputs = open_all(rt, listings)?;
-    debug_text(rt.alloc(), inputs.as_mut_slice(), start, commands, writer)
+    let listings = inputs.as_mut_slice();
+    if asks {
+        let prompt = Asking::new(rt);
+        return prompted_debug_text(rt.alloc(), listings, start, commands, writer, &prompt);
+    }
+    debug_text(rt.alloc(), listings, start, commands, writer)
 }
 
 /// Opens each file, the first that can't be opened being the failure.

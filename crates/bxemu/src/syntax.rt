@@ -4,8 +4,12 @@ ghost use Rattle.clap.specs.Words.{app_of, rule_of};
 ghost use Rattle.clap.specs.declared.builder.command.Command.TheViews.{out-Command as fields_of};
 ghost use Rattle.bxemu.specs.CommandLines.{campaign_command, debug_command, dis_command, file_rule, files_rule, option_rule, plan_program, program, run_command, workers_rule};
 
+use bx_debugger::SESSION_HELP;
 use clap::{Arg, ArgAction, Command};
 use std::alloc::{AllocError, Global};
+
+/// The program's version, as `--version` tells it.
+const VERSION: &str = "1.0.0";
 
 /// The program with its subcommands.
 pub fn program_command<'a>(alloc: Global) -> Result<Command<'a>, AllocError>
@@ -22,6 +26,7 @@ fn plan_program<'a>(alloc: Global) -> Result<Command<'a>, AllocError>
 {
     Command::new(alloc, "bxemu")
         .about("Runs Erlang assembly listings under given schedules")
+        .version(VERSION)
         .subcommand_required(true)
         .subcommand(run_subcommand(alloc)?)?
         .subcommand(campaign_subcommand(alloc)?)
@@ -51,17 +56,6 @@ fn campaign_subcommand<'a>(alloc: Global) -> Result<Command<'a>, AllocError>
         .arg(workers_option(alloc))?
         .arg(files_argument(alloc))
 }
-
-/// What the help of `debug` says of the lines of standard input.
-const SESSION_HELP: &str = "Commands, each a line of standard input:
-  step C       Makes a choice: r0 runs process 0, d0>1 delivers the first signal from 0 to 1, e0 ends the wait of 0
-  back N       Goes back over N choices
-  forward N    Goes forward over N choices
-  go C C ..    Makes choices in order, up to the first that stops it; C*N makes C N times
-  break M:I    Lets go stop behind a run that leaves its process at item I of module M
-  clear M:I    Takes such a place back
-  show         Shows the outcome of the choices so far
-  quit         Ends the session";
 
 /// `debug`, with its option and files.
 fn debug_subcommand<'a>(alloc: Global) -> Result<Command<'a>, AllocError>

@@ -261,3 +261,22 @@ impl IsTerminal for Sheet {
         self.terminal
     }
 }
+
+/// Lines to be read, from a terminal or not.
+#[derive(Drop)]
+pub struct Lines<'a> {
+    pub text: &'a [u8],
+    pub terminal: bool,
+}
+
+impl<'a> Read for Lines<'a> {
+    fn read(&mut self, bytes: &mut [u8]) -> io::Result<usize> {
+        self.text.read(bytes)
+    }
+}
+
+impl<'a> IsTerminal for Lines<'a> {
+    fn is_terminal(&self) -> bool {
+        self.terminal
+    }
+}

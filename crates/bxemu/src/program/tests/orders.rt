@@ -1,6 +1,6 @@
 //! The four commands over files in memory: what each writes, and the status that it ends with.
 
-use super::desk::{Desk, Sheet};
+use super::desk::{Desk, Lines, Sheet};
 use crate::program::status_of_program;
 use std::alloc::{AllocError, Global};
 use std::process::Abort;
@@ -38,7 +38,8 @@ const ANSWERS: &str = "at 1 of 1\nrefused R22 BeforeStart line 2\napplied 1\nsta
     process <0.0.0> ready\nend\n";
 
 /// The files that there are; what stands in `torn` can't be read.
-const FILES: [(&str, Option<&str>); 6] = [
+const FILES: [(&str, Option<&str>); 7] = [
+    ("-", Some(N)),
     ("m.S", Some(M)),
     ("n.S", Some(N)),
     ("empty.S", Some("")),
@@ -57,7 +58,7 @@ struct Outcome {
     told: u64,
 }
 
-/// For how many bytes there is room, whether the runtime prints, and whether the errors go to a terminal.
+/// For how many bytes there is room, whether the runtime prints, and whether lines come from a terminal and errors go to one.
 #[derive(Clone, Copy)]
 struct Room {
     output: usize,
@@ -91,7 +92,10 @@ fn ended<R: Threads + Wait + Sync>(
         printed: AtomicU64::new(0),
         told: AtomicU64::new(0),
     };
-    let mut input = commands.as_bytes();
+    let mut input = Lines {
+        text: commands.as_bytes(),
+        terminal: room.terminal,
+    };
     let mut output = Sheet::new(alloc, room.output, false);
     let mut errors = Sheet::new(alloc, room.errors, room.terminal);
     let status = status_of_program(&desk, &mut input, &mut output, &mut errors);
@@ -107,19 +111,38 @@ fn ended<R: Threads + Wait + Sync>(
 /// A line of words, what is written to standard output, and to standard error, and the status.
 type Row = (&'static str, &'static str, &'static str, u8);
 
+/// The same, where memory was enough; that it ran out is no outcome, and is handed on.
+fn ends<R: Threads + Wait + Sync>(
+    rt: &R,
+    alloc: Global,
+    line: &[u8],
+    room: Room,
+) -> Result<Outcome, AllocError> {
+    let outcome = ended(rt, alloc, line, COMMANDS, room);
+    if outcome.status == 3 {
+        return Err(AllocError);
+    }
+    Ok(outcome)
+}
+
 /// Asserts what comes of each line.
-fn assert_rows<R: Abort + Threads + Wait + Sync>(rt: &R, alloc: Global, rows: &[Row]) {
+fn assert_rows<R: Abort + Threads + Wait + Sync>(
+    rt: &R,
+    alloc: Global,
+    rows: &[Row],
+) -> Result<(), AllocError> {
     for (line, output, errors, status) in rows {
-        let ended = ended(rt, alloc, line.as_bytes(), COMMANDS, WIDE);
+        let ended = ends(rt, alloc, line.as_bytes(), WIDE)?;
         assert!(rt; ended.output.as_slice() == output.as_bytes(), "{line}");
         assert!(rt; ended.errors.as_slice() == errors.as_bytes(), "{line}");
         assert!(rt; ended.status == *status, "{line}");
         assert!(rt; ended.printed == 0 && ended.told == 0, "{line}");
     }
+    Ok(())
 }
 
 #[test]
-fn orders_are_done(rt: HostRuntime) {
+fn orders_are_done(rt: HostRuntime) -> Result<(), Fail> {
     let rows = [
         ("bxemu run --start m:f --plan plan m.S n.S", REPORT, "", 0),
         ("bxemu run --start m:f --plan plan n.S m.S", REPORT, "", 0),
@@ -137,12 +160,21 @@ fn orders_are_done(rt: HostRuntime) {
         ),
         ("bxemu debug --start m:f m.S n.S", ANSWERS, "", 0),
         ("bxemu dis n.S", N_CODE, "", 0),
+        ("bxemu run --start m:f --plan plan m.S -", REPORT, "", 0),
+        (
+            "bxemu campaign --start m:f --plan plan --workers 2 - m.S",
+            REPORT,
+            "",
+            0,
+        ),
+        ("bxemu dis -", N_CODE, "", 0),
     ];
-    assert_rows(&rt, rt.alloc(), &rows);
+    assert_rows(&rt, rt.alloc(), &rows)?;
+    Ok(())
 }
 
 #[test]
-fn the_first_failure_ends_an_order(rt: HostRuntime) {
+fn the_first_failure_ends_an_order(rt: HostRuntime) -> Result<(), Fail> {
     let rows = [
         (
             "bxemu run --start m --plan away away.S",
@@ -215,11 +247,12 @@ fn the_first_failure_ends_an_order(rt: HostRuntime) {
         ("bxemu dis torn", "", "bxemu: read torn\n", 4),
         ("bxemu dis bad", "", "bxemu: R4 BadTerm line 1 in bad\n", 1),
     ];
-    assert_rows(&rt, rt.alloc(), &rows);
+    assert_rows(&rt, rt.alloc(), &rows)?;
+    Ok(())
 }
 
 #[test]
-fn the_first_failure_ends_a_campaign(rt: HostRuntime) {
+fn the_first_failure_ends_a_campaign(rt: HostRuntime) -> Result<(), Fail> {
     let rows = [
         (
             "bxemu campaign --start m --plan away away.S",
@@ -264,17 +297,30 @@ fn the_first_failure_ends_a_campaign(rt: HostRuntime) {
             1,
         ),
         (
+            "bxemu campaign --start m:f --plan plan --workers 0 m.S n.S",
+            "",
+            "bxemu: R34 Workers\n",
+            1,
+        ),
+        (
+            "bxemu campaign --start m:f --plan - m.S n.S",
+            "",
+            "bxemu: R24 BadLine line 1 in -\n",
+            1,
+        ),
+        (
             "bxemu campaign --start m:g --plan plan m.S n.S",
             "",
             "bxemu: R32 NoEntry\n",
             1,
         ),
     ];
-    assert_rows(&rt, rt.alloc(), &rows);
+    assert_rows(&rt, rt.alloc(), &rows)?;
+    Ok(())
 }
 
 #[test]
-fn a_stream_that_fails_ends_an_order(rt: HostRuntime) {
+fn a_stream_that_fails_ends_an_order(rt: HostRuntime) -> Result<(), Fail> {
     let lines = [
         "bxemu run --start m:f --plan plan m.S n.S",
         "bxemu campaign --start m:f --plan plan m.S n.S",
@@ -284,19 +330,20 @@ fn a_stream_that_fails_ends_an_order(rt: HostRuntime) {
     let full = Room { output: 0, ..WIDE };
     let mute = Room { errors: 0, ..full };
     for line in lines {
-        let outcome = ended(&rt, rt.alloc(), line.as_bytes(), COMMANDS, full);
+        let outcome = ends(&rt, rt.alloc(), line.as_bytes(), full)?;
         assert!(rt;
             outcome.errors.as_slice() == "bxemu: write\n".as_bytes(),
             "{line}"
         );
         assert!(rt; outcome.status == 4, "{line}");
-        let outcome = ended(&rt, rt.alloc(), line.as_bytes(), COMMANDS, mute);
+        let outcome = ends(&rt, rt.alloc(), line.as_bytes(), mute)?;
         assert!(rt; outcome.errors.is_empty() && outcome.status == 4, "{line}");
     }
+    Ok(())
 }
 
 #[test]
-fn other_words_order_nothing(rt: HostRuntime) {
+fn other_words_order_nothing(rt: HostRuntime) -> Result<(), Fail> {
     let rows = [
         ("bxemu", 2),
         ("bxemu frob m.S", 2),
@@ -306,9 +353,10 @@ fn other_words_order_nothing(rt: HostRuntime) {
         ("bxemu debug --start m:f --plan plan m.S", 2),
         ("bxemu --help", 0),
         ("bxemu help debug", 0),
+        ("bxemu --version", 0),
     ];
     for (line, status) in rows {
-        let outcome = ended(&rt, rt.alloc(), line.as_bytes(), COMMANDS, WIDE);
+        let outcome = ends(&rt, rt.alloc(), line.as_bytes(), WIDE)?;
         assert!(rt; outcome.status == status, "{line}");
         assert!(rt;
             outcome.output.is_empty() && outcome.errors.is_empty(),
@@ -317,11 +365,22 @@ fn other_words_order_nothing(rt: HostRuntime) {
         assert!(rt; (outcome.printed > 0) == (status == 0), "{line}");
         assert!(rt; (outcome.told > 0) == (status == 2), "{line}");
     }
+    Ok(())
 }
 
 #[test]
-fn words_and_help_that_cannot_be_had(rt: HostRuntime) {
-    let outcome = ended(&rt, rt.alloc(), b"bxemu dis \xFF", COMMANDS, WIDE);
+fn the_version_is_told(rt: HostRuntime) -> Result<(), Fail> {
+    for line in ["bxemu --version", "bxemu -V"] {
+        let outcome = ends(&rt, rt.alloc(), line.as_bytes(), WIDE)?;
+        assert!(rt; outcome.status == 0 && outcome.told == 0, "{line}");
+        assert!(rt; outcome.printed == "bxemu 1.0.0\n".len() as u64, "{line}");
+    }
+    Ok(())
+}
+
+#[test]
+fn words_and_help_that_cannot_be_had(rt: HostRuntime) -> Result<(), Fail> {
+    let outcome = ends(&rt, rt.alloc(), b"bxemu dis \xFF", WIDE)?;
     assert!(rt; outcome.status == 2 && outcome.output.is_empty());
     assert!(rt;
         outcome.errors.as_slice()
@@ -331,18 +390,19 @@ fn words_and_help_that_cannot_be_had(rt: HostRuntime) {
         prints: false,
         ..WIDE
     };
-    let outcome = ended(&rt, rt.alloc(), b"bxemu --help", COMMANDS, silent);
+    let outcome = ends(&rt, rt.alloc(), b"bxemu --help", silent)?;
     assert!(rt; outcome.status == 4 && outcome.output.is_empty());
     assert!(rt; outcome.errors.as_slice() == "bxemu: write\n".as_bytes());
-    let outcome = ended(&rt, rt.alloc(), b"bxemu dis", COMMANDS, silent);
+    let outcome = ends(&rt, rt.alloc(), b"bxemu dis", silent)?;
     assert!(rt; outcome.status == 2 && outcome.errors.is_empty());
+    Ok(())
 }
 
 /// The bytes of the line of a campaign that has begun, and of that line left blank.
 const PROGRESS: u64 = 47 + 74;
 
 #[test]
-fn a_campaign_is_watched_on_a_terminal(rt: HostRuntime) {
+fn a_campaign_is_watched_on_a_terminal(rt: HostRuntime) -> Result<(), Fail> {
     let terminal = Room {
         terminal: true,
         ..WIDE
@@ -352,9 +412,26 @@ fn a_campaign_is_watched_on_a_terminal(rt: HostRuntime) {
         ("bxemu run --start m:f --plan plan m.S n.S", 0),
     ];
     for (line, told) in rows {
-        let outcome = ended(&rt, rt.alloc(), line.as_bytes(), COMMANDS, terminal);
+        let outcome = ends(&rt, rt.alloc(), line.as_bytes(), terminal)?;
         assert!(rt; outcome.output.as_slice() == REPORT.as_bytes(), "{line}");
         assert!(rt; outcome.errors.is_empty() && outcome.status == 0, "{line}");
         assert!(rt; outcome.told == told, "{line}");
     }
+    Ok(())
+}
+
+/// The bytes of `0/0> `, and of `1/1> ` behind the answers, when the reader is at its end.
+const PROMPTS: u64 = 5 + 5;
+
+#[test]
+fn a_session_asks_for_lines_on_a_terminal(rt: HostRuntime) {
+    let terminal = Room {
+        terminal: true,
+        ..WIDE
+    };
+    let order = b"bxemu debug --start m:f m.S n.S";
+    let outcome = ended(&rt, rt.alloc(), order, "step r0\n", terminal);
+    assert!(rt; outcome.output.as_slice() == "at 1 of 1\n".as_bytes());
+    assert!(rt; outcome.errors.is_empty() && outcome.status == 0);
+    assert!(rt; outcome.told == PROMPTS);
 }

@@ -1,0 +1,41 @@
+//! `help`: the commands.
+
+ghost use Rattle.std.specs.Prelude.{◌≡◌, ◌++◌, OnOk, string_bytes};
+ghost use Rattle.bx_debugger.specs.Help.{help_answer};
+
+use std::alloc::AllocError;
+
+/// The commands, a line each, behind a heading.
+macro_rules! commands {
+    ($heading:literal) => {
+        concat!($heading, "  step C       Makes a choice: r0 runs process 0, d0>1 delivers the first signal from 0 to 1, e0 ends the wait of 0
+  back N       Goes back over N choices
+  forward N    Goes forward over N choices
+  go C C ..    Makes choices in order, up to the first that stops it; C*N makes C N times
+  break M:I    Lets go stop behind a run that leaves its process at item I of module M
+  break M:F/A  Lets go stop where a call of that function begins
+  clear M:I    Takes such a place back, which M:F/A names too
+  show         Shows the outcome of the choices so far
+  where        Shows for each process where it goes on, and the item there
+  look P       Shows all that process P holds
+  signals      Shows the signals that wait
+  list M:F/A   Shows the items of a function
+  plan NAME    Shows the choices so far as a line of a plan
+  help         Shows these lines
+  quit         Ends the session")
+    };
+}
+
+/// The commands, a line each.
+const COMMANDS: &str = commands!("");
+
+/// What the program's help says of the lines of a session.
+pub const SESSION_HELP: &str = commands!("Commands, each a line of standard input:\n");
+
+/// Adds the answer to `help`: the commands, and `end`.
+pub(crate) fn push_help(out: &mut String) -> Result<(), AllocError>
+    ensures { OnOk result (string_bytes out.new ≡ string_bytes out.old ++ help_answer) }
+{
+    out.push_str(COMMANDS)?;
+    out.push_str("\nend\n")
+}
