@@ -33,7 +33,7 @@ pub struct Rounds {
     took: Vec<u128>,
 }
 
-/// The nanoseconds of the quickest round, which other work on the machine disturbed least, and of the one in the middle.
+/// The nanoseconds of the quickest round, which other work on the machine disturbed least, and the median.
 #[derive(Clone, Copy)]
 struct Spread {
     quickest: u128,
@@ -56,7 +56,7 @@ impl Rounds {
         Ok(())
     }
 
-    /// The quickest round and the one in the middle, where there was one.
+    /// The quickest round and the median, where there was one.
     fn spread(&mut self) -> Result<Spread, Trouble> {
         self.took.sort_unstable();
         match (self.took.first(), self.took.get(self.took.len() / 2)) {

@@ -1,9 +1,9 @@
 //! Measures of `bxemu`, on standard error. Without arguments it does nothing.
 //!
-//! `bench listing ITEMS`, `bench choices ROUNDS`, `bench worlds LAPS`, `bench ring ROUNDS`,
-//! `bench senders TURNS`, `bench session CHOICES`, `bench campaign SCHEDULES`, `bench units SCHEDULES`;
-//! over a listing in a file `bench program CHOICES FILE` and `bench forms ROUNDS FILE`; at random
-//! `bench walk CHOICES`.
+//! `bxemu_bench listing ITEMS`, `bxemu_bench choices ROUNDS`, `bxemu_bench worlds LAPS`, `bxemu_bench ring ROUNDS`,
+//! `bxemu_bench senders TURNS`, `bxemu_bench session CHOICES`, `bxemu_bench campaign SCHEDULES`, `bxemu_bench units SCHEDULES`;
+//! over a listing in a file `bxemu_bench program CHOICES FILE` and `bxemu_bench forms ROUNDS FILE`; at random
+//! `bxemu_bench walk CHOICES`.
 #![tactic(auto)]
 
 mod campaigns;
@@ -43,7 +43,7 @@ fn main(rt: HostRuntime) -> ExitCode {
     match taken {
         Ok(()) => ExitCode::SUCCESS,
         Err(trouble) => {
-            let _ = eprintln!(rt; "bench: {trouble}");
+            let _ = eprintln!(rt; "bxemu_bench: {trouble}");
             ExitCode::FAILURE
         }
     }
