@@ -14,6 +14,8 @@ mod literals;
 #[cfg(test)]
 mod loading;
 #[cfg(test)]
+mod locations;
+#[cfg(test)]
 mod prefixes;
 #[cfg(test)]
 mod refusals;

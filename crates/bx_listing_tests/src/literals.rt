@@ -3,7 +3,7 @@
 use crate::refusals::{are_refused, number_and_line};
 use bx_listing::read_listing;
 use bx_terms::{AtomId, Atoms, Fault};
-use bxemu_testkit::{module, read};
+use bxemu_testkit::{answered, module, read};
 use std::alloc::{AllocError, Global};
 use std::test::Fail;
 
@@ -58,12 +58,7 @@ fn read_list(alloc: Global, before: &str, length: usize, behind: &str) -> Result
     Ok(())
 }
 
-fn is_too_high(
-    alloc: Global,
-    before: &str,
-    length: usize,
-    behind: &str,
-) -> Result<bool, AllocError> {
+fn is_too_high(alloc: Global, before: &str, length: usize, behind: &str) -> Result<bool, Fault> {
     let items = with_list(alloc, before, length, behind)?;
     are_refused(alloc, items.as_str(), 11, 9, "")
 }
@@ -108,16 +103,14 @@ static NEW_NAMES: [&str; 5] = [
 ];
 
 /// The number and the line of the refusal of these items, over that table.
-fn refusal(
-    alloc: Global,
-    atoms: &mut Atoms,
-    items: &str,
-) -> Result<Option<(u8, usize)>, AllocError> {
+fn refusal(alloc: Global, atoms: &mut Atoms, items: &str) -> Result<Option<(u8, usize)>, Fault> {
     let text = module(alloc, items)?;
-    Ok(match read_listing(alloc, atoms, text.as_bytes()) {
-        Ok(_) => None,
-        Err(fault) => number_and_line(&fault),
-    })
+    Ok(
+        match answered(read_listing(alloc, atoms, text.as_bytes()))? {
+            Ok(_) => None,
+            Err(fault) => number_and_line(&fault),
+        },
+    )
 }
 
 /// How many of the items, from the first on, are refused over a full table.

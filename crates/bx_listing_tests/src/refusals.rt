@@ -1,7 +1,7 @@
 //! Items that are refused: the number of the refusal, the line of the form, and the name that is outside the subset.
 
 use bx_terms::Fault;
-use bxemu_testkit::{module, read};
+use bxemu_testkit::{answered, module, read};
 use std::alloc::{AllocError, Global};
 use std::test::Fail;
 
@@ -27,11 +27,17 @@ fn is_named(fault: &Fault, wanted: &str) -> bool {
 }
 
 /// Whether a text is refused with this number and this name on this line.
-fn is_refused(alloc: Global, text: &str, number: u8, line: usize, name: &str) -> bool {
-    match read(alloc, text) {
+fn is_refused(
+    alloc: Global,
+    text: &str,
+    number: u8,
+    line: usize,
+    name: &str,
+) -> Result<bool, Fault> {
+    Ok(match answered(read(alloc, text))? {
         Ok(_) => false,
         Err(fault) => number_and_line(&fault) == Some((number, line)) && is_named(&fault, name),
-    }
+    })
 }
 
 /// Whether the function of a module with these items is refused with this number on this line, by this name.
@@ -41,17 +47,13 @@ pub fn are_refused(
     number: u8,
     line: usize,
     name: &str,
-) -> Result<bool, AllocError> {
+) -> Result<bool, Fault> {
     let text = module(alloc, items)?;
-    Ok(is_refused(alloc, text.as_str(), number, line, name))
+    is_refused(alloc, text.as_str(), number, line, name)
 }
 
 /// How many rows of items, a line and a name, from the first on, are refused with this number.
-fn right_rows(
-    alloc: Global,
-    number: u8,
-    rows: &[(&str, usize, &str)],
-) -> Result<usize, AllocError> {
+fn right_rows(alloc: Global, number: u8, rows: &[(&str, usize, &str)]) -> Result<usize, Fault> {
     for (row, (items, line, name)) in rows.iter().enumerate() {
         if !are_refused(alloc, *items, number, *line, *name)? {
             return Ok(row);
@@ -209,10 +211,11 @@ static OUT_OF_ORDER: [(&str, usize); 11] = [
 ];
 
 #[test]
-fn forms_out_of_order(rt: HostRuntime) {
+fn forms_out_of_order(rt: HostRuntime) -> Result<(), Fail> {
     for (text, line) in &OUT_OF_ORDER {
-        assert!(rt; is_refused(rt.alloc(), *text, 8, *line, ""), "{text}");
+        assert!(rt; is_refused(rt.alloc(), *text, 8, *line, "")?, "{text}");
     }
+    Ok(())
 }
 
 /// The listing of a module whose function has an item with an atom of so many characters.
@@ -247,14 +250,9 @@ static LEFT_OUT: [(&str, &str); 3] = [
     ("{move,{tr,{x,0},", "},{x,0}}."),
 ];
 
-fn is_refused_at_256(
-    alloc: Global,
-    before: &str,
-    behind: &str,
-    number: u8,
-) -> Result<bool, AllocError> {
+fn is_refused_at_256(alloc: Global, before: &str, behind: &str, number: u8) -> Result<bool, Fault> {
     let text = with_long_atom(alloc, before, 256, behind)?;
-    Ok(is_refused(alloc, text.as_str(), number, 9, ""))
+    is_refused(alloc, text.as_str(), number, 9, "")
 }
 
 fn read_at_256(alloc: Global, before: &str, behind: &str) -> Result<(), Fault> {

@@ -1,7 +1,7 @@
 //! Numbered code. What is expected was read off the texts by hand; items count from 0.
 
 use crate::samples::FORMS;
-use bx_asm::{Head, Instruction, Key, Register, Source, Unit};
+use bx_asm::{Head, Key, Register, Source, Unit};
 use bx_share::Same;
 use bx_terms::{Atoms, Fault};
 use bxemu_testkit::{module, unit};
@@ -80,28 +80,21 @@ fn numbers_of_items(rt: HostRuntime) -> Result<(), Fail> {
     Ok(())
 }
 
-/// Whether the item of that number is a label or a line, or else an instruction.
-fn is_mark_or_decodes(unit: &Unit, number: usize) -> bool {
-    match unit.item(number) {
-        Some(item) => item.instruction().is_some() != item.is_mark(),
-        None => false,
-    }
-}
-
-/// How many items from the first on are a label, a line or an instruction.
-fn told_items(unit: &Unit) -> usize {
-    for number in 0..unit.item_count() {
-        if !is_mark_or_decodes(unit, number) {
-            return number;
+/// How many rows from the first on are of an item that is told to be a mark exactly where its number is that of `label` or `line`.
+fn told_rows(unit: &Unit, rows: &[(usize, u32, usize)]) -> usize {
+    for (row, (item, number, _)) in rows.iter().enumerate() {
+        let is_mark = *number == 1 || *number == 153;
+        if unit.item(*item).map(|item| item.is_mark()) != Some(is_mark) {
+            return row;
         }
     }
-    unit.item_count()
+    rows.len()
 }
 
 #[test]
-fn every_item_decodes(rt: HostRuntime) -> Result<(), Fail> {
+fn labels_and_lines_are_marks(rt: HostRuntime) -> Result<(), Fail> {
     let (_, unit) = of_items(rt.alloc(), FORMS)?;
-    assert_eq!(rt; told_items(&unit), 78);
+    assert_eq!(rt; told_rows(&unit, &NUMBERS), NUMBERS.len());
     Ok(())
 }
 
@@ -112,13 +105,16 @@ fn selects_values(atoms: &Atoms, unit: &Unit) -> bool {
     let Some(item) = unit.item(3) else {
         return false;
     };
-    match item.instruction() {
-        Some(Instruction::SelectVal { pairs, .. }) => {
+    let [_, _, row @ ..] = item.operands else {
+        return false;
+    };
+    match item.tables.pairs(row) {
+        Some(pairs) => {
             pairs.label(Key::Atom(a)) == Some(2)
                 && pairs.label(Key::Integer(7)) == Some(1)
                 && pairs.label(Key::Integer(2)).is_none()
         }
-        _ => false,
+        None => false,
     }
 }
 
@@ -134,11 +130,14 @@ fn selects_sizes(unit: &Unit) -> bool {
     let Some(item) = unit.item(3) else {
         return false;
     };
-    match item.instruction() {
-        Some(Instruction::SelectTupleArity { pairs, .. }) => {
+    let [_, _, row @ ..] = item.operands else {
+        return false;
+    };
+    match item.tables.pairs(row) {
+        Some(pairs) => {
             pairs.label(Key::Size(2)) == Some(1) && pairs.label(Key::Integer(2)).is_none()
         }
-        _ => false,
+        None => false,
     }
 }
 
@@ -156,13 +155,16 @@ fn builds_of_two(unit: &Unit) -> bool {
     let Some(item) = unit.item(3) else {
         return false;
     };
-    match item.instruction() {
-        Some(Instruction::PutTuple2 { elements, .. }) => {
+    let [_, row @ ..] = item.operands else {
+        return false;
+    };
+    match item.tables.sources(row) {
+        Some(elements) => {
             matches!(elements.get(0), Some(Source::Register(Register::X(7))))
                 && matches!(elements.get(1), Some(Source::Literal(_)))
                 && elements.get(2).is_none()
         }
-        _ => false,
+        None => false,
     }
 }
 
@@ -197,20 +199,20 @@ fn sameness_of_units(rt: HostRuntime) -> Result<(), Fail> {
     Ok(())
 }
 
-/// Whether the unit of these items is the same apart, where there is so much room.
+/// Whether the unit of these items is the same as a deep copy, where there is so much room.
 fn is_same_apart(alloc: Global, items: &str, room: usize) -> Result<bool, Fault> {
     let (_, unit) = of_items(alloc, items)?;
     let mut room = room;
     Ok(unit.apart(alloc, &mut room)?.same(&unit))
 }
 
-// With the three before them, five items with seven operands, and a literal with one list cell: 14 in all.
+// With the three before them, five items with seven operands, a literal with one list cell, an export and a function: 16 in all.
 const SMALL: &str = "{move,{literal,[a|b]},{x,0}}. return.";
 
 #[test]
 fn a_unit_apart(rt: HostRuntime) -> Result<(), Fail> {
     assert!(rt; is_same_apart(rt.alloc(), FORMS, 1000)?);
-    assert!(rt; is_same_apart(rt.alloc(), SMALL, 14)?);
-    assert!(rt; is_same_apart(rt.alloc(), SMALL, 13) == Err(Fault::Memory));
+    assert!(rt; is_same_apart(rt.alloc(), SMALL, 16)?);
+    assert!(rt; is_same_apart(rt.alloc(), SMALL, 15) == Err(Fault::Memory));
     Ok(())
 }

@@ -4,7 +4,7 @@ use crate::reports::right_ends;
 use std::test::Fail;
 
 /// Items, how many runs, and the reason with which the last of them ends the process.
-const CAUGHT: [(&str, u32, &str); 14] = [
+const CAUGHT: [(&str, u32, &str); 18] = [
     (
         "{allocate,1,0}. {'catch',{y,0},{f,3}}. {move,{atom,t},{x,0}}. {call_ext,1,{extfunc,erlang,throw,1}}. {label,3}. {catch_end,{y,0}}. {call_ext_only,1,{extfunc,erlang,exit,1}}.",
         6,
@@ -44,6 +44,26 @@ const CAUGHT: [(&str, u32, &str); 14] = [
         "{allocate,1,0}. {'try',{y,0},{f,3}}. if_end. {label,3}. {try_case,{y,0}}. {move,{x,2},{x,0}}. build_stacktrace. {call_ext_only,1,{extfunc,erlang,exit,1}}.",
         7,
         "[]",
+    ),
+    (
+        "{allocate,1,0}. {'try',{y,0},{f,3}}. if_end. {label,3}. {try_case,{y,0}}. {swap,{x,2},{x,0}}. build_stacktrace. {call_ext_only,1,{extfunc,erlang,exit,1}}.",
+        7,
+        "[]",
+    ),
+    (
+        "{allocate,1,0}. {'try',{y,0},{f,3}}. if_end. {label,3}. {try_case,{y,0}}. {swap,{x,0},{x,2}}. build_stacktrace. {call_ext_only,1,{extfunc,erlang,exit,1}}.",
+        7,
+        "[]",
+    ),
+    (
+        "{allocate,1,0}. {'try',{y,0},{f,3}}. if_end. {label,3}. {try_case,{y,0}}. {swap,{x,2},{x,0}}. {move,{x,2},{x,0}}. {call_ext_only,1,{extfunc,erlang,exit,1}}.",
+        7,
+        "error",
+    ),
+    (
+        "{allocate,1,0}. {'try',{y,0},{f,3}}. if_end. {label,3}. {try_case,{y,0}}. {swap,{x,0},{x,2}}. {move,{x,2},{x,0}}. {call_ext_only,1,{extfunc,erlang,exit,1}}.",
+        7,
+        "error",
     ),
     (
         "{allocate,1,0}. {'try',{y,0},{f,3}}. {move,{atom,t},{x,0}}. {call_ext,1,{extfunc,erlang,throw,1}}. {label,3}. {try_case,{y,0}}. {raise,{f,0},[{x,2},{x,1}],{x,0}}.",

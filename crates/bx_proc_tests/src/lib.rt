@@ -2,6 +2,8 @@
 #![tactic(auto)]
 
 #[cfg(test)]
+mod arguments;
+#[cfg(test)]
 mod catching;
 #[cfg(test)]
 mod choosing;
@@ -10,11 +12,15 @@ mod faults;
 #[cfg(test)]
 mod frames;
 #[cfg(test)]
+mod heights;
+#[cfg(test)]
 mod reading;
 #[cfg(test)]
 mod reports;
 #[cfg(test)]
 mod stepping;
+#[cfg(test)]
+mod tags;
 #[cfg(test)]
 mod traps;
 #[cfg(test)]

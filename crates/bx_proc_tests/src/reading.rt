@@ -12,8 +12,9 @@ const CARRIERS: [(&str, &str); 3] = [
 ];
 
 /// Instructions that read a term in a register, whose text is left out between the two.
-const READERS: [(&str, &str); 28] = [
+const READERS: [(&str, &str); 29] = [
     ("{bif,hd,{f,2},[", "],{x,0}}."),
+    ("{bif,element,{f,2},[", ",{literal,{a}}],{x,0}}."),
     ("{bif,element,{f,2},[{integer,1},", "],{x,0}}."),
     ("{gc_bif,'-',{f,0},0,[", "],{x,0}}."),
     ("{gc_bif,'+',{f,0},0,[", ",{integer,1}],{x,0}}."),
@@ -65,7 +66,15 @@ const REGISTERS: [(&str, &str, u32, &str); 6] = [
 ];
 
 /// The same of what is copied, a trace aside.
-const UNCARRIED: [(&str, &str, u32, &str); 2] = [
+const UNCARRIED: [(&str, &str, u32, &str); 5] = [
+    ("{move,nil,{x,0}}. ", "{y,0}", 2, "NoFrame"),
+    ("{move,nil,{x,0}}. {allocate,1,0}. ", "{y,0}", 3, "Unset"),
+    (
+        "{move,nil,{x,0}}. {allocate,1,0}. ",
+        "{y,1}",
+        3,
+        "FrameSize",
+    ),
     ("{move,nil,{x,0}}. ", "{x,9}", 2, "Unset"),
     (
         "{move,nil,{x,0}}. {allocate,1,0}. {'try',{y,0},{f,2}}. ",

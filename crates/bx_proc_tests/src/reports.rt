@@ -1,21 +1,21 @@
 //! What the report says of a process that runs these items.
 
-use bx_engine::run_text;
-use bxemu_testkit::module;
+use bx_engine::{fault_line, run_text};
+use bxemu_testkit::{module, told};
 use std::alloc::{AllocError, Global};
 use std::test::Fail;
 
-/// The report of so many runs of the process that begins at these items.
+/// The report of so many runs of the process that begins at these items, or the line of what it failed by.
 pub fn report_of(alloc: Global, items: &str, runs: u32) -> Result<String, Fail> {
     let listing = module(alloc, items)?;
     let plan = format!(in alloc; "a: r0*{runs}")?;
     let mut readers = [listing.as_bytes()];
     let mut plan = plan.as_bytes();
     let mut written = Vec::new(alloc);
-    match run_text(alloc, &mut readers, "m:f", &mut plan, &mut written) {
-        Ok(()) => Ok(String::from_utf8(written).ok().ok_or("text")?),
-        Err(_) => Ok(String::from_str(alloc, "refused")?),
+    if let Err(failure) = run_text(alloc, &mut readers, "m:f", &mut plan, &mut written) {
+        fault_line(&failure, &[], &mut written);
     }
+    Ok(told(written)?)
 }
 
 /// The report of a process that ended with this reason, after so many runs.
@@ -45,4 +45,14 @@ pub fn right_ends(alloc: Global, rows: &[(&str, u32, &str)]) -> Result<usize, Fa
 /// Whether the last of so many runs of these items is that trap.
 pub fn is_trapped(alloc: Global, items: &str, runs: u32, trap: &str) -> Result<bool, Fail> {
     Ok(report_of(alloc, items, runs)?.as_str() == trapped(alloc, runs, trap)?.as_str())
+}
+
+/// How many rows of items, runs and a trap, from the first on, are so.
+pub fn right_traps(alloc: Global, rows: &[(&str, u32, &str)]) -> Result<usize, Fail> {
+    for (number, (items, runs, trap)) in rows.iter().enumerate() {
+        if !is_trapped(alloc, items, *runs, trap)? {
+            return Ok(number);
+        }
+    }
+    Ok(rows.len())
 }

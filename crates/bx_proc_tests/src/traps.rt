@@ -1,11 +1,11 @@
 //! Runs that have no meaning.
 
-use crate::reports::is_trapped;
+use crate::reports::{is_trapped, right_traps};
 use std::alloc::Global;
 use std::test::Fail;
 
 /// Items, how many runs, and the trap that the last of them is.
-const RUNS: [(&str, u32, &str); 42] = [
+const RUNS: [(&str, u32, &str); 41] = [
     ("", 1, "BadPlace"),
     ("int_code_end.", 1, "BadPlace"),
     ("{jump,{f,3}}. {label,3}.", 2, "BadPlace"),
@@ -65,7 +65,6 @@ const RUNS: [(&str, u32, &str); 42] = [
     ),
     ("remove_message.", 1, "NoMessage"),
     ("{label,3}. {loop_rec_end,{f,3}}.", 1, "NoMessage"),
-    ("{allocate,1,0}. {catch_end,{y,0}}.", 2, "NoTag"),
     (
         "{allocate,1,0}. {move,nil,{y,0}}. {catch_end,{y,0}}.",
         3,
@@ -134,16 +133,6 @@ const RUNS: [(&str, u32, &str); 42] = [
     ),
 ];
 
-/// How many rows of items, runs and a trap, from the first on, are so.
-fn right_traps(alloc: Global, rows: &[(&str, u32, &str)]) -> Result<usize, Fail> {
-    for (number, (items, runs, trap)) in rows.iter().enumerate() {
-        if !is_trapped(alloc, items, *runs, trap)? {
-            return Ok(number);
-        }
-    }
-    Ok(rows.len())
-}
-
 #[test]
 fn a_run_without_a_meaning_is_a_trap(rt: HostRuntime) -> Result<(), Fail> {
     assert_eq!(rt; right_traps(rt.alloc(), &RUNS)?, RUNS.len());
@@ -151,9 +140,13 @@ fn a_run_without_a_meaning_is_a_trap(rt: HostRuntime) -> Result<(), Fail> {
 }
 
 /// Instructions that write a register, whose text is left out between the two.
-const WRITERS: [(&str, &str); 15] = [
+const WRITERS: [(&str, &str); 19] = [
     ("{move,nil,", "}."),
     ("{bif,self,{f,0},[],", "}."),
+    ("{bif,hd,{f,0},[{x,0}],", "}."),
+    ("{bif,element,{f,0},[{integer,1},{literal,{a}}],", "}."),
+    ("{swap,{x,0},", "}."),
+    ("{swap,", ",{x,0}}."),
     ("{gc_bif,'-',{f,0},0,[{integer,1}],", "}."),
     ("{gc_bif,'+',{f,0},0,[{integer,1},{integer,1}],", "}."),
     ("{put_list,nil,nil,", "}."),

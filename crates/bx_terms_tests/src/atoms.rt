@@ -73,14 +73,13 @@ fn is_named(
     character: char,
     times: usize,
     number: Option<u32>,
-) -> Result<bool, AllocError> {
+) -> Result<bool, Fault> {
     let text = repeated(alloc, character, times)?;
-    let told = atoms.name(alloc, text.as_str());
-    Ok(match (told, number) {
-        (Ok(atom), Some(number)) => atom == AtomId(number),
-        (Err(Fault::AtomTooLong { line: None }), None) => true,
-        _ => false,
-    })
+    match atoms.name(alloc, text.as_str()) {
+        Ok(AtomId(named)) => Ok(number == Some(named)),
+        Err(Fault::AtomTooLong { line: None }) => Ok(number.is_none()),
+        Err(fault) => Err(fault),
+    }
 }
 
 /// Whether each row is told, in a new table that has three atoms more then.
@@ -117,8 +116,11 @@ fn fill(alloc: Global, atoms: &mut Atoms) -> Result<bool, Fault> {
 
 /// Whether a full table takes no name more, one that is too long among them, and tells those that it has.
 fn is_full(alloc: Global, atoms: &mut Atoms) -> Result<bool, Fault> {
-    let one_more = atoms.name(alloc, "one more");
-    let is_refused = matches!(one_more, Err(Fault::TooManyAtoms { line: None }));
+    let is_refused = match atoms.name(alloc, "one more") {
+        Ok(_) => false,
+        Err(Fault::TooManyAtoms { line: None }) => true,
+        Err(fault) => return Err(fault),
+    };
     let is_kept = is_named(alloc, atoms, 'a', 256, None)?
         && atoms.name(alloc, "a65535")? == AtomId(65_535);
     Ok(is_refused && is_kept && atoms.find("one more").is_none())

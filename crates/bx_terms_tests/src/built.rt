@@ -1,4 +1,4 @@
-//! Terms to test with, built in few calls. Want of memory is the only refusal that can come.
+//! Terms to test with, built in few calls. Out of memory is the only refusal that can come.
 
 use bx_terms::{AtomId, Term};
 use std::alloc::{AllocError, Global};

@@ -1,4 +1,4 @@
-//! Each call once with ample memory: want of memory is an answer that every contract allows.
+//! Each call once with ample memory: out of memory is an answer that every contract allows.
 
 use bx_cells::{Frames, Links, Registers, Value};
 use bx_terms::{AtomId, Class, Place, Term};
@@ -16,17 +16,18 @@ fn has(registers: &Registers, number: u16, expected: i64) -> bool {
         .is_some_and(|value| value.same(&term(expected)))
 }
 
-fn sets(registers: &mut Registers, number: u16, value: Value) -> bool {
-    registers.set(number, value).is_ok()
+fn set(registers: &mut Registers, number: u16, value: Value) -> Result<(), AllocError> {
+    registers.set(number, value).map_err(|_| AllocError)
 }
 
 /// Whether registers that are new hold what they are given, and no other is held.
-fn are_held(registers: &mut Registers) -> bool {
+fn are_held(registers: &mut Registers) -> Result<bool, AllocError> {
     let empty = registers.get(0).is_none();
-    let last = sets(registers, 1022, Value::Term(Term::atom(AtomId(7))));
-    let twice = sets(registers, 0, term(1)) && sets(registers, 0, term(2));
+    set(registers, 1022, Value::Term(Term::atom(AtomId(7))))?;
+    set(registers, 0, term(1))?;
+    set(registers, 0, term(2))?;
     let held = has(registers, 0, 2) && registers.get(1).is_none();
-    empty && last && twice && held && registers.get(1023).is_none()
+    Ok(empty && held && registers.get(1023).is_none())
 }
 
 fn are_flat(registers: &Registers) -> bool {
@@ -37,13 +38,13 @@ fn are_flat(registers: &Registers) -> bool {
 fn are_copied(alloc: Global, registers: &mut Registers) -> Result<bool, AllocError> {
     let copy = registers.copy(alloc)?;
     let equal = copy.same(registers);
-    let traced = sets(registers, 5, Value::Trace(Class::Exit));
-    Ok(equal && traced && !copy.same(registers))
+    set(registers, 5, Value::Trace(Class::Exit))?;
+    Ok(equal && !copy.same(registers))
 }
 
 fn registers_keep(alloc: Global) -> Result<bool, AllocError> {
     let mut registers = Registers::new(alloc);
-    let held = are_held(&mut registers) && are_flat(&registers);
+    let held = are_held(&mut registers)? && are_flat(&registers);
     Ok(held && are_copied(alloc, &mut registers)?)
 }
 
@@ -53,30 +54,36 @@ fn registers_hold_what_was_put_there(rt: HostRuntime) -> Result<(), Fail> {
     Ok(())
 }
 
-fn two_are_written(registers: &mut Registers) -> bool {
-    let two = registers.set_two(7, term(1), 3, term(2)).is_ok();
-    two && has(registers, 7, 1) && has(registers, 3, 2)
+fn two_are_written(registers: &mut Registers) -> Result<bool, AllocError> {
+    let two = registers.set_two(7, term(1), 3, term(2));
+    two.map_err(|_| AllocError)?;
+    Ok(has(registers, 7, 1) && has(registers, 3, 2))
 }
 
-fn one_is_written_twice(registers: &mut Registers) -> bool {
-    registers.set_two(3, term(4), 3, term(5)).is_ok() && has(registers, 3, 5)
+fn one_is_written_twice(registers: &mut Registers) -> Result<bool, AllocError> {
+    let twice = registers.set_two(3, term(4), 3, term(5));
+    twice.map_err(|_| AllocError)?;
+    Ok(has(registers, 3, 5))
 }
 
-fn three_are_written(registers: &mut Registers) -> bool {
-    let three = registers.set_three(term(6), term(7), term(8)).is_ok();
-    three && has(registers, 0, 6) && has(registers, 1, 7) && has(registers, 2, 8)
+fn three_are_written(registers: &mut Registers) -> Result<bool, AllocError> {
+    let three = registers.set_three(term(6), term(7), term(8));
+    three.map_err(|_| AllocError)?;
+    Ok(has(registers, 0, 6) && has(registers, 1, 7) && has(registers, 2, 8))
 }
 
-fn several_are_written(alloc: Global) -> bool {
+fn several_are_written(alloc: Global) -> Result<bool, AllocError> {
     let mut registers = Registers::new(alloc);
-    two_are_written(&mut registers)
-        && one_is_written_twice(&mut registers)
-        && three_are_written(&mut registers)
+    Ok(
+        two_are_written(&mut registers)?
+            && one_is_written_twice(&mut registers)?
+            && three_are_written(&mut registers)?,
+    )
 }
 
 #[test]
 fn two_and_three_registers_are_written_at_once(rt: HostRuntime) -> Result<(), Fail> {
-    assert!(rt; several_are_written(rt.alloc()));
+    assert!(rt; several_are_written(rt.alloc())?);
     Ok(())
 }
 

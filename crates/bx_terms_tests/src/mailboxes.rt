@@ -1,4 +1,4 @@
-//! The linked slots beside the plainest mailbox, and each call once with ample memory: want of memory is an answer that
+//! The linked slots beside the plainest mailbox, and each call once with ample memory: out of memory is an answer that
 //! the contracts allow.
 
 mod plain;
@@ -38,10 +38,17 @@ enum Step {
     Len(usize),
 }
 
+fn add(mailbox: &mut Mailbox, number: i64) -> Result<(), AllocError> {
+    mailbox.add(message(number)).map_err(|_| AllocError)
+}
+
 /// Whether the mailbox answers the step as it says.
-fn answers(mailbox: &mut Mailbox, step: Step) -> bool {
-    match step {
-        Step::Add(number) => mailbox.add(message(number)).is_ok(),
+fn answers(mailbox: &mut Mailbox, step: Step) -> Result<bool, AllocError> {
+    Ok(match step {
+        Step::Add(number) => {
+            add(mailbox, number)?;
+            true
+        }
         Step::Current(number) => number_of(mailbox.current()) == number,
         Step::Pass(told) => mailbox.pass() == told,
         Step::Take(number) => number_of(mailbox.take().as_ref()) == number,
@@ -50,7 +57,7 @@ fn answers(mailbox: &mut Mailbox, step: Step) -> bool {
             true
         }
         Step::Len(len) => mailbox.len() == len,
-    }
+    })
 }
 
 static RECEIVED: [Step; 21] = [
@@ -78,16 +85,17 @@ static RECEIVED: [Step; 21] = [
 ];
 
 #[test]
-fn messages_are_received_out_of_order(rt: HostRuntime) {
+fn messages_are_received_out_of_order(rt: HostRuntime) -> Result<(), Fail> {
     let mut mailbox = Mailbox::new(rt.alloc());
     for (place, step) in RECEIVED.iter().enumerate() {
-        assert!(rt; answers(&mut mailbox, *step), "step {place}");
+        assert!(rt; answers(&mut mailbox, *step)?, "step {place}");
     }
+    Ok(())
 }
 
 fn add_five(mailbox: &mut Mailbox) -> Result<(), AllocError> {
     for number in 0..5 {
-        mailbox.add(message(number)).map_err(|_| AllocError)?;
+        add(mailbox, number)?;
     }
     Ok(())
 }
@@ -99,7 +107,7 @@ const MANY: i64 = 70_000;
 fn holds_many(alloc: Global) -> Result<bool, AllocError> {
     let mut mailbox = Mailbox::new(alloc);
     for number in 0..MANY {
-        mailbox.add(message(number)).map_err(|_| AllocError)?;
+        add(&mut mailbox, number)?;
     }
     for number in 0..MANY {
         if number_of(mailbox.take().as_ref()) != Some(number) {
@@ -139,10 +147,23 @@ fn next(seed: u64) -> u64 {
         .wrapping_add(1_442_695_040_888_963_407)
 }
 
+fn add_to_both(slots: &mut Mailbox, plain: &mut Plain, number: i64) -> Result<(), AllocError> {
+    add(slots, number)?;
+    plain.add(message(number)).map_err(|_| AllocError)
+}
+
 /// Does the same to both, as `seed` says: whether they answer the same.
-fn do_both(slots: &mut Mailbox, plain: &mut Plain, seed: u64, number: i64) -> bool {
+fn do_both(
+    slots: &mut Mailbox,
+    plain: &mut Plain,
+    seed: u64,
+    number: i64,
+) -> Result<bool, AllocError> {
     let is_same = match (seed >> 33) % 9 {
-        0..=2 => slots.add(message(number)).is_ok() && plain.add(message(number)).is_ok(),
+        0..=2 => {
+            add_to_both(slots, plain, number)?;
+            true
+        }
         3..=5 => slots.pass() == plain.pass(),
         6 | 7 => number_of(slots.take().as_ref()) == number_of(plain.take().as_ref()),
         _ => {
@@ -152,7 +173,7 @@ fn do_both(slots: &mut Mailbox, plain: &mut Plain, seed: u64, number: i64) -> bo
         }
     };
     let is_current = number_of(slots.current()) == number_of(plain.current());
-    is_same && is_current && slots.len() == plain.len()
+    Ok(is_same && is_current && slots.len() == plain.len())
 }
 
 /// Whether both give the same messages, one after another, till none is left in either.
@@ -168,21 +189,22 @@ fn drain_alike(slots: &mut Mailbox, plain: &mut Plain) -> bool {
 }
 
 /// Whether both answer alike over 200 steps.
-fn are_alike(alloc: Global, mut seed: u64) -> bool {
+fn are_alike(alloc: Global, mut seed: u64) -> Result<bool, AllocError> {
     let mut slots = Mailbox::new(alloc);
     let mut plain = Plain::new(alloc);
     for number in 0..200 {
         seed = next(seed);
-        if !do_both(&mut slots, &mut plain, seed, number) {
-            return false;
+        if !do_both(&mut slots, &mut plain, seed, number)? {
+            return Ok(false);
         }
     }
-    drain_alike(&mut slots, &mut plain)
+    Ok(drain_alike(&mut slots, &mut plain))
 }
 
 #[test]
-fn slots_answer_as_the_plain_mailbox(rt: HostRuntime) {
+fn slots_answer_as_the_plain_mailbox(rt: HostRuntime) -> Result<(), Fail> {
     for seed in 1..500 {
-        assert!(rt; are_alike(rt.alloc(), seed), "{seed}");
+        assert!(rt; are_alike(rt.alloc(), seed)?, "{seed}");
     }
+    Ok(())
 }

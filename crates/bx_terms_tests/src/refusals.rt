@@ -36,7 +36,7 @@ fn words(rt: HostRuntime) {
     assert_eq!(rt; Trap::NotATerm.name(), "NotATerm");
 }
 
-/// The fault of a number, with its number and name, and what it says. Want of memory has none.
+/// The fault of a number, with its number and name, and what it says. Out of memory has none.
 fn row(alloc: Global, number: u32) -> Result<(Fault, &'static str, &'static str), AllocError> {
     Ok(match number {
         1 => (

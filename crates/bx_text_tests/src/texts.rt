@@ -61,11 +61,11 @@ fn number_and_line(fault: &Fault) -> Option<(u8, usize)> {
     }
 }
 
-/// A refusal's number and line in words.
-fn refusal(alloc: Global, fault: &Fault) -> Result<String, AllocError> {
-    match number_and_line(fault) {
-        Some((number, line)) => format!(in alloc; "R{number} {line}"),
-        None => String::from_str(alloc, "another"),
+/// A refusal's number and line in words; what is no refusal of a text is handed on.
+fn refusal(alloc: Global, fault: Fault) -> Result<String, Fault> {
+    match number_and_line(&fault) {
+        Some((number, line)) => Ok(format!(in alloc; "R{number} {line}")?),
+        None => Err(fault),
     }
 }
 
@@ -78,11 +78,11 @@ fn shown(alloc: Global, node: &Node<'_>, end: usize) -> Result<String, AllocErro
 }
 
 /// What the first form of a text is, with its end, or its refusal.
-fn first(alloc: Global, text: &[u8]) -> Result<String, AllocError> {
+fn first(alloc: Global, text: &[u8]) -> Result<String, Fault> {
     match next_term(alloc, text, 0) {
-        Ok(None) => String::from_str(alloc, "none"),
-        Ok(Some((node, end))) => shown(alloc, &node, end),
-        Err(fault) => refusal(alloc, &fault),
+        Ok(None) => Ok(String::from_str(alloc, "none")?),
+        Ok(Some((node, end))) => Ok(shown(alloc, &node, end)?),
+        Err(fault) => refusal(alloc, fault),
     }
 }
 
@@ -399,12 +399,12 @@ static ATOMS: [(&[u8], usize, &str); 25] = [
     (b"'\xFF'", 0, "R7 1"),
 ];
 
-fn is_first(alloc: Global, text: &[u8], wanted: &str) -> Result<bool, AllocError> {
+fn is_first(alloc: Global, text: &[u8], wanted: &str) -> Result<bool, Fault> {
     Ok(first(alloc, text)?.as_str() == wanted)
 }
 
 /// How many rows of a text and its first form, from the first on, are so.
-fn right_rows(alloc: Global, rows: &[(&[u8], &str)]) -> Result<usize, AllocError> {
+fn right_rows(alloc: Global, rows: &[(&[u8], &str)]) -> Result<usize, Fault> {
     for (row, (text, wanted)) in rows.iter().enumerate() {
         if !is_first(alloc, text, wanted)? {
             return Ok(row);
@@ -467,17 +467,17 @@ fn is_nested(
     count: usize,
     rest: &str,
     wanted: &str,
-) -> Result<bool, AllocError> {
+) -> Result<bool, Fault> {
     let text = nested(alloc, open, count, rest)?;
     is_first(alloc, text.as_bytes(), wanted)
 }
 
-/// Whether a list that is as deep as may be is read.
-fn is_deepest_read(alloc: Global) -> Result<bool, AllocError> {
+/// Reads a list that is as deep as may be: whether there is one.
+fn is_deepest_read(alloc: Global) -> Result<bool, Fault> {
     let mut text = nested(alloc, "[", 256, "")?;
     push_times(&mut text, "]", 256)?;
     text.push_str(".")?;
-    Ok(next_term(alloc, text.as_bytes(), 0).is_ok())
+    Ok(next_term(alloc, text.as_bytes(), 0)?.is_some())
 }
 
 #[test]
@@ -537,10 +537,10 @@ fn is_none_behind(alloc: Global) -> Result<bool, Fault> {
 }
 
 /// Whether a text whose second form is refused is refused on its third line.
-fn is_refused_behind(alloc: Global) -> bool {
+fn is_refused_behind(alloc: Global) -> Result<bool, Fault> {
     match next_term(alloc, b"a.\n\n )", 2) {
-        Err(fault) => number_and_line(&fault) == Some((4, 3)),
-        Ok(_) => false,
+        Err(fault) => Ok(refusal(alloc, fault)?.as_str() == "R4 3"),
+        Ok(_) => Ok(false),
     }
 }
 
@@ -549,7 +549,7 @@ fn forms_in_a_row(rt: HostRuntime) -> Result<(), Fail> {
     let wanted = "a 0-1 line 1, then 1.{b,[99,10]} 3-13 line 2, then 4. end";
     assert!(rt; are_three_forms(rt.alloc(), wanted)?);
     assert!(rt; is_none_behind(rt.alloc())?);
-    assert!(rt; is_refused_behind(rt.alloc()));
+    assert!(rt; is_refused_behind(rt.alloc())?);
     Ok(())
 }
 
@@ -589,18 +589,18 @@ fn spans_of_parts(rt: HostRuntime) -> Result<(), Fail> {
 }
 
 /// What stands as an atom at a place of a text.
-fn atom(alloc: Global, text: &[u8], at: usize) -> Result<String, AllocError> {
+fn atom(alloc: Global, text: &[u8], at: usize) -> Result<String, Fault> {
     if at > text.len() {
-        return String::from_str(alloc, "past the end");
+        return Ok(String::from_str(alloc, "past the end")?);
     }
     match atom_at(alloc, text, at) {
-        Ok(Some((name, end))) => format!(in alloc; "{name} {end}"),
-        Ok(None) => String::from_str(alloc, "none"),
-        Err(fault) => refusal(alloc, &fault),
+        Ok(Some((name, end))) => Ok(format!(in alloc; "{name} {end}")?),
+        Ok(None) => Ok(String::from_str(alloc, "none")?),
+        Err(fault) => refusal(alloc, fault),
     }
 }
 
-fn is_atom(alloc: Global, text: &[u8], at: usize, wanted: &str) -> Result<bool, AllocError> {
+fn is_atom(alloc: Global, text: &[u8], at: usize, wanted: &str) -> Result<bool, Fault> {
     Ok(atom(alloc, text, at)?.as_str() == wanted)
 }
 

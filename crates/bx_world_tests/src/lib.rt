@@ -10,6 +10,8 @@ mod births;
 #[cfg(test)]
 mod exits;
 #[cfg(test)]
+mod lines;
+#[cfg(test)]
 mod reports;
 #[cfg(test)]
 mod samples;
@@ -18,8 +20,12 @@ mod sends;
 #[cfg(test)]
 mod sessions;
 #[cfg(test)]
+mod shows;
+#[cfg(test)]
 mod snapshots;
 #[cfg(test)]
 mod streams;
+#[cfg(test)]
+mod swaps;
 #[cfg(test)]
 mod worlds;

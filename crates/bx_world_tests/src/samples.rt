@@ -73,3 +73,28 @@ pub const HELLO: &str = "{module, hello}.  %% version = 0
     {move,{atom,ok},{x,0}}.
     return.
 ";
+
+/// Module `h`, whose `f/0` comes to hold something of each kind: it traps exits, links itself to a process whose function is
+/// not there, sends itself two messages, and passes them over in a receive with a time, within a `try`.
+pub const HOLDS: &str = "{module,h}. {exports,[{f,0}]}. {attributes,[]}. {labels,10}.
+{function,f,0,2}. {label,1}. {func_info,{atom,h},{atom,f},0}. {label,2}.
+{allocate,2,0}. {'try',{y,0},{f,3}}.
+{move,{atom,true},{x,1}}. {move,{atom,trap_exit},{x,0}}. {call_ext,2,{extfunc,erlang,process_flag,2}}.
+{move,nil,{x,2}}. {move,{atom,g},{x,1}}. {move,{atom,h},{x,0}}. {call_ext,3,{extfunc,erlang,spawn_link,3}}.
+{bif,self,{f,0},[],{x,0}}. {move,{atom,hi},{x,1}}. send.
+{bif,self,{f,0},[],{x,0}}. {move,{literal,{low,1}},{x,1}}. send.
+{call,0,{f,5}}. {label,3}. {try_case,{y,0}}. {deallocate,2}. return.
+{function,hear,0,5}. {label,4}. {func_info,{atom,h},{atom,hear},0}. {label,5}. {allocate,0,0}.
+{label,6}. {loop_rec,{f,7},{x,0}}. {loop_rec_end,{f,6}}. {label,7}. {wait_timeout,{f,6},{integer,10}}.
+timeout. {move,{atom,late},{x,0}}. {call_ext,1,{extfunc,erlang,error,1}}.
+{function,g,0,9}. {label,8}. {func_info,{atom,h},{atom,g},0}. {label,9}. return.";
+
+/// Module `s`, whose `f/0` sends a process each kind of signal but a message, and ends.
+pub const SIGNALS: &str = "{module,s}. {exports,[{f,0}]}. {attributes,[]}. {labels,3}.
+{function,f,0,2}. {label,1}. {func_info,{atom,s},{atom,f},0}. {label,2}.
+{allocate,1,0}. {move,nil,{x,2}}. {move,{atom,f},{x,1}}. {move,{atom,s},{x,0}}. {call_ext,3,{extfunc,erlang,spawn,3}}.
+{move,{x,0},{y,0}}. {call_ext,1,{extfunc,erlang,link,1}}.
+{move,{y,0},{x,0}}. {move,{atom,stop},{x,1}}. {call_ext,2,{extfunc,erlang,exit,2}}.
+{move,{y,0},{x,0}}. {call_ext,1,{extfunc,erlang,unlink,1}}.
+{move,{y,0},{x,0}}. {call_ext,1,{extfunc,erlang,link,1}}.
+{move,{atom,bye},{x,0}}. {call_ext,1,{extfunc,erlang,exit,1}}.";

@@ -1,11 +1,17 @@
-//! What crates of tests share: modules that were written by hand, and what each crate makes of them.
+//! What crates of tests share: modules that were written by hand, what each crate makes of them, what tells a refused growth from
+//! a changed answer, and streams that fail.
 #![tactic(auto)]
 
+mod answers;
+mod streams;
+
+pub use answers::{answered, number_of, told};
 use bx_asm::{Unit, assemble};
 use bx_listing::{Listing, read_listing};
 use bx_load::{Image, LoadRefused, load};
 use bx_terms::{AtomId, Atoms, Fault};
 use std::alloc::{AllocError, Global};
+pub use streams::{FailingReader, FailingWriter, Interrupted};
 
 /// Module `m` with `f/0`, which is exported. The items that are given stand behind these, from line 9 and item 3 on.
 const HEAD: &str = "{module,m}.
