@@ -3,7 +3,7 @@ use Rattle.std.proofs.Common.{◌≡◌, ℕ, zero, suc, ◌+◌, ◌*◌, ℤ, 
 use Rattle.std.proofs.lemmas.List.{drop_more}
 use Rattle.bx_text.specs.declared.node.Span.{Span}
 use Rattle.bx_text.specs.declared.node.Form.{Form}
-use Rattle.bx_text.specs.declared.node.Form.TheVariants.{Integer, Large, Atom, Tuple, List as Listed, Other}
+use Rattle.bx_text.specs.declared.node.Form.TheVariants.{Integer, Large, Atom, Tuple, List as Listed, Text, Other}
 use Rattle.bx_text.specs.Form.{form_tree, IsForm}
 use Rattle.bx_text.specs.Falls.{tail_le}
 use Rattle.bx_text.specs.Number.{number, is_large}
@@ -62,6 +62,7 @@ unlike_integer s t n f g e p q unlike same = by_form g q unlike (sym (ap (form_t
     by_form (Atom w) q unlike same = cc
     by_form (Tuple ts) q unlike same = cc
     by_form (Listed ts u) q unlike same = cc
+    by_form (Text b) q unlike same = cc
     by_form (Other k w) q unlike same = cc
 
 -- nor is a kept text's number
@@ -77,6 +78,7 @@ unlike_large s t v f g e p q unlike same = by_form g q unlike (sym (ap (form_tre
     by_form (Atom w) q unlike same = cc
     by_form (Tuple ts) q unlike same = cc
     by_form (Listed ts u) q unlike same = cc
+    by_form (Text b) q unlike same = cc
     by_form (Other k w) q unlike same = cc
 
 -- tuples are as their rows

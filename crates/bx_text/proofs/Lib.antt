@@ -4,14 +4,15 @@ pub mod Complete
 pub mod Contents
 pub mod Decimals
 pub mod Digits
-pub mod Elements
 pub mod Escaping
 pub mod Grammatical
 pub mod Keeping
 pub mod Lefts
-pub mod Letters
+pub mod Lettered
+pub mod Members
 pub mod Names
 pub mod Outcomes
+pub mod PairForms
 pub mod Parts
 pub mod Passed
 pub mod Shown

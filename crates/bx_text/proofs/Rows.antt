@@ -1,14 +1,17 @@
 -- Rows of elements, read a part at a time.
-use Rattle.std.proofs.Common.{◌≡◌, ℕ, zero, suc, IsOkAnd, IsSome, ◌+◌, ◌-◌, ◌<◌, List, [], ◌∷◌, ◌++◌, Result, Ok, Err, Option, Some, None, refl, sym, ap, ◌∙◌, subst, append_assoc, append-nil, Bool, true, false, arith}
+use Rattle.std.proofs.Common.{◌≡◌, ℕ, zero, suc, IsOkAnd, IsSome, ◌+◌, ◌-◌, ◌<◌, ◌⊎◌, inl, inr, length, List, [], ◌∷◌, ◌++◌, Result, Ok, Err, Option, Some, None, refl, sym, ap, ◌∙◌, subst, append_assoc, append-nil, Bool, true, false, arith}
 use Rattle.bx_terms.specs.Outcomes.{Gives, ◌>>=◌}
 use Rattle.bx_terms.specs.declared.faults.Fault.{Fault}
 use Rattle.bx_text.specs.Place.{Place}
 use Rattle.bx_text.specs.Token.{Lexeme}
 use Rattle.bx_text.specs.Tree.{Tree, cons, list, chain}
 use Rattle.bx_text.specs.Terms as terms
-use Rattle.bx_text.specs.Terms.{Reading, Follow, follow_by, next_text, span, rest_at, list_at, text_next, texts, texts_on, letters_of}
+use Rattle.std.proofs.lemmas.Str.{chars-nil}
+use Rattle.bx_text.specs.Token as token
+use Rattle.bx_text.specs.Token.{Token}
+use Rattle.bx_text.specs.Terms.{HasLetters, strings_at, Reading, Follow, follow_by, next_text, span, rest_at, list_at, text_next, texts, texts_on, letters_of}
 use Rattle.bx_text.specs.Rows.{prefixed, chained}
-use Rattle.bx_text.proofs.Outcomes.{gives_err}
+use Rattle.bx_text.proofs.Outcomes.{gives_err, ok_same}
 
 pub prefixed_more : {Q : Type 0} (xs ys : List Tree) (r : Result (List Tree × Q) Fault) → prefixed xs (prefixed ys r) ≡ prefixed (xs ++ ys) r
 prefixed_more xs ys (Ok x) = ap (λ l. Ok (l, x.1)) (sym (append_assoc xs ys x.0))
@@ -99,3 +102,32 @@ list_fails T v w e xs term l n h = gives_err v w e (chained xs (rest_at term l.a
 
 pub list_gives : (xs : List Tree) (term : Reading) (l : Lexeme) (t : Tree) (q : Place) (node : Tree) → xs ≡ [] → chained xs (rest_at term l.after) ≡ Ok (t, q) → node ≡ list (span l q) t → list_at term l ≡ Ok (node, q)
 list_gives xs term l t q node n h e = list_on xs term l (Ok (t, q)) n h ∙ ap (λ u. Ok (u, q)) (sym e)
+
+-- strings that spell something have a character in the first of them, or there is a second
+some_letters : (l : Lexeme) (t : Token) → 0 < length (letters_of l t) → HasLetters t
+some_letters l (token.text (token.plain [])) h = absurd (omega (arith, rw chars-nil at h))
+some_letters l (token.text (token.plain (b ∷ bs))) h = omega arith
+some_letters l (token.text (token.escaped raw)) h = tt
+some_letters l t h = absurd (omega (arith, h))
+
+pub some_spelled : (l : Lexeme) (xs : List Tree) (q : Place) → strings_at l ≡ Ok (xs, q) → 0 < length xs → HasLetters l.token ⊎ IsOkAnd (text_next l.after) IsSome
+some_spelled l xs q read some = by (text_next l.after) refl
+  where
+    size : ℕ
+    size = length l.after.rest + 1
+
+    first : List Tree
+    first = letters_of l l.token
+
+    by : (r : Result (Option Lexeme) Fault) → text_next l.after ≡ r → HasLetters l.token ⊎ IsOkAnd r IsSome
+    by (Ok (Some m)) e = inr refl
+    by (Ok None) e =
+        let whole : prefixed first (texts (size - 0) l.after) ≡ Ok (first, l.after) = texts_none size 0 first l.after l.after (omega arith) e refl in
+        let turns : size ≡ size - 0 = omega arith in
+        let said : ◌≡◌ {A = Result (List Tree × Place) Fault} (Ok (xs, q)) (Ok (first, l.after)) = sym read ∙ ap (λ n. prefixed first (texts n l.after)) turns ∙ whole in
+        inl (some_letters l l.token (subst (λ ys. 0 < length ys) (ap (λ p. p.0) (ok_same {A = List Tree × Place} (xs, q) (first, l.after) said)) some))
+    by (Err f) e =
+        let one : size ≡ suc (size - 1) = omega arith in
+        let fails : strings_at l ≡ Err f = ap (λ n. prefixed first (texts n l.after)) one ∙ ap (λ r. prefixed first (r >>= texts_on (texts (size - 1)) l.after)) e in
+        let both : ◌≡◌ {A = Result (List Tree × Place) Fault} (Ok (xs, q)) (Err f) = sym read ∙ fails in
+        absurd (cc)

@@ -162,16 +162,6 @@ digits_left (suc n) (b ∷ bs) e = digits_left n bs (both (is_digit b) (list_all
 pub shown_utf8 : (n : ℕ) (ds : List ℕ) → list_all is_digit ds ≡ true → IsUtf8 (drop n ds)
 shown_utf8 n ds e = digits_utf8 (drop n ds) (digits_left n ds e)
 
--- an element behind the first has fewer nodes than the row
-pub nodes_behind : (xs : List Tree) (u : Tree) (i : ℕ) (x : Tree) → i < length (slice_range xs 1 (length xs)) → x ≡ get_or (slice_range xs 1 (length xs)) i x → nodes x < nodes (chain xs u)
-nodes_behind xs u i x here is =
-    let rest = take_rest xs 1 in
-    in_rest xs (subst (λ ys. i < length ys) rest here) (subst (λ ys. x ≡ get_or ys i x) rest is)
-  where
-    in_rest : (xs : List Tree) → i < length (drop 1 xs) → x ≡ get_or (drop 1 xs) i x → nodes x < nodes (chain xs u)
-    in_rest [] here is = absurd (omega arith)
-    in_rest (y ∷ ys) here is = omega (arith, nodes_at ys i x here is, nodes_tailed ys u)
-
 -- a tail stands behind a bar
 pub tail_text : (t : Tree) → IsWhole t → rest_text t ≡ codes "|" ++ node_text t
 tail_text (integer s n) w = refl

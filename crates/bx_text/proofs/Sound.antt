@@ -19,7 +19,7 @@ use Rattle.bx_text.proofs.Outcomes.{ok_same, bind_ok}
 use Rattle.bx_text.proofs.Quoting.{text_is}
 
 -- which token passes a test
-comma_is : (k : Token) → is_comma k ≡ true → k ≡ token.mark Comma
+pub comma_is : (k : Token) → is_comma k ≡ true → k ≡ token.mark Comma
 comma_is (token.mark Comma) e = refl
 comma_is k e = cc
 
@@ -27,7 +27,7 @@ bar_is : (k : Token) → is_bar k ≡ true → k ≡ token.mark Bar
 bar_is (token.mark Bar) e = refl
 bar_is k e = cc
 
-tuple_close_is : (k : Token) → closes_tuple k ≡ true → k ≡ token.mark CloseTuple
+pub tuple_close_is : (k : Token) → closes_tuple k ≡ true → k ≡ token.mark CloseTuple
 tuple_close_is (token.mark CloseTuple) e = refl
 tuple_close_is k e = cc
 
@@ -72,13 +72,13 @@ closed_by : (closes : Token → Bool) (m : Lexeme) (q : Place) → closed closes
 closed_by closes m q h = let t = tested (closes m.token) (Ok m.after) _ q h in (t.0, ok_same m.after q t.1)
 
 -- the next token, which passed a test, and the place behind it
-want_from : (test : Token → Bool) (p q : Place) → want test p ≡ Ok q → (m : Lexeme) × (lexeme_at p ≡ Ok m) × (test m.token ≡ true) × (m.after ≡ q)
+pub want_from : (test : Token → Bool) (p q : Place) → want test p ≡ Ok q → (m : Lexeme) × (lexeme_at p ≡ Ok m) × (test m.token ≡ true) × (m.after ≡ q)
 want_from test p q h =
     let b = bind_ok (lexeme_at p) (closed test) q h in
     let c = closed_by test b.0 q b.2 in
     (b.0, b.1, c.0, c.1)
 
-passed_from : {A : Type 0} (r : Result (A × Place) Fault) (q : Place) → passed r ≡ Ok q → (x : A × Place) × (r ≡ Ok x) × (x.1 ≡ q)
+pub passed_from : {A : Type 0} (r : Result (A × Place) Fault) (q : Place) → passed r ≡ Ok q → (x : A × Place) × (r ≡ Ok x) × (x.1 ≡ q)
 passed_from r q h = let b = bind_ok r (λ x. Ok x.1) q h in (b.0, b.1, ok_same b.0.1 q b.2)
 
 kept_from : (k : Sort) (l : Lexeme) (q : Place) (x : Tree × Place) → kept_at k l q ≡ Ok x → Kept l q × (◌≡◌ {A = Tree × Place} (other (span l q) k (taken l q), q) x)

@@ -4,7 +4,7 @@ use Rattle.std.proofs.Common.{arith}
 use denote.Param.Weighed.{most}
 use Rattle.bx_text.specs.declared.node.Span.{Span}
 use Rattle.bx_text.specs.declared.node.Form.{Form}
-use Rattle.bx_text.specs.declared.node.Form.TheVariants.{Integer, Large, Atom, Tuple, List as Listed, Other}
+use Rattle.bx_text.specs.declared.node.Form.TheVariants.{Integer, Large, Atom, Tuple, List as Listed, Text, Other}
 use Rattle.bx_text.specs.declared.node.Node.TheDeep.{deep-Form}
 use Rattle.bx_text.specs.Tree.{Tree, nodes, nil, chain}
 use Rattle.bx_text.specs.Form.{form_tree}
@@ -24,4 +24,5 @@ form_falls s (Atom w) = omega arith
 form_falls s (Tuple ts) = omega (arith, most_le ts.items nil)
 form_falls s (Listed ts None) = omega (arith, most_le ts.items nil)
 form_falls s (Listed ts (Some b)) = omega (arith, most_le ts.items b.value, tail_le ts.items b.value)
+form_falls s (Text b) = omega arith
 form_falls s (Other k w) = omega arith

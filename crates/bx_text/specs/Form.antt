@@ -4,7 +4,7 @@ use Rattle.std.specs.declared.boxed.Box.{Box}
 use Rattle.std.specs.declared.alloc.Global.{Global}
 use Rattle.bx_text.specs.declared.node.Span.{Span}
 use Rattle.bx_text.specs.declared.node.Form.{Form}
-use Rattle.bx_text.specs.declared.node.Form.TheVariants.{Integer, Large, Atom, Tuple, List as Listed, Other}
+use Rattle.bx_text.specs.declared.node.Form.TheVariants.{Integer, Large, Atom, Tuple, List as Listed, Text, Other}
 use Rattle.bx_text.specs.Number.{number, is_large, is_spelling}
 use Rattle.bx_text.specs.Tree.{Tree, integer, atom, tuple, list, other, nil, chain}
 use Rattle.bx_text.specs.Grammar.{SpelledAs}
@@ -19,6 +19,7 @@ form_tree s (Large w) = integer s (number w)
 form_tree s (Atom w) = atom s w
 form_tree s (Tuple ts) = tuple s (chain ts.items nil)
 form_tree s (Listed ts u) = list s (chain ts.items (tail_tree u))
+form_tree s (Text b) = list s (chain b.value nil)
 form_tree s (Other k w) = other s k w
 
 -- exactly an integer outside 64 bits keeps its text, which is a sign and digits; what stands for no value keeps one that

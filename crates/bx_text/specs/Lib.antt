@@ -6,10 +6,12 @@ pub mod Form
 pub mod Forms
 pub mod Holding
 pub mod Left
+pub mod Lettered
 pub mod Letters
 pub mod Lexing
 pub mod Named
 pub mod Number
+pub mod Pairs
 pub mod Passing
 pub mod Place
 pub mod Rows

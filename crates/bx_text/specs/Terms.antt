@@ -19,6 +19,10 @@ use Rattle.bx_text.specs.Token.{Body, spelled, IsEscaped, Token, Lexeme}
 use Rattle.bx_text.specs.Lexing.{lexeme_from, lexeme_at}
 use Rattle.bx_text.specs.Tree.{Tree, integer, atom, tuple, list, other, nil, chain}
 
+abbrev pub opens_tuple : Token → Bool
+opens_tuple token.open_tuple = true
+opens_tuple t = false
+
 abbrev pub closes_tuple : Token → Bool
 closes_tuple (token.mark CloseTuple) = true
 closes_tuple t = false
@@ -75,6 +79,10 @@ passes wanted.Colon t = is_colon t
 passes wanted.Slash t = is_slash t
 passes wanted.Arrow t = is_arrow t
 passes wanted.Utf8 t = is_utf8_name t
+passes wanted.OpenTuple t = opens_tuple t
+passes wanted.CloseTuple t = closes_tuple t
+passes wanted.Comma t = is_comma t
+passes wanted.Stop t = is_stop t
 
 abbrev pub spells_list : Token → Bool
 spells_list (token.text w) = true

@@ -3,8 +3,10 @@
 ghost use Rattle.std.specs.Prelude.{◌≡◌, ◌↔◌, IfSome, IsTrue};
 ghost use Rattle.bx_text.specs.Form.{tail_tree};
 ghost use Rattle.bx_text.specs.Tree.{IsWhole, IsEnd};
-ghost use Rattle.bx_text.specs.View.{tail_seen};
+ghost use Rattle.bx_text.specs.Tree.{chain, nil};
+ghost use Rattle.bx_text.specs.View.{tail_seen, elements_seen};
 
+use crate::letters::Letters;
 use crate::spellings::same_number;
 use crate::tokens::Large;
 use crate::word::Word;
@@ -47,6 +49,8 @@ enum Form<'a> {
     Atom(Word<'a>),
     Tuple(Vec<Node<'a>>),
     List(Vec<Node<'a>>, Option<Box<Node<'a>>>),
+    /// A list that is spelled as strings.
+    Text(Box<Letters>),
     Other(Sort, Word<'a>),
 }
 
@@ -70,6 +74,66 @@ impl<'a> Model for Node<'a> {
     ghost size_decreases = { λ a h. form_falls a.span a.form };
 }
 
+/// The elements of a tuple or a list.
+#[derive(Clone, Copy)]
+pub enum Elements<'v, 'a> {
+    Nodes(&'v [Node<'a>]),
+    /// The characters of strings.
+    Letters(&'v Letters),
+}
+
+/// An element of a tuple or a list.
+#[derive(Drop)]
+pub enum Element<'v, 'a> {
+    Node(&'v Node<'a>),
+    /// A character of a string.
+    Letter(Node<'a>),
+}
+
+impl<'v, 'a> Element<'v, 'a> {
+    ghost use Rattle.std.specs.Prelude.{◌≡◌};
+    ghost use Rattle.bx_text.specs.View.{element_seen};
+
+    /// The element as a node.
+    pub fn node(&self) -> &Node<'a>
+        ensures { result.now ≡ element_seen self.now }
+    {
+        match self {
+            Element::Node(node) => node,
+            Element::Letter(node) => node,
+        }
+    }
+}
+
+impl<'v, 'a> Elements<'v, 'a> {
+    ghost use Rattle.std.specs.Prelude.{◌≡◌, ◌<◌, get_or, length};
+    ghost use Rattle.bx_text.specs.View.{elements_seen, element_seen};
+
+    /// How many there are.
+    pub fn len(self) -> usize
+        ensures { result ≡ length (elements_seen self.entry) }
+    {
+        match self {
+            Elements::Nodes(nodes) => nodes.len(),
+            Elements::Letters(letters) => letters.len(),
+        }
+    }
+
+    /// The element of that number, from 0.
+    pub fn at(self, number: usize) -> Element<'v, 'a>
+        requires { number < length (elements_seen self) }
+        ensures { element_seen result ≡ get_or (elements_seen self.entry) number (element_seen result) }
+    {
+        match self {
+            Elements::Nodes(nodes) => Element::Node(&nodes[number]),
+            Elements::Letters(letters) => {
+                let (span, code) = letters.at(number);
+                Element::Letter(Node::integer(span, code))
+            }
+        }
+    }
+}
+
 /// What a node is.
 #[derive(Drop)]
 pub enum View<'v, 'a> {
@@ -82,7 +146,7 @@ pub enum View<'v, 'a> {
     /// A tuple's elements.
     Tuple(&'v [Node<'a>]),
     /// A list's elements, and its tail where it has one that is no list.
-    List(&'v [Node<'a>], Option<&'v Node<'a>>),
+    List(Elements<'v, 'a>, Option<&'v Node<'a>>),
     /// A float, map, binary or external fun: which of them, and its text as it was read.
     Other(Sort, &'v str),
 }
@@ -165,6 +229,15 @@ impl<'a> Node<'a> {
         }
     }
 
+    pub(crate) fn text(span: Span, letters: Box<Letters>) -> Node<'a>
+        ensures { result ≡ list span (chain letters.value nil) }
+    {
+        Node {
+            span,
+            form: Form::Text(letters),
+        }
+    }
+
     /// What the node is, to be matched on.
     pub fn view(&self) -> View<'_, 'a>
         ensures content { seen (span_of self.now) result ≡ self.now }
@@ -175,7 +248,10 @@ impl<'a> Node<'a> {
             Form::Large(digits) => View::Large(digits.as_str()),
             Form::Atom(text) => View::Atom(text.as_str()),
             Form::Tuple(elements) => View::Tuple(elements.as_slice()),
-            Form::List(elements, tail) => View::List(elements.as_slice(), beyond(tail)),
+            Form::List(elements, tail) => {
+                View::List(Elements::Nodes(elements.as_slice()), beyond(tail))
+            }
+            Form::Text(letters) => View::List(Elements::Letters(&**letters), None),
             Form::Other(sort, text) => View::Other(*sort, text.as_str()),
         }
     }
@@ -202,9 +278,21 @@ impl<'a> Node<'a> {
                 same_number(one.as_str().as_bytes(), two.as_str().as_bytes())
             }
             (Form::Atom(text), Form::Atom(other_text)) => text.same(other_text),
-            (Form::Tuple(xs), Form::Tuple(ys)) => same_elements(xs, ys),
+            (Form::Tuple(xs), Form::Tuple(ys)) => {
+                same_elements(Elements::Nodes(xs), Elements::Nodes(ys))
+            }
             (Form::List(xs, tail), Form::List(ys, other_tail)) => {
-                same_tails(tail, other_tail) && same_elements(xs, ys)
+                same_tails(tail, other_tail)
+                    && same_elements(Elements::Nodes(xs), Elements::Nodes(ys))
+            }
+            (Form::List(xs, tail), Form::Text(ys)) => {
+                same_tails(tail, &None) && same_elements(Elements::Nodes(xs), Elements::Letters(ys))
+            }
+            (Form::Text(xs), Form::List(ys, tail)) => {
+                same_tails(&None, tail) && same_elements(Elements::Letters(xs), Elements::Nodes(ys))
+            }
+            (Form::Text(xs), Form::Text(ys)) => {
+                same_elements(Elements::Letters(xs), Elements::Letters(ys))
             }
             (Form::Other(sort, text), Form::Other(other_sort, other_text)) => {
                 sort == other_sort && text.same(other_text)
@@ -216,14 +304,16 @@ impl<'a> Node<'a> {
 
 #[cycle(same)]
 #[tactic(auto, using(crate::proofs::Contents::row_at, crate::proofs::Contents::nodes_at))]
-fn same_elements(xs: &[Node<'_>], ys: &[Node<'_>]) -> bool
-    ensures { IsTrue result ↔ (xs.now ≡ ys.now) }
+fn same_elements(xs: Elements<'_, '_>, ys: Elements<'_, '_>) -> bool
+    ensures { IsTrue result ↔ (elements_seen xs.entry ≡ elements_seen ys.entry) }
 {
     if xs.len() != ys.len() {
         return false;
     }
     for i in 0..xs.len() {
-        if !xs[i].same(&ys[i]) {
+        let x = xs.at(i);
+        let y = ys.at(i);
+        if !x.node().same(y.node()) {
             return false;
         }
     }

@@ -125,7 +125,7 @@ fn pass_tail<'a>(l: &mut Lexeme<'a>, depth: u32) -> Result<(), Fault>
 
 /// Passes over the term behind the token held.
 #[cycle(pass)]
-fn pass_next<'a>(l: &mut Lexeme<'a>, depth: u32) -> Result<(), Fault>
+pub(crate) fn pass_next<'a>(l: &mut Lexeme<'a>, depth: u32) -> Result<(), Fault>
     ensures { Gives ⊥ (λ _. place l.new.after) result (terms.value_at (terms.term_at depth) (place l.old.after)) }
 {
     advance(l)?;

@@ -4,10 +4,10 @@ ghost use Rattle.std.specs.Prelude.{◌≡◌, ◌++◌, true, Ok, OnOk, string_
 ghost use Rattle.bx_terms.specs.Outcomes.{Gives};
 ghost use Rattle.bx_text.specs.Number.{number, is_large, is_spelling};
 ghost use Rattle.bx_text.specs.Tree.{chain, IsWhole, IsEnd};
-ghost use Rattle.bx_text.specs.View.{tail_seen};
+ghost use Rattle.bx_text.specs.View.{tail_seen, elements_seen};
 ghost use Rattle.bx_text.specs.Printed.{sign_text, integer_text, node_text, row_text, rest_text};
 
-use crate::node::{Node, View};
+use crate::node::{Elements, Node, View};
 use crate::spellings::{parts, shown};
 use bx_terms::{Fault, push_atom};
 use itoa::Buffer;
@@ -48,7 +48,7 @@ fn push_node(alloc: Global, out: &mut String, node: &Node<'_>) -> Result<(), All
         View::Atom(text) => push_atom(alloc, out, text),
         View::Tuple(elements) => {
             out.push_str("{")?;
-            push_row(alloc, out, elements, None)?;
+            push_row(alloc, out, Elements::Nodes(elements), None)?;
             out.push_str("}")
         }
         View::List(elements, tail) => {
@@ -66,22 +66,20 @@ fn push_node(alloc: Global, out: &mut String, node: &Node<'_>) -> Result<(), All
 fn push_row(
     alloc: Global,
     out: &mut String,
-    elements: &[Node<'_>],
+    elements: Elements<'_, '_>,
     tail: Option<&Node<'_>>,
 ) -> Result<(), AllocError>
-    ensures { OnOk result (string_bytes out.new ≡ string_bytes out.old ++ row_text (chain elements.now (tail_seen tail.entry))) }
+    ensures { OnOk result (string_bytes out.new ≡ string_bytes out.old ++ row_text (chain (elements_seen elements.entry) (tail_seen tail.entry))) }
 {
-    match elements {
-        [] => push_tail(alloc, out, tail),
-        [first, rest @ ..] => {
-            push_node(alloc, out, first)?;
-            for element in rest {
-                out.push_str(",")?;
-                push_node(alloc, out, element)?;
-            }
-            push_tail(alloc, out, tail)
-        }
+    if elements.len() == 0 {
+        return push_tail(alloc, out, tail);
     }
+    push_node(alloc, out, elements.at(0).node())?;
+    for i in 1..elements.len() {
+        out.push_str(",")?;
+        push_node(alloc, out, elements.at(i).node())?;
+    }
+    push_tail(alloc, out, tail)
 }
 
 /// Adds what ends a row: a tail after a bar, if there is one.

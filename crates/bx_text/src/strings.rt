@@ -9,6 +9,7 @@ ghost use Rattle.bx_text.specs.Rows.{prefixed};
 
 use crate::blanks::skip;
 use crate::escapes::decode;
+use crate::letters::Letters;
 use crate::lexemes::{Lexeme, span};
 use crate::lexing::take;
 use crate::moves::truncated;
@@ -17,34 +18,20 @@ use crate::tokens::{Body, Token};
 use bx_terms::Fault;
 use std::alloc::{AllocError, Global};
 
-/// The elements with those that a string spells behind them.
-#[tactic(auto, using(std::proofs::lemmas::Str::chars_from_encodes, crate::proofs::Letters::no_letters))]
-fn letters<'a>(found: &mut Vec<Node<'a>>, span: Span, text: &str) -> Result<(), AllocError>
-    ensures { MatchResult result (λ _. found.new.items ≡ found.old.items ++ letters span text.now) (λ _. 0 < length text.now) }
-{
-    if text.is_empty() {
-        return Ok(());
-    }
-    for c in text.chars() {
-        found.push(Node::integer(span, i64::from(c as u32)))?;
-    }
-    Ok(())
-}
-
-/// The elements with those that stand between quotes behind them.
+/// The characters with those that stand between quotes behind them.
 fn body_letters<'a>(
     alloc: Global,
-    found: &mut Vec<Node<'a>>,
+    found: &mut Letters,
     span: Span,
     body: Body<'a>,
 ) -> Result<(), AllocError>
-    ensures { MatchResult result (λ _. found.new.items ≡ found.old.items ++ letters span (spelled (body_of body.entry))) (λ _. HasBody (body_of body.entry)) }
+    ensures { MatchResult result (λ _. found.new ≡ found.old ++ letters span (spelled (body_of body.entry))) (λ _. HasBody (body_of body.entry)) }
 {
     match body {
-        Body::Plain(text) => letters(found, span, text),
+        Body::Plain(text) => found.add(span, text),
         Body::Escaped(raw) => {
             let text = decode(alloc, raw)?;
-            letters(found, span, text.as_str())
+            found.add(span, text.as_str())
         }
     }
 }
@@ -64,9 +51,9 @@ fn text_next<'a>(l: &mut Lexeme<'a>) -> Result<bool, Fault>
     }
 }
 
-/// The elements with those that a string's token spells behind them.
-fn letters_of<'a>(alloc: Global, found: &mut Vec<Node<'a>>, l: Lexeme<'a>) -> Result<(), AllocError>
-    ensures { MatchResult result (λ _. found.new.items ≡ found.old.items ++ letters_of (lexeme_of l.entry) (token_of l.entry.token)) (λ _. HasLetters (token_of l.entry.token)) }
+/// The characters with those that a string's token spells behind them.
+fn letters_of<'a>(alloc: Global, found: &mut Letters, l: Lexeme<'a>) -> Result<(), AllocError>
+    ensures { MatchResult result (λ _. found.new ≡ found.old ++ letters_of (lexeme_of l.entry) (token_of l.entry.token)) (λ _. HasLetters (token_of l.entry.token)) }
 {
     match l.token {
         Token::Text(body) => body_letters(alloc, found, span(l, l.after), body),
@@ -74,13 +61,9 @@ fn letters_of<'a>(alloc: Global, found: &mut Vec<Node<'a>>, l: Lexeme<'a>) -> Re
     }
 }
 
-/// The elements with those of the strings in a row behind them that begin with the token held.
-pub(crate) fn strings<'a>(
-    alloc: Global,
-    found: &mut Vec<Node<'a>>,
-    l: &mut Lexeme<'a>,
-) -> Result<(), Fault>
-    ensures { Gives (HasLetters (token_of l.old.token) ⊎ IsOkAnd (text_next (place l.old.after)) IsSome) (λ _. (found.new.items, place l.new.after)) result (prefixed found.old.items (strings_at (lexeme_of l.old))) }
+/// The characters with those of the strings in a row behind them that begin with the token held.
+fn strings<'a>(alloc: Global, found: &mut Letters, l: &mut Lexeme<'a>) -> Result<(), Fault>
+    ensures { Gives (HasLetters (token_of l.old.token) ⊎ IsOkAnd (text_next (place l.old.after)) IsSome) (λ _. (found.new, place l.new.after)) result (prefixed found.old (strings_at (lexeme_of l.old))) }
 {
     letters_of(alloc, found, *l)?;
     // Each string takes a byte at least.
@@ -94,24 +77,53 @@ pub(crate) fn strings<'a>(
     Err(truncated(l.after))
 }
 
-/// The elements of the strings in a row that begin with the token held.
-fn alone<'a>(alloc: Global, l: &mut Lexeme<'a>) -> Result<Vec<Node<'a>>, Fault>
-    ensures { Gives (HasLetters (token_of l.old.token) ⊎ IsOkAnd (text_next (place l.old.after)) IsSome) (λ x. (x.items, place l.new.after)) result (strings_at (lexeme_of l.old)) }
+/// The characters of the strings in a row that begin with the token held.
+fn alone<'a>(alloc: Global, l: &mut Lexeme<'a>) -> Result<Letters, Fault>
+    ensures { Gives (HasLetters (token_of l.old.token) ⊎ IsOkAnd (text_next (place l.old.after)) IsSome) (λ x. (x, place l.new.after)) result (strings_at (lexeme_of l.old)) }
 {
-    let mut elements = Vec::new(alloc);
-    match strings(alloc, &mut elements, l) {
-        Ok(_) => Ok(elements),
+    let mut letters = Letters::new(alloc);
+    match strings(alloc, &mut letters, l) {
+        Ok(_) => Ok(letters),
         Err(fault) => Err(fault),
     }
 }
 
 /// The list that the strings in a row spell that begin with the token held.
+#[tactic(auto, using(crate::proofs::Rows::some_spelled))]
 pub(crate) fn string<'a>(alloc: Global, l: &mut Lexeme<'a>) -> Result<Node<'a>, Fault>
     ensures { Gives (HasLetters (token_of l.old.token) ⊎ IsOkAnd (text_next (place l.old.after)) IsSome) (λ x. (x, place l.new.after)) result (string_at (lexeme_of l.old)) }
 {
     let first = *l;
-    let elements = alone(alloc, l)?;
-    Ok(Node::list(span(first, l.after), elements, None))
+    let letters = alone(alloc, l)?;
+    if letters.len() == 0 {
+        return Ok(Node::list(span(first, l.after), Vec::new(alloc), None));
+    }
+    Ok(Node::text(span(first, l.after), Box::new(alloc, letters)?))
+}
+
+/// The elements with these characters behind them.
+fn append(found: &mut Vec<Node<'_>>, letters: &Letters) -> Result<(), AllocError>
+    ensures { MatchResult result (λ _. found.new.items ≡ found.old.items ++ letters.now) (λ _. 0 < length letters.now) }
+{
+    for i in 0..letters.len() {
+        let (span, code) = letters.at(i);
+        found.push(Node::integer(span, code))?;
+    }
+    Ok(())
+}
+
+/// The elements with the characters of the strings in a row behind them that begin with the token held.
+#[tactic(auto, using(crate::proofs::Rows::some_spelled))]
+pub(crate) fn splice<'a>(
+    alloc: Global,
+    found: &mut Vec<Node<'a>>,
+    l: &mut Lexeme<'a>,
+) -> Result<(), Fault>
+    ensures { Gives (HasLetters (token_of l.old.token) ⊎ IsOkAnd (text_next (place l.old.after)) IsSome) (λ _. (found.new.items, place l.new.after)) result (prefixed found.old.items (strings_at (lexeme_of l.old))) }
+{
+    let letters = alone(alloc, l)?;
+    append(found, &letters)?;
+    Ok(())
 }
 
 /// Passes over the strings in a row that begin with the token held.

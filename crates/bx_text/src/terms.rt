@@ -19,7 +19,7 @@ use crate::lexemes::{Lexeme, closes_list, closes_tuple, is_bar, span, spells_lis
 use crate::lexing::advance;
 use crate::node::{Node, Sort};
 use crate::passing::map;
-use crate::strings::{string, strings};
+use crate::strings::{splice, string};
 use crate::tokens::{Body, Mark, Token};
 use crate::word::Word;
 use bx_terms::Fault;
@@ -77,6 +77,15 @@ fn bracket<'a>(alloc: Global, l: &mut Lexeme<'a>, depth: u32) -> Result<Node<'a>
     }
 }
 
+/// Gives back the room behind an element that stands alone, as where brackets nest.
+fn fit(elements: &mut Vec<Node<'_>>)
+    ensures { elements.new.items ≡ elements.old.items }
+{
+    if elements.len() == 1 {
+        elements.shrink_to_fit();
+    }
+}
+
 /// The list that begins with the token held, whose elements may nest `depth` deep.
 #[cycle(term)]
 fn list<'a>(alloc: Global, l: &mut Lexeme<'a>, depth: u32) -> Result<Node<'a>, Fault>
@@ -85,7 +94,10 @@ fn list<'a>(alloc: Global, l: &mut Lexeme<'a>, depth: u32) -> Result<Node<'a>, F
     let first = *l;
     let mut elements = Vec::new(alloc);
     match rest(alloc, &mut elements, l, depth) {
-        Ok(tail) => Ok(Node::list(span(first, l.after), elements, tail)),
+        Ok(tail) => {
+            fit(&mut elements);
+            Ok(Node::list(span(first, l.after), elements, tail))
+        }
         Err(fault) => Err(fault),
     }
 }
@@ -101,6 +113,7 @@ fn tuple<'a>(alloc: Global, l: &mut Lexeme<'a>, depth: u32) -> Result<Node<'a>, 
     if !closes_tuple(l.token) {
         elements(alloc, &mut found, l, depth)?;
         tuple_end(l)?;
+        fit(&mut found);
     }
     Ok(Node::tuple(span(first, l.after), found))
 }
@@ -272,7 +285,7 @@ fn spliced<'a>(
     match l.token {
         Token::OpenList => rest(alloc, found, l, depth),
         _ => {
-            strings(alloc, found, l)?;
+            splice(alloc, found, l)?;
             Ok(None)
         }
     }

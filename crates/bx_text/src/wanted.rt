@@ -23,6 +23,11 @@ pub(crate) enum Wanted {
     Arrow,
     /// The atom `utf8`.
     Utf8,
+    OpenTuple,
+    CloseTuple,
+    Comma,
+    /// A full stop.
+    Stop,
 }
 
 /// Whether what stands between quotes, or a bare word, means `utf8`.
@@ -47,6 +52,10 @@ fn passes(wanted: Wanted, token: Token<'_>) -> bool
         (Wanted::Slash, Token::Mark(Mark::Slash)) => true,
         (Wanted::Arrow, Token::Mark(Mark::Arrow)) => true,
         (Wanted::Utf8, Token::Atom(body)) => is_utf8(body),
+        (Wanted::OpenTuple, Token::OpenTuple) => true,
+        (Wanted::CloseTuple, Token::Mark(Mark::CloseTuple)) => true,
+        (Wanted::Comma, Token::Mark(Mark::Comma)) => true,
+        (Wanted::Stop, Token::Mark(Mark::Stop)) => true,
         _ => false,
     }
 }

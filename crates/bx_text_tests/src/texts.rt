@@ -1,7 +1,7 @@
 //! Texts with what they spell, or their first refusal, worked out by hand.
 
 use bx_terms::Fault;
-use bx_text::{Node, Reader, View, atom_at, next_term};
+use bx_text::{Elements, Node, Reader, View, atom_at, next_term};
 use std::alloc::{AllocError, Global};
 use std::test::Fail;
 
@@ -14,7 +14,7 @@ fn show(out: &mut String, node: &Node<'_>, levels: u32) -> Result<(), AllocError
         View::Atom(text) => out.push_str(text),
         View::Tuple(elements) => {
             out.push_str("{")?;
-            show_all(out, elements, levels)?;
+            show_all(out, Elements::Nodes(elements), levels)?;
             out.push_str("}")
         }
         View::List(elements, tail) => {
@@ -31,12 +31,12 @@ fn show(out: &mut String, node: &Node<'_>, levels: u32) -> Result<(), AllocError
 }
 
 #[cycle(show)]
-fn show_all(out: &mut String, nodes: &[Node<'_>], levels: u32) -> Result<(), AllocError> {
-    for (i, node) in nodes.iter().enumerate() {
+fn show_all(out: &mut String, elements: Elements<'_, '_>, levels: u32) -> Result<(), AllocError> {
+    for i in 0..elements.len() {
         if i > 0 {
             out.push_str(",")?;
         }
-        show_below(out, node, levels)?;
+        show_below(out, elements.at(i).node(), levels)?;
     }
     Ok(())
 }
@@ -563,8 +563,8 @@ fn push_spans(out: &mut String, node: &Node<'_>) -> Result<(), AllocError> {
     let View::List(elements, tail) = node.view() else {
         return Ok(());
     };
-    for element in elements {
-        push_span(out, element)?;
+    for i in 0..elements.len() {
+        push_span(out, elements.at(i).node())?;
         out.push_str(". ")?;
     }
     match tail {
@@ -585,6 +585,52 @@ fn spans(alloc: Global, text: &[u8]) -> Result<String, Fault> {
 fn spans_of_parts(rt: HostRuntime) -> Result<(), Fail> {
     let seen = spans(rt.alloc(), b"\n[ 'b c' ,\n-12|{ }].")?;
     assert_eq!(rt; seen.as_str(), "3-8 line 2. 11-14 line 3. 15-18 line 3");
+    Ok(())
+}
+
+#[test]
+fn characters_stand_where_their_string_does(rt: HostRuntime) -> Result<(), Fail> {
+    let row = spans(rt.alloc(), b"\"ab\" \"\"\n\"c\".")?;
+    assert_eq!(rt; row.as_str(), "0-4 line 1. 0-4 line 1. 8-11 line 2. ");
+    let tail = spans(rt.alloc(), b"[x|\"ab\"].")?;
+    assert_eq!(rt; tail.as_str(), "1-2 line 1. 3-7 line 1. 3-7 line 1. ");
+    Ok(())
+}
+
+/// Texts, a word, and where the first form of the text ends if it is a pair of that word and a term.
+static DROPPED: [(&[u8], &str, Option<usize>); 16] = [
+    (b"{attributes,[{a,1}]}. x", "attributes", Some(21)),
+    (
+        b" %c\n{'attributes' , \"a\" \"b\" } .",
+        "attributes",
+        Some(31),
+    ),
+    (b"{'%',#{}}.", "%", Some(10)),
+    (b"{'%',#{}}.", "attributes", None),
+    (b"{attributes,1}", "attributes", None),
+    (b"{attributes,1} x.", "attributes", None),
+    (b"{attributes,1,2}.", "attributes", None),
+    (b"{attributes|1}.", "attributes", None),
+    (b"{attributes}.", "attributes", None),
+    (b"{'\\x61ttributes',1}.", "attributes", None),
+    (b"{\"attributes\",1}.", "attributes", None),
+    (b"[attributes,1].", "attributes", None),
+    (b"attributes.", "attributes", None),
+    (b"{attributes,\"\\xq\"}.", "attributes", None),
+    (b"{attributes,,1}.", "attributes", None),
+    (b"%{attributes,1}.", "attributes", None),
+];
+
+fn end_of_pair(text: &[u8], word: &str) -> Option<usize> {
+    let behind = Reader::at(text, 0).behind_pair(word)?;
+    Some(behind.at)
+}
+
+#[test]
+fn pairs_that_are_passed_over(rt: HostRuntime) -> Result<(), Fail> {
+    for (text, word, wanted) in &DROPPED {
+        assert_eq!(rt; end_of_pair(*text, *word), *wanted, "{text:?}");
+    }
     Ok(())
 }
 
@@ -613,7 +659,7 @@ fn atoms(rt: HostRuntime) -> Result<(), Fail> {
 }
 
 /// Texts of one term each, and whether the terms are the same.
-static PAIRS: [(&[u8], &[u8], bool); 31] = [
+static PAIRS: [(&[u8], &[u8], bool); 41] = [
     (b"1.5.", b"1.5. ", true),
     (b"1.5.", b"1.50.", false),
     (b"1.5.", b"2.5.", false),
@@ -645,6 +691,16 @@ static PAIRS: [(&[u8], &[u8], bool); 31] = [
     (b"[a,b].", b"[a|b].", false),
     (b"[a|b].", b"[a|c].", false),
     (b"\"ab\".", b"\"ac\".", false),
+    (b"\"ab\".", b"\"abc\".", false),
+    (b"\"a\x62\".", b"\"\x61b\".", true),
+    (b"\"a\" \"b\".", b"\"a\" \"b\".%", true),
+    (b"\"a\" \"b\".", b"\"ab\"  .", false),
+    (b"\"ab\"\"\".", b"\"\"\"ab\".", false),
+    (b"\"\".", b"[].", true),
+    (b"[  ].", b"\"\"\"\".", true),
+    (b"\"a\".", b"[97].", false),
+    (b"[97].", b"\"aa\".", false),
+    (b"[\"a\"|b].", b"[\"a\"|b].%", true),
 ];
 
 /// Whether the first terms of two texts are the same.

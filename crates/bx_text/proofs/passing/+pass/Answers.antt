@@ -8,7 +8,7 @@ use Rattle.bx_text.specs.Terms.{Follow, next, closes_tuple, passed, pair_at, par
 use Rattle.bx_text.specs.Passing.{element_passed, tuple_passed, list_passed}
 use Rattle.bx_text.proofs.Outcomes.{gives_same}
 use Rattle.bx_text.proofs.Rows.{part_last, part_next}
-use Rattle.bx_text.proofs.Elements.{deeper}
+use Rattle.bx_text.proofs.Members.{deeper}
 use Rattle.bx_text.proofs.Parts.{parts_step, parts_end, parts_fail}
 use Rattle.bx_text.proofs.Passed.{text_group, tuple_group, list_group, element_next}
 use Rattle.bx_text.proofs.Keeping.{pair_next, empty_map_kept, map_kept}

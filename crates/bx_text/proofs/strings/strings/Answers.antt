@@ -9,7 +9,7 @@ use Rattle.bx_text.proofs.strings.strings.Goals as goal
 
 pub returns-in-Err : goal.returns-in-Err
 returns-in-Err c =
-    texts_fail {X = Option Lexeme} {Y = List Tree × Place} _ (λ o. o) (λ y. y) c.in-Err.fault (length c.args.l.now.after.rest.now + 1) c.loop-turn._turn c.loop-turn.found.items (place c.loop-turn.l.after) _
+    texts_fail {X = Option Lexeme} {Y = List Tree × Place} _ (λ o. o) (λ y. y) c.in-Err.fault (length c.args.l.now.after.rest.now + 1) c.loop-turn._turn c.loop-turn.found (place c.loop-turn.l.after) _
     (omega arith) c.loop-turn.invariant.reads c.in-Err.ensures.reads
 
 pub returns-in-Ok-false : goal.returns-in-Ok-false
@@ -17,7 +17,7 @@ returns-in-Ok-false c =
     let last : c.in-Ok-false.field-0 ≡ false = cc in
     let none = text_none c.in-Ok-false.field-0 _ _ last c.in-Ok-false.ensures.reads in
     sym c.loop-turn.invariant.reads
-    ∙ texts_none (length c.args.l.now.after.rest.now + 1) c.loop-turn._turn c.loop-turn.found.items (place c.loop-turn.l.after) (place c.text_next.new.l.after)
+    ∙ texts_none (length c.args.l.now.after.rest.now + 1) c.loop-turn._turn c.loop-turn.found (place c.loop-turn.l.after) (place c.text_next.new.l.after)
     (omega arith) none (c.in-Ok-false.ensures.stays (ap Ok last))
 
 pub loop-turn-preserved : goal.loop-turn-preserved
@@ -27,7 +27,7 @@ loop-turn-preserved c =
     record {
       reads =
           ap (λ xs. prefixed xs (texts ((length c.args.l.now.after.rest.now + 1) - (c.loop-turn._turn + 1)) (place c.text_next.new.l.after))) c.in_ok-letters_of-in-Ok-true.ensures
-          ∙ texts_step (length c.args.l.now.after.rest.now + 1) c.loop-turn._turn c.loop-turn.found.items (place c.loop-turn.l.after) (lexeme_of c.text_next.new.l) (omega arith) next
+          ∙ texts_step (length c.args.l.now.after.rest.now + 1) c.loop-turn._turn c.loop-turn.found (place c.loop-turn.l.after) (lexeme_of c.text_next.new.l) (omega arith) next
           ∙ c.loop-turn.invariant.reads;
       starts = λ z. absurd (omega arith);
       goes = λ _. goes_on c.loop-turn._turn (place c.loop-turn.l.after) (place c.args.l.now.after) (lexeme_of c.text_next.new.l) c.loop-turn.invariant.starts c.loop-turn.invariant.goes next;

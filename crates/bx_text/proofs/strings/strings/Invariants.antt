@@ -7,7 +7,7 @@ use Rattle.bx_text.proofs.strings.strings.Given as goal
 
 abbrev pub invariant-loop-turn : goal.invariant-loop-turn
 invariant-loop-turn l = record {
-  reads : prefixed l.found.items (texts (l._turn-end - l._turn) (place l.l.after)) ≡ prefixed l.fn.found.items (strings_at (lexeme_of l.fn.l));
+  reads : prefixed l.found (texts (l._turn-end - l._turn) (place l.l.after)) ≡ prefixed l.fn.found (strings_at (lexeme_of l.fn.l));
   starts : l._turn ≡ 0 → place l.l.after ≡ place l.fn.l.after;
   goes : 0 < l._turn → IsOkAnd (text_next (place l.fn.l.after)) IsSome;
 }

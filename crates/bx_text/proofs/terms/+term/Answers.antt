@@ -8,7 +8,7 @@ use Rattle.bx_text.specs.Terms.{Follow, next, end, follow_by, element_at, elemen
 use Rattle.bx_text.specs.Rows.{prefixed, chained, joined, closing, splicing}
 use Rattle.bx_text.proofs.Outcomes.{gives_same}
 use Rattle.bx_text.proofs.Rows.{row_last, row_next, list_fails, list_gives}
-use Rattle.bx_text.proofs.Elements.{deeper, many_step, many_end, many_fail, many_unended, element_begun, kept_first}
+use Rattle.bx_text.proofs.Members.{deeper, many_step, many_end, many_fail, many_unended, element_begun, kept_first}
 use Rattle.bx_text.proofs.Tails.{rest_from, closing_is, improper_gives, splicing_is}
 use Rattle.bx_text.proofs.Keeping.{token_next}
 use Rattle.bx_text.proofs.terms.+term.Goals as goal
