@@ -1,5 +1,5 @@
 -- What a row of elements is, and what a tuple that begins with an atom holds.
-use Rattle.std.proofs.Common.{◌≡◌, ℕ, ◌<◌, ◌≤◌, ◌-◌, length, take, drop, get_or, List, [], ◌∷◌, Some, None, refl, sym, ap, ◌∙◌, arith}
+use Rattle.std.proofs.Common.{◌≡◌, ℕ, ◌<◌, ◌≤◌, ◌-◌, length, take, drop, get_or, List, [], ◌∷◌, Some, None, refl, sym, ap, subst, ◌∙◌, arith}
 use Rattle.std.specs.Prelude.{option_map}
 use Rattle.std.proofs.Math.Seq.{take-length}
 use Rattle.bx_text.specs.declared.node.Span.{Span}
@@ -11,6 +11,10 @@ use Rattle.bx_listing.specs.Shape.{tagged, shape, elements, word, proper, list_e
 use Rattle.bx_listing.specs.declared.words.OperandWord.TheVariants as words
 use Rattle.bx_listing.specs.Words.{operand_word}
 use Rattle.bx_listing.specs.Operands.{untyped, untyped_of}
+
+-- an element that is read as a node
+pub element_at : (ts : List Tree) (i : ℕ) (t e : Tree) → t ≡ e → e ≡ get_or ts i e → t ≡ get_or ts i t
+element_at ts i t e same at = subst (λ x. x ≡ get_or ts i x) (sym same) at
 
 pub elements-chain : (ts : List Tree) → elements (chain ts nil) ≡ ts
 elements-chain [] = refl

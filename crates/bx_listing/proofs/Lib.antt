@@ -7,10 +7,12 @@ pub mod Readings
 pub mod NamedAtoms
 pub mod LiteralLists
 pub mod LiteralRows
-pub mod Each
+pub mod Dropped
+mod Each
 pub mod Functions
 pub mod Forms
 pub mod FormLoop
+mod FormMemory
 pub mod Heads
 pub mod GoodReadings
 pub mod Loops

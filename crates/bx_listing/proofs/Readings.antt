@@ -36,12 +36,6 @@ pub refuses_result : {A : Type 0} (takes kept : Type 0) (texts : Table) (fault :
 refuses_result takes kept texts Memory said keep h = (keep h, Begins-refl texts, (from_result said).grows texts)
 refuses_result takes kept texts _ said keep h = ap (λ r. (from_result r).run texts) h
 
--- an answer that may want memory anyway
-pub reads_taking : {X A : Type 0} (takes : Type 0) (view : X → A) (old new : Table) (answer : Result X Fault) (reading : Reading A) → takes → Reads (Unit {0}) view old new answer reading → Reads takes view old new answer reading
-reads_taking takes view old new (Ok x) reading taken h = h
-reads_taking takes view old new (Err Memory) reading taken h = (taken, h.1, h.2)
-reads_taking takes view old new (Err _) reading taken h = h
-
 -- an answer to one reading is an answer to another that gives the same
 pub reads_same : {X A : Type 0} (takes : Type 0) (view : X → A) (old new : Table) (answer : Result X Fault) (one other : Reading A) → one.run old ≡ other.run old → Reads takes view old new answer one → Reads takes view old new answer other
 reads_same takes view old new (Ok x) one other e h = sym e ∙ h

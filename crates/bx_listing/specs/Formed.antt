@@ -2,7 +2,8 @@
 use Rattle.std.specs.Prelude.{List, ◌++◌}
 use Rattle.bx_text.specs.Tree.{Tree}
 use Rattle.bx_ops.specs.declared.opcode.Op.{Op}
+use Rattle.bx_text.specs.View.{elements_seen}
 use Rattle.bx_listing.specs.declared.ways.Form.{Form}
 
 abbrev pub formed : Form → Op × List Tree
-formed f = (f.op, f.before.now ++ (f.list.now ++ f.behind.now))
+formed f = (f.op, f.before.now ++ (elements_seen f.list ++ f.behind.now))

@@ -23,6 +23,7 @@ pub mod ListedTerms
 pub mod ListedItems
 pub mod Listed
 pub mod Refused
+pub mod Dropped
 pub mod Fits
 pub mod Writing
 pub mod Wanting

@@ -2,6 +2,7 @@
 
 ghost use Rattle.std.specs.Prelude.{◌≡◌, ◌++◌, option_map};
 ghost use Rattle.bx_listing.specs.HeadForms.{module_name, offer, are_offers, named_offer, named_offers, offers, exports_form, is_attributes, is_labels, begun, function_form};
+ghost use Rattle.bx_text.specs.View.{elements_seen};
 ghost use Rattle.bx_listing.specs.Seen.{seen};
 ghost use Rattle.bx_listing.specs.Reading.{Answers};
 
@@ -11,7 +12,7 @@ use crate::operands::name_atom;
 use crate::shapes::{Shape, list_elements, number, shape_of, word};
 use crate::words::{FormWord, form_word};
 use bx_terms::{Atoms, Fault};
-use bx_text::Node;
+use bx_text::{Elements, Node};
 use std::alloc::Global;
 
 /// The module's name, of `{module,M}`.
@@ -50,10 +51,10 @@ fn offers(
     alloc: Global,
     atoms: &mut Atoms,
     line: usize,
-    list: &[Node],
+    list: Elements,
 ) -> Result<Vec<Export>, Fault>
     ensures { Answers (λ exports. exports.items) atoms.old atoms.new result
-        (offers line list.now) }
+        (offers line (elements_seen list.entry)) }
 {
     if are_offers(list) {
         named_offers(alloc, atoms, line, list)
@@ -63,11 +64,11 @@ fn offers(
 }
 
 /// Whether all of them are `{F,A}`.
-fn are_offers(list: &[Node]) -> bool
-    ensures { result ≡ are_offers list.now }
+fn are_offers(list: Elements) -> bool
+    ensures { result ≡ are_offers (elements_seen list.entry) }
 {
     for i in 0..list.len() {
-        if offer(&list[i]).is_none() {
+        if offer(list.at(i).node()).is_none() {
             return false;
         }
     }
@@ -78,14 +79,14 @@ fn named_offers(
     alloc: Global,
     atoms: &mut Atoms,
     line: usize,
-    list: &[Node],
+    list: Elements,
 ) -> Result<Vec<Export>, Fault>
     ensures { Answers (λ exports. exports.items) atoms.old atoms.new result
-        (named_offers line list.now) }
+        (named_offers line (elements_seen list.entry)) }
 {
     let mut exports = Vec::new(alloc);
     for i in 0..list.len() {
-        match named_offer(alloc, atoms, line, &list[i]) {
+        match named_offer(alloc, atoms, line, list.at(i).node()) {
             Ok(export) => exports.push(export)?,
             Err(fault) => return Err(fault),
         }

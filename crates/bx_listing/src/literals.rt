@@ -2,14 +2,14 @@
 
 ghost use Rattle.std.specs.Prelude.{◌≡◌, IfOk, option_map};
 ghost use Rattle.bx_text.specs.Tree.{chain};
-ghost use Rattle.bx_text.specs.View.{tail_seen};
+ghost use Rattle.bx_text.specs.View.{tail_seen, elements_seen};
 ghost use Rattle.bx_listing.specs.Literals.{sort_name, kept_cons, kept_before, kept_list, kept_tuple, literal, parts, IsNode};
 ghost use Rattle.bx_listing.specs.LiteralRows.{row_of, with_last};
 ghost use Rattle.bx_listing.specs.Reading.{Answers};
 
 use crate::operands::{name_atom, unsupported};
 use bx_terms::{Atoms, Fault, Term, TermRefusal};
-use bx_text::{Node, Sort, View};
+use bx_text::{Elements, Node, Sort, View};
 use std::alloc::{AllocError, Global};
 
 /// The elements of a tuple or a list, and what follows them. What is too high is not kept, nor what holds it.
@@ -41,7 +41,7 @@ pub(crate) fn literal(
             Ok(Some(Term::atom(atom)))
         }
         View::Tuple(elements) => {
-            let row = literal_row(alloc, atoms, line, elements, None)?;
+            let row = literal_row(alloc, atoms, line, Elements::Nodes(elements), None)?;
             Ok(tuple(alloc, row.elements)?)
         }
         View::List(elements, tail) => {
@@ -69,15 +69,15 @@ fn literal_row(
     alloc: Global,
     atoms: &mut Atoms,
     line: usize,
-    elements: &[Node],
+    elements: Elements,
     tail: Option<&Node>,
 ) -> Result<Row, Fault>
     ensures { Answers row_of atoms.old atoms.new result
-        (parts line (chain elements.now (tail_seen tail.entry))).row }
+        (parts line (chain (elements_seen elements.entry) (tail_seen tail.entry))).row }
 {
     let mut kept = Some(Vec::new(alloc));
     for i in 0..elements.len() {
-        match literal(alloc, atoms, line, &elements[i]) {
+        match literal(alloc, atoms, line, elements.at(i).node()) {
             Ok(term) => kept = with_last(kept, term)?,
             Err(fault) => return Err(fault),
         }

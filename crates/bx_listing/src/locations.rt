@@ -1,12 +1,13 @@
 //! Where the items of a listing stand in its sources.
 
 ghost use Rattle.std.specs.Prelude.{◌≡◌, ◌++◌, ◌∷◌, [], Some, None, length, map, option_map, option_and_then, slice_get, string_bytes, IfOk, OnOk, OnErr};
+ghost use Rattle.bx_text.specs.View.{elements_seen};
 ghost use Rattle.bx_listing.specs.Locations.{spelled, string, character, line_number, location, first_location, said_by, own, moved, passed, Located};
 ghost use Rattle.bx_listing.specs.Seen.{seen};
 
 use crate::shapes::{Shape, list_elements, number, shape_of};
 use crate::words::{FormWord, form_word};
-use bx_text::Node;
+use bx_text::{Elements, Node};
 use indexmap::IndexSet;
 use std::alloc::{AllocError, Global};
 use std::marker::Model;
@@ -183,12 +184,12 @@ fn character(node: &Node) -> Option<char>
 }
 
 /// The text of the characters whose codes these are; `None` where one is no character.
-fn spelled(alloc: Global, nodes: &[Node]) -> Result<Option<String>, AllocError>
-    ensures { IfOk result (λ text. option_map string_bytes text ≡ spelled nodes.now) }
+fn spelled(alloc: Global, nodes: Elements) -> Result<Option<String>, AllocError>
+    ensures { IfOk result (λ text. option_map string_bytes text ≡ spelled (elements_seen nodes.entry)) }
 {
     let mut text = String::new(alloc);
     for i in 0..nodes.len() {
-        match character(&nodes[i]) {
+        match character(nodes.at(i).node()) {
             Some(character) => text.push(character)?,
             None => return Ok(None),
         }
@@ -232,12 +233,12 @@ fn location(alloc: Global, node: &Node) -> Result<Option<(String, u32)>, AllocEr
 }
 
 /// The first of them that is a place.
-fn first_location(alloc: Global, nodes: &[Node]) -> Result<Option<(String, u32)>, AllocError>
+fn first_location(alloc: Global, nodes: Elements) -> Result<Option<(String, u32)>, AllocError>
     ensures { IfOk result (λ place. option_map (λ l. (string_bytes l.0, l.1)) place ≡ first_location
-        nodes.now) }
+        (elements_seen nodes.entry)) }
 {
     for i in 0..nodes.len() {
-        match location(alloc, &nodes[i])? {
+        match location(alloc, nodes.at(i).node())? {
             Some(place) => return Ok(Some(place)),
             None => {}
         }

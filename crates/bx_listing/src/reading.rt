@@ -1,15 +1,18 @@
 //! Listings, read form by form.
 
-ghost use Rattle.std.specs.Prelude.{◌≡◌, ◌<◌, ◌⊎◌, [], None, length, option_map, IfOk, IfSome, IsSome, OnOk};
+ghost use Rattle.std.specs.Prelude.{◌≡◌, ◌≤◌, ◌<◌, ◌⊎◌, [], None, length, option_map, IfOk, IfSome, IsSome, OnOk};
 ghost use Rattle.bx_terms.specs.Outcomes.{Gives};
 ghost use Rattle.bx_text.specs.Place.{place, place_in};
 ghost use Rattle.bx_text.specs.Forms.{takes_memory};
 ghost use Rattle.bx_text.specs.Tree.{span_of};
 ghost use Rattle.bx_listing.specs.Shape.{shape};
 ghost use Rattle.bx_listing.specs.Forms.{next_form, forms, last_line};
+ghost use Rattle.bx_listing.specs.Dropped.{dropped, IsDropped, MakeSame};
 ghost use Rattle.bx_listing.specs.Listing as listings;
 ghost use Rattle.bx_listing.specs.Locations.{located, located_behind, located_exports, locations, passed};
-ghost use Rattle.bx_listing.specs.Reading.{Reads, Answers};
+ghost use Rattle.bx_listing.specs.HeadForms.{exports_form};
+ghost use Rattle.bx_listing.specs.Wanting.{ReadsForms};
+ghost use Rattle.bx_listing.specs.Reading.{Reads, Takes, Answers, named};
 
 use crate::code_form::Export;
 use crate::head_forms::{exports_form, is_attributes, is_labels, module_name};
@@ -38,6 +41,33 @@ fn next_form<'a>(alloc: Global, reader: Reader<'a>) -> Result<Option<(Node<'a>, 
     }
 }
 
+/// A reader behind the next form, where it is a pair of that word and a term, which is passed over.
+#[tactic(auto, using(crate::proofs::Dropped::dropped_form))]
+fn dropped<'a>(reader: Reader<'a>, word: &str) -> Option<Reader<'a>>
+    ensures end { option_map (λ r. place r) result ≡ dropped word.now (place reader.entry) }
+    ensures form { IfSome result (λ r. IsDropped word.now (place reader.entry) (place r)) }
+    ensures shorter { IfSome result (λ r. length r.rest.now < length reader.entry.rest.now) }
+{
+    // That each form takes bytes bounds the number of forms.
+    match reader.behind_pair(word) {
+        Some(behind) if behind.rest.len() < reader.rest.len() => Some(behind),
+        _ => None,
+    }
+}
+
+/// A reader behind the annotations that follow, which are passed over.
+#[tactic(auto, using(crate::proofs::Dropped::same_none, crate::proofs::Dropped::same_more, crate::proofs::Dropped::annotation_dropped))]
+fn behind_annotations<'a>(reader: Reader<'a>) -> Reader<'a>
+    ensures same { MakeSame (forms (place reader.entry)) (forms (place result)) }
+    ensures shorter { length result.rest.now ≤ length reader.entry.rest.now }
+{
+    let mut here = reader;
+    while let Some(behind) = dropped(here, "%") {
+        here = behind;
+    }
+    here
+}
+
 /// The line in which a text ends.
 fn last_line(text: &[u8]) -> usize
     ensures { result ≡ last_line text.now }
@@ -64,15 +94,27 @@ fn head_form<'a>(
 }
 
 /// A reader behind `{labels,N}`, before which `{attributes,T}` may stand.
+#[tactic(auto, using(crate::proofs::Dropped::attributes_read))]
 fn behind_head<'a>(alloc: Global, text: &[u8], reader: Reader<'a>) -> Result<Reader<'a>, Fault>
-    ensures { Gives (Unit {0}) (λ r. forms (place r)) result
+    ensures { Gives (ReadsForms (place reader.entry)) (λ r. forms (place r)) result
         (listings.behind_head (last_line text.now) (forms (place reader.entry))) }
 {
+    if let Some(behind) = dropped(reader, "attributes") {
+        return labels_form(alloc, text, behind);
+    }
     let (form, behind) = head_form(alloc, text, reader)?;
     if is_attributes(shape_of(&form)) {
-        let (form, behind) = head_form(alloc, text, behind)?;
-        return behind_labels(form, behind);
+        return labels_form(alloc, text, behind);
     }
+    behind_labels(form, behind)
+}
+
+/// A reader behind the next form, which must be `{labels,N}`.
+fn labels_form<'a>(alloc: Global, text: &[u8], reader: Reader<'a>) -> Result<Reader<'a>, Fault>
+    ensures { Gives (takes_memory (place reader.entry)) (λ r. forms (place r)) result (listings.and_so
+        (listings.taken (last_line text.now) (forms (place reader.entry))) listings.behind_labels) }
+{
+    let (form, behind) = head_form(alloc, text, reader)?;
     behind_labels(form, behind)
 }
 
@@ -96,7 +138,7 @@ fn functions(
     atoms: &mut Atoms,
     reader: Reader,
 ) -> Result<(Vec<Function>, Locations), Fault>
-    ensures read { Reads (Unit {0}) (λ r. r.0.items) atoms.old atoms.new result
+    ensures read { Reads (ReadsForms (place reader.entry)) (λ r. r.0.items) atoms.old atoms.new result
         (listings.functions [] (forms (place reader.entry))) }
     ensures located { IfOk result (λ r. r.1.items ≡ located None (forms (place reader.entry))) }
 {
@@ -107,7 +149,7 @@ fn functions(
     while let Some((form, behind)) = next_form(alloc, here)? {
         take_form(alloc, atoms, &mut functions, &mut operands, &form)?;
         place_form(alloc, &mut locations, form)?;
-        here = behind;
+        here = behind_annotations(behind);
     }
     Ok((functions, locations.fitted()))
 }
@@ -185,7 +227,8 @@ fn named_listing(
     module: &str,
     behind: Reader,
 ) -> Result<(Listing, Locations), Fault>
-    ensures read { Reads (Unit {0}) (λ r. r.0) atoms.old atoms.new result
+    ensures read { Reads (Takes (named line «module».now) atoms.old ⊎ ReadsForms (place behind.entry))
+        (λ r. r.0) atoms.old atoms.new result
         (listings.named_listing (last_line text.now) line (forms (place behind.entry))
         «module».now) }
     ensures located { IfOk result (λ r. r.1.items ≡ located_exports (last_line text.now)
@@ -202,7 +245,7 @@ fn behind_name(
     name: AtomId,
     behind: Reader,
 ) -> Result<(Listing, Locations), Fault>
-    ensures read { Reads (Unit {0}) (λ r. r.0) atoms.old atoms.new result
+    ensures read { Reads (ReadsForms (place behind.entry)) (λ r. r.0) atoms.old atoms.new result
         (listings.behind_name (last_line text.now) (forms (place behind.entry)) name) }
     ensures located { IfOk result (λ r. r.1.items ≡ located_exports (last_line text.now)
         (forms (place behind.entry))) }
@@ -219,7 +262,8 @@ fn exported(
     form: Node,
     behind: Reader,
 ) -> Result<(Listing, Locations), Fault>
-    ensures read { Reads (Unit {0}) (λ r. r.0) atoms.old atoms.new result (listings.exported
+    ensures read { Reads (Takes (exports_form (span_of form.entry).line (shape form.entry)) atoms.old
+        ⊎ ReadsForms (place behind.entry)) (λ r. r.0) atoms.old atoms.new result (listings.exported
         (last_line text.now) name (listings.taken_at form.entry (place behind.entry))) }
     ensures located { IfOk result (λ r. r.1.items ≡ located_behind
         (listings.behind_head (last_line text.now) (forms (place behind.entry)))) }
@@ -236,7 +280,7 @@ fn behind_exports(
     exports: Vec<Export>,
     behind: Reader,
 ) -> Result<(Listing, Locations), Fault>
-    ensures read { Reads (Unit {0}) (λ r. r.0) atoms.old atoms.new result
+    ensures read { Reads (ReadsForms (place behind.entry)) (λ r. r.0) atoms.old atoms.new result
         (listings.behind_exports (last_line text.now) name (forms (place behind.entry))
         exports.items) }
     ensures located { IfOk result (λ r. r.1.items ≡ located_behind
@@ -254,7 +298,7 @@ fn listed(
     exports: Vec<Export>,
     behind: Reader,
 ) -> Result<(Listing, Locations), Fault>
-    ensures read { Reads (Unit {0}) (λ r. r.0) atoms.old atoms.new result
+    ensures read { Reads (ReadsForms (place behind.entry)) (λ r. r.0) atoms.old atoms.new result
         (listings.listed name exports.items (forms (place behind.entry))) }
     ensures located { IfOk result (λ r. r.1.items ≡ located None (forms (place behind.entry))) }
 {

@@ -1,6 +1,7 @@
 //! Items, slot by slot.
 
 ghost use Rattle.std.specs.Prelude.{◌≡◌, slice_get, option_map, drop, length};
+ghost use Rattle.bx_text.specs.View.{elements_seen, element_seen};
 ghost use Rattle.bx_listing.specs.Shape.{shape};
 ghost use Rattle.bx_listing.specs.Seen.{seen};
 ghost use Rattle.bx_listing.specs.Formed.{formed};
@@ -15,7 +16,7 @@ use crate::ways::{Form, bare_form, tuple_form};
 use crate::words::{FormWord, OperandWord, form_word, operand_word};
 use bx_ops::{Op, Slot, Sort, slots};
 use bx_terms::{Atoms, Fault};
-use bx_text::Node;
+use bx_text::{Element, Elements, Node};
 use std::alloc::Global;
 
 /// The members of a list, of two sorts in turn.
@@ -26,15 +27,15 @@ fn members(
     operands: &mut Vec<Operand>,
     first: Sort,
     second: Sort,
-    nodes: &[Node],
+    nodes: Elements,
 ) -> Result<(), Fault>
     ensures { Answers (λ done. operands.new.items) atoms.old atoms.new result
-        (members line operands.old.items first second nodes.now) }
+        (members line operands.old.items first second (elements_seen nodes.entry)) }
 {
     let mut this = first;
     let mut next = second;
     for i in 0..nodes.len() {
-        match simple(alloc, atoms, line, this, &nodes[i]) {
+        match simple(alloc, atoms, line, this, nodes.at(i).node()) {
             Ok(operand) => operands.push(operand)?,
             Err(fault) => return Err(fault),
         }
@@ -46,8 +47,8 @@ fn members(
 }
 
 /// The elements of `{alloc,[T,..]}`.
-fn amounts<'v, 'a>(node: &'v Node<'a>) -> Option<&'v [Node<'a>]>
-    ensures { option_map (λ list. list.now) result ≡ amounts node.now }
+fn amounts<'v, 'a>(node: &'v Node<'a>) -> Option<Elements<'v, 'a>>
+    ensures { option_map (λ list. elements_seen list) result ≡ amounts node.now }
 {
     let Shape::Tagged(word, [list]) = shape_of(node) else {
         return None;
@@ -59,8 +60,8 @@ fn amounts<'v, 'a>(node: &'v Node<'a>) -> Option<&'v [Node<'a>]>
 }
 
 /// The elements of `{list,[T,..]}`.
-fn listed<'v, 'a>(node: &'v Node<'a>) -> Option<&'v [Node<'a>]>
-    ensures { option_map (λ list. list.now) result ≡ listed node.now }
+fn listed<'v, 'a>(node: &'v Node<'a>) -> Option<Elements<'v, 'a>>
+    ensures { option_map (λ list. elements_seen list) result ≡ listed node.now }
 {
     let Shape::Tagged(word, [list]) = shape_of(node) else {
         return None;
@@ -71,8 +72,8 @@ fn listed<'v, 'a>(node: &'v Node<'a>) -> Option<&'v [Node<'a>]>
     }
 }
 
-fn is_even(nodes: &[Node]) -> bool
-    ensures { result ≡ is_even nodes.now }
+fn is_even(nodes: Elements) -> bool
+    ensures { result ≡ is_even (elements_seen nodes.entry) }
 {
     nodes.len() % 2 == 0
 }
@@ -106,10 +107,10 @@ fn list_of(
     operands: &mut Vec<Operand>,
     first: Sort,
     second: Sort,
-    nodes: &[Node],
+    nodes: Elements,
 ) -> Result<(), Fault>
     ensures { Answers (λ done. operands.new.items) atoms.old atoms.new result
-        (list_of line operands.old.items first second nodes.now) }
+        (list_of line operands.old.items first second (elements_seen nodes.entry)) }
 {
     operands.push(Operand::List(nodes.len()))?;
     members(alloc, atoms, line, operands, first, second, nodes)
@@ -204,10 +205,10 @@ fn pairs_of(
     operands: &mut Vec<Operand>,
     first: Sort,
     second: Sort,
-    nodes: &[Node],
+    nodes: Elements,
 ) -> Result<(), Fault>
     ensures { Answers (λ done. operands.new.items) atoms.old atoms.new result
-        (pairs_of line operands.old.items first second nodes.now) }
+        (pairs_of line operands.old.items first second (elements_seen nodes.entry)) }
 {
     if is_even(nodes) {
         list_of(alloc, atoms, line, operands, first, second, nodes)
@@ -218,19 +219,19 @@ fn pairs_of(
 
 impl<'v, 'a> Form<'v, 'a> {
     /// The term that stands as the operand of that number, from 0.
-    fn part(&self, number: usize) -> Option<&'v Node<'a>>
-        ensures { option_map (λ node. node.now) result ≡ slice_get (formed self.now).1 number }
+    fn part(&self, number: usize) -> Option<Element<'v, 'a>>
+        ensures { option_map (λ part. element_seen part) result ≡ slice_get (formed self.now).1 number }
     {
         if number < self.before.len() {
-            return Some(&self.before[number]);
+            return Some(Element::Node(&self.before[number]));
         }
         let number = number - self.before.len();
         if number < self.list.len() {
-            return Some(&self.list[number]);
+            return Some(self.list.at(number));
         }
         let number = number - self.list.len();
         if number < self.behind.len() {
-            return Some(&self.behind[number]);
+            return Some(Element::Node(&self.behind[number]));
         }
         None
     }
@@ -249,10 +250,10 @@ fn read_row(
         (row line operands.old.items slots.now (formed form.entry).1) }
 {
     for i in 0..slots.len() {
-        let Some(node) = form.part(i) else {
+        let Some(part) = form.part(i) else {
             return Ok(());
         };
-        match read_slot(alloc, atoms, line, operands, slots[i], node) {
+        match read_slot(alloc, atoms, line, operands, slots[i], part.node()) {
             Ok(()) => {}
             Err(fault) => return Err(fault),
         }

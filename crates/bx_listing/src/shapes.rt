@@ -2,9 +2,10 @@
 
 ghost use Rattle.std.specs.Prelude.{◌≡◌, option_map};
 ghost use Rattle.bx_listing.specs.Shape.{shape, number, word, list_elements};
+ghost use Rattle.bx_text.specs.View.{elements_seen};
 ghost use Rattle.bx_listing.specs.Seen.{seen};
 
-use bx_text::{Node, View};
+use bx_text::{Elements, Node, View};
 
 /// What a term begins with.
 #[derive(Clone, Copy)]
@@ -50,8 +51,8 @@ pub(crate) fn word<'v>(node: &'v Node) -> Option<&'v str>
 }
 
 /// The elements of a proper list.
-pub(crate) fn list_elements<'v, 'a>(node: &'v Node<'a>) -> Option<&'v [Node<'a>]>
-    ensures { option_map (λ elements. elements.now) result ≡ list_elements node.now }
+pub(crate) fn list_elements<'v, 'a>(node: &'v Node<'a>) -> Option<Elements<'v, 'a>>
+    ensures { option_map (λ elements. elements_seen elements) result ≡ list_elements node.now }
 {
     match node.view() {
         View::List(elements, None) => Some(elements),

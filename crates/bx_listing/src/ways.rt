@@ -4,6 +4,7 @@ ghost use Rattle.std.specs.Prelude.{◌≡◌, ◌++◌, [], length, option_map}
 ghost use Rattle.bx_ops.specs.Opcodes.{with_name};
 ghost use Rattle.bx_ops.specs.GuardBifs.{guard_bif_with};
 ghost use Rattle.bx_listing.specs.Ways.{counted, named_form, bare_op, bare_form, test_form, test_row, bif_form, bif_called, bif_named, is_raise, bif_found, bif_row, bif_op, gc_bif_op, gc_bif_form, gc_bif_called, raise_form, tuple_form};
+ghost use Rattle.bx_text.specs.View.{elements_seen};
 ghost use Rattle.bx_listing.specs.Formed.{formed};
 ghost use Rattle.bx_listing.specs.Wanting.{FormGives};
 
@@ -12,7 +13,7 @@ use crate::shapes::{list_elements, word};
 use crate::words::FormWord;
 use bx_ops::{Op, Way, bif_by_name, op_named, slots, way};
 use bx_terms::Fault;
-use bx_text::Node;
+use bx_text::{Elements, Node};
 use std::alloc::Global;
 
 /// An instruction, and the terms that stand as its operands: those before a list, those in it, and those behind it.
@@ -20,14 +21,14 @@ use std::alloc::Global;
 pub(crate) struct Form<'v, 'a> {
     pub op: Op,
     pub before: &'v [Node<'a>],
-    pub list: &'v [Node<'a>],
+    pub list: Elements<'v, 'a>,
     pub behind: &'v [Node<'a>],
 }
 
 /// An instruction whose operands are as many as the table says.
 fn counted<'v, 'a>(line: usize, form: Form<'v, 'a>) -> Result<Form<'v, 'a>, Fault>
     ensures { FormGives formed result (counted line form.entry.op
-        (form.entry.before.now ++ (form.entry.list.now ++ form.entry.behind.now))) }
+        (form.entry.before.now ++ (elements_seen form.entry.list ++ form.entry.behind.now))) }
 {
     let left = slots(form.op).len();
     if form.before.len() <= left {
@@ -57,7 +58,7 @@ fn named_form<'v, 'a>(
             Form {
                 op,
                 before: parts,
-                list: &parts[..0],
+                list: Elements::Nodes(&parts[..0]),
                 behind: &parts[..0],
             },
         ),
@@ -144,10 +145,10 @@ fn bif_row<'v, 'a>(
     line: usize,
     op: Option<Op>,
     before: &'v [Node<'a>],
-    list: &'v [Node<'a>],
+    list: Elements<'v, 'a>,
     behind: &'v [Node<'a>],
 ) -> Result<Form<'v, 'a>, Fault>
-    ensures { FormGives formed result (bif_row line op before.now list.now behind.now) }
+    ensures { FormGives formed result (bif_row line op before.now (elements_seen list.entry) behind.now) }
 {
     match (op, behind) {
         (Some(op), [_]) => counted(
@@ -169,11 +170,11 @@ fn bif_found<'v, 'a>(
     text: &str,
     op: Option<Op>,
     before: &'v [Node<'a>],
-    list: &'v [Node<'a>],
+    list: Elements<'v, 'a>,
     behind: &'v [Node<'a>],
 ) -> Result<Form<'v, 'a>, Fault>
-    ensures { FormGives formed result (bif_found line text.now op before.now list.now behind.now
-        (guard_bif_with text.now (length list.now))) }
+    ensures { FormGives formed result (bif_found line text.now op before.now (elements_seen list.entry) behind.now
+        (guard_bif_with text.now (length (elements_seen list.entry)))) }
 {
     if bif_by_name(text, list.len()).is_none() {
         let called = format!(in alloc; "{text}/{}", list.len())?;
@@ -211,11 +212,11 @@ fn bif_called<'v, 'a>(
     fail: &'v [Node<'a>],
     behind: &'v [Node<'a>],
     name: Option<&'v str>,
-    arguments: Option<&'v [Node<'a>]>,
+    arguments: Option<Elements<'v, 'a>>,
 ) -> Result<Form<'v, 'a>, Fault>
     ensures { FormGives formed result (bif_called line first.now fail.now behind.now
         (option_map (λ text. text.now) name.entry)
-        (option_map (λ list. list.now) arguments.entry)) }
+        (option_map (λ list. elements_seen list) arguments.entry)) }
 {
     match (name, arguments) {
         (Some(text), Some(list)) => bif_named(alloc, line, first, fail, behind, text, list),
@@ -230,10 +231,10 @@ fn bif_named<'v, 'a>(
     fail: &'v [Node<'a>],
     behind: &'v [Node<'a>],
     text: &str,
-    list: &'v [Node<'a>],
+    list: Elements<'v, 'a>,
 ) -> Result<Form<'v, 'a>, Fault>
     ensures { FormGives formed result
-        (bif_named line first.now fail.now behind.now text.now list.now) }
+        (bif_named line first.now fail.now behind.now text.now (elements_seen list.entry)) }
 {
     if is_raise(text, list) {
         bif_row(line, Some(Op::Raise), fail, list, behind)
@@ -242,8 +243,8 @@ fn bif_named<'v, 'a>(
     }
 }
 
-fn is_raise(text: &str, list: &[Node]) -> bool
-    ensures { result ≡ is_raise text.now list.now }
+fn is_raise(text: &str, list: Elements) -> bool
+    ensures { result ≡ is_raise text.now (elements_seen list.entry) }
 {
     text == "raise" && list.len() == 2
 }
@@ -276,11 +277,11 @@ fn gc_bif_called<'v, 'a>(
     first: &'v [Node<'a>],
     behind: &'v [Node<'a>],
     name: Option<&'v str>,
-    arguments: Option<&'v [Node<'a>]>,
+    arguments: Option<Elements<'v, 'a>>,
 ) -> Result<Form<'v, 'a>, Fault>
     ensures { FormGives formed result (gc_bif_called line first.now behind.now
         (option_map (λ text. text.now) name.entry)
-        (option_map (λ list. list.now) arguments.entry)) }
+        (option_map (λ list. elements_seen list) arguments.entry)) }
 {
     match (name, arguments) {
         (Some(text), Some(list)) => bif_found(

@@ -1,6 +1,6 @@
 use Rattle.std.proofs.Common.{◌≡◌, ◌+◌, ◌*◌, drop, option_map}
 use Rattle.bx_text.specs.Tree.{chain, nodes}
-use Rattle.bx_text.specs.View.{tail_seen}
+use Rattle.bx_text.specs.View.{tail_seen, elements_seen}
 use Rattle.bx_listing.specs.Reading.{Begins, Takes}
 use Rattle.bx_listing.proofs.LiteralRows.{row, resumed}
 use Rattle.bx_listing.proofs.literals.+literal.Given as goal
@@ -9,11 +9,11 @@ abbrev pub decreases-literal : goal.decreases-literal
 decreases-literal l = 2 * nodes l.node.now
 
 abbrev pub decreases-literal_row : goal.decreases-literal_row
-decreases-literal_row l = 1 + 2 * nodes (chain l.elements.now (tail_seen l.tail))
+decreases-literal_row l = 1 + 2 * nodes (chain (elements_seen l.elements) (tail_seen l.tail))
 
 abbrev pub invariant-literal_row-loop-i : goal.invariant-literal_row-loop-i
 invariant-literal_row-loop-i l = record {
-  so_far : resumed (option_map (λ ts. ts.items) l.kept) ((row l.line (drop l.i l.elements) (tail_seen l.tail)).run l.atoms) ≡ (row l.line l.elements (tail_seen l.tail)).run l.fn.atoms;
-  wants : Takes (row l.line (drop l.i l.elements) (tail_seen l.tail)) l.atoms → Takes (row l.line l.elements (tail_seen l.tail)) l.fn.atoms;
+  so_far : resumed (option_map (λ ts. ts.items) l.kept) ((row l.line (drop l.i (elements_seen l.elements)) (tail_seen l.tail)).run l.atoms) ≡ (row l.line (elements_seen l.elements) (tail_seen l.tail)).run l.fn.atoms;
+  wants : Takes (row l.line (drop l.i (elements_seen l.elements)) (tail_seen l.tail)) l.atoms → Takes (row l.line (elements_seen l.elements) (tail_seen l.tail)) l.fn.atoms;
   grown : Begins l.fn.atoms l.atoms;
 }

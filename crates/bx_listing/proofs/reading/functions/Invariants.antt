@@ -1,7 +1,8 @@
-use Rattle.std.proofs.Common.{◌≡◌, [], ◌++◌, None, length}
+use Rattle.std.proofs.Common.{◌≡◌, [], ◌++◌, ◌⊎◌, None, length}
 use Rattle.bx_text.specs.Place.{place}
 use Rattle.bx_listing.specs.Reading.{Begins}
 use Rattle.bx_listing.specs.Forms.{forms}
+use Rattle.bx_listing.specs.Wanting.{IsForm}
 use Rattle.bx_listing.specs.Listing as listings
 use Rattle.bx_listing.specs.Locations.{located}
 use Rattle.bx_listing.proofs.reading.functions.Given as goal
@@ -10,6 +11,7 @@ abbrev pub invariant-loop-locations : goal.invariant-loop-locations
 invariant-loop-locations l = record {
   so_far : (listings.functions l.functions.items (forms (place l.here))).run l.atoms ≡ (listings.functions [] (forms (place l.fn.reader))).run l.fn.atoms;
   grown : Begins l.fn.atoms l.atoms;
+  begun : (place l.here ≡ place l.fn.reader) ⊎ IsForm (forms (place l.fn.reader));
   placed : l.locations.items ++ located l.locations.here (forms (place l.here)) ≡ located None (forms (place l.fn.reader));
 }
 

@@ -8,7 +8,8 @@ use Rattle.bx_listing.specs.Shape.{shape}
 use Rattle.bx_listing.specs.HeadForms.{module_name}
 use Rattle.bx_listing.specs.Forms.{forms, last_line}
 use Rattle.bx_listing.specs.Listing as listings
-use Rattle.bx_listing.proofs.Readings.{refuses_first, refuses_result, reads_taking, reads_same}
+use Rattle.bx_listing.proofs.Readings.{refuses_first, refuses_result, reads_same}
+use Rattle.bx_listing.proofs.FormMemory.{reads_wider}
 use Rattle.bx_listing.proofs.Heads.{listing-named, is_named}
 use Rattle.bx_listing.proofs.LocatedForms.{behind_first}
 use Rattle.bx_listing.proofs.reading.read_located.Goals as goal
@@ -32,7 +33,7 @@ returns-in-Some-clause-read c =
     let named : Some c.in-Some.name.now ≡ module_name (shape c.in_ok-form.form) = rw c.shape_of.ensures at c.in-Some.ensures in
     let takes : Type 0 = takes_memory start ⊎ listings.IsNamed (forms start) in
     reads_same takes _ _ _ _ (listings.named_listing last form.line form.rest c.in-Some.name.now) (listings.listing last (forms start)) (listing-named last (forms start) form c.in-Some.name.now _ taken named)
-    (reads_taking takes _ _ _ _ _ (inr (is_named last (forms start) form c.in-Some.name.now taken named)) (rw c.span-line.ensures at c.named_listing.ensures.read))
+    (reads_wider _ takes _ _ _ _ _ (λ h. inr (is_named last (forms start) form c.in-Some.name.now taken named)) (rw c.span-line.ensures at c.named_listing.ensures.read))
 
 pub returns-in-Some-clause-located : goal.returns-in-Some-clause-located
 returns-in-Some-clause-located c =

@@ -1,4 +1,4 @@
-use Rattle.std.proofs.Common.{get_or, sym}
+use Rattle.std.proofs.Common.{get_or, sym, ap, Some, ◌∙◌}
 use Rattle.bx_listing.specs.Formed.{formed}
 use Rattle.bx_listing.specs.Rows.{row, slot}
 use Rattle.bx_listing.proofs.Readings.{grown_after}
@@ -10,11 +10,14 @@ returns-in_default c = row_no_more c.args.line _ c.args.slots.now (formed c.args
 
 pub returns-in-Err : goal.returns-in-Err
 returns-in-Err c =
-    row_refuses c.args.line _ c.args.slots.now (formed c.args.form).1 c.loop-i.i _ _ _ _ _ _ (row c.args.line c.args.operands.now.items c.args.slots.now (formed c.args.form).1) c.loop-i-test.true (sym c.in-Some.ensures) c.loop-i.invariant.grown c.loop-i.invariant.so_far c.loop-i.invariant.wants c.in-Err.ensures
+    let found = sym c.in-Some.ensures ∙ ap Some (sym c.node.ensures) in
+    row_refuses c.args.line _ c.args.slots.now (formed c.args.form).1 c.loop-i.i _ _ _ _ _ _ (row c.args.line c.args.operands.now.items c.args.slots.now (formed c.args.form).1) c.loop-i-test.true found c.loop-i.invariant.grown c.loop-i.invariant.so_far c.loop-i.invariant.wants c.in-Err.ensures
 
 pub loop-i-preserved : goal.loop-i-preserved
-loop-i-preserved c = record {
-  so_far = row_next c.args.line _ c.args.slots.now (formed c.args.form).1 c.loop-i.i _ _ _ _ _ _ c.loop-i-test.true (sym c.in-Some.ensures) c.loop-i.invariant.so_far c.in-Ok.ensures;
-  wants = row_takes c.args.line _ c.args.slots.now (formed c.args.form).1 c.loop-i.i _ _ _ _ _ _ (row c.args.line c.args.operands.now.items c.args.slots.now (formed c.args.form).1) c.loop-i-test.true (sym c.in-Some.ensures) c.loop-i.invariant.wants c.in-Ok.ensures;
-  grown = grown_after (slot c.args.line c.loop-i.operands.items (get_or c.args.slots.now c.loop-i.i _) c.in-Some.node.now) _ _ _ _ c.loop-i.invariant.grown c.in-Ok.ensures;
-}
+loop-i-preserved c =
+    let found = sym c.in-Some.ensures ∙ ap Some (sym c.node.ensures) in
+    record {
+      so_far = row_next c.args.line _ c.args.slots.now (formed c.args.form).1 c.loop-i.i _ _ _ _ _ _ c.loop-i-test.true found c.loop-i.invariant.so_far c.in-Ok.ensures;
+      wants = row_takes c.args.line _ c.args.slots.now (formed c.args.form).1 c.loop-i.i _ _ _ _ _ _ (row c.args.line c.args.operands.now.items c.args.slots.now (formed c.args.form).1) c.loop-i-test.true found c.loop-i.invariant.wants c.in-Ok.ensures;
+      grown = grown_after (slot c.args.line c.loop-i.operands.items (get_or c.args.slots.now c.loop-i.i _) c.node.result.now) _ _ _ _ c.loop-i.invariant.grown c.in-Ok.ensures;
+    }

@@ -1,0 +1,14 @@
+use Rattle.std.proofs.Common.{◌≤◌, length}
+use Rattle.bx_text.specs.Place.{place}
+use Rattle.bx_listing.specs.Forms.{forms}
+use Rattle.bx_listing.specs.Dropped.{MakeSame}
+use Rattle.bx_listing.proofs.reading.behind_annotations.Given as goal
+
+abbrev pub invariant-loop-behind : goal.invariant-loop-behind
+invariant-loop-behind l = record {
+  same : MakeSame (forms (place l.fn.reader)) (forms (place l.here));
+  shorter : length l.here.rest.now ≤ length l.fn.reader.rest.now;
+}
+
+abbrev pub decreases-loop-behind : goal.decreases-loop-behind
+decreases-loop-behind l = length l.here.rest.now
