@@ -148,3 +148,6 @@ pub raise_is : (os : List Operand) → is_row (NoLabel ∷ One sorts.Source ∷ 
 raise_is = one (λ os. There (decoding.raise_row os)) sorts.Source (One sorts.Source ∷ ToX0 ∷ [])
     (λ a rest p. one (λ os. There (decoding.raise_row (a ∷ os))) sorts.Source (ToX0 ∷ [])
     (λ b more q. end (λ os. There (decoding.raise_row (a ∷ b ∷ os))) refl more) rest)
+
+-- all forms
+pub ruleset forms = (call_is, call_last_is, call_ext_is, call_ext_last_is, without_argument, with_one_argument, with_two_arguments, with_heap_and_one, with_heap_and_two, number_first, label_only, y_only, no_match_is, trim_is, init_yregs_is, loop_rec_is, wait_timeout_is, compare_is, kind_is, test_arity_is, is_tagged_tuple_is, select_val_is, select_tuple_arity_is, move_is, registers_are, get_list_is, get_tuple_element_is, put_list_is, put_tuple2_is, catch_is, raise_is)

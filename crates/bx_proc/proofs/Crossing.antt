@@ -1,7 +1,6 @@
 -- A process may go to another thread, and threads may share one.
 use denote.Param.Send.{IsSend, IsSync, AllSend, AllSync, view_send, view_sync, recorded_send, recorded_sync, struct_send, struct_sync, sendable}
 use denote.Struct.Declared.{shape}
-use Rattle.std.proofs.Crossing as owned
 use Rattle.std.specs.contracts.option.Option as option
 use Rattle.bx_terms.proofs.Crossing.{term_send, term_sync}
 use Rattle.bx_terms.specs.contracts.places.Place as place

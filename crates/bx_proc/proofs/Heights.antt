@@ -1,12 +1,10 @@
 -- How high what is built of others is.
-use Rattle.std.proofs.Common.{◌≡◌, ◌<◌, ◌≤◌, ℕ, Bool, true, false, refl, ap, sym, ◌∙◌, arith}
+use Rattle.std.proofs.Common.{◌≡◌, ◌<◌, ◌≤◌, ℕ, Bool, true, false, refl, sym, ◌∙◌, arith}
 use Rattle.std.proofs.lemmas.Bool.Decides.{nat_tests}
 use Rattle.std.specs.Prelude.{IsOkAnd, List, nat_le, Result, Ok, Err, if◌then◌else◌}
 use Rattle.bx_terms.specs.Outcomes.{◌>>=◌}
-use Rattle.bx_terms.specs.Tree.{Tree, atom, tuple, listed, nil, height}
-use Rattle.bx_terms.specs.declared.atom_table.AtomId.{AtomId}
-use Rattle.bx_terms.specs.declared.fixed.TheConstants.{NOCATCH, EXIT_TAG}
-use Rattle.bx_terms.specs.declared.kinds.Class.TheVariants.{Throw, Error, Exit}
+use Rattle.bx_terms.specs.Tree.{Tree, tuple, listed, height}
+use Rattle.bx_terms.specs.declared.kinds.Class.TheVariants.{Throw}
 use Rattle.bx_terms.specs.declared.kinds.Trap.{Trap}
 use Rattle.bx_terms.specs.declared.kinds.Trap.TheVariants.{TermHeight}
 use Rattle.bx_proc.specs.Faults.{pair, reason, within_height}

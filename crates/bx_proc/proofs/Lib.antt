@@ -1,5 +1,6 @@
 pub mod Asked
 pub mod Attempts
+pub mod Bursting
 pub mod Calm
 pub mod Crossing
 pub mod Decoded
@@ -10,6 +11,7 @@ pub mod Heights
 pub mod Keeping
 pub mod KeptRows
 pub mod Linking
+pub mod Mailing
 pub mod Living
 pub mod Noting
 pub mod Refusing

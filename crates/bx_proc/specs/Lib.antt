@@ -19,7 +19,8 @@ pub mod Spelled
 pub mod Stacking
 pub mod Stepping
 pub mod Stops
+pub mod Bursts
 pub mod Table
 pub mod Telling
-pub mod Wanting
+pub mod Rules
 pub mod Families

@@ -46,7 +46,7 @@ impl Proc {
 
     /// `call` and `call_only`.
     #[inline(never)]
-    #[tactic(auto, unfolding(crate::specs::Table::row, crate::specs::Table::Takes))]
+    #[tactic(auto, unfolding(crate::specs::Table::rule))]
     pub(crate) fn call(
         &mut self,
         image: &Image,
@@ -68,7 +68,7 @@ impl Proc {
 
     /// `call_last`.
     #[inline(never)]
-    #[tactic(auto, unfolding(crate::specs::Table::row, crate::specs::Table::Takes))]
+    #[tactic(auto, unfolding(crate::specs::Table::rule))]
     pub(crate) fn call_last(
         &mut self,
         image: &Image,
@@ -174,7 +174,7 @@ impl Proc {
 
     /// `return`.
     #[inline(always)]
-    #[tactic(auto, unfolding(crate::specs::Table::row, crate::specs::Table::Takes))]
+    #[tactic(auto, unfolding(crate::specs::Table::rule))]
     pub(crate) fn return_to(&mut self) -> Result<(), Stop>
         ensures { (pid : ℕ) (image : Loaded) (here : places.Place) → RunsAt pid image here self.old
             self.new result (Some instr.return) }

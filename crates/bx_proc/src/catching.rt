@@ -9,7 +9,6 @@ ghost use Rattle.bx_proc.specs.Faults.{within_height};
 ghost use Rattle.bx_proc.specs.Runs.{RunsAt};
 ghost use Rattle.bx_proc.specs.Spelled.{spelled};
 ghost use Rattle.bx_proc.specs.Stops.{Reads, Turns};
-ghost use Rattle.bx_proc.specs.Wanting.{CaughtTakes};
 ghost use Rattle.bx_proc.specs.Looking.{tree_of};
 ghost use Rattle.bx_terms.specs.Built.{IsWithinHeight};
 
@@ -27,7 +26,7 @@ use std::alloc::Global;
 impl Proc {
     /// `catch` and `try`.
     #[inline(never)]
-    #[tactic(auto, unfolding(crate::specs::Table::row, crate::specs::Table::Takes))]
+    #[tactic(auto, unfolding(crate::specs::Table::rule))]
     pub(crate) fn catch_at_label(
         &mut self,
         image: &Image,
@@ -73,7 +72,7 @@ impl Proc {
 
     /// `catch_end`.
     #[inline(never)]
-    #[tactic(auto, unfolding(crate::specs::Table::row, crate::specs::Table::Takes, crate::specs::Catching::catch_end_row))]
+    #[tactic(auto, unfolding(crate::specs::Table::rule, crate::specs::Catching::catch_end_row))]
     pub(crate) fn catch_end(
         &mut self,
         alloc: Global,
@@ -101,7 +100,7 @@ impl Proc {
 
     /// `try_end`.
     #[inline(never)]
-    #[tactic(auto, unfolding(crate::specs::Table::row, crate::specs::Table::Takes, crate::specs::Catching::try_end_row))]
+    #[tactic(auto, unfolding(crate::specs::Table::rule, crate::specs::Catching::try_end_row))]
     pub(crate) fn try_end(
         &mut self,
         image: &Image,
@@ -121,7 +120,7 @@ impl Proc {
 
     /// `try_case`.
     #[inline(never)]
-    #[tactic(auto, unfolding(crate::specs::Table::row, crate::specs::Table::Takes, crate::specs::Catching::try_case_row))]
+    #[tactic(auto, unfolding(crate::specs::Table::rule, crate::specs::Catching::try_case_row))]
     pub(crate) fn try_case(
         &mut self,
         alloc: Global,
@@ -166,7 +165,7 @@ impl Proc {
 
     /// `raise`.
     #[inline(never)]
-    #[tactic(auto, unfolding(crate::specs::Table::row, crate::specs::Table::Takes, crate::specs::Catching::raise_row))]
+    #[tactic(auto, unfolding(crate::specs::Table::rule, crate::specs::Catching::raise_row))]
     pub(crate) fn raise_again(
         &mut self,
         alloc: Global,
@@ -188,7 +187,7 @@ impl Proc {
 
     /// `build_stacktrace`.
     #[inline(never)]
-    #[tactic(auto, unfolding(crate::specs::Table::row, crate::specs::Table::Takes, crate::specs::Catching::build_stacktrace_row))]
+    #[tactic(auto, unfolding(crate::specs::Table::rule, crate::specs::Catching::build_stacktrace_row))]
     pub(crate) fn build_stacktrace(&mut self, image: &Image, here: Place) -> Result<(), Stop>
         ensures { (pid : ℕ) → RunsAt pid image.now here self.old self.new result
             (Some instr.build_stacktrace) }
@@ -203,7 +202,7 @@ impl Proc {
 
     /// `func_info`.
     #[inline(never)]
-    #[tactic(auto, unfolding(crate::specs::Table::row, crate::specs::Table::Takes))]
+    #[tactic(auto, unfolding(crate::specs::Table::rule))]
     pub(crate) fn func_info(
         &mut self,
         alloc: Global,
@@ -218,7 +217,7 @@ impl Proc {
 
     /// `int_code_end`.
     #[inline(always)]
-    #[tactic(auto, unfolding(crate::specs::Table::row, crate::specs::Table::Takes))]
+    #[tactic(auto, unfolding(crate::specs::Table::rule))]
     pub(crate) fn int_code_end(&mut self, image: &Image, here: Place) -> Result<(), Stop>
         ensures { (pid : ℕ) → RunsAt pid image.now here self.old self.new result
             (Some instr.int_code_end) }
@@ -228,7 +227,7 @@ impl Proc {
 
     /// `if_end`.
     #[inline(never)]
-    #[tactic(auto, unfolding(crate::specs::Table::row, crate::specs::Table::Takes))]
+    #[tactic(auto, unfolding(crate::specs::Table::rule))]
     pub(crate) fn if_end(&mut self, alloc: Global, image: &Image, here: Place) -> Result<(), Stop>
         ensures { (pid : ℕ) → RunsAt pid image.now here self.old self.new result
             (Some instr.if_end) }
@@ -238,7 +237,7 @@ impl Proc {
 
     /// `badmatch`, `case_end` and `try_case_end`.
     #[inline(never)]
-    #[tactic(auto, unfolding(crate::specs::Table::row, crate::specs::Table::Takes, crate::specs::Catching::no_match_row))]
+    #[tactic(auto, unfolding(crate::specs::Table::rule, crate::specs::Catching::no_match_row))]
     pub(crate) fn no_match(
         &mut self,
         alloc: Global,
@@ -264,7 +263,8 @@ impl Proc {
 
 /// What `catch` gives for a fault. Its height is looked at before anything is built.
 fn caught_of(alloc: Global, class: Class, value: &Term) -> Result<Term, Stop>
-    ensures { Reads (CaughtTakes class value.now) (λ t. t) result (caught_of class value.now) }
+    ensures { Reads (caught_of class value.now).takes (λ t. t) result
+        (caught_of class value.now).said }
 {
     let exit = Term::atom(fixed::EXIT_TAG);
     match class {

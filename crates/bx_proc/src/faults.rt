@@ -2,12 +2,11 @@
 
 ghost use Rattle.std.specs.Prelude.{◌≡◌};
 ghost use Rattle.bx_terms.specs.Built.{IsWithinHeight};
-ghost use Rattle.bx_proc.specs.Faults.{reason, pair, within_height, raised, caught_at};
+ghost use Rattle.bx_proc.specs.Faults.{reasoned, pair, within_height, raised, caught_at};
 ghost use Rattle.bx_proc.specs.Calls.{raised_by};
 ghost use Rattle.bx_proc.specs.Ending.{ended};
-ghost use Rattle.bx_proc.specs.Runs.{Runs};
+ghost use Rattle.bx_proc.specs.Runs.{RunsBy};
 ghost use Rattle.bx_proc.specs.Stops.{Reads};
-ghost use Rattle.bx_proc.specs.Wanting.{ReasonTakes, Raises, RaisesBy};
 ghost use Rattle.bx_proc.specs.declared.stops.Why.TheVariants as stops;
 ghost use Rattle.std.specs.Prelude.{Err};
 
@@ -37,8 +36,7 @@ impl Proc {
     #[cold]
     #[inline(never)]
     pub(crate) fn raise(&mut self, alloc: Global, class: Class, value: Term) -> Result<(), Stop>
-        ensures { Runs (Raises class value self.old) self.old self.new result
-            (raised class value self.old) }
+        ensures { RunsBy self.old self.new result (raised class value self.old) }
     {
         let Some((above, place)) = self.frames.handler() else {
             let reason = reason(alloc, class, value)?;
@@ -58,8 +56,7 @@ impl Proc {
         class: Class,
         value: Term,
     ) -> Result<(), Stop>
-        ensures { Runs (RaisesBy kind class value self.old) self.old self.new result
-            (raised_by kind class value self.old) }
+        ensures { RunsBy self.old self.new result (raised_by kind class value self.old) }
     {
         let CallKind::Last(size) = kind else {
             return self.raise(alloc, class, value);
@@ -87,8 +84,7 @@ impl Proc {
 /// The reason with which a process ends that did not catch a fault. Its height is looked at before anything is built.
 #[tactic(auto, using(crate::proofs::Heights::pair_low, crate::proofs::Heights::refused_high, crate::proofs::Heights::uncaught_low, crate::proofs::Heights::uncaught_high))]
 fn reason(alloc: Global, class: Class, value: Term) -> Result<Term, Stop>
-    ensures { Reads (ReasonTakes class value) (λ r. r) result
-        (within_height (reason class value)) }
+    ensures { Reads (reasoned class value).takes (λ r. r) result (reasoned class value).said }
 {
     match class {
         Class::Exit => Ok(value),

@@ -15,16 +15,26 @@ ghost use Rattle.bx_proc.specs.declared.parts.Effect.TheVariants as effects;
 ghost use Rattle.bx_proc.specs.declared.parts.Pending.{Pending};
 ghost use Rattle.bx_proc.specs.declared.parts.Status.TheVariants.{Ready, Ended};
 ghost use Rattle.bx_proc.specs.Process.{Process};
-ghost use Rattle.bx_proc.specs.Families.{parts_of, KeepsBut};
+ghost use Rattle.bx_proc.specs.Families.{parts_of, KeepsBut, MayBe, Mailed};
 ghost use Rattle.bx_proc.specs.Stepping.{attempted, settled, settled_with, is_held_up_by, takes_memory, unasked, resumed, ResumedTakes, SettlingTakes, Whole};
 ghost use Rattle.bx_proc.specs.Telling.{Tells, Resumes, unfaulted};
 ghost use Rattle.bx_proc.specs.declared.stops.Why.TheVariants.{Asks, Ends};
 ghost use Rattle.bx_proc.specs.Table.{row, looks_at_faults};
 
-/// An instruction changes only the parts of its process that its family may change.
+/// An instruction changes only the parts of its process that its family may change, and sends or asks only where its family
+/// may.
 pub fn an_instruction_changes_only_what_its_family_may()
-    ensures { (pid : ℕ) (image : Loaded) (here : Place) (i : Instr) (p q : Process)
+    ensures parts { (pid : ℕ) (image : Loaded) (here : Place) (i : Instr) (p q : Process)
         (effect : Effect) → row pid image here i p ≡ Ok (q, effect) → KeepsBut (parts_of i) p q }
+    ensures effect { (pid : ℕ) (image : Loaded) (here : Place) (i : Instr) (p q : Process)
+        (effect : Effect) → row pid image here i p ≡ Ok (q, effect) → MayBe (parts_of i) effect }
+{}
+
+/// An instruction leaves the mailbox as it was; or it passes over the current message, takes it, or passes over none any
+/// more.
+pub fn a_mailbox_is_left_passed_over_taken_from_or_reset()
+    ensures { (pid : ℕ) (image : Loaded) (here : Place) (i : Instr) (p q : Process)
+        (effect : Effect) → row pid image here i p ≡ Ok (q, effect) → Mailed p.mailbox q.mailbox }
 {}
 
 /// A run of one instruction that concerns nobody else does not end its process and keeps its links. Any other run, and a
@@ -58,10 +68,10 @@ pub fn the_opcode_tells_what_looks_at_a_fault()
 /// A process whose run, or whose answer, ended it is as it was before once the reason is taken out; one whose run asked for
 /// something, once that is withdrawn.
 pub fn what_waits_in_a_process_is_taken_out_again()
-    ensures ended { (image : Loaded) (pid : ℕ) (old new : Process) → Tells (takes_memory image old)
+    ensures ended { (image : Loaded) (pid : ℕ) (old new : Process) → Tells (takes_memory image pid old)
         old new (Err Ends) (attempted image pid old) → unfaulted new ≡ old }
     ensures asked { (image : Loaded) (pid : ℕ) (native : Native) (old new : Process) → Tells
-        (takes_memory image old) old new (Err (Asks native)) (attempted image pid old) →
+        (takes_memory image pid old) old new (Err (Asks native)) (attempted image pid old) →
         unasked new ≡ old }
     ensures answered { (image : Loaded) (answer : Answer) (old new : Process) → Resumes
         (ResumedTakes (SettlingTakes image answer (unasked old)) old.asked) old new (Err Ends)

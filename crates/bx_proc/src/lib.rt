@@ -4,6 +4,7 @@
 mod answering;
 mod asking;
 mod building;
+mod bursts;
 mod calls;
 mod catching;
 mod choosing;
@@ -24,6 +25,7 @@ mod stacking;
 mod stepping;
 mod stops;
 
+pub use bursts::Burst;
 pub use parts::{Answer, Arguments, Effect, Pending, Status};
 pub use process::Proc;
 pub use sending::Sending;

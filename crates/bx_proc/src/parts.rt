@@ -1,7 +1,7 @@
 //! What a process waits for, and what a run of it may end in.
 
 ghost use Rattle.std.specs.Prelude.{◌≡◌, ◌↔◌, IfOk, OnErr, IsTrue};
-ghost use Rattle.bx_proc.specs.Wanting.{Shares, SharesReason};
+ghost use Rattle.bx_proc.specs.Rules.{Shares, SharesReason};
 
 use bx_bifs::Native;
 use bx_share::{Same, same_rows};

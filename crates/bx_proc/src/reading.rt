@@ -9,7 +9,7 @@ ghost use Rattle.bx_cells.specs.TopFrame.{y_cell};
 ghost use Rattle.bx_proc.specs.Looking.{tree_of};
 ghost use Rattle.bx_proc.specs.Reading.{value_at, held_in, written, both_written, carried, carried_in, term_in, term_at};
 ghost use Rattle.bx_proc.specs.Stops.{Reads, Turns};
-ghost use Rattle.bx_proc.specs.Wanting.{KeepsTerm, KeepsValue, Opens, Shares};
+ghost use Rattle.bx_proc.specs.Rules.{KeepsTerm, KeepsValue, Opens, Shares};
 
 use crate::process::Proc;
 use crate::stops::Stop;

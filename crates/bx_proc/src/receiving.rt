@@ -28,7 +28,7 @@ pub(crate) enum Time {
 impl Proc {
     /// `loop_rec`.
     #[inline(never)]
-    #[tactic(auto, unfolding(crate::specs::Table::row, crate::specs::Table::Takes, crate::specs::Receiving::loop_rec_row))]
+    #[tactic(auto, unfolding(crate::specs::Table::rule, crate::specs::Receiving::loop_rec_row))]
     pub(crate) fn loop_rec(
         &mut self,
         alloc: Global,
@@ -57,7 +57,7 @@ impl Proc {
 
     /// `remove_message`.
     #[inline(never)]
-    #[tactic(auto, unfolding(crate::specs::Table::row, crate::specs::Table::Takes))]
+    #[tactic(auto, unfolding(crate::specs::Table::rule))]
     pub(crate) fn remove_message(&mut self, image: &Image, here: Place) -> Result<(), Stop>
         ensures { (pid : ℕ) → RunsAt pid image.now here self.old self.new result
             (Some instr.remove_message) }
@@ -71,7 +71,7 @@ impl Proc {
 
     /// `wait`.
     #[inline(never)]
-    #[tactic(auto, unfolding(crate::specs::Table::row, crate::specs::Table::Takes))]
+    #[tactic(auto, unfolding(crate::specs::Table::rule))]
     pub(crate) fn wait(
         &mut self,
         image: &Image,
@@ -90,7 +90,7 @@ impl Proc {
 
     /// `loop_rec_end`.
     #[inline(never)]
-    #[tactic(auto, unfolding(crate::specs::Table::row, crate::specs::Table::Takes))]
+    #[tactic(auto, unfolding(crate::specs::Table::rule))]
     pub(crate) fn loop_rec_end(
         &mut self,
         image: &Image,
@@ -112,7 +112,7 @@ impl Proc {
 
     /// `timeout`.
     #[inline(never)]
-    #[tactic(auto, unfolding(crate::specs::Table::row, crate::specs::Table::Takes))]
+    #[tactic(auto, unfolding(crate::specs::Table::rule))]
     pub(crate) fn timeout(&mut self, image: &Image, here: Place) -> Result<(), Stop>
         ensures { (pid : ℕ) → RunsAt pid image.now here self.old self.new result
             (Some instr.timeout) }
@@ -124,7 +124,7 @@ impl Proc {
 
     /// `wait_timeout`.
     #[inline(never)]
-    #[tactic(auto, unfolding(crate::specs::Table::row, crate::specs::Table::Takes, crate::specs::Receiving::wait_timeout_row))]
+    #[tactic(auto, unfolding(crate::specs::Table::rule, crate::specs::Receiving::wait_timeout_row))]
     pub(crate) fn wait_timeout(
         &mut self,
         alloc: Global,

@@ -20,7 +20,7 @@ use bx_terms::{Place, Term, Trap};
 impl Proc {
     /// `allocate` and `allocate_heap`.
     #[inline(never)]
-    #[tactic(auto, unfolding(crate::specs::Table::row, crate::specs::Table::Takes))]
+    #[tactic(auto, unfolding(crate::specs::Table::rule))]
     pub(crate) fn allocate(
         &mut self,
         image: &Image,
@@ -39,7 +39,7 @@ impl Proc {
 
     /// `deallocate`.
     #[inline(never)]
-    #[tactic(auto, unfolding(crate::specs::Table::row, crate::specs::Table::Takes))]
+    #[tactic(auto, unfolding(crate::specs::Table::rule))]
     pub(crate) fn deallocate(
         &mut self,
         image: &Image,
@@ -58,7 +58,7 @@ impl Proc {
 
     /// `test_heap`.
     #[inline(always)]
-    #[tactic(auto, unfolding(crate::specs::Table::row, crate::specs::Table::Takes))]
+    #[tactic(auto, unfolding(crate::specs::Table::rule))]
     pub(crate) fn test_heap(&mut self, image: &Image, here: Place) -> Result<(), Stop>
         ensures { (pid : ℕ) → RunsAt pid image.now here self.old self.new result
             (Some instr.test_heap) }
@@ -69,7 +69,7 @@ impl Proc {
 
     /// `trim`.
     #[inline(never)]
-    #[tactic(auto, unfolding(crate::specs::Table::row, crate::specs::Table::Takes))]
+    #[tactic(auto, unfolding(crate::specs::Table::rule))]
     pub(crate) fn trim(
         &mut self,
         image: &Image,
@@ -93,7 +93,7 @@ impl Proc {
 
     /// `init_yregs`.
     #[inline(never)]
-    #[tactic(auto, unfolding(crate::specs::Table::row, crate::specs::Table::Takes))]
+    #[tactic(auto, unfolding(crate::specs::Table::rule))]
     pub(crate) fn init_yregs(
         &mut self,
         image: &Image,
