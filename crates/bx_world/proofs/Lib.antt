@@ -6,6 +6,8 @@ pub mod Acted
 pub mod Heard
 pub mod Exiting
 pub mod Running
+pub mod Batches
+pub mod Many
 pub mod Undoing
 pub mod Keeping
 pub mod Applying

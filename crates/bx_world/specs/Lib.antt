@@ -3,6 +3,7 @@ pub mod Sharing
 pub mod Requests
 pub mod Asking
 pub mod Turning
+pub mod Batches
 pub mod Delivering
 pub mod Lives
 pub mod Enabled

@@ -1,7 +1,9 @@
 -- A list of choices in a world: how many were applied, and the one that was refused. Nothing more happens after a trap, nor after the
 -- first choice that is not enabled.
-use Rattle.std.specs.Prelude.{◌≡◌, IsTrue, ℕ, ◌+◌, List, [], ◌∷◌, Option, Some, None, is_some, ◌||◌, if◌then◌else◌, refl}
+use Rattle.std.specs.Prelude.{◌≡◌, ◌<◌, ◌≤◌, IsTrue, ℕ, ◌+◌, List, [], ◌∷◌, replicate, Option, Some, None, Result, Ok, Err, is_some, ◌||◌, if◌then◌else◌, refl}
 use Rattle.std.specs.Coded.{Coded, code_by, coded×, coded_ℕ, coded_option}
+use Rattle.bx_terms.specs.declared.faults.Fault.{Fault}
+use Rattle.bx_terms.specs.declared.faults.Fault.TheVariants.{Memory}
 use Rattle.bx_load.specs.Image.{Loaded}
 use Rattle.bx_world.specs.declared.choices.Choice.{Choice}
 use Rattle.bx_world.specs.World.{State}
@@ -44,3 +46,19 @@ ended_code state choice =
 -- memory is taken only for a choice that is applied
 abbrev pub AdvanceTakes : Choice → Ended → Type 0
 AdvanceTakes choice end = (end.refused ≡ None) × IsTrue (can end.world choice)
+
+-- of many equal choices those before the one that lacks memory are made, and that one takes some
+abbrev pub Lacks : Loaded → Choice → ℕ → Ended → Ended → Type 0
+Lacks image choice times old new = (n : ℕ) × (n < times) × (new ≡ ran image (replicate n choice) old) × AdvanceTakes choice new
+
+-- many equal choices: all of them, or those before memory runs out
+abbrev pub DoesMany : Loaded → Choice → ℕ → Ended → Ended → Result (Unit {0}) Fault → Type 0
+DoesMany image choice times old new (Ok done) = new ≡ ran image (replicate times choice) old
+DoesMany image choice times old new (Err Memory) = Lacks image choice times old new
+DoesMany image choice times old new (Err fault) = ⊥
+
+-- some of them, and how many
+abbrev pub DoesSome : Loaded → Choice → ℕ → Ended → Ended → Result ℕ Fault → Type 0
+DoesSome image choice times old new (Ok n) = (0 < n) × (n ≤ times) × (new ≡ ran image (replicate n choice) old)
+DoesSome image choice times old new (Err Memory) = Lacks image choice times old new
+DoesSome image choice times old new (Err fault) = ⊥

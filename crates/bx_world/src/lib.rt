@@ -27,7 +27,7 @@ pub use choices::{Choice, Choices};
 pub use lanes::Lanes;
 pub use outcomes::{Outcome, Standing};
 pub use output::Output;
-pub use runs::{RunEnd, advance};
+pub use runs::{RunEnd, advance, advance_many};
 pub use shown::Shown;
 pub use statuses::Statuses;
 pub use texts::{choice_text, outcome_text};

@@ -1,11 +1,12 @@
 //! Runs: what a list of choices leads to.
 
-ghost use Rattle.std.specs.Prelude.{◌≡◌, ◌↔◌, ◌<◌, IsTrue, Ok};
+ghost use Rattle.std.specs.Prelude.{◌≡◌, ◌↔◌, ◌+◌, ◌<◌, IsTrue, Ok};
 ghost use Rattle.bx_terms.specs.Outcomes.{Does};
-ghost use Rattle.bx_world.specs.Running.{advanced, AdvanceTakes};
+ghost use Rattle.bx_world.specs.Running.{advanced, AdvanceTakes, DoesMany, DoesSome};
 
 use crate::choices::Choice;
 use crate::lanes::Lanes;
+use crate::turns::Batch;
 use crate::world::World;
 use bx_load::Image;
 use bx_proc::Proc;
@@ -76,4 +77,60 @@ pub fn advance<P: Hold<Proc>, C: Hold<Lanes>>(
         Err(_) => {} // the world has trapped: nothing changes any more
     }
     Ok(())
+}
+
+/// So many choices more, all of them equal: what so many calls of `advance` give. Once one was refused or the world has
+/// trapped, nothing changes.
+///
+/// It can only run out of memory. Then those are made that stand before the one that takes it: `applied` tells how many.
+pub fn advance_many<P: Hold<Proc>, C: Hold<Lanes>>(
+    alloc: Global,
+    end: &mut RunEnd<P, C>,
+    image: &Image,
+    choice: Choice,
+    times: u64,
+) -> Result<(), Fault>
+    requires { end.old.applied + times < u64.MAX }
+    ensures { DoesMany image.now choice times end.old end.new result }
+{
+    let mut left = times;
+    while left > 0 {
+        match advance_some(alloc, end, image, choice, left) {
+            Ok(made) => left -= made,
+            Err(fault) => return Err(fault),
+        }
+    }
+    Ok(())
+}
+
+/// As many of them as one look at the process allows. It answers how many those are; none is left where nothing changes any more.
+#[inline(always)]
+fn advance_some<P: Hold<Proc>, C: Hold<Lanes>>(
+    alloc: Global,
+    end: &mut RunEnd<P, C>,
+    image: &Image,
+    choice: Choice,
+    times: u64,
+) -> Result<u64, Fault>
+    requires some { 0 < times }
+    requires few { end.old.applied + times < u64.MAX }
+    ensures { DoesSome image.now choice times end.old end.new result }
+{
+    if end.refused.is_some() {
+        return Ok(times);
+    }
+    let Batch { before, last } = end.world.apply_batch(alloc, image, choice, times);
+    end.applied += before;
+    let Err(fault) = last else {
+        end.applied += 1;
+        return Ok(before + 1);
+    };
+    if let Fault::Memory = fault {
+        return Err(Fault::Memory);
+    }
+    if let Fault::NotEnabled = fault {
+        end.refused = Some(choice);
+        return Ok(times);
+    }
+    Ok(times) // the world has trapped: nothing changes any more
 }

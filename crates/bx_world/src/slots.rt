@@ -1,9 +1,10 @@
 //! The life of one pid, as it is kept.
 
-ghost use Rattle.std.specs.Prelude.{◌≡◌, ◌↔◌, Some, IsTrue, IfOk};
+ghost use Rattle.std.specs.Prelude.{◌≡◌, ◌↔◌, ◌<◌, Some, IsTrue, IfOk};
 ghost use Rattle.bx_terms.specs.Outcomes.{Does};
 ghost use Rattle.bx_terms.specs.Tree.{Tree};
 ghost use Rattle.bx_world.specs.Acting.{life_acted, exited_acted, MayLack};
+ghost use Rattle.bx_world.specs.Batches.{LifeGoes};
 ghost use Rattle.bx_world.specs.Enabled.{may_run, may_expire};
 ghost use Rattle.bx_world.specs.Lives.{life};
 ghost use Rattle.bx_world.specs.Seen.{life_of, status_of, place_of};
@@ -12,9 +13,9 @@ ghost use Rattle.bx_world.specs.World.{Gone};
 use crate::acts::Act;
 use crate::delivering::receive_gone;
 use crate::lanes::Lanes;
-use crate::lives::act_on;
+use crate::lives::{act_on, run};
 use crate::shown::Shown;
-use crate::turns::Turn;
+use crate::turns::{Batch, Turn};
 use bx_load::Image;
 use bx_proc::{Proc, Status};
 use bx_share::{Hold, Same};
@@ -53,6 +54,47 @@ impl<P: Hold<Proc>> Slot<P> {
                 Ok(Turn::Ran)
             }
             turn => Ok(turn),
+        }
+    }
+}
+
+impl<P: Hold<Proc>> Slot<P> {
+    /// Runs the process of this pid, where it can run, at most so many instructions. Where it ends, its reason takes its place.
+    #[inline(always)]
+    pub(crate) fn run<C: Hold<Lanes>>(
+        &mut self,
+        alloc: Global,
+        image: &Image,
+        lanes: &mut C,
+        pid: u32,
+        times: u64,
+    ) -> Batch<Turn>
+        requires { 0 < times }
+        ensures few { result.before < times }
+        ensures done { LifeGoes image.now pid (life P.shown self.old, C.shown lanes.old)
+            (life P.shown self.new, C.shown lanes.new) result.before result.last }
+    {
+        let Slot::Live(holder) = self else {
+            return Batch::alone(Err(Fault::NotEnabled));
+        };
+        let Batch { before, last } = run(alloc, image, holder, lanes, pid, times);
+        let turn = match last {
+            Ok(turn) => turn,
+            Err(refused) => return Batch {
+                before,
+                last: Err(refused),
+            },
+        };
+        if let Turn::Ended(reason) = turn {
+            *self = Slot::Gone(reason);
+            return Batch {
+                before,
+                last: Ok(Turn::Ran),
+            };
+        }
+        Batch {
+            before,
+            last: Ok(turn),
         }
     }
 }

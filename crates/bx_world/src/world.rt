@@ -1,11 +1,12 @@
 //! Worlds, stepped by one choice at a time.
 
-ghost use Rattle.std.specs.Prelude.{◌≡◌, ◌≢◌, ◌↔◌, ◌≤◌, [], length, option_map, slice_get, IsTrue, IsSome, IfOk, OnErr, Ok};
+ghost use Rattle.std.specs.Prelude.{◌≡◌, ◌≢◌, ◌↔◌, ◌<◌, ◌≤◌, [], length, option_map, slice_get, IsTrue, IsSome, IfOk, OnErr, Ok};
 ghost use Rattle.bx_terms.specs.Outcomes.{Does, Gives};
 ghost use Rattle.bx_load.specs.Image.{export};
 ghost use Rattle.bx_world.specs.World.{started};
 ghost use Rattle.bx_world.specs.Enabled.{enabled, open_choices, can};
 ghost use Rattle.bx_world.specs.Choosing.{applied};
+ghost use Rattle.bx_world.specs.Batches.{WorldGoes};
 ghost use Rattle.bx_world.specs.Seen.{life_of, seen, standing_of, place_in};
 
 use crate::choices::{Choice, Choices};
@@ -14,7 +15,7 @@ use crate::lanes::Lanes;
 use crate::outcomes::{Outcome, Standing};
 use crate::procs::Procs;
 use crate::shown::Shown;
-use crate::turns::Turn;
+use crate::turns::{Batch, Turn};
 use bx_load::Image;
 use bx_proc::Proc;
 use bx_share::{ArcHold, Hold, RcHold, Same};
@@ -132,18 +133,50 @@ impl<P: Hold<Proc>, C: Hold<Lanes>> World<P, C> {
         ensures { Does (IsTrue (can self.old choice)) self.old self.new result
             (applied image.now choice self.old) }
     {
+        let Batch { before: _, last } = self.apply_batch(alloc, image, choice, 1);
+        last
+    }
+
+    /// Applies a choice as often as one look at its process allows, at most so many times: all but the last are applied, and the
+    /// last is answered as by `apply`.
+    #[inline(always)]
+    pub(crate) fn apply_batch(
+        &mut self,
+        alloc: Global,
+        image: &Image,
+        choice: Choice,
+        times: u64,
+    ) -> Batch<()>
+        requires { 0 < times }
+        ensures few { result.before < times }
+        ensures done { WorldGoes image.now choice self.old self.new result.before result.last }
+    {
         if self.trap.is_some() {
-            return Err(Fault::Halted);
+            return Batch::alone(Err(Fault::Halted));
         }
         let pid = choice.actor();
-        let turn = match make(alloc, image, &mut self.procs, &mut self.lanes, choice) {
+        let Batch { before, last } = make(
+            alloc,
+            image,
+            &mut self.procs,
+            &mut self.lanes,
+            choice,
+            times,
+        );
+        let turn = match last {
             Ok(turn) => turn,
-            Err(refused) => return Err(refused),
+            Err(refused) => return Batch {
+                before,
+                last: Err(refused),
+            },
         };
         if let Turn::Trapped(kind) = turn {
             self.trap = Some((kind, pid));
         }
-        Ok(())
+        Batch {
+            before,
+            last: Ok(()),
+        }
     }
 
     /// An equal world, which later choices in this one do not change.
