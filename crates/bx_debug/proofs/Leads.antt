@@ -1,5 +1,5 @@
 -- Where lists of enabled choices lead.
-use Rattle.std.proofs.Common.{◌≡◌, ℕ, suc, ◌+◌, List, [], ◌∷◌, ◌++◌, length, take, drop, Bool, true, false, refl, sym, ap, ◌∙◌, subst, arith}
+use Rattle.std.proofs.Common.{◌≡◌, ℕ, suc, ◌+◌, ◌≤◌, List, [], ◌∷◌, ◌++◌, length, take, drop, Bool, true, false, refl, sym, ap, ◌∙◌, subst, arith}
 use Rattle.std.specs.Prelude.{◌&&◌, Option, Some, None, is_some, IsSome, Contains, if◌then◌else◌}
 use Rattle.std.proofs.lemmas.List.{take-append-drop}
 use Rattle.bx_terms.specs.declared.kinds.Trap.{Trap}
@@ -9,9 +9,9 @@ use Rattle.bx_world.specs.World.{State}
 use Rattle.bx_world.specs.Enabled.{can, enabled}
 use Rattle.bx_world.specs.Choosing.{chosen}
 use Rattle.bx_world.specs.Running.{Ended, advanced, ran, unchosen}
-use Rattle.bx_world.proofs.Lawful.{nothing_enabled}
+use Rattle.bx_world.proofs.Lawful.{few_applied, nothing_enabled}
 use Rattle.bx_world.proofs.Members.{can_is_enabled}
-use Rattle.bx_debug.specs.Leading.{led, all_enabled}
+use Rattle.bx_debug.specs.Leading.{led, all_enabled, come}
 
 both : (a b : Bool) → (a && b) ≡ true → (a ≡ true) × (b ≡ true)
 both true b e = (refl, e)
@@ -64,28 +64,40 @@ pub enabled_drop : (image : Loaded) (n : ℕ) (choices : List Choice) (w : State
 enabled_drop image n choices w a = enabled_more image (take n choices) (drop n choices) w (subst (λ (cs : List Choice). all_enabled image cs w ≡ true) (sym (take-append-drop n choices)) a)
 
 -- an enabled choice is applied by a run
-abbrev run_at : State → ℕ → Ended
-run_at w n = record { world = w; applied = n; refused = None }
-
 first_of : (t b : Bool) (x y z : Ended) → t ≡ false → b ≡ true → (if t then x else if b then y else z) ≡ y
 first_of true b x y z h e = cc
 first_of false true x y z h e = refl
 first_of false false x y z h e = cc
 
-advanced_enabled : (image : Loaded) (choice : Choice) (w : State) (n : ℕ) → can w choice ≡ true → advanced image choice (run_at w n) ≡ run_at (chosen image choice w) (n + 1)
+advanced_enabled : (image : Loaded) (choice : Choice) (w : State) (n : ℕ) → can w choice ≡ true → advanced image choice (come w n) ≡ come (chosen image choice w) (n + 1)
 advanced_enabled image choice w n able = first_of (is_some w.trap) (can w choice) _ _ _ (untrapped w choice able) able
 
 pub ran_from : (image : Loaded) (choices : List Choice) (w : State) (n : ℕ) → all_enabled image choices w ≡ true
-    → ran image choices (run_at w n) ≡ run_at (led image choices w) (n + length choices)
-ran_from image [] w n a = let none : n ≡ n + 0 = omega arith in ap (run_at w) none
+    → ran image choices (come w n) ≡ come (led image choices w) (n + length choices)
+ran_from image [] w n a = let none : n ≡ n + 0 = omega arith in ap (come w) none
 ran_from image (choice ∷ more) w n a =
     let parts = both (can w choice) (all_enabled image more (chosen image choice w)) a in
     let count : n + 1 + length more ≡ n + suc (length more) = omega arith in
     ap (ran image more) (advanced_enabled image choice w n parts.0)
     ∙ ran_from image more (chosen image choice w) (n + 1) parts.1
-    ∙ ap (run_at (led image more (chosen image choice w))) count
+    ∙ ap (come (led image more (chosen image choice w))) count
 
 -- the run of choices that are all enabled applies each of them
 pub ran_all : (image : Loaded) (choices : List Choice) (w : State) → all_enabled image choices w ≡ true
     → ran image choices (unchosen w) ≡ record { world = led image choices w; applied = length choices; refused = None }
-ran_all image choices w a = ran_from image choices w 0 a ∙ (let none : 0 + length choices ≡ length choices = omega arith in ap (run_at (led image choices w)) none)
+ran_all image choices w a = ran_from image choices w 0 a ∙ (let none : 0 + length choices ≡ length choices = omega arith in ap (come (led image choices w)) none)
+
+-- where a run applied as many choices as it was given, each was enabled
+was_enabled : (t b : Bool) (n : ℕ) (x y z : Ended) → x.applied ≡ n → z.applied ≡ n → n + 1 ≤ (if t then x else if b then y else z).applied → b ≡ true
+was_enabled true b n x y z hx hz h = absurd (omega arith)
+was_enabled false true n x y z hx hz h = refl
+was_enabled false false n x y z hx hz h = absurd (omega arith)
+
+pub all_applied : (image : Loaded) (choices : List Choice) (w : State) (n : ℕ) → (ran image choices (come w n)).applied ≡ n + length choices → all_enabled image choices w ≡ true
+all_applied image [] w n all = refl
+all_applied image (choice ∷ more) w n all =
+    let few = few_applied image more (advanced image choice (come w n)) in
+    let least : n + 1 ≤ (advanced image choice (come w n)).applied = omega arith in
+    let able : can w choice ≡ true = was_enabled (is_some w.trap) (can w choice) n (come w n) (come (chosen image choice w) (n + 1)) (record { world = w; applied = n; refused = Some choice }) refl refl least in
+    let next = advanced_enabled image choice w n able in
+    and (can w choice) _ able (all_applied image more (chosen image choice w) (n + 1) (ap (λ (e : Ended). (ran image more e).applied) (sym next) ∙ all ∙ omega arith))

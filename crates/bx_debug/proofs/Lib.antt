@@ -1,12 +1,11 @@
 pub mod Leads
-pub mod Keeping
-pub mod Behind
 pub mod Applies
 pub mod Sets
 pub mod Sameness
 pub mod Walking
-pub mod Replaying
+pub mod Going
 pub mod Moving
 pub mod Lawful
 pub mod Stopped
 pub mod Unbroken
+pub mod Swapping

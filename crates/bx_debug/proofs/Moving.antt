@@ -1,147 +1,74 @@
 -- Sessions whose position moves, and to which choices are added.
-use Rattle.std.proofs.Common.{◌≡◌, ◌≢◌, ℕ, ◌+◌, ◌-◌, ◌*◌, ◌/◌, ◌%◌, ◌<◌, ◌≤◌, List, [], ◌∷◌, ◌++◌, length, take, drop, true, Option, None, refl, sym, ap, ◌∙◌, subst, arith, inl, inr, Some, Result, Ok, Err, length-append}
-use Rattle.std.specs.Prelude.{slice_index_or, IfOk}
+use Rattle.std.proofs.Common.{◌≡◌, ◌≢◌, ℕ, ◌+◌, ◌≤◌, List, [], ◌∷◌, ◌++◌, length, take, true, Option, None, refl, sym, ap, ◌∙◌, subst, arith, Some, Ok, length-append}
 use Rattle.std.proofs.lemmas.List.{take_all, length-take-le}
-use Rattle.bx_load.specs.Image.{Loaded}
 use Rattle.bx_world.specs.declared.choices.Choice.{Choice}
 use Rattle.bx_world.specs.World.{State}
 use Rattle.bx_world.specs.Choosing.{refusal}
 use Rattle.bx_world.specs.Running.{Ended, ran, unchosen}
-use Rattle.bx_debug.specs.Leading.{led, all_enabled, AreKept, Follows, IsSession, Tracks}
+use Rattle.bx_replay.specs.Courses.{Course, reached}
+use Rattle.bx_debug.specs.Leading.{led, all_enabled, come, IsSession, Went}
 use Rattle.bx_debug.specs.Places.{PlaceSet}
 use Rattle.bx_debug.specs.Sessions.{History, world_of, with_made, went, gone, or_refused, stepped, GoTakes}
 use Rattle.bx_debug.specs.Going.{stop_at_once, walked}
 use Rattle.bx_debug.specs.declared.stops.Stop.{Stop}
-use Rattle.bx_debug.proofs.Behind.{behind_first, closed}
 use Rattle.bx_debug.proofs.Walking.{one_applied, unrefused, walked_none, walked_some}
-use Rattle.bx_debug.proofs.Leads.{led-append, enabled_both, enabled_more, enabled_take, ran_all}
-use Rattle.bx_debug.proofs.Keeping.{below, between, none_kept, kept_joined}
+use Rattle.bx_debug.proofs.Leads.{led-append, enabled_both, enabled_take, ran_all}
 
 -- the world at a position is the run of the choices before it
-pub run_shown : (image : Loaded) (start : State) (choices : List Choice) (at : ℕ) (here : State) (kept : List State) → IsSession image start choices at here kept
-    → ran image (take at choices) (unchosen start) ≡ record { world = here; applied = at; refused = None }
-run_shown image start choices at here kept s =
-    ran_all image (take at choices) start (enabled_take image at choices start s.made)
-    ∙ (λ i. record { world = sym s.shown i; applied = length-take-le at choices s.within i; refused = None })
-
-pub world_shown : (image : Loaded) (start : State) (choices : List Choice) (at : ℕ) (here : State) (kept : List State) → IsSession image start choices at here kept
-    → (ran image (take at choices) (unchosen start)).world ≡ here
-world_shown image start choices at here kept s = ap (λ (end : Ended). end.world) (run_shown image start choices at here kept s)
+pub run_shown : (trail : Course) (at : ℕ) (here : State) → IsSession trail at here → ran trail.image (take at trail.choices) (unchosen trail.start.world) ≡ come here at
+run_shown trail at here s =
+    ran_all trail.image (take at trail.choices) trail.start.world (enabled_take trail.image at trail.choices trail.start.world s.made)
+    ∙ (λ i. come (sym s.shown i) (length-take-le at trail.choices s.within i))
 
 -- a session before its first choice
-pub session_begun : (image : Loaded) (start here : State) → here ≡ start → IsSession image start [] 0 here []
-session_begun image start here is = record { within = omega arith; made = refl; shown = is; snapshots = none_kept image start 0 (omega arith) }
+pub session_begun : (trail : Course) (here : State) → trail.start ≡ unchosen trail.start.world → trail.choices ≡ [] → here ≡ trail.start.world → IsSession trail 0 here
+session_begun trail here begins none is = record {
+  begins = begins;
+  within = omega arith;
+  made = ap (λ cs. all_enabled trail.image cs trail.start.world) none;
+  shown = is;
+}
 
 -- another position
-pub session_moved : (image : Loaded) (start : State) (choices : List Choice) (at to : ℕ) (here there : State) (kept : List State) → IsSession image start choices at here kept
-    → to ≤ length choices → there ≡ led image (take to choices) start → IsSession image start choices to there kept
-session_moved image start choices at to here there kept s within is = record { within = within; made = s.made; shown = is; snapshots = s.snapshots }
+pub session_moved : (trail : Course) (at to : ℕ) (here there : State) → IsSession trail at here → to ≤ length trail.choices → there ≡ led trail.image (take to trail.choices) trail.start.world → IsSession trail to there
+session_moved trail at to here there s within is = record { begins = s.begins; within = within; made = s.made; shown = is }
 
--- choices more from the position on
-pub session_joined : (image : Loaded) (start : State) (choices : List Choice) (at rounds since : ℕ) (here : State) (kept : List State) (made : List Choice) (there : State) (tail : List State)
-    → IsSession image start choices at here kept → at ≡ 64 * rounds + since → since < 64 → Follows image here since made there tail
-    → IsSession image start (take at choices ++ made) (length (take at choices ++ made)) there (take rounds kept ++ tail)
-session_joined image start choices at rounds since here kept made there tail s is few f =
-    let all : take (length (take at choices ++ made)) (take at choices ++ made) ≡ take at choices ++ made = take_all _ (take at choices ++ made) (omega arith) in
-    record {
-      within = omega arith;
-      made = enabled_both image (take at choices) made start (enabled_take image at choices start s.made) (subst (λ (w : State). all_enabled image made w ≡ true) s.shown f.made);
-      shown = f.shown ∙ ap (led image made) s.shown ∙ sym (led-append image (take at choices) made start) ∙ ap (λ (cs : List Choice). led image cs start) (sym all);
-      snapshots = kept_joined image start here choices made kept tail at rounds since s.snapshots s.within is few s.shown f.snapshots;
-    }
+-- the world that so many choices lead to
+pub led_to : (trail : Course) (at to : ℕ) (here : State) (end : Ended) → IsSession trail at here → to ≤ length trail.choices → end ≡ reached to trail → end.world ≡ led trail.image (take to trail.choices) trail.start.world
+led_to trail at to here end s within is =
+    ap (λ (e : Ended). e.world) (is ∙ ap (ran trail.image (take to trail.choices)) s.begins
+    ∙ ran_all trail.image (take to trail.choices) trail.start.world (enabled_take trail.image to trail.choices trail.start.world s.made))
 
--- the nearest world that is kept
-pub nearest_is : (image : Loaded) (start : State) (choices : List Choice) (kept : List State) (rounds : ℕ) (found : State) → AreKept image start 0 choices kept → rounds ≤ length kept
-    → (rounds ≡ 0 → found ≡ start) → (0 < rounds → found ≡ slice_index_or kept (rounds - 1) found) → found ≡ led image (take (64 * rounds) choices) start
-nearest_is image start choices kept rounds found k within none some =
-    elim (below 0 rounds) [
-      | inl more ↦
-          let count : 64 * (rounds - 1) + 64 - 0 ≡ 64 * rounds = omega arith in
-          some more ∙ k.worlds (rounds - 1) found (omega arith) ∙ ap (λ n. led image (take n choices) start) count
-      | inr less ↦
-          let zero_is : rounds ≡ 0 = omega arith in
-          let count : 0 ≡ 64 * rounds = omega arith in
-          none zero_is ∙ ap (λ n. led image (take n choices) start) count
-    ]
-
--- from there on
-pub made_again : (image : Loaded) (start : State) (choices : List Choice) (kept : List State) (rounds to : ℕ) (found : State) → all_enabled image choices start ≡ true → 64 * rounds ≤ to → to ≤ length choices
-    → found ≡ led image (take (64 * rounds) choices) start
-    → (all_enabled image (take (to - 64 * rounds) (drop (64 * rounds) choices)) found ≡ true) × (led image (take (to - 64 * rounds) (drop (64 * rounds) choices)) found ≡ led image (take to choices) start)
-made_again image start choices kept rounds to found made before within is =
-    let parts = between choices (64 * rounds) to before in
-    let whole : all_enabled image (take (64 * rounds) choices ++ take (to - 64 * rounds) (drop (64 * rounds) choices)) start ≡ true =
-    subst (λ (cs : List Choice). all_enabled image cs start ≡ true) (sym parts) (enabled_take image to choices start made) in (
-      subst (λ (w : State). all_enabled image (take (to - 64 * rounds) (drop (64 * rounds) choices)) w ≡ true) (sym is) (enabled_more image (take (64 * rounds) choices) (take (to - 64 * rounds) (drop (64 * rounds) choices)) start whole),
-      ap (led image (take (to - 64 * rounds) (drop (64 * rounds) choices))) is
-          ∙ sym (led-append image (take (64 * rounds) choices) (take (to - 64 * rounds) (drop (64 * rounds) choices)) start)
-          ∙ ap (λ (cs : List Choice). led image cs start) parts,
+-- where those before the position lead, the choices of a walk from there begin
+pub begins_there : (trail walk : Course) (at : ℕ) (here there : State) → IsSession trail at here → Went trail.image here at walk there → (walk.start ≡ reached at trail) × (walk.start.applied ≡ trail.start.applied + at)
+begins_there trail walk at here there s w =
+    let none : trail.start.applied ≡ 0 = ap (λ (e : Ended). e.applied) s.begins in
+    let count : walk.start.applied ≡ at = ap (λ (e : Ended). e.applied) w.begins in (
+      w.begins ∙ sym (run_shown trail at here s) ∙ ap (ran trail.image (take at trail.choices)) (sym s.begins),
+      omega arith,
     )
-
--- what an index says of the place where a tail begins
-pub rounds_of : (at : ℕ) → at ≡ 64 * (at / 64) + at % 64
-rounds_of at = omega arith
-
--- the choices behind the position make way for those that were put behind all
-choices_of : (choices cs choices' given : List Choice) (at applied : ℕ) → at ≤ length choices → cs ≡ choices ++ take applied given → choices' ≡ take at cs ++ drop (length choices) cs
-    → choices' ≡ take at choices ++ take applied given
-choices_of choices cs choices' given at applied within put are =
-    let tail : drop (length choices) cs ≡ take applied given = ap (drop (length choices)) put ∙ behind_first choices (take applied given) in
-    closed choices cs choices' at within (put ∙ ap (λ zs. choices ++ zs) (sym tail)) are ∙ ap (λ zs. take at choices ++ zs) tail
 
 -- choices that were made from the position on stand in the place of those behind it
-pub session_made : (image : Loaded) (start : State) (choices : List Choice) (at : ℕ) (here : State) (kept : List State) (given : List Choice) (applied now : ℕ) (there : State) (cs : List Choice) (ks : List State)
-    (choices' : List Choice) (at' : ℕ) (kept' : List State)
-    → IsSession image start choices at here kept → Tracks image given here (at % 64) applied there now choices kept cs ks
-    → choices' ≡ take at cs ++ drop (length choices) cs → at' ≡ length choices' → kept' ≡ take (at / 64) ks ++ drop (length kept) ks
-    → IsSession image start choices' at' there kept'
-session_made image start choices at here kept given applied now there cs ks choices' at' kept' s track choices_are at_is kept_are =
-    let made = take applied given in
-    let tail = drop (length kept) ks in
-    let parts = rounds_of at in
-    let ahead = s.snapshots.ahead in
-    let within = s.within in
-    let rounds_kept : at / 64 ≤ length kept = omega arith in
-    let choices_now : choices' ≡ take at choices ++ made = choices_of choices cs choices' given at applied within track.made choices_are in
-    let kept_now : kept' ≡ take (at / 64) kept ++ tail = closed kept ks kept' (at / 64) rounds_kept track.kept kept_are in
-    let joined = session_joined image start choices at (at / 64) (at % 64) here kept made there tail s parts (omega arith) track.walks.follows in
-    let end_is : length (take at choices ++ made) ≡ at' = sym (at_is ∙ ap length choices_now) in
-    subst (λ (ks : List State). IsSession image start choices' at' there ks) (sym kept_now)
-    (subst (λ n. IsSession image start choices' n there (take (at / 64) kept ++ tail)) end_is
-    (subst (λ (cs : List Choice). IsSession image start cs (length (take at choices ++ made)) there (take (at / 64) kept ++ tail)) (sym choices_now) joined))
+pub session_made : (trail walk new : Course) (at to : ℕ) (here there : State) → IsSession trail at here → Went trail.image here at walk there → new ≡ record trail { choices = take at trail.choices ++ walk.choices }
+    → to ≡ length new.choices → IsSession new to there
+session_made trail walk new at to here there s w is whole =
+    let choices : List Choice = take at trail.choices ++ walk.choices in
+    let all : take (length choices) choices ≡ choices = take_all (length choices) choices (omega arith) in
+    let joined : IsSession (record trail { choices = choices }) (length choices) there = record {
+      begins = s.begins;
+      within = omega arith;
+      made = enabled_both trail.image (take at trail.choices) walk.choices trail.start.world (enabled_take trail.image at trail.choices trail.start.world s.made)
+          (subst (λ (v : State). all_enabled trail.image walk.choices v ≡ true) s.shown w.made);
+      shown = w.shown ∙ ap (led trail.image walk.choices) s.shown ∙ sym (led-append trail.image (take at trail.choices) walk.choices trail.start.world) ∙ ap (λ (cs : List Choice). led trail.image cs trail.start.world) (sym all);
+    } in
+    let count : to ≡ length choices = whole ∙ ap (λ (c : Course). length c.choices) is in
+    subst (λ n. IsSession new n there) (sym count) (subst (λ (c : Course). IsSession c (length choices) there) (sym is) joined)
 
-pub shown_there : (h : History) (image : Loaded) (start : State) (choices : List Choice) (at : ℕ) (here : State) (kept : List State) (places : PlaceSet)
-    → record { image = image; start = start; choices = choices; at = at; places = places } ≡ h → IsSession image start choices at here kept → here ≡ world_of h
-shown_there h image start choices at here kept places view_is s = sym (world_shown image start choices at here kept s) ∙ ap world_of view_is
+abbrev pub history : Course → ℕ → PlaceSet → History
+history trail at places = record { image = trail.image; start = trail.start.world; choices = trail.choices; at = at; places = places }
 
--- the world that so many choices lead to, made again from the nearest one that is kept
-pub again : (h : History) (image : Loaded) (start : State) (choices : List Choice) (at : ℕ) (here : State) (kept : List State) (places : PlaceSet) (to : ℕ) (found : State)
-    → record { image = image; start = start; choices = choices; at = at; places = places } ≡ h → IsSession image start choices at here kept → to ≤ length h.choices
-    → (to / 64 ≡ 0 → found ≡ start) → (0 < to / 64 → found ≡ slice_index_or kept (to / 64 - 1) found)
-    → (all_enabled image (take (to - to / 64 * 64) (drop (to / 64 * 64) choices)) found ≡ true)
-    × (led image (take (to - to / 64 * 64) (drop (to / 64 * 64) choices)) found ≡ led h.image (take to h.choices) h.start)
-again h image start choices at here kept places to found view_is s within none some =
-    let long : length h.choices ≡ length choices = ap (λ (g : History). length g.choices) (sym view_is) in
-    let inside : to ≤ length choices = omega arith in
-    let ahead = s.snapshots.ahead in
-    let parts = rounds_of to in
-    let enough : to / 64 ≤ length kept = omega arith in
-    let found_is = nearest_is image start choices kept (to / 64) found s.snapshots enough none some in
-    let turned : 64 * (to / 64) ≡ to / 64 * 64 = omega arith in
-    let made = made_again image start choices kept (to / 64) to found s.made (omega arith) inside found_is in (
-      subst (λ n. all_enabled image (take (to - n) (drop n choices)) found ≡ true) turned made.0,
-      subst (λ n. led image (take (to - n) (drop n choices)) found ≡ led image (take to choices) start) turned made.1
-          ∙ ap (λ (g : History). led g.image (take to g.choices) g.start) view_is,
-    )
-
--- the nearest world is there
-pub kept_enough : (h : History) (image : Loaded) (start : State) (choices : List Choice) (at : ℕ) (here : State) (kept : List State) (places : PlaceSet) (to : ℕ)
-    → record { image = image; start = start; choices = choices; at = at; places = places } ≡ h → IsSession image start choices at here kept → to ≤ length h.choices → to / 64 ≤ length kept
-kept_enough h image start choices at here kept places to view_is s within =
-    let long : length h.choices ≡ length choices = ap (λ (g : History). length g.choices) (sym view_is) in
-    let ahead = s.snapshots.ahead in
-    let parts = rounds_of to in
-    omega arith
+pub shown_there : (h : History) (trail : Course) (at : ℕ) (here : State) (places : PlaceSet) → history trail at places ≡ h → IsSession trail at here → here ≡ world_of h
+shown_there h trail at here places view_is s = sym (ap (λ (end : Ended). end.world) (run_shown trail at here s)) ∙ ap world_of view_is
 
 -- why a session goes no further
 pub gone_nowhere : (h : History) (w : State) (choices : List Choice) (why : Option Stop) (stop : Stop) → w ≡ world_of h → why ≡ stop_at_once choices w → why ≡ Some stop → gone choices h ≡ (h, stop)
@@ -163,22 +90,20 @@ some_made h (choice ∷ more) choices' at' some within are end =
     λ i. record h { choices = sym are i; at = sym end_is i }
 
 -- where a session goes
-pub session_gone : (h : History) (image : Loaded) (start : State) (choices : List Choice) (at : ℕ) (here : State) (kept : List State) (places : PlaceSet) (given : List Choice) (applied now : ℕ) (there : State)
-    (cs : List Choice) (ks : List State) (choices' : List Choice) (at' : ℕ) (stop : Stop)
-    → record { image = image; start = start; choices = choices; at = at; places = places } ≡ h → IsSession image start choices at here kept
-    → Tracks image given here (at % 64) applied there now choices kept cs ks → walked image places given here ≡ (take applied given, stop) → GoTakes given h
-    → choices' ≡ take at cs ++ drop (length choices) cs → at' ≡ length choices'
-    → gone given h ≡ (record { image = image; start = start; choices = choices'; at = at'; places = places }, stop)
-session_gone h image start choices at here kept places given applied now there cs ks choices' at' stop view_is s track told takes choices_are at_is =
-    let made = take applied given in
-    let inside : History = record { image = image; start = start; choices = choices; at = at; places = places } in
+pub session_gone : (h : History) (trail walk new : Course) (at to : ℕ) (here there : State) (places : PlaceSet) (given : List Choice) (stop : Stop) → history trail at places ≡ h → IsSession trail at here
+    → walked trail.image places given here ≡ (walk.choices, stop) → GoTakes given h → new ≡ record trail { choices = take at trail.choices ++ walk.choices } → to ≡ length new.choices
+    → gone given h ≡ (history new to places, stop)
+session_gone h trail walk new at to here there places given stop view_is s told takes is whole =
+    let made = walk.choices in
+    let inside : History = history trail at places in
     let there_told : walked h.image h.places given (world_of h) ≡ (made, stop) =
     subst (λ (g : History). walked g.image g.places given (world_of g) ≡ (made, stop)) view_is
-    (subst (λ (w : State). walked image places given w ≡ (made, stop)) (sym (world_shown image start choices at here kept s)) told) in
+    (subst (λ (w : State). walked trail.image places given w ≡ (made, stop)) (shown_there inside trail at here places refl s) told) in
     let some : made ≢ [] = λ none. takes (ap (λ (k : List Choice × Stop). k.0) there_told ∙ none) in
-    let now_is : with_made made inside ≡ record inside { choices = choices'; at = at' } =
-    some_made inside made choices' at' some s.within (choices_of choices cs choices' given at applied s.within track.made choices_are) at_is in
-    ap (went h) there_told ∙ (λ i. ((ap (with_made made) (sym view_is) ∙ now_is) i, stop))
+    let now_is : with_made made inside ≡ record inside { choices = new.choices; at = to } =
+    some_made inside made new.choices to some s.within (ap (λ (c : Course). c.choices) is) whole in
+    let new_is : record inside { choices = new.choices; at = to } ≡ history new to places = ap (λ (c : Course). history (record { image = c.image; start = c.start; choices = new.choices }) to places) (sym is) in
+    ap (went h) there_told ∙ (λ i. ((ap (with_made made) (sym view_is) ∙ now_is ∙ new_is) i, stop))
 
 -- one choice that is not refused
 pub step_takes : (h : History) (choice : Choice) → refusal (world_of h) choice ≡ None → GoTakes (choice ∷ []) h
@@ -190,7 +115,3 @@ stepped_is h new choice stop free is =
     let one : walk.0 ≡ choice ∷ [] = one_applied h.image h.places choice (world_of h) walk.0 walk.1 free refl in
     let made : with_made (choice ∷ []) h ≡ new = sym (ap (λ cs. with_made cs h) one) ∙ ap (λ (k : History × Stop). k.0) is in
     ap (λ why. or_refused why (with_made (choice ∷ []) h)) free ∙ (λ i. Ok (made i, tt))
-
-pub if_ok_led : {E : Type 0} (r : Result State E) (one other : State) → one ≡ other → IfOk r (λ w. w ≡ one) → IfOk r (λ w. w ≡ other)
-if_ok_led (Ok w) one other same h = h ∙ same
-if_ok_led (Err e) one other same h = tt

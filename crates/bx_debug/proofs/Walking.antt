@@ -1,8 +1,8 @@
 -- Walks, choice by choice.
-use Rattle.std.proofs.Common.{◌≡◌, ◌≢◌, ℕ, zero, suc, ◌+◌, ◌-◌, ◌<◌, ◌≤◌, inl, inr, List, [], ◌∷◌, ◌++◌, length, take, drop, get_or, Bool, true, false, Option, Some, None, refl, sym, ap, ◌∙◌, subst, append_assoc, arith, length-append}
+use Rattle.std.proofs.Common.{◌≡◌, ◌≢◌, ℕ, zero, suc, ◌+◌, ◌<◌, ◌≤◌, List, [], ◌∷◌, ◌++◌, length, take, drop, get_or, Bool, true, false, Option, Some, None, refl, sym, ap, ◌∙◌, subst, append_assoc, arith}
 use Rattle.std.specs.Prelude.{◌&&◌, if◌then◌else◌, is_some}
 use Rattle.bx_terms.specs.declared.faults.Fault.TheVariants as faults
-use Rattle.std.proofs.lemmas.List.{append-nil, drop_all, take_more, drop_more, length-take-le}
+use Rattle.std.proofs.lemmas.List.{append-nil, drop_all, take_more, drop_more}
 use Rattle.bx_terms.specs.declared.kinds.Trap.{Trap}
 use Rattle.bx_load.specs.Image.{Loaded}
 use Rattle.bx_world.specs.declared.choices.Choice.{Choice}
@@ -15,12 +15,10 @@ use Rattle.bx_world.specs.declared.choices.Choice.TheVariants.{Run}
 use Rattle.bx_world.specs.Seen.{place_in}
 use Rattle.bx_debug.specs.Places.{PlaceSet, is_set, numbers, pair_cmp}
 use Rattle.bx_debug.specs.Going.{break_at, break_behind, halted, else_stop, stop_at_once, stop_before, stop_behind, unless_stopped, resumed, behind_choice, walked}
-use Rattle.bx_debug.specs.Leading.{led, all_enabled, AreKept, Chooses, Leads, Tracks, Walks}
+use Rattle.bx_debug.specs.Leading.{led, all_enabled, Chooses, Leads}
 use Rattle.bx_debug.specs.declared.stops.Stop.{Stop}
 use Rattle.bx_debug.specs.declared.stops.Stop.TheVariants.{Break, Done, NotEnabled}
 use Rattle.bx_debug.proofs.Leads.{led-append, enabled_both}
-use Rattle.bx_debug.proofs.Keeping.{below, between, none_kept, kept_on, kept_here}
-use Rattle.bx_debug.proofs.Behind.{grown, taken_on}
 
 able_of : (choice : Choice) (trap : Option (Trap × ℕ)) (able : Bool) → else_stop (halted trap) (if able then None else Some (NotEnabled choice)) ≡ None → able ≡ true
 able_of choice None true is = refl
@@ -78,14 +76,6 @@ walked_some image places (choice ∷ more) w is = λ none.
 pub taken_next : (choices : List Choice) (i : ℕ) (choice : Choice) → i < length choices → choice ≡ get_or choices i choice → take (i + 1) choices ≡ take i choices ++ choice ∷ []
 taken_next choices i choice short is = take_more choices i choice short ∙ ap (λ c. take i choices ++ c ∷ []) (sym is)
 
--- a walk of no choice
-pub walks_none : (image : Loaded) (choices : List Choice) (from : State) (since : ℕ) → since < 64 → Walks image choices from since 0 from since []
-walks_none image choices from since few = record {
-  within = omega arith;
-  follows = record { made = refl; shown = refl; snapshots = none_kept image from since few };
-  count = omega arith;
-}
-
 and_one : (b : Bool) → b ≡ true → (b && true) ≡ true
 and_one true e = refl
 and_one false e = e
@@ -105,82 +95,6 @@ further image places choices from applied here choice next walk short is free do
     record {
       made = subst (λ (cs : List Choice). all_enabled image cs from ≡ true) (sym taken) (enabled_both image (take applied choices) (choice ∷ []) from walk.made able_there);
       shown = done ∙ ap (chosen image choice) walk.shown ∙ sym (led-append image (take applied choices) (choice ∷ []) from) ∙ ap (λ (cs : List Choice). led image cs from) (sym taken);
-    }
-
-pub now_few : (image : Loaded) (choices : List Choice) (from : State) (since applied : ℕ) (here : State) (now : ℕ) (kept : List State) → Walks image choices from since applied here now kept → now < 64
-now_few image choices from since applied here now kept walk =
-    let cut : length (take applied choices) ≡ applied = length-take-le applied choices walk.within in
-    let ahead = walk.follows.snapshots.ahead in
-    let count = walk.count in
-    omega arith
-
--- choices more were applied and counted
-pub walks_further : (image : Loaded) (choices : List Choice) (from : State) (since applied : ℕ) (here : State) (now : ℕ) (kept : List State) (reached : ℕ) (next : State) (now' : ℕ) (kept' : List State)
-    → Walks image choices from since applied here now kept → applied ≤ reached → reached ≤ length choices → all_enabled image (take reached choices) from ≡ true → next ≡ led image (take reached choices) from
-    → now + (reached - applied) ≤ 64
-    → (now + (reached - applied) < 64 → (now' ≡ now + (reached - applied)) × (kept' ≡ kept)) → (now + (reached - applied) ≡ 64 → (now' ≡ 0) × (kept' ≡ kept ++ next ∷ []))
-    → Walks image choices from since reached next now' kept'
-walks_further image choices from since applied here now kept reached next now' kept' walk more within made shown few between_kept full =
-    let next_ones : List Choice = take (reached - applied) (drop applied choices) in
-    let taken : take reached choices ≡ take applied choices ++ next_ones = sym (between choices applied reached more) in
-    let cut : length (take applied choices) ≡ applied = length-take-le applied choices walk.within in
-    let cut_there : length (take reached choices) ≡ reached = length-take-le reached choices within in
-    let long_there : length (take reached choices) ≡ length (take applied choices ++ next_ones) = ap length taken in
-    let long : applied + length next_ones ≡ reached = omega (arith, length-append (take applied choices) next_ones) in
-    let count = walk.count in
-    elim (below (now + (reached - applied)) 64) [
-      | inl less ↦
-          let step = between_kept less in
-          let snapshots = kept_on image from since (take applied choices) next_ones kept walk.follows.snapshots (omega arith) in
-          let on : AreKept image from since (take reached choices) kept' = subst (λ (cs : List Choice). AreKept image from since cs kept') (sym taken) (subst (λ (ks : List State). AreKept image from since (take applied choices ++ next_ones) ks) (sym step.1) snapshots) in
-          let same : length kept' ≡ length kept = ap length step.1 in
-          let now_is = step.0 in
-          record { within = within; follows = record { made = made; shown = shown; snapshots = on }; count = omega arith }
-      | inr least ↦
-          let last : now + (reached - applied) ≡ 64 = omega arith in
-          let step = full last in
-          let here_is : next ≡ led image (take applied choices ++ next_ones) from = shown ∙ ap (λ (cs : List Choice). led image cs from) taken in
-          let snapshots = kept_here image from since (take applied choices) next_ones kept next walk.follows.snapshots (omega arith) here_is in
-          let on : AreKept image from since (take reached choices) kept' = subst (λ (cs : List Choice). AreKept image from since cs kept') (sym taken) (subst (λ (ks : List State). AreKept image from since (take applied choices ++ next_ones) ks) (sym step.1) snapshots) in
-          let one_more : length kept' ≡ length kept + 1 = ap length step.1 ∙ length-append kept (next ∷ []) in
-          let now_is = step.0 in
-          record { within = within; follows = record { made = made; shown = shown; snapshots = on }; count = omega arith }
-    ]
-
--- a walk of no choice, behind which the rows are as they were
-pub tracks_none : (image : Loaded) (choices : List Choice) (from here : State) (since applied now : ℕ) (made cs : List Choice) (kept ks : List State) → since < 64
-    → here ≡ from → applied ≡ 0 → now ≡ since → cs ≡ made → ks ≡ kept → Tracks image choices from since applied here now made kept cs ks
-tracks_none image choices from here since applied now made cs kept ks few shown none count choices_are kept_are =
-    let begun : Tracks image choices from since 0 from since made kept made kept = record {
-      made = sym (append-nil made);
-      kept = sym (append-nil kept) ∙ ap (λ zs. kept ++ zs) (sym (drop_all (length kept) kept (omega arith)));
-      walks = subst (λ zs. Walks image choices from since 0 from since zs) (sym (drop_all (length kept) kept (omega arith))) (walks_none image choices from since few);
-    } in
-    subst (λ cs. Tracks image choices from since applied here now made kept cs ks) (sym choices_are)
-    (subst (λ ks. Tracks image choices from since applied here now made kept made ks) (sym kept_are)
-    (subst (λ n. Tracks image choices from since applied here n made kept made kept) (sym count)
-    (subst (λ n. Tracks image choices from since n here since made kept made kept) (sym none)
-    (subst (λ (w : State). Tracks image choices from since 0 w since made kept made kept) (sym shown) begun))))
-
--- choices more were applied and counted, and put behind the rows
-pub tracks_further : (image : Loaded) (choices : List Choice) (from : State) (since applied : ℕ) (here : State) (now : ℕ) (made : List Choice) (kept : List State) (cs : List Choice) (ks : List State)
-    (reached : ℕ) (next : State) (now' : ℕ) (cs' : List Choice) (ks' : List State)
-    → Tracks image choices from since applied here now made kept cs ks → applied ≤ reached → reached ≤ length choices → all_enabled image (take reached choices) from ≡ true → next ≡ led image (take reached choices) from
-    → now + (reached - applied) ≤ 64
-    → (now + (reached - applied) < 64 → (now' ≡ now + (reached - applied)) × (ks' ≡ ks)) → (now + (reached - applied) ≡ 64 → (now' ≡ 0) × (ks' ≡ ks ++ next ∷ []))
-    → cs' ≡ cs ++ take (reached - applied) (drop applied choices)
-    → Tracks image choices from since reached next now' made kept cs' ks'
-tracks_further image choices from since applied here now made kept cs ks reached next now' cs' ks' track more within able shown few less full added =
-    let tail : List State → List State = drop (length kept) in
-    let whole : ks' ≡ kept ++ tail ks' = elim (below (now + (reached - applied)) 64) [
-      | inl fewer ↦ (less fewer).1 ∙ track.kept ∙ ap (λ zs. kept ++ tail zs) (sym (less fewer).1)
-      | inr least ↦ (grown kept ks ks' (next ∷ []) track.kept (full (omega arith)).1).0
-    ] in
-    record {
-      made = taken_on made choices cs cs' applied reached more track.made added;
-      kept = whole;
-      walks = walks_further image choices from since applied here now (tail ks) reached next now' (tail ks') track.walks more within able shown few
-          (λ h. ((less h).0, ap tail (less h).1)) (λ h. ((full h).0, (grown kept ks ks' (next ∷ []) track.kept (full h).1).1));
     }
 
 -- the walk goes on behind a choice that was applied
@@ -303,10 +217,3 @@ applied_here image choice here next stop none done = subst (λ (s : Option Stop)
 
 pub stopped_as_found : (image : Loaded) (choice : Choice) (here next : State) (stop : Option Stop) (found : Stop) → stop ≡ Some found → Chooses image choice here next stop → Chooses image choice here next (Some found)
 stopped_as_found image choice here next stop found is done = subst (λ (s : Option Stop). Chooses image choice here next s) is done
-
--- what is counted behind the last world that was kept
-pub few_counted : {A B : Type 0} (now more now' : ℕ) → now + more ≤ 64 → (now + more < 64 → (now' ≡ now + more) × A) → (now + more ≡ 64 → (now' ≡ 0) × B) → now' < 64
-few_counted now more now' few less full = elim (below (now + more) 64) [
-  | inl h ↦ let is = (less h).0 in omega arith
-  | inr h ↦ let is = (full (omega arith)).0 in omega arith
-]

@@ -4,3 +4,4 @@ pub mod Leading
 pub mod Sessions
 pub mod Calls
 pub mod Stopping
+pub mod Swapping

@@ -3,7 +3,6 @@
 
 pub mod laws;
 mod places;
-mod rows;
 mod sessions;
 mod stops;
 mod walks;

@@ -1,35 +1,33 @@
 //! Sessions.
 
-ghost use Rattle.std.specs.Prelude.{◌≡◌, ◌≢◌, ◌↔◌, ◌-◌, ◌%◌, ◌<◌, ◌≤◌, [], false, length, None, Ok, OnErr, OnOk, IfOk, IsSome, IsTrue, slice_index_or, take};
+ghost use Rattle.std.specs.Prelude.{◌≡◌, ◌≢◌, ◌↔◌, ◌-◌, ◌<◌, ◌≤◌, [], false, length, None, Ok, OnErr, OnOk, IfOk, IsSome, IsTrue, take};
 ghost use Rattle.bx_terms.specs.Outcomes.{Does, Gives};
 ghost use Rattle.bx_load.specs.Image.{export};
 ghost use Rattle.bx_world.specs.Choosing.{refusal};
 ghost use Rattle.bx_world.specs.Running.{ran, unchosen};
-ghost use Rattle.bx_debug.specs.Leading.{led, Follows};
+ghost use Rattle.bx_debug.specs.Leading.{led};
 ghost use Rattle.bx_debug.specs.Places.{is_set};
 ghost use Rattle.bx_debug.specs.Sessions.{back, behind, forward, gone, GoTakes, opened, stepped, with_break, with_made, without_break, world_of};
+ghost use Rattle.bx_debug.specs.Swapping.{Swaps};
 
 use crate::places::Places;
-use crate::rows::{KEPT_EACH, Rows};
 use crate::stops::{Stop, refusal, stop_at_once};
-use crate::walks::{follow, into_world, replay, shared};
+use crate::walks::{Walk, follow, into_world};
 use bx_load::Image;
-use bx_share::{Same, same_rows};
+use bx_replay::{Trail, shared};
 use bx_terms::{AtomId, Fault, Place};
-use bx_world::{Choice, RcWorld};
+use bx_world::{Choice, RcWorld, RunEnd};
 use std::alloc::{AllocError, Global};
 use std::marker::Model;
 
 /// A world with the choices that led to it, which can be stepped back over and made anew, and the breakpoints at which a run breaks
 /// off.
 ///
-/// It keeps each choice, and the world at the start and behind each 64th choice, so that a move of the position makes at most
-/// 63 choices again. Where memory runs out, a call has changed nothing.
+/// It keeps each choice, and some of the worlds on the way, so that a move of the position makes few choices again, at most 63
+/// where the state stays small. Where memory runs out, a call has changed nothing.
 #[derive(Drop)]
 pub struct Session<'a> {
-    image: &'a Image,
-    start: RcWorld,
-    rows: Rows,
+    trail: Trail<'a>,
     at: usize,
     world: RcWorld,
     places: Places,
@@ -53,15 +51,15 @@ impl<'a> Model for Session<'a> {
         made.the_row.coded };
 
     ghost view = { λ s. record {
-      image = s.image.now;
-      start = s.start;
-      choices = s.rows.choices.items;
-      at
-          = s.at;
+      image = s.trail.image;
+      start = s.trail.start.world;
+      choices
+          = s.trail.choices;
+      at = s.at;
       places = s.places;
     } };
 
-    ghost invariant = { λ s. IsSession s.image.now s.start s.rows.choices.items s.at s.world s.rows.kept.items };
+    ghost invariant = { λ s. IsSession s.trail s.at s.world };
 }
 
 impl<'a> Session<'a> {
@@ -77,12 +75,15 @@ impl<'a> Session<'a> {
         ensures { Gives (IsSome (export image.entry.now «module» function 0)) (λ s. s) result
             (opened image.entry.now «module» function) }
     {
-        let start = RcWorld::start(alloc, image, module, function)?;
-        let world = shared(alloc, &start)?;
+        let world = RcWorld::start(alloc, image, module, function)?;
+        let start = RunEnd {
+            world: shared(alloc, &world)?,
+            applied: 0,
+            refused: None,
+        };
+        let trail = Trail::of(alloc, image, start, Vec::new(alloc))?;
         Ok(Session {
-            image,
-            start,
-            rows: Rows::new(alloc),
+            trail,
             at: 0,
             world,
             places: Places::new(alloc),
@@ -103,7 +104,7 @@ impl<'a> Session<'a> {
         ensures at { result ≡ self.now.at }
         ensures within { result ≤ length self.now.choices }
     {
-        let _ = &self.rows;
+        let _ = &self.trail;
         self.at
     }
 
@@ -111,35 +112,35 @@ impl<'a> Session<'a> {
     pub fn len(&self) -> usize
         ensures { result ≡ length self.now.choices }
     {
-        self.rows.choices.len()
+        self.trail.len()
     }
 
     /// Whether no choice was made.
     pub fn is_empty(&self) -> bool
         ensures { IsTrue result ↔ (self.now.choices ≡ []) }
     {
-        self.rows.choices.is_empty()
+        self.trail.choices().is_empty()
     }
 
     /// The choices in order, those behind the position included.
     pub fn choices(&self) -> &[Choice]
         ensures { result.now ≡ self.now.choices }
     {
-        &self.rows.choices
+        self.trail.choices()
     }
 
     /// The loaded code.
     pub fn image(&self) -> &'a Image
         ensures { result.now ≡ self.now.image }
     {
-        self.image
+        self.trail.image()
     }
 
     /// The world in which no choice was made yet.
     pub fn start(&self) -> &RcWorld
         ensures { result.now ≡ self.now.start }
     {
-        &self.start
+        &self.trail.start().world
     }
 
     /// Whether both are sessions over equal code from equal starts, with the same choices and breakpoints, at the same position.
@@ -147,11 +148,7 @@ impl<'a> Session<'a> {
     pub fn same(&self, other: &Session<'_>) -> bool
         ensures { IsTrue result ↔ (self.now ≡ other.now) }
     {
-        self.at == other.at
-            && self.places.same(&other.places)
-            && same_rows(&self.rows.choices, &other.rows.choices)
-            && self.start.same(&other.start)
-            && self.image.same(other.image)
+        self.at == other.at && self.places.same(&other.places) && self.trail.same(&other.trail)
     }
 
     /// Whether there is a breakpoint at this address.
@@ -197,7 +194,7 @@ impl<'a> Session<'a> {
         ensures { Does ((0 < count) × (count ≤ length self.old.choices - self.old.at)) self.old self.new result
             (forward count self.old) }
     {
-        if count > self.rows.choices.len() - self.at {
+        if count > self.trail.len() - self.at {
             return Err(Fault::AfterEnd);
         }
         self.move_to(alloc, self.at + count)?;
@@ -216,6 +213,23 @@ impl<'a> Session<'a> {
             return Ok(stop);
         }
         Ok(self.make(alloc, choices)?)
+    }
+
+    /// Exchanges the choice of that number, counted from 1, and the one behind it, where both stand before the position and are
+    /// independent where they stand. The position stays, the choices behind it and the breakpoints, and the world that is shown.
+    ///
+    /// `NotIndependent` with the number exactly where they are not, or one of them does not stand there. Memory is taken only
+    /// where both do.
+    pub fn swap(&mut self, alloc: Global, number: usize) -> Result<(), Fault>
+        ensures { Swaps number self.old self.new result }
+    {
+        if number == 0 || number >= self.at {
+            return Err(Fault::NotIndependent { position: number });
+        }
+        if !self.trail.exchange(alloc, number - 1)? {
+            return Err(Fault::NotIndependent { position: number });
+        }
+        Ok(())
     }
 
     /// Sets a breakpoint at an address, whichever it is.
@@ -249,20 +263,19 @@ impl<'a> Session<'a> {
         ensures ok { IfOk result (λ stop. gone choices.now self.old ≡ (self.new, stop)) }
         ensures err { OnErr result (self.new ≡ self.old) }
     {
-        let ends = self.rows.ends();
         let walk = follow(
             alloc,
-            self.image,
+            &self.trail,
             &self.places,
             &self.world,
-            self.at % KEPT_EACH,
+            self.at,
             choices,
-            &mut self.rows,
         )?;
-        self.rows.close(self.at, ends);
-        self.at = self.rows.choices.len();
-        self.world = into_world(walk.end);
-        Ok(walk.stop)
+        let Walk { made, end, stop } = walk;
+        self.trail.replace_tail(self.at, made)?;
+        self.at = self.trail.len();
+        self.world = into_world(end);
+        Ok(stop)
     }
 
     /// Moves the position, making again the choices behind the nearest world that was kept before it.
@@ -286,25 +299,7 @@ impl<'a> Session<'a> {
         ensures { IfOk result (λ w. w ≡ led self.now.image (take at self.now.choices)
             self.now.start) }
     {
-        let turns = at / KEPT_EACH;
-        let choices = &self.rows.choices[turns * KEPT_EACH..at];
-        replay(
-            alloc,
-            self.image,
-            nearest(&self.start, &self.rows.kept, turns),
-            choices,
-        )
+        let end = self.trail.end_at(alloc, at)?;
+        Ok(into_world(end))
     }
-}
-
-/// The world that was kept behind so many rounds of choices.
-fn nearest<'a>(start: &'a RcWorld, kept: &'a [RcWorld], turns: usize) -> &'a RcWorld
-    requires { turns ≤ length kept.now }
-    ensures start { turns ≡ 0 → result.now ≡ start.now }
-    ensures kept { 0 < turns → result.now ≡ slice_index_or kept.now (turns - 1) result.now }
-{
-    if turns == 0 {
-        return start;
-    }
-    &kept[turns - 1]
 }

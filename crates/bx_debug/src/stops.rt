@@ -8,14 +8,10 @@ ghost use Rattle.bx_debug.specs.Leading.{Chooses};
 
 use crate::places::Places;
 use bx_load::Image;
-use bx_proc::Proc;
-use bx_share::RcHold;
+use bx_replay::RcEnd;
 use bx_terms::{Fault, Place, Trap};
-use bx_world::{Choice, Lanes, RcWorld, RunEnd};
+use bx_world::{Choice, RcWorld};
 use std::alloc::{AllocError, Global};
-
-/// Where choices have led in a world that stays in one thread.
-pub(crate) type RcEnd = RunEnd<RcHold<Proc>, RcHold<Lanes>>;
 
 /// Why no more choices were applied.
 #[derive(Clone, Copy, Debug, PartialEq, Eq)]

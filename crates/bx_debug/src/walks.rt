@@ -1,45 +1,17 @@
 //! Choices applied one after another, in a world that is shared with others until it changes.
 
-ghost use Rattle.std.specs.Prelude.{◌≡◌, ℕ, ◌+◌, ◌-◌, ◌∷◌, ◌++◌, ◌<◌, ◌≤◌, List, [], true, length, take, None, IfOk, OnErr, OnOk};
+ghost use Rattle.std.specs.Prelude.{◌≡◌, ◌+◌, ◌<◌, ◌≤◌, ◌^◌, length, None, IfOk};
 ghost use Rattle.std.specs.FinSet as set;
-ghost use Rattle.bx_world.specs.declared.choices.Choice.{Choice as Made};
 ghost use Rattle.bx_world.specs.World.{State};
 ghost use Rattle.bx_debug.specs.Going.{walked};
-ghost use Rattle.bx_debug.specs.Leading.{all_enabled, led, Begins, Leads, Reaches, Tracks};
+ghost use Rattle.bx_debug.specs.Leading.{come, Begins, Leads, Reaches, Walks, Went};
 
 use crate::places::Places;
-use crate::rows::{KEPT_EACH, Rows};
-use crate::stops::{RcEnd, Stop, choose, ended_by, halted, stop_behind};
+use crate::stops::{Stop, choose, ended_by, halted, stop_behind};
 use bx_load::Image;
+use bx_replay::{RcEnd, Trail, copied, shared};
 use bx_world::{Choice, RcWorld, RunEnd, advance};
 use std::alloc::{AllocError, Global};
-
-/// An equal world, which shares all that it can.
-pub(crate) fn shared(alloc: Global, world: &RcWorld) -> Result<RcWorld, AllocError>
-    ensures { IfOk result (λ w. w ≡ world.now) }
-{
-    match world.snapshot(alloc) {
-        Ok(world) => Ok(world),
-        Err(_) => Err(AllocError),
-    }
-}
-
-/// The world that choices lead to which are all enabled.
-pub(crate) fn replay(
-    alloc: Global,
-    image: &Image,
-    from: &RcWorld,
-    choices: &[Choice],
-) -> Result<RcWorld, AllocError>
-    requires { all_enabled image.now choices.now from.now ≡ true }
-    ensures { IfOk result (λ w. w ≡ led image.now choices.now from.now) }
-{
-    let mut world = shared(alloc, from)?;
-    for choice in choices {
-        choose(alloc, image, *choice, &mut world)?;
-    }
-    Ok(world)
-}
 
 /// Applies the choices of a row from one number up to another, in order, as far as nothing stops them: before which number
 /// it stopped, and why, if not all were applied or one of them stops those behind it.
@@ -128,107 +100,84 @@ fn stretch_by_places(
     stretch(alloc, image, places, &mut end.world, choices, first, past)
 }
 
-/// What came of choices that were applied in order, beside the rows that they were put behind.
+/// What came of choices that were applied in order.
 #[derive(Drop)]
-pub(crate) struct Walk {
-    /// Where they led. How many were applied, and whether one was refused, is known of the last stretch alone.
+pub(crate) struct Walk<'a> {
+    /// Those that were applied.
+    pub(crate) made: Trail<'a>,
+    /// Where they led.
     pub(crate) end: RcEnd,
-    /// How many were applied.
-    pub(crate) applied: usize,
-    /// How many were made behind the last world that was kept.
-    since: usize,
     pub(crate) stop: Stop,
 }
 
-impl Walk {
-    /// No choice is applied yet.
-    fn begun(alloc: Global, world: &RcWorld, since: usize) -> Result<Walk, AllocError>
-        requires { since < KEPT_EACH }
-        ensures { IfOk result (λ walk. Begins world.now since walk.end.world walk.applied walk.since
+impl<'a> Walk<'a> {
+    /// No choice is applied yet, behind so many of that trail, which lead to this world.
+    fn begun(
+        alloc: Global,
+        trail: &Trail<'a>,
+        world: &RcWorld,
+        at: usize,
+    ) -> Result<Walk<'a>, AllocError>
+        ensures { IfOk result (λ walk. Begins trail.now.image world.now at walk.made walk.end.world
             walk.stop) }
     {
-        let world = shared(alloc, world)?;
+        let start = RunEnd {
+            world: shared(alloc, world)?,
+            applied: at as u64,
+            refused: None,
+        };
+        let end = copied(alloc, &start)?;
         Ok(Walk {
-            end: RunEnd {
-                world,
-                applied: 0,
-                refused: None,
-            },
-            applied: 0,
-            since,
+            made: trail.branch(alloc, start),
+            end,
             stop: Stop::Done,
         })
     }
 
-    /// Applies choices up to where the next world is kept, or up to the last one, as far as nothing stops them, and puts them
-    /// and that world behind the rows: why it stopped, if it did.
+    /// Applies choices up to where the next world is kept, or up to the last one, as far as nothing stops them: why it stopped, if
+    /// it did.
     fn turn(
         &mut self,
         alloc: Global,
-        image: &Image,
         places: &Places,
         choices: &[Choice],
-        rows: &mut Rows,
     ) -> Result<Option<Stop>, AllocError>
-        requires open { self.old.applied < length choices.now }
-        requires since { self.old.since < KEPT_EACH }
-        ensures way { IfOk result (λ stop. (from : State) (since : ℕ) (made : List Made) (kept : List State)
-            → Tracks image.now choices.now from since self.old.applied self.old.end.world self.old.since
-            made kept rows.old.choices.items rows.old.kept.items
-            → Leads image.now places.now choices.now from self.old.applied self.old.end.world None
-            → Tracks image.now choices.now from since self.new.applied self.new.end.world self.new.since
-            made kept rows.new.choices.items rows.new.kept.items
-            × Leads image.now places.now choices.now from self.new.applied self.new.end.world stop) }
-        ensures further { IfOk result (λ stop. stop ≡ None → self.old.applied < self.new.applied) }
-        ensures since { OnOk result (self.new.since < KEPT_EACH) }
+        requires open { length self.old.made.choices < length choices.now }
+        requires few { self.old.made.start.applied + length choices.now < 2 ^ 64 }
+        requires way { Walks places.now choices.now self.old.made self.old.end.world None }
+        ensures way { IfOk result (Walks places.now choices.now self.new.made self.new.end.world) }
+        ensures image { IfOk result (λ stop. self.new.made.image ≡ self.old.made.image) }
+        ensures start { IfOk result (λ stop. self.new.made.start ≡ self.old.made.start) }
+        ensures further { IfOk result (λ stop. stop ≡ None
+            → length self.old.made.choices < length self.new.made.choices) }
         ensures stop { self.new.stop ≡ self.old.stop }
-        ensures choices_before { OnErr result (rows.new.choices.items ≡ rows.old.choices.items) }
-        ensures kept_before { OnErr result (take (length rows.old.kept.items) rows.new.kept.items
-            ≡ rows.old.kept.items) }
     {
-        let left = (choices.len() - self.applied).min(KEPT_EACH - self.since);
-        let past = self.applied + left;
+        let first = self.made.len();
+        let past = first + (choices.len() - first).min(self.made.room());
+        let image = self.made.image();
         let (reached, stop) = stretch_by_places(
             alloc,
             image,
             places,
             &mut self.end,
             choices,
-            self.applied,
+            first,
             past,
         )?;
-        let first = self.applied;
-        self.count(alloc, reached, &mut rows.kept)?;
-        rows.choices.extend_from_slice(&choices[first..reached])?;
+        let start = self.made.start();
+        let applied = start.applied + reached as u64;
+        count_applied(&mut self.end, applied);
+        self.made.push(alloc, &choices[first..reached], &self.end)?;
         Ok(stop)
     }
+}
 
-    /// Counts the choices that were applied up to that number, and keeps the world behind each 64th.
-    fn count(
-        &mut self,
-        alloc: Global,
-        reached: usize,
-        kept: &mut Vec<RcWorld>,
-    ) -> Result<(), AllocError>
-        requires applied { self.old.applied ≤ reached }
-        requires since { self.old.since + (reached - self.old.applied) ≤ KEPT_EACH }
-        ensures world { self.new.end.world ≡ self.old.end.world }
-        ensures stop { self.new.stop ≡ self.old.stop }
-        ensures applied { OnOk result (self.new.applied ≡ reached) }
-        ensures between { OnOk result (self.old.since + (reached - self.old.applied) < KEPT_EACH
-            → (self.new.since ≡ self.old.since + (reached - self.old.applied)) × (kept.new.items ≡ kept.old.items)) }
-        ensures kept { OnOk result (self.old.since + (reached - self.old.applied) ≡ KEPT_EACH
-            → (self.new.since ≡ 0) × (kept.new.items ≡ kept.old.items ++ self.old.end.world ∷ [])) }
-        ensures before { OnErr result (kept.new.items ≡ kept.old.items) }
-    {
-        self.since += reached - self.applied;
-        self.applied = reached;
-        if self.since == KEPT_EACH {
-            kept.push(shared(alloc, &self.end.world)?)?;
-            self.since = 0;
-        }
-        Ok(())
-    }
+/// So many choices were applied, and none was refused.
+fn count_applied(end: &mut RcEnd, applied: u64)
+    ensures { end.new ≡ come end.old.world applied }
+{
+    end.applied = applied;
+    end.refused = None;
 }
 
 /// The world that choices have led to.
@@ -244,39 +193,27 @@ pub(crate) fn into_world(end: RcEnd) -> RcWorld
 }
 
 /// Applies choices in order, up to the first that stops them: one that is not applied, one that traps, and a run that leaves
-/// its process at a breakpoint. `since` choices were made behind the last world that was kept. What was applied, and
-/// the worlds that are kept on the way, are put behind the rows; where memory runs out, these are as they were.
-pub(crate) fn follow(
+/// its process at a breakpoint. They begin in this world, to which the first `at` choices of the trail lead.
+pub(crate) fn follow<'a>(
     alloc: Global,
-    image: &Image,
+    trail: &Trail<'a>,
     places: &Places,
     world: &RcWorld,
-    since: usize,
+    at: usize,
     choices: &[Choice],
-    rows: &mut Rows,
-) -> Result<Walk, AllocError>
-    requires { since < KEPT_EACH }
-    ensures told { IfOk result (λ walk. walked image.now places.now choices.now world.now ≡
-        (take walk.applied choices.now, walk.stop)) }
-    ensures way { IfOk result (λ walk. Tracks image.now choices.now world.now since walk.applied
-        walk.end.world walk.since rows.old.choices.items rows.old.kept.items rows.new.choices.items rows.new.kept.items) }
-    ensures choices_as_before { OnErr result (rows.new.choices.items ≡ rows.old.choices.items) }
-    ensures kept_as_before { OnErr result (rows.new.kept.items ≡ rows.old.kept.items) }
+) -> Result<Walk<'a>, AllocError>
+    requires { at ≤ length trail.now.choices }
+    ensures told { IfOk result (λ walk. walked trail.now.image places.now choices.now world.now ≡
+        (walk.made.choices, walk.stop)) }
+    ensures way { IfOk result (λ walk. Went trail.now.image world.now at walk.made walk.end.world) }
 {
-    rows.make_room(choices.len())?;
-    let ends = rows.ends();
-    let mut walk = Walk::begun(alloc, world, since)?;
-    while walk.applied < choices.len() {
-        match walk.turn(alloc, image, places, choices, rows) {
-            Ok(None) => {}
-            Ok(Some(stop)) => {
-                walk.stop = stop;
-                return Ok(walk);
-            }
-            Err(refused) => {
-                rows.cut(ends);
-                return Err(refused);
-            }
+    let count = trail.len();
+    prove!(at <= count);
+    let mut walk = Walk::begun(alloc, trail, world, at)?;
+    while walk.made.len() < choices.len() {
+        if let Some(stop) = walk.turn(alloc, places, choices)? {
+            walk.stop = stop;
+            return Ok(walk);
         }
     }
     Ok(walk)

@@ -1,4 +1,2 @@
-pub mod Rows
-pub mod Pairs
-pub mod Exchanging
-pub mod Trailing
+pub mod Ends
+pub mod Next

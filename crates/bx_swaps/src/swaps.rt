@@ -1,25 +1,55 @@
 //! Checked exchanges.
 
+ghost use Rattle.std.specs.Prelude.{◌≡◌, drop, IfOk};
+ghost use Rattle.bx_replay.specs.Exchanges.{next_apart};
 ghost use Rattle.bx_world.specs.World.{started};
-ghost use Rattle.bx_swaps.specs.Exchanges.{IsAnswer, AtFaultAtOnce};
+ghost use Rattle.bx_swaps.specs.Exchanges.{IsAnswer, AtFaultAtOnce, ExchangesAll};
 
-use crate::independence::apart_at;
-use crate::trails::Trail;
 use bx_load::Image;
 use bx_plan::Schedule;
+use bx_replay::{Trail, apart};
 use bx_terms::{AtomId, Fault};
-use bx_world::{Choice, RcWorld};
-use std::alloc::Global;
+use bx_world::{Choice, RcWorld, RunEnd};
+use std::alloc::{AllocError, Global};
+
+/// The choices at that position of a schedule and right behind it, where they concern different processes.
+fn apart_in(schedule: &Schedule, position: usize) -> Option<(Choice, Choice)>
+    ensures { result ≡ next_apart (drop position schedule.now) }
+{
+    if position >= schedule.len() {
+        return None;
+    }
+    let first = schedule.get(position)?;
+    let second = schedule.get(position + 1)?;
+    apart(first, second)
+}
 
 /// The first of these positions, where the list alone tells that it is at fault: no two choices of different processes stand there.
-fn refused_at_once(choices: &[Choice], positions: &[usize]) -> Option<usize>
-    ensures { AtFaultAtOnce positions.now choices.now result }
+fn refused_at_once(schedule: &Schedule, positions: &[usize]) -> Option<usize>
+    ensures { AtFaultAtOnce positions.now schedule.now result }
 {
     let position = *positions.first()?;
-    match apart_at(choices, position) {
+    match apart_in(schedule, position) {
         Some(_) => None,
         None => Some(position),
     }
+}
+
+/// Exchanges the choices at each of these positions and right behind it, one after another, as long as the two are independent
+/// where they stand: the first position at which they are not.
+fn exchange_all(
+    alloc: Global,
+    trail: &mut Trail<'_>,
+    positions: &[usize],
+) -> Result<Option<usize>, AllocError>
+    ensures { IfOk result (ExchangesAll positions.now trail.old trail.new) }
+{
+    for position in positions {
+        if !trail.exchange(alloc, *position)? {
+            return Ok(Some(*position));
+        }
+    }
+    Ok(None)
 }
 
 /// The schedule with choices exchanged: for each position, from 0 on, the choice there and the one behind it, in what the exchanges
@@ -43,13 +73,18 @@ pub fn check_swaps(
     if image.entry(module, function, 0).is_none() {
         return Err(Fault::NoEntry);
     }
-    if let Some(position) = refused_at_once(schedule.choices(), positions) {
+    if let Some(position) = refused_at_once(schedule, positions) {
         return Err(Fault::NotIndependent { position });
     }
-    let start = RcWorld::start(alloc, image, module, function)?;
-    let mut trail = Trail::new(alloc, start, schedule.choices())?;
-    match trail.exchange_all(alloc, image, positions)? {
+    let start = RunEnd {
+        world: RcWorld::start(alloc, image, module, function)?,
+        applied: 0,
+        refused: None,
+    };
+    let choices = schedule.to_choices(alloc)?;
+    let mut trail = Trail::of(alloc, image, start, choices)?;
+    match exchange_all(alloc, &mut trail, positions)? {
         Some(position) => Err(Fault::NotIndependent { position }),
-        None => Ok(Schedule::of(trail.into_choices())),
+        None => Ok(Schedule::from_choices(alloc, &trail.into_choices())?),
     }
 }

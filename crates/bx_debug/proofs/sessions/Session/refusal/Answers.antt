@@ -4,4 +4,4 @@ use Rattle.bx_debug.proofs.Moving.{shown_there}
 use Rattle.bx_debug.proofs.sessions.Session.refusal.Goals as goal
 
 pub returns : goal.returns
-returns c = c.refusal.ensures ∙ ap (λ w. refusal w c.args.choice) (shown_there _ _ _ _ _ _ _ _ c.self.view_is c.self.invariant)
+returns c = c.refusal.ensures ∙ ap (λ w. refusal w c.args.choice) (shown_there _ c.self.inside.trail c.self.inside.at _ c.self.inside.places c.self.view_is c.self.invariant)

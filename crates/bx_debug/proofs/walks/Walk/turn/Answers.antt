@@ -1,38 +1,65 @@
-use Rattle.std.proofs.Common.{◌+◌, ◌-◌, ◌≤◌, sym, subst, arith}
+use Rattle.std.proofs.Common.{ℕ, ◌+◌, ◌-◌, ◌++◌, length, take, drop, None, sym, ap, subst, ◌∙◌}
+use Rattle.bx_load.specs.Image.{Loaded}
 use Rattle.bx_world.specs.World.{State}
-use Rattle.bx_debug.specs.Leading.{Leads, Tracks}
-use Rattle.bx_debug.proofs.Walking.{few_counted, tracks_further}
+use Rattle.bx_world.specs.Running.{Ended}
+use Rattle.bx_replay.specs.Courses.{Course}
+use Rattle.bx_debug.specs.Leading.{come, Leads, Reaches, Walks}
+use Rattle.bx_debug.proofs.Going.{counted, ended, goes_on}
 use Rattle.bx_debug.proofs.walks.Walk.turn.Goals as goal
 
-pub count-requires-clause-since : goal.count-requires-clause-since
-count-requires-clause-since c = omega (arith, c.in_ok-reached.ensures.between, c.min-left.ensures)
+pub push-requires-clause-all : goal.push-requires-clause-all
+push-requires-clause-all c =
+    let made = c.args.self.now.made in
+    let here = c.args.self.now.end.world in
+    let places = c.args.places.now in
+    let choices = c.args.choices.now in
+    let first = c.len-first.result in
+    let reached = c.in_ok-reached.reached in
+    let next = c.stretch_by_places.new.end.world in
+    let lead = subst (λ (n : ℕ). Leads c.image-image.result.now places choices made.start.world n here None) (sym c.len-first.ensures.count)
+    (subst (λ (i : Loaded). Leads i places choices made.start.world (length made.choices) here None) (sym c.image-image.ensures) c.requires.way.leads) in
+    let far = subst (λ (n : ℕ). Reaches made.image places choices made.start.world n (first + c.min.result) reached next c.in_ok-reached.stop) c.len-first.ensures.count
+    (subst (λ (i : Loaded). Reaches i places choices made.start.world first (first + c.min.result) reached next c.in_ok-reached.stop) c.image-image.ensures (c.in_ok-reached.ensures.way made.start.world lead)) in
+    let slice_is = ap (λ (n : ℕ). take (reached - n) (drop n choices)) c.len-first.ensures.count in
+    let applied = ap (λ (e : Ended). e.applied) c.start.view_is ∙ ap (λ (e : Ended). e.applied) c.start-start.ensures in
+    ap (λ (e : Ended). e.applied) c.count_applied.ensures
+    ∙ ap (λ (n : ℕ). n + reached) applied
+    ∙ ap (λ (n : ℕ). made.start.applied + n) (sym (counted places choices made here next (first + c.min.result) reached c.in_ok-reached.stop (take (reached - first) (drop first choices)) c.requires.way far slice_is))
 
-pub returns-clause-further : goal.returns-clause-further
-returns-clause-further c = λ none. omega (arith, c.in_ok-reached.ensures.whole none, c.min-left.ensures, c.in_ok-count.ensures.applied)
-
-pub returns-clause-since : goal.returns-clause-since
-returns-clause-since c =
-    let counted = c.in_ok-count.ensures in
-    let few : c.args.self.now.since + (c.in_ok-reached.reached - c.args.self.now.applied) ≤ 64 = omega (arith, c.in_ok-reached.ensures.between, c.min-left.ensures) in
-    few_counted c.args.self.now.since (c.in_ok-reached.reached - c.args.self.now.applied) c.count.new.self.since few counted.between counted.kept
+pub push-requires-clause-end : goal.push-requires-clause-end
+push-requires-clause-end c =
+    let made = c.args.self.now.made in
+    let here = c.args.self.now.end.world in
+    let places = c.args.places.now in
+    let choices = c.args.choices.now in
+    let first = c.len-first.result in
+    let reached = c.in_ok-reached.reached in
+    let next = c.stretch_by_places.new.end.world in
+    let lead = subst (λ (n : ℕ). Leads c.image-image.result.now places choices made.start.world n here None) (sym c.len-first.ensures.count)
+    (subst (λ (i : Loaded). Leads i places choices made.start.world (length made.choices) here None) (sym c.image-image.ensures) c.requires.way.leads) in
+    let far = subst (λ (n : ℕ). Reaches made.image places choices made.start.world n (first + c.min.result) reached next c.in_ok-reached.stop) c.len-first.ensures.count
+    (subst (λ (i : Loaded). Reaches i places choices made.start.world first (first + c.min.result) reached next c.in_ok-reached.stop) c.image-image.ensures (c.in_ok-reached.ensures.way made.start.world lead)) in
+    let slice_is = ap (λ (n : ℕ). take (reached - n) (drop n choices)) c.len-first.ensures.count in
+    let applied = ap (λ (e : Ended). e.applied) c.start.view_is ∙ ap (λ (e : Ended). e.applied) c.start-start.ensures in
+    c.count_applied.ensures
+    ∙ ap (λ (n : ℕ). come next (n + reached)) applied
+    ∙ ended places choices made here next (first + c.min.result) reached c.in_ok-reached.stop (take (reached - first) (drop first choices)) c.requires.way far slice_is
 
 pub returns-clause-way : goal.returns-clause-way
-returns-clause-way c = λ from since made kept track lead.
-    let old = c.args.self.now in
-    let new = c.count.new.self in
-    let image = c.args.image.now in
+returns-clause-way c =
+    let made = c.args.self.now.made in
+    let here = c.args.self.now.end.world in
+    let places = c.args.places.now in
     let choices = c.args.choices.now in
-    let there = c.stretch_by_places.new.end.world in
+    let first = c.len-first.result in
     let reached = c.in_ok-reached.reached in
-    let counted = c.in_ok-count.ensures in
-    let cs = c.extend_from_slice.new.self.items in
-    let ks = c.count.new.kept.items in
-    let far = c.in_ok-reached.ensures.way from lead in
-    let few : old.since + (reached - old.applied) ≤ 64 = omega (arith, c.in_ok-reached.ensures.between, c.min-left.ensures) in
-    let on = tracks_further image choices from since old.applied old.end.world old.since made kept c.args.rows.now.choices.items c.args.rows.now.kept.items reached there new.since cs ks
-    track far.further far.leads.within far.leads.made far.leads.shown few counted.between counted.kept c.in_ok-extend_from_slice.ensures.items in (
-      subst (λ n. Tracks image choices from since n new.end.world new.since made kept cs ks) (sym counted.applied)
-          (subst (λ (w : State). Tracks image choices from since reached w new.since made kept cs ks) (sym counted.world) on),
-      subst (λ n. Leads image c.args.places.now choices from n new.end.world c.in_ok-reached.stop) (sym counted.applied)
-          (subst (λ (w : State). Leads image c.args.places.now choices from reached w c.in_ok-reached.stop) (sym counted.world) far.leads),
-    )
+    let next = c.stretch_by_places.new.end.world in
+    let slice = take (reached - first) (drop first choices) in
+    let lead = subst (λ (n : ℕ). Leads c.image-image.result.now places choices made.start.world n here None) (sym c.len-first.ensures.count)
+    (subst (λ (i : Loaded). Leads i places choices made.start.world (length made.choices) here None) (sym c.image-image.ensures) c.requires.way.leads) in
+    let far = subst (λ (n : ℕ). Reaches made.image places choices made.start.world n (first + c.min.result) reached next c.in_ok-reached.stop) c.len-first.ensures.count
+    (subst (λ (i : Loaded). Reaches i places choices made.start.world first (first + c.min.result) reached next c.in_ok-reached.stop) c.image-image.ensures (c.in_ok-reached.ensures.way made.start.world lead)) in
+    let slice_is = ap (λ (n : ℕ). take (reached - n) (drop n choices)) c.len-first.ensures.count in
+    let on = goes_on places choices made here next (first + c.min.result) reached c.in_ok-reached.stop slice c.requires.way far slice_is in
+    subst (λ (t : Course). Walks places choices t c.count_applied.new.end.world c.in_ok-reached.stop) (sym c.in_ok-push.ensures.ok)
+    (subst (λ (w : State). Walks places choices (record made { choices = made.choices ++ slice }) w c.in_ok-reached.stop) (sym (ap (λ (e : Ended). e.world) c.count_applied.ensures)) on)

@@ -1,0 +1,5 @@
+pub mod Rows
+pub mod Pairs
+pub mod Beginnings
+pub mod Keeps
+pub mod Turning

@@ -1,0 +1,17 @@
+use Rattle.std.proofs.Common.{◌≡◌, None, true, ap, subst, arith}
+use Rattle.std.proofs.lemmas.Grind.{common_steps}
+use Rattle.bx_world.specs.World.{State}
+use Rattle.bx_world.specs.Enabled.{can}
+use Rattle.bx_world.specs.Running.{Ended}
+use Rattle.bx_world.specs.Independent.{one_is_local}
+use Rattle.bx_replay.proofs.Pairs.{tried}
+use Rattle.bx_replay.proofs.independence.are_independent.Goals as goal
+
+pub returns : goal.returns
+returns c =
+    let image = c.args.image.now in
+    let none : c.args.here.now.refused ≡ None = grind (arith, common_steps) in
+    let world : c.here.inside.world ≡ c.args.here.now.world = ap (λ (e : Ended). e.world) c.here.view_is in
+    let may =
+    subst (λ (w : State). (can w c.args.first ≡ true) × (can w c.args.second ≡ true) × (one_is_local image w c.args.first c.args.second ≡ true)) world (c.may_go_first.ensures.0 c.if-not-may_go_first.false) in
+    tried image c.args.first c.args.second c.args.here.now c.in_ok-one.one c.in_ok-other.other c.agree.result c.in_ok-one.ensures c.in_ok-other.ensures none may c.requires.apart c.agree.ensures

@@ -1,0 +1,83 @@
+//! Whether two choices are independent where a run has come.
+
+ghost use Rattle.std.specs.Prelude.{◌≡◌, ◌≢◌, ◌↔◌, ◌+◌, ◌==◌, ◌<◌, ◌≤◌, ◌^◌, if◌then◌else◌, true, drop, length, None, IfOk, IsSome, IsTrue};
+ghost use Rattle.bx_world.specs.Enabled.{actor, can};
+ghost use Rattle.bx_world.specs.Independent.{one_is_local, AreIndependent};
+ghost use Rattle.bx_replay.specs.Exchanges.{next_apart};
+
+use crate::runs::{RcEnd, follow};
+use bx_load::Image;
+use bx_world::{Choice, RcWorld};
+use std::alloc::{AllocError, Global};
+
+/// The choices at that position and right behind it, where they concern different processes.
+pub(crate) fn apart_at(choices: &[Choice], position: usize) -> Option<(Choice, Choice)>
+    ensures next { result ≡ next_apart (drop position choices.now) }
+    ensures within { IsSome result → position + 2 ≤ length choices.now }
+{
+    match choices.get(position..)? {
+        [first, second, ..] => apart(*first, *second),
+        _ => None,
+    }
+}
+
+/// Both, where they concern different processes.
+pub fn apart(first: Choice, second: Choice) -> Option<(Choice, Choice)>
+    ensures { result ≡ (if actor first == actor second then None else Some (first, second)) }
+{
+    if first.actor() == second.actor() {
+        return None;
+    }
+    Some((first, second))
+}
+
+/// Whether of two runs at least one is local.
+fn one_is_local(image: &Image, world: &RcWorld, first: Choice, second: Choice) -> bool
+    ensures { result ≡ one_is_local image.now world.now first second }
+{
+    match (first, second) {
+        (Choice::Run(p), Choice::Run(q)) => {
+            world.runs_local(image, p) || world.runs_local(image, q)
+        }
+        _ => true,
+    }
+}
+
+/// Whether both are enabled, and of two runs at least one is local.
+fn may_go_first(image: &Image, world: &RcWorld, first: Choice, second: Choice) -> bool
+    ensures { IsTrue result ↔ ((can world.now first ≡ true) × (can world.now second ≡ true)
+        × (one_is_local image.now world.now first second ≡ true)) }
+{
+    world.can(first) && world.can(second) && one_is_local(image, world, first, second)
+}
+
+/// Whether two choices that concern different processes are independent where a run has come that refused none: both orders are
+/// tried, and where they lead is compared.
+pub(crate) fn are_independent(
+    alloc: Global,
+    image: &Image,
+    here: &RcEnd,
+    first: Choice,
+    second: Choice,
+) -> Result<bool, AllocError>
+    requires few { here.now.applied + 2 < 2 ^ 64 }
+    requires apart { actor first ≢ actor second }
+    ensures { IfOk result (λ is. IsTrue is ↔
+        ((here.now.refused ≡ None) × AreIndependent image.now here.now.world first second)) }
+{
+    if here.refused.is_some() || !may_go_first(image, &here.world, first, second) {
+        return Ok(false);
+    }
+    let one = follow(alloc, image, here, &[first, second])?;
+    let other = follow(alloc, image, here, &[second, first])?;
+    Ok(agree(here, &one, &other))
+}
+
+/// Whether both choices of the one order were applied without a trap, and the other order has led to the same place.
+fn agree(here: &RcEnd, one: &RcEnd, other: &RcEnd) -> bool
+    requires { here.now.applied + 2 < 2 ^ 64 }
+    ensures { IsTrue result ↔ ((one.now.applied ≡ here.now.applied + 2) × (one.now.world.trap ≡ None)
+        × (one.now ≡ other.now)) }
+{
+    one.applied == here.applied + 2 && one.world.trap().is_none() && one.same(other)
+}

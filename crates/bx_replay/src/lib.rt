@@ -1,0 +1,12 @@
+//! Choices in a row, with worlds that are kept on the way: where each beginning leads, and exchanges of choices that are independent.
+#![tactic(auto)]
+
+mod independence;
+mod kept;
+mod runs;
+mod trails;
+mod weights;
+
+pub use independence::apart;
+pub use runs::{RcEnd, copied, follow, shared};
+pub use trails::Trail;

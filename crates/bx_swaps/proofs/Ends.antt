@@ -1,0 +1,29 @@
+-- Exchanges leave where a schedule ends as it was.
+use Rattle.std.proofs.Common.{◌≡◌, ℕ, List, [], ◌∷◌, Result, Ok, Err, None, refl, sym, subst, ◌∙◌}
+use Rattle.bx_terms.specs.declared.faults.Fault.{Fault}
+use Rattle.bx_terms.specs.declared.faults.Fault.TheVariants.{Memory}
+use Rattle.bx_load.specs.Image.{Loaded}
+use Rattle.bx_world.specs.declared.choices.Choice.{Choice}
+use Rattle.bx_world.specs.World.{State}
+use Rattle.bx_world.specs.Running.{ran}
+use Rattle.bx_replay.specs.Courses.{Course}
+use Rattle.bx_replay.specs.Exchanges.{with_exchange}
+use Rattle.bx_replay.proofs.Turning.{around, whole}
+use Rattle.bx_swaps.specs.Exchanges.{exchanged, AllMay, AtFaultAtOnce, IsAnswer, IsAnswerFrom, Takes}
+
+-- each exchange in turn
+pub same_ends : (positions : List ℕ) (course : Course) → AllMay positions course
+    → ran course.image (exchanged positions course.choices) course.start ≡ ran course.image course.choices course.start
+same_ends [] course h = refl
+same_ends (i ∷ more) course h = same_ends more (with_exchange i course) h.1 ∙ whole i course (around i course h.0)
+
+-- memory is wanting where there is a start, and the list alone does not tell of a fault
+takes : (positions : List ℕ) (choices : List Choice) → AtFaultAtOnce positions choices None → Takes positions choices
+takes [] choices at = tt
+takes (i ∷ more) choices at = at
+
+pub wanting : (image : Loaded) (found : Result State Fault) (start : State) (positions : List ℕ) (choices : List Choice) (answer : Result (List Choice) Fault) → found ≡ Ok start → AtFaultAtOnce positions choices None
+    → answer ≡ Err Memory → IsAnswer image found positions choices answer
+wanting image found start positions choices answer is at err =
+    subst (λ (r : Result State Fault). IsAnswer image r positions choices answer) (sym is)
+    (subst (λ (a : Result (List Choice) Fault). IsAnswerFrom image start positions choices a) (sym err) (takes positions choices at))
