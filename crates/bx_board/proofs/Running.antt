@@ -1,13 +1,16 @@
--- A chain is run node by node.
-use Rattle.std.proofs.Common.{◌≡◌, ◌⊎◌, inl, inr, ℕ, zero, suc, ◌+◌, ◌<◌, ◌≤◌, Bool, true, false, is_some, ◌||◌, List, [], ◌∷◌, ◌++◌, length, refl, sym, ap, ◌∙◌, arith, length-append}
+-- A chain is run edge by edge.
+use Rattle.std.proofs.Common.{◌≡◌, ◌⊎◌, inl, inr, ℕ, zero, suc, ◌+◌, ◌<◌, ◌≤◌, Bool, true, false, is_some, ◌||◌, List, [], ◌∷◌, ◌++◌, length, replicate, refl, sym, ap, subst, ◌∙◌, arith, length-append}
 use Rattle.std.specs.Prelude.{Some, None, Result, Ok, Err, if◌then◌else◌}
-use Rattle.std.proofs.lemmas.Bool.{cases_eq}
+use Rattle.std.proofs.lemmas.Bool.{cases_eq, cases_lt}
 use Rattle.bx_load.specs.Image.{Loaded}
 use Rattle.bx_world.specs.declared.choices.Choice.{Choice}
 use Rattle.bx_world.specs.Enabled.{can}
 use Rattle.bx_world.specs.Choosing.{chosen}
 use Rattle.bx_world.specs.Running.{Ended, advanced, tried, ran}
+use Rattle.bx_plan.specs.declared.trees.Edge.{Edge}
+use Rattle.bx_plan.specs.Edges.{edge_at, steps_of, tree_by, AreFew, IsOn}
 use Rattle.bx_plan.specs.Trees.{Tree, IsTree, parent, choice, path}
+use Rattle.bx_plan.proofs.Rows.{choice_on, edge_last, edge_next, edge_within}
 use Rattle.bx_board.specs.Jobs.{Entry, origin}
 use Rattle.bx_board.specs.Working.{IsSpan, run_up_to}
 
@@ -85,18 +88,36 @@ run_next image start tree first last node end new c is span so low high choice_i
       new_is ∙ ap (λ d. advanced image d end) choice_is ∙ ap (advanced image (choice tree node)) (so.here high)
       ∙ step_on image start tree is node (omega (arith, low, span.positive)) (omega (arith, high, span.within))
 
+-- ---- edge by edge
+
+module _ (image : Loaded) (start : Entry) (tree : Tree) (first last : ℕ) (is : IsTree tree) (span : IsSpan tree first last) (edges : List Edge) (are : AreFew edges) (same : tree_by edges ≡ tree) (number : ℕ) (there : number < length edges) where
+  -- so many nodes of one edge
+  pub runs_on : (k node : ℕ) (end : Ended) → RunSoFar image start tree last node end → first ≤ node → node + k ≤ last + 1 → (edge_at edges number).first ≤ node
+      → node + k ≤ (edge_at edges number).first + (edge_at edges number).times → RunSoFar image start tree last (node + k) (ran image (replicate k (edge_at edges number).choice) end)
+  runs_on zero node end so low high behind before = let place : node ≡ node + 0 = omega arith in subst (λ n. RunSoFar image start tree last n end) place so
+  runs_on (suc k) node end so low high behind before =
+      let c = (edge_at edges number).choice in
+      let by : c ≡ choice tree node = sym (choice_on edges are.rows number there node behind (omega (arith, before))) ∙ ap (λ (t : Tree). choice t node) same in
+      let next = run_next image start tree first last node end (advanced image c end) c is span so low (omega (arith, high)) by refl in
+      let place : node + 1 + k ≡ node + suc k = omega arith in
+      subst (λ n. RunSoFar image start tree last n (ran image (replicate k c) (advanced image c end))) place
+      (runs_on k (node + 1) (advanced image c end) next (omega (arith, low)) (omega (arith, high)) (omega (arith, behind)) (omega (arith, before)))
+
+-- behind an edge is the next one
+pub on_next : (edges : List Edge) → AreFew edges → (number node past : ℕ) → IsOn edges number node → past ≡ (edge_at edges number).first + (edge_at edges number).times → past ≤ length (steps_of edges) → IsOn edges (number + 1) past
+on_next edges are number node past on end within = one (cases_lt (number + 1) (length edges)) where
+  one : (number + 1 < length edges) ⊎ (length edges ≤ number + 1) → IsOn edges (number + 1) past
+  one (inl more) =
+      let next = edge_next 1 edges are.rows number more in
+      let some = edge_within 1 edges are.rows (number + 1) more in
+      record { there = more; behind = omega (arith, next, end); before = omega (arith, next, end, some.2) }
+  one (inr over) = absurd (omega (arith, edge_last 1 edges are.rows number (omega (arith, over, on.there)), end, within))
+
 -- ---- what the calls answered
 
 abbrev ended_in : {E : Type 0} → Ended → Result Ended E → Ended
 ended_in d (Ok e) = e
 ended_in d (Err f) = d
 
-abbrev changed_in : {E : Type 0} → Ended → Result (Ended × Unit {0}) E → Ended
-changed_in d (Ok p) = p.0
-changed_in d (Err f) = d
-
 pub given_is : {E : Type 0} (x y : Ended) → ◌≡◌ {A = Result Ended E} (Ok x) (Ok y) → x ≡ y
 given_is x y h = ap (ended_in x) h
-
-pub changed_is : {E : Type 0} (x y : Ended) (u v : Unit {0}) → ◌≡◌ {A = Result (Ended × Unit {0}) E} (Ok (x, u)) (Ok (y, v)) → x ≡ y
-changed_is x y u v h = ap (changed_in x) h

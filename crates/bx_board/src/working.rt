@@ -1,17 +1,17 @@
 //! A chain on its way: leased with the end that it goes on from, and worked.
 
-ghost use Rattle.std.specs.Prelude.{⊤, ◌≡◌, ◌<◌, length, IfOk, IfErr, OnErr, Ok};
+ghost use Rattle.std.specs.Prelude.{⊤, ◌≡◌, ◌<◌, IfOk, IfErr, Ok};
 ghost use Rattle.bx_terms.specs.Outcomes.{Gives};
-ghost use Rattle.bx_plan.specs.Trees.{parent, path, IsTree};
+ghost use Rattle.bx_plan.specs.Trees.{parent};
 ghost use Rattle.bx_board.specs.Jobs.{end_of};
 ghost use Rattle.bx_board.specs.Working.{run_up_to, work_at, IsSpan};
 
 use crate::slots::ArcEnd;
 use bx_load::Image;
-use bx_plan::{Plan, Schedule};
+use bx_plan::{Plan, Schedule, edge_to};
 use bx_share::{ArcHold, Hold};
 use bx_terms::{AtomId, Fault};
-use bx_world::advance;
+use bx_world::advance_many;
 use std::alloc::{AllocError, Global};
 use std::marker::Model;
 
@@ -174,7 +174,7 @@ fn branch(alloc: Global, from: &ArcEnd) -> Result<ArcEnd, Fault>
     })
 }
 
-/// Runs a chain from the end of what it stands on.
+/// Runs a chain from the end of what it stands on, an edge of the plan's tree at a time.
 fn run_chain(
     alloc: Global,
     image: &Image,
@@ -189,16 +189,21 @@ fn run_chain(
     ensures { Gives ⊤ (λ end. end) result (Ok (run_up_to image.now start plan.now.tree span.last)) }
 {
     let _nodes = plan.nodes();
+    let edges = plan.edges();
     let mut end = branch(alloc, from)?;
-    let past = span.last + 1;
-    for node in span.first..past {
-        let choice = plan.choice(node);
-        advance(alloc, &mut end, image, choice)?;
+    let mut number = edge_to(edges, span.first);
+    let mut node = span.first;
+    while node <= span.last {
+        let edge = edges[number];
+        let past = (edge.first + edge.times).min(span.last + 1);
+        advance_many(alloc, &mut end, image, edge.choice, (past - node) as u64)?;
+        number += 1;
+        node = past;
     }
     Ok(end)
 }
 
-/// Runs a leased chain, one choice at a time, from the end that the lease holds.
+/// Runs a leased chain from the end that the lease holds.
 ///
 /// It can only run out of memory, and then the lease comes back.
 pub fn work<'a>(alloc: Global, lease: Lease<'a>) -> Result<Piece<'a>, (Fault, Lease<'a>)>

@@ -1,18 +1,17 @@
 -- A node that goes on its parent's chain stands right behind the parent.
-use Rattle.std.proofs.Common.{◌≡◌, ◌≢◌, ◌⊎◌, inl, inr, ℕ, ◌+◌, ◌-◌, ◌<◌, ◌≤◌, ◌==◌, Bool, true, false, List, [], ◌∷◌, length, get_or, refl, sym, ap, subst, ◌∙◌, arith}
+use Rattle.std.proofs.Common.{◌≡◌, ◌≢◌, ◌⊎◌, inl, inr, ℕ, ◌+◌, ◌-◌, ◌<◌, ◌==◌, true, List, [], ◌∷◌, length, get_or, refl, sym, ap, subst, ◌∙◌, arith}
 use Rattle.std.specs.Prelude.{map}
 use Rattle.std.specs.List.{list_any, AllByRecursion}
 use Rattle.std.proofs.lemmas.Bool.{cases_eq, both_ways, eq-eqb, or_left, or_right}
-use Rattle.bx_world.specs.declared.choices.Choice.{Choice}
 use Rattle.bx_world.specs.declared.choices.Choice.TheVariants.{Run}
 use Rattle.bx_plan.specs.Nodes.{nodes_of, EndsThere, HasChildNext}
 use Rattle.bx_plan.specs.Plans.{choices_of}
 use Rattle.bx_plan.specs.Planned.{Planned, IsPlanned, schedule_at, schedules}
-use Rattle.bx_plan.specs.Trees.{Tree, IsTree, parent, choice, path}
+use Rattle.bx_plan.specs.Trees.{IsTree, parent, choice, path}
 use Rattle.bx_plan.proofs.Followers.{followers_law}
 use Rattle.bx_plan.proofs.Members.{same_ends}
-use Rattle.bx_chains.specs.Chains.{child_count, ends_at, goes_on}
-use Rattle.bx_chains.proofs.Counting.{count_two, below_or_past}
+use Rattle.bx_chains.specs.Chains.{child_count, goes_on}
+use Rattle.bx_chains.proofs.Counting.{count_two}
 use Rattle.bx_chains.proofs.Growing.{GoesOn, goes_on_is}
 
 module _ (plan : Planned) (tree : IsTree plan.tree) where

@@ -1,15 +1,19 @@
 -- The chains of the nodes so far, with a node more.
-use Rattle.std.proofs.Common.{◌≡◌, ◌≢◌, ◌⊎◌, inl, inr, ℕ, ◌+◌, ◌-◌, ◌<◌, ◌≤◌, ◌==◌, ◌&&◌, not, nat_lt, Bool, true, false, cond, List, [], ◌∷◌, ◌++◌, length, get_or, set, refl, sym, ap, subst, ◌∙◌, arith, length-append}
+use Rattle.std.proofs.Common.{◌≡◌, ◌≢◌, ◌⊎◌, inl, inr, ℕ, zero, suc, ◌+◌, ◌-◌, ◌<◌, ◌≤◌, ◌==◌, ◌&&◌, not, nat_lt, Bool, true, false, List, [], ◌∷◌, ◌++◌, length, get_or, set, replicate, refl, sym, ap, subst, ◌∙◌, arith, length-append, append_assoc}
 use Rattle.std.proofs.Math.ListN.{get_or-append, get_or-eq_default}
 use Rattle.std.proofs.Math.Seq.{get_or-append_seam}
-use Rattle.std.proofs.lemmas.List.{get_or-set_same, get_or-set_other, length-set}
-use Rattle.std.proofs.lemmas.Bool.{cases_eq, cases_Bool, both_ways, and_parts, and_from, eqb-true, eq-eqb, lt-ltb, le-ltb, ltb-true, ltb-false, cond-true, cond-false}
+use Rattle.std.proofs.lemmas.List.{append-nil, get_or-set_same, get_or-set_other, length-set}
+use Rattle.std.proofs.lemmas.Bool.{cases_eq, cases_Bool, and_parts, eqb-true, eq-eqb, lt-ltb, le-ltb, ltb-true, ltb-false, cond-true, cond-false}
 use Rattle.bx_world.specs.declared.choices.Choice.TheVariants.{Run}
 use Rattle.bx_plan.specs.Planned.{Planned}
-use Rattle.bx_plan.specs.Trees.{Tree, IsTree, parent}
+use Rattle.bx_plan.specs.Trees.{IsTree, parent}
 use Rattle.bx_chains.specs.declared.chains.Head.{Head}
-use Rattle.bx_chains.specs.Chains.{child_count, ends_at, goes_on, Chained, no_head, first, above, last, kids, owner, times, one_if, is_kid, Begins, Owned, AreSoFar, extended, begun}
+use Rattle.bx_chains.specs.Chains.{child_count, ends_at, goes_on, Chained, no_head, first, above, last, kids, owner, times, one_if, is_kid, Begins, Owned, AreSoFar, lengthened, begun}
 use Rattle.bx_chains.proofs.Counting.{count_two, times-append, not_eq, flipped, below_or_past, both_true, mid_false, and_true, and_false}
+
+-- a node more, which goes on the last chain
+abbrev pub extended : Chained → Chained
+extended all = record { heads = all.heads; kids = all.kids; owners = all.owners ++ (length all.heads - 1) ∷ [] }
 
 -- ---- the last node of a chain
 
@@ -385,3 +389,23 @@ module _ (plan : Planned) (all : Chained) (is : AreSoFar plan all) where
 
     pub begins_with : (new : Chained) → new ≡ next → AreSoFar plan new × (length new.owners ≡ length all.owners + 1)
     begins_with new e = subst (λ x. AreSoFar plan x × (length x.owners ≡ length all.owners + 1)) (sym e) (begins_another, more_owners)
+
+-- ---- so many nodes go on
+
+lengthened_none : (all : Chained) → lengthened 0 all ≡ all
+lengthened_none all = ap (λ os. record { heads = all.heads; kids = all.kids; owners = os }) (append-nil all.owners)
+
+lengthened_more : (n : ℕ) (all : Chained) → lengthened n (extended all) ≡ lengthened (suc n) all
+lengthened_more n all = ap (λ os. record { heads = all.heads; kids = all.kids; owners = os }) (append_assoc all.owners ((length all.heads - 1) ∷ []) (replicate n (length all.heads - 1)))
+
+pub goes_on_by : (plan : Planned) (n : ℕ) (all : Chained) → AreSoFar plan all
+    → ((node : ℕ) → length all.owners ≤ node → node < length all.owners + n → goes_on plan node ≡ true)
+    → ((node : ℕ) → length all.owners ≤ node → node < length all.owners + n → parent plan.tree node ≡ node - 1)
+    → AreSoFar plan (lengthened n all) × (length (lengthened n all).owners ≡ length all.owners + n)
+goes_on_by plan zero all is on next =
+    let none : length all.owners ≡ length all.owners + 0 = omega arith in
+    subst (λ x. AreSoFar plan x × (length x.owners ≡ length all.owners + 0)) (sym (lengthened_none all)) (is, none)
+goes_on_by plan (suc n) all is on next =
+    let first = goes_with plan all is (on (length all.owners) (omega arith) (omega arith)) (next (length all.owners) (omega arith) (omega arith)) (extended all) refl in
+    let more = goes_on_by plan n (extended all) first.0 (λ node h l. on node (omega (arith, first.1, h)) (omega (arith, first.1, l))) (λ node h l. next node (omega (arith, first.1, h)) (omega (arith, first.1, l))) in
+    subst (λ x. AreSoFar plan x × (length x.owners ≡ length all.owners + suc n)) (lengthened_more n all) (more.0, omega (arith, more.1, first.1))

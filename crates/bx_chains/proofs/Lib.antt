@@ -1,4 +1,4 @@
-pub mod Counting
 pub mod Growing
-pub mod Marking
+pub mod Counting
 pub mod Following
+pub mod Cutting

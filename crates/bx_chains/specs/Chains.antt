@@ -1,6 +1,6 @@
 -- The chains of a plan's tree. Chain 0 is the root alone. Each other chain is a run of nodes of which each but the last has
 -- one child, the next one, and ends no schedule; no chain can be made longer.
-use Rattle.std.specs.Prelude.{◌≡◌, ℕ, ◌+◌, ◌-◌, ◌<◌, ◌≤◌, ◌==◌, ◌&&◌, not, nat_lt, Bool, true, false, if◌then◌else◌, List, [], ◌∷◌, ◌++◌, length, count_by, slice_index_or, slice_set}
+use Rattle.std.specs.Prelude.{◌≡◌, ℕ, ◌+◌, ◌-◌, ◌<◌, ◌≤◌, ◌==◌, ◌&&◌, not, nat_lt, Bool, true, false, if◌then◌else◌, List, [], ◌∷◌, ◌++◌, length, count_by, replicate, slice_index_or, slice_set}
 use Rattle.std.specs.List.{list_any}
 use Rattle.bx_world.specs.declared.choices.Choice.{Choice}
 use Rattle.bx_plan.specs.Planned.{Planned}
@@ -94,9 +94,9 @@ pub record AreChains (plan : Planned) (all : Chained) : Type 0 where
   pub nodes : length all.owners ≡ length plan.tree.paths
   pub chains : AreSoFar plan all
 
--- a node more, which goes on the last chain
-abbrev pub extended : Chained → Chained
-extended all = record { heads = all.heads; kids = all.kids; owners = all.owners ++ (length all.heads - 1) ∷ [] }
+-- so many nodes more, which go on the last chain
+abbrev pub lengthened : ℕ → Chained → Chained
+lengthened times all = record { heads = all.heads; kids = all.kids; owners = all.owners ++ replicate times (length all.heads - 1) }
 
 -- a node more, which begins a chain on that one
 abbrev pub begun : ℕ → Chained → Chained

@@ -1,11 +1,11 @@
-//! The chains of a plan's tree, node by node.
+//! The chains of a plan's tree, one behind the other.
 
-ghost use Rattle.std.specs.Prelude.{◌≡◌, ◌+◌, ◌<◌, length, OnOk, IfOk};
-ghost use Rattle.bx_chains.specs.Chains.{begun, extended, goes_on, owner, AreChains, AreSoFar};
+ghost use Rattle.std.specs.Prelude.{◌≡◌, ℕ, ◌-◌, ◌<◌, ◌≤◌, length, false, true, OnOk, IfOk};
+ghost use Rattle.bx_chains.specs.Chains.{begun, lengthened, goes_on, owner, AreChains, AreSoFar};
 ghost use Rattle.bx_plan.specs.Planned.{Planned};
 
 use crate::chains::{Chains, Head};
-use crate::marks::Marks;
+use crate::cuts::cuts_of;
 use bx_plan::Plan;
 use bx_share::List;
 use std::alloc::{AllocError, Global};
@@ -29,12 +29,14 @@ impl Chains {
         })
     }
 
-    /// A node more, which goes on the last chain.
-    fn extend(&mut self) -> Result<(), AllocError>
-        requires { 0 < length self.old.heads }
-        ensures { OnOk result (self.new ≡ extended self.old) }
+    /// The nodes up to that one go on the last chain.
+    fn extend(&mut self, past: usize) -> Result<(), AllocError>
+        requires some { 0 < length self.old.heads }
+        requires behind { length self.old.owners ≤ past }
+        ensures { OnOk result (self.new ≡ lengthened (past - length self.old.owners) self.old) }
     {
-        self.owners.push(self.heads.len() - 1)?;
+        let chain = self.heads.len() - 1;
+        self.owners.resize(past, chain)?;
         Ok(())
     }
 
@@ -55,38 +57,36 @@ impl Chains {
         Ok(())
     }
 
-    /// The next node of the tree.
-    fn step(
-        &mut self,
-        alloc: Global,
-        plan: &Plan,
-        joins: bool,
-        node: usize,
-    ) -> Result<(), AllocError>
+    /// The next nodes of the tree up to that one, which are a chain.
+    fn add(&mut self, alloc: Global, plan: &Plan, past: usize) -> Result<(), AllocError>
         requires chains { AreSoFar plan.now self.old }
-        requires next { node ≡ length self.old.owners }
-        requires within { node < length plan.now.tree.paths }
-        requires joins { joins ≡ goes_on plan.now node }
-        ensures { OnOk result (AreSoFar plan.now self.new × (length self.new.owners ≡ node + 1)) }
+        requires some { length self.old.owners < past }
+        requires within { past ≤ length plan.now.tree.paths }
+        requires fresh { goes_on plan.now (length self.old.owners) ≡ false }
+        requires on { (node : ℕ) → length self.old.owners < node → node < past → goes_on plan.now node ≡ true }
+        ensures { OnOk result (AreSoFar plan.now self.new × (length self.new.owners ≡ past)) }
     {
         let _nodes = plan.nodes();
-        if joins {
-            self.extend()
-        } else {
-            self.begin(alloc, plan.parent(node))
-        }
+        let first = self.owners.len();
+        self.begin(alloc, plan.parent(first))?;
+        self.extend(past)?;
+        Ok(())
     }
 }
 
-/// The chains of a plan's tree, in a time in proportion to its nodes.
+/// The chains of a plan's tree, in a time in proportion to its edges and the ends of its schedules, times a logarithm.
 pub fn chains_of(alloc: Global, plan: &Plan) -> Result<Chains, AllocError>
     ensures { IfOk result (λ all. AreChains plan.now all) }
 {
-    let marks = Marks::of(alloc, plan)?;
+    let _nodes = plan.nodes();
+    let cuts = cuts_of(alloc, plan)?;
     let mut all = Chains::root(alloc)?;
-    for node in 1..plan.nodes() {
-        let joins = marks.goes_on(plan, node);
-        all.step(alloc, plan, joins, node)?;
+    let mut past = 1;
+    for cut in &cuts {
+        if *cut >= past {
+            past = *cut + 1;
+            all.add(alloc, plan, past)?;
+        }
     }
     Ok(all)
 }

@@ -3,7 +3,7 @@
 
 mod building;
 mod chains;
-mod marks;
+mod cuts;
 
 pub use building::chains_of;
 pub use chains::Chains;

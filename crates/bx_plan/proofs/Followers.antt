@@ -6,7 +6,7 @@ use Rattle.std.proofs.lemmas.Bool.{both_ways, false_from_ne_true, cases_eq}
 use Rattle.std.proofs.lemmas.List.{append-nil, length_push}
 use Rattle.bx_world.specs.declared.choices.Choice.{Choice}
 use Rattle.bx_plan.specs.Nodes.{has_node, with_node, with_nodes, beginnings, with_schedule_nodes, nodes_from, nodes_of, EndsThere, HasChildNext}
-use Rattle.bx_plan.proofs.Members.{SameEnds, same_ends, no_last}
+use Rattle.bx_plan.proofs.Members.{same_ends, no_last}
 use Rattle.bx_plan.proofs.Beginnings.{Has, has_append, has_append_left, has_append_right, has_one, has_first, stay}
 
 -- with each node all its prefixes are there

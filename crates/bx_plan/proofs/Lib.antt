@@ -10,11 +10,14 @@ pub mod Headings
 pub mod Accepting
 pub mod Members
 pub mod Rooted
-pub mod Indexes
 pub mod Walking
 pub mod Looking
 pub mod Pushing
-pub mod Upward
 pub mod Beginnings
 pub mod SamePlans
 pub mod Followers
+pub mod Joining
+pub mod Rows
+pub mod Paths
+pub mod Children
+pub mod Upward

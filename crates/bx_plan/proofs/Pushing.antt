@@ -57,9 +57,6 @@ module _ (lines : List (List ℕ × ℕ)) (old new : Tree) (is : IsPlanned (reco
       nodes = walked.0 ∙ sym nodes_after ∙ ap (λ rows. nodes_of (choices_of rows)) (sym rows_after);
     }
 
-    pub few_after : length new.paths ≤ 1000001
-    few_after = omega (arith, ap length walked.0, walked.1)
-
     -- the same of the lines as they are kept
     module _ (items after : List NamedEnd) (line : NamedEnd) (items_are : lines ≡ lines_view items) (after_is : after ≡ items ++ line ∷ []) (name : line.name ≡ schedule.0) (ends : line.end ≡ end) where
       lines_after : lines_view after ≡ lines ++ (schedule.0, end) ∷ []

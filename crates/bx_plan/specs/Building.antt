@@ -10,10 +10,11 @@ use Rattle.bx_plan.specs.declared.plans.Builder.{Builder}
 use Rattle.bx_plan.specs.Planned.{Planned, IsPlanned, schedules}
 use Rattle.bx_plan.specs.Nodes.{node_count}
 use Rattle.bx_plan.specs.Plans.{Named, choices_of, has_name}
-use Rattle.bx_plan.specs.View.{lines_view}
+use Rattle.bx_plan.specs.Edges.{IsGrown}
+use Rattle.bx_plan.specs.View.{plan_view}
 
 abbrev pub planned : Builder → Planned
-planned builder = record { lines = lines_view builder.lines.items; tree = builder.tree }
+planned builder = plan_view builder.lines.items builder.tree.edges.items
 
 -- the schedules so far
 abbrev pub so_far : Builder → List Named
@@ -23,7 +24,7 @@ so_far builder = schedules (planned builder)
 pub record IsBuilding (builder : Builder) : Type 0 where
   pub known : (name : Bor (List ℕ)) → contains (λ x y. slice_cmp nat_cmp x.now y.now) builder.names name ≡ has_name name.now (so_far builder)
   pub planned : IsPlanned (planned builder)
-  pub few : length builder.tree.paths ≤ 1000001
+  pub grown : IsGrown builder.tree
 
 -- a step is what the definition says of the schedules before it; out of memory only where `takes` holds
 abbrev pub Adds : {A : Type 0} → Type 0 → Builder → Result A Fault → Result (List Named) Fault → Type 0
@@ -38,4 +39,4 @@ Pushes old new schedule false = 1000000 < node_count (choices_of (so_far old ++ 
 
 -- Out of memory comes before the tree has grown, or while another node has room.
 abbrev pub HasRoom : Builder → Builder → Type 0
-HasRoom old new = (new.tree ≡ old.tree) ⊎ (length new.tree.paths ≤ 1000001)
+HasRoom old new = (new.tree ≡ old.tree) ⊎ (length (planned new).tree.paths ≤ 1000001)

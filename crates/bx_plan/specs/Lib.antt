@@ -1,4 +1,5 @@
 pub mod Entry
+pub mod Runs
 pub mod Reading
 pub mod Parts
 pub mod Lines

@@ -1,11 +1,12 @@
 //! Entries: a choice, and how many times it is made.
 
-ghost use Rattle.std.specs.Prelude.{◌≡◌, ◌-◌, ◌^◌, ◌++◌, min, replicate, option_map, IsSome, IfOk, Ok, OnOk};
+ghost use Rattle.std.specs.Prelude.{◌≡◌, ◌-◌, ◌^◌, min, option_map, IsSome, IfOk, Ok};
 ghost use Rattle.bx_terms.specs.Outcomes.{Gives};
 ghost use Rattle.bx_plan.specs.Reading.{choice_of, entry_of, entries_of, count_of, spread};
 
 use crate::numbers::number_of;
 use crate::parts::{Parts, cut};
+use crate::schedules::Schedule;
 use bx_terms::Fault;
 use bx_world::Choice;
 use std::alloc::{AllocError, Global};
@@ -60,42 +61,32 @@ pub(crate) fn count_choices(words: &[u8]) -> Option<usize>
     Some(count)
 }
 
-/// Adds a choice so many times.
-fn push_times(choices: &mut Vec<Choice>, choice: Choice, times: u32) -> Result<(), AllocError>
-    ensures { OnOk result (choices.new.items ≡ choices.old.items ++ replicate times choice) }
-{
-    for _turn in 0..times {
-        choices.push(choice)?;
-    }
-    Ok(())
-}
-
 /// The choices that a text's entries make, in order, with one space between one entry and the next. An entry is a choice, or a
 /// choice with `*` and how many times it is made, from 1 to 100,000.
 ///
 /// `None` exactly where the text is no such list. It can only run out of memory, and none is taken there.
-pub fn read_choices(alloc: Global, text: &[u8]) -> Result<Option<Vec<Choice>>, Fault>
-    ensures { Gives (IsSome (entries_of text.now)) (λ choices. option_map (λ v. v.items) choices) result
+pub fn read_choices(alloc: Global, text: &[u8]) -> Result<Option<Schedule>, Fault>
+    ensures { Gives (IsSome (entries_of text.now)) (λ schedule. schedule) result
         (Ok (option_map spread (entries_of text.now))) }
 {
     if count_choices(text).is_none() {
         return Ok(None);
     }
-    let choices = spread(alloc, text)?;
-    Ok(Some(choices))
+    let schedule = spread(alloc, text)?;
+    Ok(Some(schedule))
 }
 
 /// The choices that the entries make, with one space between one entry and the next.
-pub(crate) fn spread(alloc: Global, words: &[u8]) -> Result<Vec<Choice>, AllocError>
+pub(crate) fn spread(alloc: Global, words: &[u8]) -> Result<Schedule, AllocError>
     requires { IsSome (entries_of words.now) }
-    ensures { IfOk result (λ choices. Some choices.items ≡ option_map spread (entries_of words.now)) }
+    ensures { IfOk result (λ schedule. Some schedule ≡ option_map spread (entries_of words.now)) }
 {
-    let mut choices = Vec::new(alloc);
+    let mut schedule = Schedule::new(alloc);
     for word in Parts::new(words, b' ') {
         let Some((choice, times)) = entry_of(word) else {
             unreachable!()
         };
-        push_times(&mut choices, choice, times)?;
+        schedule.push(choice, times as usize)?;
     }
-    Ok(choices)
+    Ok(schedule)
 }

@@ -7,10 +7,14 @@ mod lines;
 mod numbers;
 mod parts;
 mod plans;
+mod schedules;
 mod trees;
 
 pub use entries::{choice_of, read_choices};
 pub use lines::name_of;
 pub use numbers::number_of;
 pub use parts::cut;
-pub use plans::{Plan, Schedule, read_plan};
+pub use plans::{Plan, read_plan};
+pub use schedules::{Run, Schedule};
+pub use trees::Edge;
+pub use trees::edges::edge_to;

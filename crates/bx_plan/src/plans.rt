@@ -1,6 +1,6 @@
 //! Plans, and the reading of their texts.
 
-ghost use Rattle.std.specs.Prelude.{◌≡◌, ◌↔◌, length, option_map, slice_get, IfOk, IsTrue};
+ghost use Rattle.std.specs.Prelude.{◌≡◌, length, option_map, slice_get};
 ghost use Rattle.bx_terms.specs.Outcomes.{Gives};
 ghost use Rattle.bx_plan.specs.Planned.{schedules};
 ghost use Rattle.bx_plan.specs.Plans.{plan_of, TakesMemory};
@@ -11,50 +11,11 @@ mod readers;
 mod sameness;
 
 use crate::parts::Parts;
-use crate::trees::{Growing, Step};
+use crate::trees::{Edge, Growing};
 use bx_terms::{Fault, Name};
-use bx_world::Choice;
 use std::alloc::{AllocError, Global};
 use std::collections::BTreeSet;
 use std::marker::Model;
-
-/// The choices that a line of a plan makes, in order.
-#[derive(Drop)]
-pub struct Schedule {
-    choices: Vec<Choice>,
-}
-
-impl Model for Schedule {
-    ghost use Rattle.std.specs.Prelude.{List};
-    ghost use Rattle.bx_world.specs.declared.choices.Choice.{Choice};
-
-    ghost Value = { List Choice };
-
-    ghost view = { λ s. s.choices.items };
-}
-
-impl Schedule {
-    /// The schedule that makes these choices in order.
-    pub fn of(choices: Vec<Choice>) -> Schedule
-        ensures { result ≡ choices.items }
-    {
-        Schedule { choices }
-    }
-
-    /// The choices in order.
-    pub fn choices(&self) -> &[Choice]
-        ensures { result.now ≡ self.now }
-    {
-        &self.choices
-    }
-
-    /// Whether both make the same choices in the same order.
-    pub fn same(&self, other: &Schedule) -> bool
-        ensures { IsTrue result ↔ (self.now ≡ other.now) }
-    {
-        self.choices.as_slice() == other.choices.as_slice()
-    }
-}
 
 /// A line that names a schedule: its name, and the node at which it ends.
 #[derive(Drop)]
@@ -67,7 +28,7 @@ struct NamedEnd {
 #[derive(Drop)]
 pub struct Plan {
     lines: Vec<NamedEnd>,
-    steps: Vec<Step>,
+    edges: Vec<Edge>,
 }
 
 impl Model for Plan {
@@ -75,14 +36,12 @@ impl Model for Plan {
 
     ghost Value = { Planned };
 
-    ghost use Rattle.bx_plan.specs.Trees.{IsTree, tree_of};
-    ghost use Rattle.bx_plan.specs.Edges.{steps_view};
+    ghost use Rattle.bx_plan.specs.Edges.{AreFew};
     ghost use Rattle.bx_plan.specs.View.{plan_view};
 
-    ghost view = { λ p. plan_view p.lines.items p.steps.items };
+    ghost view = { λ p. plan_view p.lines.items p.edges.items };
 
-    ghost invariant = { λ p. IsTree (tree_of (steps_view p.steps.items)) × IsPlanned
-        (plan_view p.lines.items p.steps.items) };
+    ghost invariant = { λ p. AreFew p.edges.items × IsPlanned (plan_view p.lines.items p.edges.items) };
 }
 
 impl Plan {

@@ -1,47 +1,49 @@
-//! The tree of a plan while it grows.
+//! The tree of a plan: its edges, and the look-up of children while it grows.
 
 use bx_world::Choice;
 use std::collections::BTreeMap;
-use std::marker::Model;
 
+pub(crate) mod edges;
 mod growth;
+mod walking;
 
 /// How many nodes a tree may have below its root.
 const MOST_NODES: usize = 1_000_000;
 
-/// What leads to a node below the root.
+/// Nodes in a row to which one choice leads: the first from its parent, each other from the one before it.
 #[derive(Clone, Copy, Debug, PartialEq, Eq)]
-pub(crate) struct Step {
-    pub(crate) parent: usize,
-    pub(crate) choice: Choice,
+pub struct Edge {
+    /// The node from which the choice leads to the first node.
+    pub parent: usize,
+    /// The number of the first node; those of the others count up.
+    pub first: usize,
+    /// The choice.
+    pub choice: Choice,
+    /// How many nodes there are, one at least.
+    pub times: usize,
 }
 
-/// A step as a key: a choice is its kind (0 runs, 1 delivers, 2 expires), its first pid and, where it is a delivery, its second,
-/// else 0. So runs by pid come first, then deliveries by pair, then expirations by pid.
+/// A parent and a choice as a key: a choice is its kind (0 runs, 1 delivers, 2 expires), its first pid and, where it is a delivery,
+/// its second, else 0. So runs by pid come first, then deliveries by pair, then expirations by pid.
 #[derive(Clone, Copy, PartialEq, Eq, PartialOrd, Ord)]
-struct Edge {
+struct Key {
     parent: usize,
     kind: u8,
     first: u32,
     second: u32,
 }
 
-/// Nodes by number, each but the root with the step that leads to it, and each step with its node.
+/// A tree while schedules are added: edges in the order of their nodes, and by parent and choice the number of each edge whose
+/// first node does not stand right behind its parent.
 #[derive(Drop)]
 pub(crate) struct Growing {
-    steps: Vec<Step>,
-    children: BTreeMap<Edge, usize>,
+    edges: Vec<Edge>,
+    children: BTreeMap<Key, usize>,
 }
 
-impl Model for Growing {
-    ghost use Rattle.bx_plan.specs.Trees.{Tree, IsTree, tree_of};
-
-    ghost Value = { Tree };
-
-    ghost use Rattle.bx_plan.specs.Edges.{IsIndexed, steps_view};
-
-    ghost view = { λ g. tree_of (steps_view g.steps.items) };
-
-    ghost invariant = { λ g. IsTree (tree_of (steps_view g.steps.items)) × IsIndexed
-        (tree_of (steps_view g.steps.items)) g.children };
+/// Where a walk has come: a node, and the number of the edge that leads to the node right behind it.
+#[derive(Clone, Copy)]
+struct Place {
+    node: usize,
+    behind: usize,
 }

@@ -1,34 +1,12 @@
 //! Which chain of a campaign a piece is of.
 
-ghost use Rattle.std.specs.Prelude.{◌≡◌, ◌↔◌, ◌<◌, ℕ, length, IsTrue, MatchOption};
+ghost use Rattle.std.specs.Prelude.{◌≡◌, ◌↔◌, ◌<◌, ℕ, IsTrue, MatchOption};
 ghost use Rattle.bx_chains.specs.Chains.{chain_count, chain_path};
-ghost use Rattle.bx_plan.specs.Trees.{path};
 ghost use Rattle.bx_board.specs.Kept.{IsOf};
 
 use crate::books::Book;
 use crate::working::Piece;
-use bx_plan::Plan;
 use bx_share::Same;
-
-/// Whether the same choices lead to both nodes. It takes time in proportion to how many they are.
-fn same_path(plan: &Plan, node: usize, other: &Plan, at: usize) -> bool
-    requires node { node < length plan.now.tree.paths }
-    requires at { at < length other.now.tree.paths }
-    ensures { IsTrue result ↔ (path plan.now.tree node ≡ path other.now.tree at) }
-{
-    let _plan = plan.nodes();
-    let _other = other.nodes();
-    let mut here = node;
-    let mut there = at;
-    while here > 0 && there > 0 {
-        if !plan.choice(here).same(&other.choice(there)) {
-            return false;
-        }
-        here = plan.parent(here);
-        there = other.parent(there);
-    }
-    here == 0 && there == 0
-}
 
 impl<'a> Book<'a> {
     /// Whether a chain's path is that of a piece.
@@ -38,7 +16,7 @@ impl<'a> Book<'a> {
             piece.now.path) }
     {
         let node = self.chains.last(chain);
-        same_path(self.plan, node, piece.plan, piece.span.last)
+        self.plan.same_path(node, piece.plan, piece.span.last)
     }
 
     /// Whether a piece is of this campaign's code and start.

@@ -11,9 +11,9 @@ ghost use Rattle.bx_plan.specs.Reading.{line_of, tail_of, spread};
 use super::{Builder, NamedEnd, Plan};
 use crate::entries;
 use crate::lines::{Heading, Line, line_of};
+use crate::schedules::Schedule;
 use crate::trees::Growing;
 use bx_terms::{Fault, Name};
-use bx_world::Choice;
 use std::alloc::{AllocError, Global};
 use std::collections::BTreeSet;
 
@@ -76,8 +76,8 @@ impl<'a> Builder<'a> {
             (heading.entry.name.now, spread (entries_in heading.entry.tail.now))) }
         ensures err { OnErr result (HasRoom self.old self.new) }
     {
-        let choices = spread_tail(self.alloc, heading.tail)?;
-        let Some(end) = self.tree.walk(choices.as_slice())? else {
+        let schedule = spread_tail(self.alloc, heading.tail)?;
+        let Some(end) = self.tree.walk(schedule.runs())? else {
             return Ok(false);
         };
         let name = Name::new(self.alloc, heading.name)?;
@@ -99,18 +99,18 @@ impl<'a> Builder<'a> {
         } = self;
         Plan {
             lines,
-            steps: tree.into_steps(),
+            edges: tree.into_edges(),
         }
     }
 }
 
 /// The choices of the entries behind a colon.
-fn spread_tail(alloc: Global, tail: &[u8]) -> Result<Vec<Choice>, AllocError>
+fn spread_tail(alloc: Global, tail: &[u8]) -> Result<Schedule, AllocError>
     requires { tail_of tail.now ≡ Some (entries_in tail.now) }
-    ensures { IfOk result (λ choices. choices.items ≡ spread (entries_in tail.now)) }
+    ensures { IfOk result (λ schedule. schedule ≡ spread (entries_in tail.now)) }
 {
     match tail {
         [_, words @ ..] => entries::spread(alloc, words),
-        [] => Ok(Vec::new(alloc)),
+        [] => Ok(Schedule::new(alloc)),
     }
 }

@@ -2,13 +2,16 @@
 
 ghost use Rattle.std.specs.Prelude.{◌≡◌, ◌<◌, length, option_map, slice_get, IfOk, OnErr, MatchOption, None, Ok};
 ghost use Rattle.bx_terms.specs.Outcomes.{Gives};
-ghost use Rattle.bx_plan.specs.Edges.{steps_view};
+ghost use Rattle.bx_plan.specs.Edges.{tree_by, AreFew};
+ghost use Rattle.bx_plan.specs.Runs.{spread_runs};
 ghost use Rattle.bx_plan.specs.Planned.{schedules, IsPlanned};
 ghost use Rattle.bx_plan.specs.Plans.{Shows};
 ghost use Rattle.bx_plan.specs.Trees.{path, parent, choice, tree_of, IsTree};
 
-use super::{Plan, Schedule};
-use crate::trees::Step;
+use super::Plan;
+use crate::schedules::{Run, Schedule};
+use crate::trees::Edge;
+use crate::trees::edges::{edge_to, node_count};
 use bx_terms::Fault;
 use bx_world::Choice;
 use std::alloc::{AllocError, Global};
@@ -49,7 +52,15 @@ impl Plan {
         ensures tree { IsTree self.now.tree }
         ensures planned { IsPlanned self.now }
     {
-        self.steps.len() + 1
+        node_count(&self.edges)
+    }
+
+    /// The edges of the tree in the order of their nodes, which are those below the root, each on one edge.
+    pub fn edges(&self) -> &[Edge]
+        ensures tree { tree_by result.now ≡ self.now.tree }
+        ensures few { AreFew result.now }
+    {
+        &self.edges
     }
 
     /// The parent of a node below the root.
@@ -58,7 +69,12 @@ impl Plan {
         requires within { node < length self.now.tree.paths }
         ensures { result ≡ parent self.now.tree node }
     {
-        self.steps[node - 1].parent
+        let edge = self.edges[edge_to(&self.edges, node)];
+        if node == edge.first {
+            edge.parent
+        } else {
+            node - 1
+        }
     }
 
     /// The choice that leads to a node below the root from its parent.
@@ -67,7 +83,7 @@ impl Plan {
         requires within { node < length self.now.tree.paths }
         ensures { result ≡ choice self.now.tree node }
     {
-        self.steps[node - 1].choice
+        self.edges[edge_to(&self.edges, node)].choice
     }
 
     /// The choices that lead to a node from the root. It takes memory for any node but the root.
@@ -76,8 +92,7 @@ impl Plan {
         ensures ok { IfOk result (λ schedule. schedule ≡ path self.now.tree node) }
         ensures err { OnErr result (0 < length (path self.now.tree node)) }
     {
-        let choices = path_to(alloc, self.steps.as_slice(), node)?;
-        Ok(Schedule { choices })
+        path_to(alloc, &self.edges, node)
     }
 
     /// The schedule that ends at a node.
@@ -90,20 +105,24 @@ impl Plan {
     }
 }
 
-/// The choices that lead to a node of a tree of these steps.
-fn path_to(alloc: Global, steps: &[Step], node: usize) -> Result<Vec<Choice>, AllocError>
-    requires tree { IsTree (tree_of (steps_view steps.now)) }
-    requires within { node < length (tree_of (steps_view steps.now)).paths }
-    ensures ok { IfOk result (λ choices. choices.items ≡ path (tree_of (steps_view steps.now)) node) }
-    ensures err { OnErr result (0 < length (path (tree_of (steps_view steps.now)) node)) }
+/// The choices that lead to a node of a tree of these edges.
+fn path_to(alloc: Global, edges: &[Edge], node: usize) -> Result<Schedule, AllocError>
+    requires few { AreFew edges.now }
+    requires within { node < length (tree_by edges.now).paths }
+    ensures ok { IfOk result (λ schedule. schedule ≡ path (tree_by edges.now) node) }
+    ensures err { OnErr result (0 < length (path (tree_by edges.now) node)) }
 {
-    let mut choices = Vec::new(alloc);
+    let mut runs = Vec::new(alloc);
     let mut at = node;
     while at > 0 {
-        let step = steps[at - 1];
-        choices.push(step.choice)?;
-        at = step.parent;
+        let edge = edges[edge_to(edges, at)];
+        let times = at + 1 - edge.first;
+        runs.push(Run {
+            choice: edge.choice,
+            times,
+        })?;
+        at = edge.parent;
     }
-    choices.reverse();
-    Ok(choices)
+    runs.reverse();
+    Schedule::of(alloc, &runs)
 }

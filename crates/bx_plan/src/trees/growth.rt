@@ -1,35 +1,37 @@
-//! Steps as keys, the look-up of a node's children, and growing along choices.
+//! A tree that grows: keys, and new edges.
 
-ghost use Rattle.std.specs.Prelude.{◌≡◌, ◌+◌, ◌<◌, ◌≤◌, ◌++◌, ◌∷◌, [], false, length, MatchOption, IfOk, OnOk, OnErr};
+ghost use Rattle.std.specs.Prelude.{◌≡◌, ◌+◌, ◌<◌, ◌≤◌, ◌++◌, ◌∷◌, [], Some, false, length, replicate, OnOk, OnErr};
 ghost use Rattle.bx_plan.specs.Nodes.{has_node};
-ghost use Rattle.bx_plan.specs.Trees.{path, grown, tree_of, IsTree};
-ghost use Rattle.bx_plan.specs.Edges.{edge, steps_view, IsNext, Notes};
+ghost use Rattle.bx_plan.specs.Trees.{path};
+ghost use Rattle.bx_plan.specs.Edges.{key, steps_of, tree_by, IsGrown, Notes};
 ghost use Rattle.std.specs.BTreeMap.{IsUnchanged};
-ghost use Rattle.bx_plan.specs.Walks.{Steps, Walks};
+ghost use Rattle.bx_plan.specs.Walks.{Leads};
 
-use super::{Edge, Growing, MOST_NODES, Step};
+use super::edges::node_count;
+use super::{Edge, Growing, Key};
+use bx_share::Same;
 use bx_world::Choice;
 use std::alloc::{AllocError, Global};
 use std::collections::BTreeMap;
 
-/// The key of a step.
-fn edge(parent: usize, choice: Choice) -> Edge
-    ensures { result ≡ edge parent choice }
+/// The key of a parent and a choice.
+pub(super) fn key(parent: usize, choice: Choice) -> Key
+    ensures { result ≡ key parent choice }
 {
     match choice {
-        Choice::Run(first) => Edge {
+        Choice::Run(first) => Key {
             parent,
             kind: 0,
             first,
             second: 0,
         },
-        Choice::Deliver(first, second) => Edge {
+        Choice::Deliver(first, second) => Key {
             parent,
             kind: 1,
             first,
             second,
         },
-        Choice::Expire(first) => Edge {
+        Choice::Expire(first) => Key {
             parent,
             kind: 2,
             first,
@@ -38,139 +40,69 @@ fn edge(parent: usize, choice: Choice) -> Edge
     }
 }
 
-/// Notes the edge to a new node. A node right behind its parent needs none, and most are: a schedule goes on where it ends.
-fn note(
-    children: &mut BTreeMap<Edge, usize>,
-    at: usize,
-    choice: Choice,
-    node: usize,
-) -> Result<(), AllocError>
-    requires { at < node }
-    ensures ok { OnOk result (Notes at choice node children.old children.new) }
+/// Notes a new edge. One whose first node stands right behind its parent needs no key, and most do: a schedule goes on where it ends.
+fn note(children: &mut BTreeMap<Key, usize>, edge: Edge, number: usize) -> Result<(), AllocError>
+    requires { edge.parent < edge.first }
+    ensures ok { OnOk result (Notes edge number children.old children.new) }
     ensures err { OnErr result (IsUnchanged children.old children.new) }
 {
-    if node == at + 1 {
+    if edge.first == edge.parent + 1 {
         return Ok(());
     }
-    children.insert(edge(at, choice), node)?;
+    children.insert(key(edge.parent, edge.choice), number)?;
     Ok(())
 }
 
 impl Growing {
     /// A tree that is a root alone.
     pub(crate) fn new(alloc: Global) -> Growing
-        ensures { result.paths ≡ [] ∷ [] }
+        ensures grown { IsGrown result }
+        ensures root { (tree_by result.edges.items).paths ≡ [] ∷ [] }
     {
         Growing {
-            steps: Vec::new(alloc),
+            edges: Vec::new(alloc),
             children: BTreeMap::new(alloc),
         }
     }
 
-    /// The root.
-    fn root(&self) -> usize
-        ensures { (result < length self.now.paths) × (path self.now result ≡ []) }
+    /// Adds so many nodes in a row to which a choice leads, the first from that node.
+    pub(super) fn grow(&mut self, at: usize, choice: Choice, times: usize) -> Result<(), AllocError>
+        requires grown { IsGrown self.old }
+        requires within { at < length (tree_by self.old.edges.items).paths }
+        requires new { has_node (tree_by self.old.edges.items).paths
+            (path (tree_by self.old.edges.items) at ++ choice ∷ []) ≡ false }
+        requires some { 0 < times }
+        requires few { length (steps_of self.old.edges.items) + times ≤ 1000000 }
+        ensures ok { OnOk result (IsGrown self.new ×
+            Leads (tree_by self.old.edges.items) (tree_by self.new.edges.items)
+            (path (tree_by self.old.edges.items) at) (replicate times choice)
+            (Some (length (steps_of self.old.edges.items) + times)) ×
+            (length (steps_of self.new.edges.items) ≡ length (steps_of self.old.edges.items) + times)) }
+        ensures err { OnErr result (self.new.edges.items ≡ self.old.edges.items) }
     {
-        let _steps = &self.steps;
-        0
+        let first = node_count(&self.edges);
+        let number = self.edges.len();
+        if number > 0 && first == at + 1 && self.edges[number - 1].choice.same(&choice) {
+            self.edges[number - 1].times += times;
+            return Ok(());
+        }
+        let edge = Edge {
+            parent: at,
+            first,
+            choice,
+            times,
+        };
+        self.edges.reserve(1)?;
+        note(&mut self.children, edge, number)?;
+        self.edges.push_reserved(edge);
+        Ok(())
     }
 
-    /// How many nodes there are below the root.
-    fn count(&self) -> usize
-        ensures { result + 1 ≡ length self.now.paths }
+    /// The edges in the order of their nodes.
+    pub(crate) fn into_edges(self) -> Vec<Edge>
+        ensures { result.items ≡ self.edges.items }
     {
-        self.steps.len()
-    }
-
-    /// The child to which the choice leads from a node.
-    fn child(&self, at: usize, choice: Choice) -> Option<usize>
-        requires { at < length self.now.paths }
-        ensures { MatchOption result (has_node self.now.paths (path self.now at ++ choice ∷ []) ≡
-            false) (λ node. (node < length self.now.paths) ×
-            (path self.now node ≡ path self.now at ++ choice ∷ [])) }
-    {
-        if let Some(node) = self.next(at, choice) {
-            return Some(node);
-        }
-        self.children.get(&edge(at, choice)).copied()
-    }
-
-    /// The node right behind this one, where it is its child by the choice.
-    fn next(&self, at: usize, choice: Choice) -> Option<usize>
-        ensures next { MatchOption result (IsNext self.now at choice → ⊥)
-            (λ node. (node ≡ at + 1) × IsNext self.now at choice) }
-        ensures tree { IsTree self.now }
-    {
-        let step = self.steps.get(at)?;
-        if step.parent == at && step.choice == choice {
-            Some(at + 1)
-        } else {
-            None
-        }
-    }
-
-    /// A new child of a node.
-    fn grow(&mut self, at: usize, choice: Choice) -> Result<usize, AllocError>
-        requires within { at < length self.old.paths }
-        requires new { has_node self.old.paths (path self.old at ++ choice ∷ []) ≡ false }
-        ensures ok { IfOk result (λ node. (node ≡ length self.old.paths) ×
-            (self.new ≡ grown self.old at choice)) }
-        ensures err { OnErr result (self.new ≡ self.old) }
-    {
-        let node = self.steps.len() + 1;
-        self.steps.reserve(1)?;
-        note(&mut self.children, at, choice, node)?;
-        let step = Step { parent: at, choice };
-        match self.steps.push(step) {
-            Ok(()) => Ok(node),
-            Err(_) => unreachable!(),
-        }
-    }
-
-    /// The child to which the choice leads from a node, made where there is none; none where that would be
-    /// a node too many.
-    fn step(&mut self, at: usize, choice: Choice) -> Result<Option<usize>, AllocError>
-        requires within { at < length self.old.paths }
-        requires few { length self.old.paths ≤ 1000001 }
-        ensures ok { IfOk result (Steps self.old self.new (path self.old at) choice) }
-        ensures err { OnErr result ((self.new ≡ self.old) × (length self.old.paths ≤ 1000000)) }
-    {
-        if let Some(node) = self.child(at, choice) {
-            return Ok(Some(node));
-        }
-        if self.count() >= MOST_NODES {
-            return Ok(None);
-        }
-        match self.grow(at, choice) {
-            Ok(node) => Ok(Some(node)),
-            Err(e) => Err(e),
-        }
-    }
-
-    /// The node to which the choices lead from the root, made as far as it is not there; none where that
-    /// would be nodes too many.
-    pub(crate) fn walk(&mut self, choices: &[Choice]) -> Result<Option<usize>, AllocError>
-        requires { length self.old.paths ≤ 1000001 }
-        ensures ok { IfOk result (Walks self.old self.new choices.now) }
-        ensures err { OnErr result (length self.new.paths ≤ 1000000) }
-    {
-        let mut at = self.root();
-        for choice in choices {
-            match self.step(at, *choice) {
-                Ok(Some(node)) => at = node,
-                Ok(None) => return Ok(None),
-                Err(e) => return Err(e),
-            }
-        }
-        Ok(Some(at))
-    }
-
-    /// The steps to the nodes below the root, in the order of the nodes.
-    pub(crate) fn into_steps(self) -> Vec<Step>
-        ensures steps { tree_of (steps_view result.items) ≡ self }
-        ensures tree { IsTree self }
-    {
-        let Growing { steps, children: _ } = self;
-        steps
+        let Growing { edges, children: _ } = self;
+        edges
     }
 }

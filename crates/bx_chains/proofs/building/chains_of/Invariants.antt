@@ -1,6 +1,14 @@
-use Rattle.std.proofs.Common.{◌≡◌, length}
+use Rattle.std.proofs.Common.{◌≡◌, ℕ, ◌-◌, ◌<◌, length, get_or}
+use Rattle.std.specs.Prelude.{Contains}
 use Rattle.bx_chains.specs.Chains.{AreSoFar}
 use Rattle.bx_chains.proofs.building.chains_of.Given as goal
 
-abbrev pub invariant-loop-node : goal.invariant-loop-node
-invariant-loop-node l = AreSoFar l.plan l.all × (length l.all.owners ≡ l.node)
+-- the chains up to a cut, which none of the cuts so far is behind
+abbrev pub invariant-loop-cut : goal.invariant-loop-cut
+invariant-loop-cut l = record {
+  chains : AreSoFar l.plan l.all;
+  past : length l.all.owners ≡ l.past;
+  some : 0 < l.past;
+  behind : Contains l.cut-items (l.past - 1);
+  before : (i : ℕ) → i < l.cut-index → get_or l.cut-items i 0 < l.past;
+}

@@ -6,4 +6,4 @@ use Rattle.bx_plan.proofs.entries.spread.Given as goal
 
 -- the words that are left complete the choices so far
 abbrev pub invariant-loop-word : goal.invariant-loop-word
-invariant-loop-word l = spread_after l.choices.items (parts_left l.word-iterator) ≡ option_map spread (entries_of l.words)
+invariant-loop-word l = spread_after l.schedule (parts_left l.word-iterator) ≡ option_map spread (entries_of l.words)

@@ -1,14 +1,29 @@
-use Rattle.std.proofs.Common.{◌≡◌, ◌≤◌, List, ◌∷◌, [], ◌++◌, length, sym, subst}
-use Rattle.bx_world.specs.declared.choices.Choice.{Choice}
-use Rattle.bx_plan.specs.Nodes.{with_node}
+use Rattle.std.proofs.Common.{◌≡◌, ◌+◌, ◌-◌, ℕ, List, length, replicate, Some, None, subst, ap, ◌∙◌, arith}
+use Rattle.bx_plan.specs.declared.trees.Edge.{Edge}
+use Rattle.bx_plan.specs.Edges.{tree_by, steps_of}
 use Rattle.bx_plan.specs.Trees.{path}
-use Rattle.bx_plan.proofs.Members.{has_at}
-use Rattle.bx_plan.proofs.Walking.{with_node_old}
+use Rattle.bx_plan.specs.Walks.{Leads}
+use Rattle.bx_plan.proofs.Children.{full_by, leads_rest}
 use Rattle.bx_plan.proofs.trees.Growing.step.Goals as goal
 
-pub returns-in-Some-clause-ok : goal.returns-in-Some-clause-ok
-returns-in-Some-clause-ok c =
-    let nodes = c.args.self.now.paths in
-    let to = path c.args.self.now c.args.at ++ c.args.choice ∷ [] in
-    let same : with_node nodes to ≡ nodes = with_node_old nodes to (has_at nodes to c.in-Some.node c.in-Some.ensures.0 c.in-Some.ensures.1) in
-    (sym same, subst (λ (n : List (List Choice)). length n ≤ 1000001) (sym same) c.requires.few, c.in-Some.ensures.0, c.in-Some.ensures.1)
+pub returns-then-left-last-clause-leads : goal.returns-then-left-last-clause-leads
+returns-then-left-last-clause-leads c =
+    let edges = c.args.self.now.edges.items in
+    let tree = tree_by edges in
+    let left = c.follow-left.result.1 in
+    let to = c.follow-left.result.0.node in
+    let count : c.node_count-last.result ≡ length (steps_of edges) + 1 = c.node_count-last.ensures ∙ ap (λ (es : List Edge). length (steps_of es) + 1) c.deref.ensures.value in
+    let full = full_by edges to c.args.run.now.choice left c.requires.grown.few c.follow-left.ensures.leads.2 (c.follow-left.ensures.new (omega (arith, c.if-left-eq0.false))) (omega (arith, c.if-left-last.true, count, c.requires.grown.few.few)) in
+    leads_rest tree tree (path tree c.args.from.node) to c.args.run.now.times left c.args.run.now.choice None c.follow-left.ensures.left c.follow-left.ensures.leads full
+
+pub returns-clause-leads : goal.returns-clause-leads
+returns-clause-leads c =
+    let edges = c.args.self.now.edges.items in
+    let tree = tree_by edges in
+    let new = tree_by c.grow.new.self.edges.items in
+    let left = c.follow-left.result.1 in
+    let at = c.follow-left.result.0.node in
+    let count : c.node_count-last.result ≡ length (steps_of edges) + 1 = c.node_count-last.ensures ∙ ap (λ (es : List Edge). length (steps_of es) + 1) c.deref.ensures.value in
+    let place : length (steps_of edges) + left ≡ c.node_count-last.result - 1 + left = omega (arith, count) in
+    subst (λ (n : ℕ). Leads tree new (path tree c.args.from.node) (replicate c.args.run.now.times c.args.run.now.choice) (Some n)) place
+    (leads_rest tree new (path tree c.args.from.node) at c.args.run.now.times left c.args.run.now.choice (Some (length (steps_of edges) + left)) c.follow-left.ensures.left c.follow-left.ensures.leads c.in_ok-grow.ensures.ok.1)

@@ -1,27 +1,57 @@
-use Rattle.std.proofs.Common.{◌≤◌, List, None, Some, length, get_or, sym, subst}
+use Rattle.std.proofs.Common.{◌≡◌, ◌+◌, List, [], ◌++◌, get_or, take, drop, replicate, Some, None, Option, option_map, subst, sym, refl, ◌∙◌, append_assoc, arith}
 use Rattle.bx_world.specs.declared.choices.Choice.{Choice}
-use Rattle.bx_world.specs.declared.choices.Choice.TheVariants.{Run}
+use Rattle.std.specs.Prelude.{IfSome}
+use Rattle.bx_plan.specs.declared.trees.Place.{Place}
+use Rattle.bx_plan.specs.Edges.{tree_by, IsGrown, IsPlace}
 use Rattle.bx_plan.specs.Trees.{path}
-use Rattle.bx_plan.specs.Walks.{Steps}
-use Rattle.bx_plan.proofs.Walking.{walk_full, walk_rest, walk_way}
+use Rattle.bx_plan.specs.Runs.{spread_runs}
+use Rattle.bx_plan.specs.Walks.{Leads}
+use Rattle.bx_plan.proofs.Children.{first_place}
+use Rattle.bx_plan.proofs.Joining.{spread_more, spread_rest, no_run}
+use Rattle.bx_plan.proofs.Paths.{leads_on, leads_full}
 use Rattle.bx_plan.proofs.trees.Growing.walk.Goals as goal
 
-pub returns-in-Ok-None-clause-ok : goal.returns-in-Ok-None-clause-ok
-returns-in-Ok-None-clause-ok c =
-    let at = c.loop-choice in
-    let choice = get_or c.args.choices.now at.choice-index (Run 0) in
-    let full : Steps at.self c.step.new.self (path at.self at.at) choice None = subst (Steps at.self c.step.new.self (path at.self at.at) choice) c.in-Ok-None.field-0-is c.in-Ok-None.ensures.ok in
-    walk_full at.self c.step.new.self (path at.self at.at) c.args.choices.now at.choice-index _ c.loop-choice-test.true at.invariant.rest full
+pub loop-run-init : goal.loop-run-init
+loop-run-init c =
+    let few = c.requires.few in record {
+      walks = (refl, omega (arith, few.tree.count, few.few), omega (arith, few.tree.count), few.tree.root);
+      grown = c.requires;
+      place = first_place c.args.self.now.edges.items few.rows;
+    }
 
-pub loop-choice-preserved : goal.loop-choice-preserved
-loop-choice-preserved c =
-    let at = c.loop-choice in
-    let node = c.in-Ok-Some.node in
-    let choice = get_or c.args.choices.now at.choice-index (Run 0) in
-    let step : Steps at.self c.step.new.self (path at.self at.at) choice (Some node) = subst (Steps at.self c.step.new.self (path at.self at.at) choice) c.in-Ok-Some.field-0-is c.in-Ok-Some.ensures.ok in
+pub returns-in-None-clause-ok : goal.returns-in-None-clause-ok
+returns-in-None-clause-ok c =
+    let old = tree_by c.args.self.now.edges.items in
+    let at = c.loop-run in
+    let now = tree_by at.self.edges.items in
+    let new = tree_by c.step.new.self.edges.items in
+    let run = get_or c.args.runs.now at.run-index no_run in
+    let done = spread_runs (take at.run-index c.args.runs.now) in
+    let more = replicate run.times run.choice in
+    let full : Leads now new (path now at.at.node) more None =
+    subst (λ (o : Option Place). Leads now new (path now at.at.node) more (option_map (λ (p : Place). p.node) o)) c.in-None.is c.in_ok-place.ensures.leads in
+    let so_far : Leads old new [] (done ++ more) None = leads_on old now new [] done more at.at.node None at.invariant.walks full in
+    let all = leads_full old new [] (done ++ more) (spread_runs (drop (at.run-index + 1) c.args.runs.now)) so_far in
+    let choices : (done ++ more) ++ spread_runs (drop (at.run-index + 1) c.args.runs.now) ≡ spread_runs c.args.runs.now =
+    append_assoc done more (spread_runs (drop (at.run-index + 1) c.args.runs.now)) ∙ sym (spread_rest c.args.runs.now at.run-index c.loop-run-test.true) in
+    subst (λ (cs : List Choice). Leads old new [] cs None) choices all
+
+pub loop-run-preserved : goal.loop-run-preserved
+loop-run-preserved c =
+    let old = tree_by c.args.self.now.edges.items in
+    let at = c.loop-run in
+    let now = tree_by at.self.edges.items in
+    let new = tree_by c.step.new.self.edges.items in
+    let run = get_or c.args.runs.now at.run-index no_run in
+    let done = spread_runs (take at.run-index c.args.runs.now) in
+    let more = replicate run.times run.choice in
+    let to = c.in-Some.place.node in
+    let step : Leads now new (path now at.at.node) more (Some to) =
+    subst (λ (o : Option Place). Leads now new (path now at.at.node) more (option_map (λ (p : Place). p.node) o)) c.in-Some.is c.in_ok-place.ensures.leads in
+    let walks : Leads old new [] (done ++ more) (Some to) = leads_on old now new [] done more at.at.node (Some to) at.invariant.walks step in
+    let kept = subst (λ (o : Option Place). IfSome o (λ (p : Place). IsGrown c.step.new.self × IsPlace c.step.new.self.edges.items p.node p.behind)) c.in-Some.is c.in_ok-place.ensures.grown in
     record {
-      rest = walk_rest at.self c.step.new.self (path at.self at.at) c.args.choices.now at.choice-index _ c.loop-choice-test.true at.invariant.rest node step;
-      way = walk_way at.self c.step.new.self (path at.self at.at) c.args.choices.now at.choice-index _ c.loop-choice-test.true at.invariant.rest node step at.invariant.way;
-      within = step.2;
-      few = subst (λ (nodes : List (List Choice)). length nodes ≤ 1000001) (sym step.0) step.1;
+      walks = subst (λ (cs : List Choice). Leads old new [] cs (Some to)) (sym (spread_more c.args.runs.now at.run-index c.loop-run-test.true)) walks;
+      grown = kept.0;
+      place = kept.1;
     }
