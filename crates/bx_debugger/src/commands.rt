@@ -3,7 +3,7 @@
 ghost use Rattle.std.specs.Prelude.{⊤, ◌≡◌, ◌+◌, ◌≤◌, Ok, Some, IfOk, IfSome, drop, length, option_map, slice_get};
 ghost use Rattle.bx_terms.specs.AtomTable as atoms;
 ghost use Rattle.bx_terms.specs.Outcomes.{Gives};
-ghost use Rattle.bx_plan.specs.Reading.{number_of};
+ghost use Rattle.bx_plan.specs.Reading.{entries_of, number_of, spread};
 ghost use Rattle.bx_debugger.specs.Commands.{about, alone, beginning, function_in, function_there, items_of, most_number, ordered_by, place_in, place_named, place_there, plan_named};
 ghost use Rattle.bx_debugger.specs.CommandView.{ordered};
 
@@ -103,7 +103,7 @@ fn about(alloc: Global, image: &Image, word: &[u8], rest: &[u8]) -> Result<Optio
         return Ok(number_of(rest, u32::MAX).map(Command::Forward));
     }
     if word == b"go".as_slice() {
-        return Ok(read_choices(alloc, rest)?.map(Command::Go));
+        return Ok(choices_in(alloc, rest)?.map(Command::Go));
     }
     if word == b"break".as_slice() {
         return Ok(place_named(alloc, image, rest)?.map(Command::Break));
@@ -217,6 +217,18 @@ fn items_named(alloc: Global, image: &Image, text: &[u8]) -> Result<Option<Comma
         Some((first, head)) => Ok(Some(Command::Items(first, first.item + head.count))),
         None => Ok(None),
     }
+}
+
+/// The choices that the entries make, where the text spells some.
+fn choices_in(alloc: Global, text: &[u8]) -> Result<Option<Vec<Choice>>, Fault>
+    ensures { Gives ⊤ (λ choices. option_map (λ v. v.items) choices) result
+        (Ok (option_map spread (entries_of text.now))) }
+{
+    let Some(schedule) = read_choices(alloc, text)? else {
+        return Ok(None);
+    };
+    let choices = schedule.to_choices(alloc)?;
+    Ok(Some(choices))
 }
 
 /// The command to show the choices as a line of a plan of this name, where a plan takes it.

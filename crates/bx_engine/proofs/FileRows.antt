@@ -1,15 +1,18 @@
 -- Files taken one after the other.
 use Rattle.std.proofs.Common.{◌≡◌, ◌∙◌, ◌<◌, ◌≤◌, ◌+◌, ◌-◌, ℕ, arith, zero, suc, List, [], ◌∷◌, ◌++◌, Option, Some, Result, Ok, Err, refl, sym, ap, subst, map, take, drop, length, take-append-drop, append-nil}
 use Rattle.std.proofs.Math.ListN.{get_or, set}
-use Rattle.std.proofs.lemmas.List.{drop_more, drop-map, drop-set-lt, drop-drop, length-map, take_all}
+use Rattle.std.proofs.lemmas.List.{drop_more, drop-map, drop-set-lt, drop-drop, length-map, map-append, take_all}
 use Rattle.bx_listing.specs.Code.{Code}
 use Rattle.bx_listing.specs.Reading.{Table}
-use Rattle.std.specs.Prelude.{IsOk}
+use Rattle.std.specs.Prelude.{Bool, true, false, IsOk, if◌then◌else◌, nat_lt}
 use Rattle.bx_terms.specs.Outcomes.{Gives}
 use Rattle.bx_terms.specs.declared.faults.Fault.{Fault}
-use Rattle.bx_terms.specs.declared.faults.Fault.TheVariants.{Memory}
+use Rattle.bx_terms.specs.declared.faults.Fault.TheVariants.{Memory, TooLarge}
 use Rattle.bx_engine.specs.declared.failures.Failure.TheVariants.{Refused, Read, Write, Start}
-use Rattle.bx_engine.specs.Units.{ClearBefore, FileGives, FilesGive, ◌>>=◌, fault_in, in_file, unit_in, units_from, units_of}
+use Rattle.bx_listing.specs.Locations.{Location}
+use Rattle.bx_engine.specs.Inputs.{input_limit}
+use Rattle.bx_engine.specs.Sources.{Sources, located_in, sources_of}
+use Rattle.bx_engine.specs.Units.{ClearBefore, FileGives, FilesGive, ◌>>=◌, fault_in, in_file, sized, unit_in, units_from, units_of}
 use Rattle.bx_engine.specs.declared.failures.Failure.{Failure}
 
 -- the bytes of the next file
@@ -110,3 +113,32 @@ pub left_after : {A : Type 0} (old now : List A) (k : ℕ) (x : A) → drop k no
 left_after old now k x left =
     let past : k < k + 1 = omega arith in
     drop-set-lt (k + 1) now k x past ∙ sym (drop-drop 1 k now) ∙ ap (drop 1) left ∙ drop-drop 1 k old
+
+-- the locations of one file more
+pub sources_next : {A : Type 0} (rem : A → Option (List ℕ)) (x : A) (k : ℕ) (given : List (List ℕ)) (old new : Sources) (items : List (Option Location))
+    → old ≡ sources_of (take k given) → (n : Next A rem x k given) → items ≡ located_in n.text → new ≡ old ++ items ∷ [] → new ≡ sources_of (take (k + 1) given)
+sources_next rem x k given old new items before n here made =
+    made ∙ ap (λ (s : Sources). s ++ items ∷ []) before ∙ ap (λ (l : List (Option Location)). sources_of (take k given) ++ l ∷ []) here
+    ∙ sym (map-append located_in (take k given) (n.text ∷ [])) ∙ ap sources_of (sym (n.next []) ∙ append-nil (take (k + 1) given))
+
+pub all_sources : {A : Type 0} (rem : A → Option (List ℕ)) (old : List A) (k : ℕ) (given : List (List ℕ)) (sources : Sources)
+    → map rem old ≡ map (λ text. Some text) given → length old ≤ k → sources ≡ sources_of (take k given) → sources ≡ sources_of given
+all_sources rem old k given sources known long before =
+    let counted : length given ≡ length old = same_length rem old given known in
+    before ∙ ap sources_of (take_all k given (rw counted long))
+
+-- a failure is the same of all that is made of the files
+pub same_failure : {X Y A : Type 0} (view : X → A) (seen : Y → A) (failure : Failure) (clear : ℕ → Type 0) (said : Result A Failure) → FilesGive view (Err failure) clear said → FilesGive seen (Err failure) clear said
+same_failure view seen (Refused Memory file) clear said h = h
+same_failure view seen (Refused fault file) clear said h = h
+same_failure view seen (Read file) clear said h = h
+same_failure view seen Write clear said h = h
+same_failure view seen Start clear said h = h
+
+-- a text that was read whole is what its reader had
+pub sized_is : (n : ℕ) (text bytes : List ℕ) → sized n text ≡ Ok bytes → bytes ≡ text
+sized_is n text bytes whole = go (nat_lt input_limit (length text)) whole
+  where
+    go : (large : Bool) → (if large then Err (Refused TooLarge (Some n)) else Ok text) ≡ Ok bytes → bytes ≡ text
+    go true whole = absurd (cc)
+    go false whole = cc

@@ -4,3 +4,4 @@ pub mod TextLemmas
 pub mod FileRows
 pub mod Failing
 pub mod OneFile
+pub mod SourceRows

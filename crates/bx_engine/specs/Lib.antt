@@ -3,6 +3,7 @@ pub mod Lines
 pub mod Inputs
 pub mod Starts
 pub mod Units
+pub mod Sources
 pub mod Loads
 pub mod Runs
 pub mod Listings

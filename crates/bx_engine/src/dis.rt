@@ -37,8 +37,8 @@ fn text_of<R: Read>(alloc: Global, listing: &mut R) -> Result<String, Failure>
         Ok(atoms) => atoms,
         Err(fault) => return Err(Failure::Refused(fault, None)),
     };
-    let unit = match read_unit(alloc, &mut atoms, 0, listing) {
-        Ok(unit) => unit,
+    let (unit, _) = match read_unit(alloc, &mut atoms, 0, listing) {
+        Ok(read) => read,
         Err(failure) => return Err(failure),
     };
     match spelled(alloc, &atoms, &unit) {

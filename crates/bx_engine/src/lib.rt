@@ -8,6 +8,7 @@ mod inputs;
 pub mod laws;
 mod loads;
 mod runs;
+mod sources;
 mod starts;
 mod units;
 
@@ -15,6 +16,7 @@ pub use campaigns::{campaign_text, watched_campaign_text};
 pub use dis::dis_text;
 pub use failures::{Failure, fault_line};
 pub use inputs::{INPUT_LIMIT, MOST_ASKS, Unread, read_input};
-pub use loads::image_of;
+pub use loads::{image_of, located_image_of};
 pub use runs::run_text;
+pub use sources::Sources;
 pub use starts::{Start, start_of, token_at};

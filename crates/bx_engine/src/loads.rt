@@ -1,12 +1,14 @@
 //! The image of the listings, and the plan.
 
-ghost use Rattle.std.specs.Prelude.{◌≡◌, List, ℕ, Some, map};
+ghost use Rattle.std.specs.Prelude.{◌≡◌, List, ℕ, IfOk, Some, map};
 ghost use Rattle.bx_terms.specs.FixedAtoms.{fixed_atoms};
 ghost use Rattle.bx_plan.specs.Planned.{schedules};
+ghost use Rattle.bx_engine.specs.Sources.{sources_of};
 ghost use Rattle.bx_engine.specs.Units.{ClearBefore, FileGives, FilesGive};
 ghost use Rattle.bx_engine.specs.Loads.{image_of, plan_in};
 
 use crate::failures::Failure;
+use crate::sources::Sources;
 use crate::units::{read_file, units_of};
 use bx_load::{Image, load};
 use bx_plan::{Plan, read_plan};
@@ -19,16 +21,32 @@ pub fn image_of<R: Read>(alloc: Global, listings: &mut [R]) -> Result<Image, Fai
     ensures { (given : List (List ℕ)) → map R.remaining listings.old ≡ map (λ text. Some text) given
         → FilesGive (λ image. image) result (ClearBefore fixed_atoms given) (image_of given) }
 {
+    match located_image_of(alloc, listings) {
+        Ok((image, _)) => Ok(image),
+        Err(failure) => Err(failure),
+    }
+}
+
+/// The same image, and where the items of its modules stand in their sources, which the image does not hold.
+pub fn located_image_of<R: Read>(
+    alloc: Global,
+    listings: &mut [R],
+) -> Result<(Image, Sources), Failure>
+    ensures loaded { (given : List (List ℕ)) → map R.remaining listings.old ≡ map (λ text. Some text) given
+        → FilesGive (λ r. r.0) result (ClearBefore fixed_atoms given) (image_of given) }
+    ensures located { (given : List (List ℕ)) → map R.remaining listings.old ≡ map (λ text. Some text) given
+        → IfOk result (λ r. r.1 ≡ sources_of given) }
+{
     let mut atoms = match Atoms::new(alloc) {
         Ok(atoms) => atoms,
         Err(fault) => return Err(Failure::Refused(fault, None)),
     };
-    let units = match units_of(alloc, &mut atoms, listings) {
+    let (units, sources) = match units_of(alloc, &mut atoms, listings) {
         Ok(units) => units,
         Err(failure) => return Err(failure),
     };
     match load(alloc, atoms, units) {
-        Ok(image) => Ok(image),
+        Ok(image) => Ok((image, sources)),
         Err(refused) => Err(Failure::Refused(refused.fault, None)),
     }
 }

@@ -1,13 +1,15 @@
 //! The code of listings, file by file.
 
-ghost use Rattle.std.specs.Prelude.{⊤, ◌≡◌, ◌∷◌, ◌++◌, [], List, ℕ, OnOk, Some, map};
+ghost use Rattle.std.specs.Prelude.{⊤, ◌≡◌, ◌∷◌, ◌++◌, [], List, ℕ, IfOk, OnOk, Some, map};
 ghost use Rattle.bx_terms.specs.Outcomes.{Gives};
+ghost use Rattle.bx_engine.specs.Sources.{located_in, sources_of};
 ghost use Rattle.bx_engine.specs.Units.{ClearBefore, FileGives, FilesGive, in_file, sized, unit_in, unit_of, units_of};
 
 use crate::failures::Failure;
 use crate::inputs::read_input;
+use crate::sources::Sources;
 use bx_asm::{Unit, assemble};
-use bx_listing::read_listing;
+use bx_listing::{Locations, read_located};
 use bx_terms::{Atoms, Fault};
 use std::alloc::{AllocError, Global};
 use std::io::Read;
@@ -27,21 +29,31 @@ pub(crate) fn read_file<R: Read>(
     }
 }
 
-/// The numbered code of a listing's text, whose atoms are numbered in `atoms`.
-fn unit_of(alloc: Global, atoms: &mut Atoms, text: &[u8]) -> Result<Unit, Fault>
-    ensures { Gives ⊤ (λ unit. (atoms.new, unit)) result (unit_of atoms.old text.now) }
+/// The numbered code of a listing's text, whose atoms are numbered in `atoms`, and where its items stand in its sources.
+fn unit_of(alloc: Global, atoms: &mut Atoms, text: &[u8]) -> Result<(Unit, Locations), Fault>
+    ensures read { Gives ⊤ (λ r. (atoms.new, r.0)) result (unit_of atoms.old text.now) }
+    ensures located { IfOk result (λ r. r.1.items ≡ located_in text.now) }
 {
-    let listing = match read_listing(alloc, atoms, text) {
-        Ok(listing) => listing,
+    let (listing, locations) = match read_located(alloc, atoms, text) {
+        Ok(read) => read,
         Err(fault) => return Err(fault),
     };
-    assemble(alloc, &listing)
+    match assemble(alloc, &listing) {
+        Ok(unit) => Ok((unit, locations)),
+        Err(fault) => Err(fault),
+    }
 }
 
-/// The numbered code of the text of the file of that number.
-fn unit_in(alloc: Global, atoms: &mut Atoms, file: usize, text: &[u8]) -> Result<Unit, Failure>
-    ensures { FileGives (λ unit. (atoms.new, unit)) file result
+/// The same of the text of the file of that number.
+fn unit_in(
+    alloc: Global,
+    atoms: &mut Atoms,
+    file: usize,
+    text: &[u8],
+) -> Result<(Unit, Locations), Failure>
+    ensures read { FileGives (λ r. (atoms.new, r.0)) file result
         (in_file file (unit_of atoms.old text.now)) }
+    ensures located { IfOk result (λ r. r.1.items ≡ located_in text.now) }
 {
     match unit_of(alloc, atoms, text) {
         Ok(unit) => Ok(unit),
@@ -49,15 +61,17 @@ fn unit_in(alloc: Global, atoms: &mut Atoms, file: usize, text: &[u8]) -> Result
     }
 }
 
-/// Reads the listing of that number whole, and numbers its code.
+/// Reads the listing of that number whole, and numbers its code: the code, and where its items stand in its sources.
 pub(crate) fn read_unit<R: Read>(
     alloc: Global,
     atoms: &mut Atoms,
     file: usize,
     listing: &mut R,
-) -> Result<Unit, Failure>
-    ensures { (text : List ℕ) → R.remaining listing.old ≡ Some text
-        → FileGives (λ unit. (atoms.new, unit)) file result (unit_in file atoms.old text) }
+) -> Result<(Unit, Locations), Failure>
+    ensures read { (text : List ℕ) → R.remaining listing.old ≡ Some text
+        → FileGives (λ r. (atoms.new, r.0)) file result (unit_in file atoms.old text) }
+    ensures located { (text : List ℕ) → R.remaining listing.old ≡ Some text
+        → IfOk result (λ r. r.1.items ≡ located_in text) }
 {
     let text = match read_file(alloc, file, listing) {
         Ok(text) => text,
@@ -66,29 +80,39 @@ pub(crate) fn read_unit<R: Read>(
     unit_in(alloc, atoms, file, &text)
 }
 
-/// The numbered code of each listing in order, or the first fault: each is read and assembled before the next is looked at.
+/// The numbered code of each listing in order, and where their items stand in their sources; or the first fault: each is read and
+/// assembled before the next is looked at.
 pub(crate) fn units_of<R: Read>(
     alloc: Global,
     atoms: &mut Atoms,
     listings: &mut [R],
-) -> Result<Vec<Unit>, Failure>
-    ensures { (given : List (List ℕ)) → map R.remaining listings.old ≡ map (λ text. Some text) given
-        → FilesGive (λ units. (atoms.new, units.items)) result (ClearBefore atoms.old given) (units_of atoms.old given) }
+) -> Result<(Vec<Unit>, Sources), Failure>
+    ensures read { (given : List (List ℕ)) → map R.remaining listings.old ≡ map (λ text. Some text) given
+        → FilesGive (λ r. (atoms.new, r.0.items)) result (ClearBefore atoms.old given) (units_of atoms.old given) }
+    ensures located { (given : List (List ℕ)) → map R.remaining listings.old ≡ map (λ text. Some text) given
+        → IfOk result (λ r. r.1 ≡ sources_of given) }
 {
     let mut units = Vec::new(alloc);
+    let mut sources = Sources::new(alloc);
     for (file, listing) in listings.iter_mut().enumerate() {
         match read_unit(alloc, atoms, file, listing) {
-            Ok(unit) => keep(&mut units, unit)?,
+            Ok(read) => keep(&mut units, &mut sources, read)?,
             Err(failure) => return Err(failure),
         }
     }
-    Ok(units)
+    Ok((units, sources))
 }
 
-/// Puts a unit behind the others.
-fn keep(units: &mut Vec<Unit>, unit: Unit) -> Result<(), AllocError>
-    ensures { OnOk result (units.new.items ≡ units.old.items ++ unit ∷ []) }
+/// Puts a unit and its locations behind the others.
+fn keep(
+    units: &mut Vec<Unit>,
+    sources: &mut Sources,
+    read: (Unit, Locations),
+) -> Result<(), AllocError>
+    ensures unit { OnOk result (units.new.items ≡ units.old.items ++ read.0 ∷ []) }
+    ensures located { OnOk result (sources.new ≡ sources.old ++ read.1.items ∷ []) }
 {
+    let (unit, locations) = read;
     units.push(unit)?;
-    Ok(())
+    sources.push(locations)
 }
