@@ -71,11 +71,10 @@ fn weight(alloc: Global, alone: u64, piece: &Piece<'_>) -> u64 {
     let Ok(path) = piece.path(alloc) else {
         return 0;
     };
-    let choices = path.choices();
-    if choices.len() as u64 <= alone {
+    if path.len() as u64 <= alone {
         return 0;
     }
-    match choices.last() {
+    match path.runs().last().map(|run| run.choice) {
         Some(Choice::Run(0)) => FIRST,
         Some(Choice::Run(1)) => SECOND,
         _ => 0,

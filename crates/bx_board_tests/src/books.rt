@@ -131,12 +131,12 @@ fn is_next(alloc: Global, book: &mut Book<'_>, choices: &[Choice]) -> Result<boo
     let Some(lease) = book.lease(alloc, 0)? else {
         return Ok(false);
     };
-    let leased = lease.path(alloc)?.choices() == choices;
+    let leased = lease.path(alloc)?.to_choices(alloc)?.as_slice() == choices;
     let piece = match work(alloc, lease) {
         Ok(piece) => piece,
         Err((fault, _lease)) => return Err(fault),
     };
-    let worked = piece.path(alloc)?.choices() == choices;
+    let worked = piece.path(alloc)?.to_choices(alloc)?.as_slice() == choices;
     match book.submit(0, piece) {
         Ok(()) => Ok(leased && worked),
         Err((fault, _piece)) => Err(fault),

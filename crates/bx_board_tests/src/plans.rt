@@ -1,9 +1,11 @@
 //! Plans and their readings, worked out by hand.
 
-use bx_plan::{Plan, read_plan};
+use bx_plan::{Plan, Run as Repeat, Schedule, read_choices, read_plan};
 use bx_terms::Fault;
 use bx_world::Choice;
 use bx_world::Choice::{Deliver, Expire, Run};
+use std::alloc::Global;
+use std::test::Fail;
 
 /// What a plan's text is: how many schedules, or the number of the refusal and its line.
 fn outcome(rt: &HostRuntime, text: &[u8]) -> (u8, usize) {
@@ -19,7 +21,10 @@ fn outcome(rt: &HostRuntime, text: &[u8]) -> (u8, usize) {
 /// Whether the schedule of this number makes these choices.
 fn makes(rt: &HostRuntime, plan: &Plan, number: usize, choices: &[Choice]) -> bool {
     match plan.schedule(rt.alloc(), number) {
-        Some(Ok(schedule)) => schedule.choices() == choices,
+        Some(Ok(schedule)) => match schedule.to_choices(rt.alloc()) {
+            Ok(made) => made.as_slice() == choices && schedule.len() == choices.len(),
+            Err(_) => false,
+        },
         _ => false,
     }
 }
@@ -161,4 +166,115 @@ fn plans_are_compared_by_names_ends_and_nodes(rt: HostRuntime) {
     for (number, (one, other, same)) in rows.iter().enumerate() {
         assert!(rt; same_plans(&rt, one, other) == *same, "row {number}");
     }
+}
+
+#[test]
+fn schedules_end_and_part_within_a_run(rt: HostRuntime) -> Result<(), Fail> {
+    let text = b"a: r0*5 r1*2\nb: r0*3\nc: r0*3 r1*2\nd: r0*8\ne: r0 r0*4 r1\nf: r0*9";
+    let plan = read_plan(rt.alloc(), text).ok().ok_or("refused")?;
+    // Nodes in the order of their first use: r0 five times and r1 twice, then r1 twice behind the third r0, then r0 four times
+    // behind the fifth.
+    let parents = [0, 1, 2, 3, 4, 5, 6, 3, 8, 5, 10, 11, 12];
+    let choices = [0, 0, 0, 0, 0, 1, 1, 1, 1, 0, 0, 0, 0];
+    assert_eq!(rt; plan.nodes(), 14);
+    for k in 0..13 {
+        assert_eq!(rt; plan.parent(k + 1), parents[k], "node {k}");
+        assert!(rt; plan.choice(k + 1) == Run(choices[k]), "node {k}");
+    }
+    for (number, end) in [7, 3, 9, 12, 6, 13].iter().enumerate() {
+        assert!(rt; plan.end(number) == Some(*end), "line {number}");
+    }
+    // The last line only makes the last edge longer, though the fifth stands between.
+    assert_eq!(rt; plan.edges().len(), 4);
+    let nine = plan
+        .schedule(rt.alloc(), 5)
+        .ok_or("no line")?
+        .ok()
+        .ok_or("no memory")?;
+    assert_eq!(rt; nine.len(), 9);
+    assert!(rt;
+        nine.runs()
+            == [Repeat {
+                choice: Run(0),
+                times: 9
+            }]
+            .as_slice()
+    );
+    Ok(())
+}
+
+#[test]
+fn ways_are_compared_by_their_choices(rt: HostRuntime) -> Result<(), Fail> {
+    let one = read_plan(rt.alloc(), b"a: r0*5 r1*2\nb: r0*3 r1")
+        .ok()
+        .ok_or("refused")?;
+    let other = read_plan(rt.alloc(), b"a: r0*2\nb: r0*3 r1*4\nc: r0*5 r1")
+        .ok()
+        .ok_or("refused")?;
+    // In the first plan r0*5 r1*2 are the nodes 1 to 7, and r1 behind the third is 8. In the other r0*3 r1*4 are 1 to 7, and r0*2
+    // and r1 behind the third are 8 to 10.
+    for (node, at, same) in [
+        (3, 3, true),
+        (8, 4, true),
+        (5, 9, true),
+        (6, 10, true),
+        (7, 10, false),
+        (4, 4, false),
+        (0, 0, true),
+        (0, 1, false),
+    ] {
+        assert!(rt; one.same_path(node, &other, at) == same, "{node} and {at}");
+    }
+    Ok(())
+}
+
+/// The schedule of these entries.
+fn schedule_of(alloc: Global, entries: &[u8]) -> Option<Schedule> {
+    read_choices(alloc, entries).ok()?
+}
+
+#[test]
+fn neighbours_of_one_choice_are_one_run(rt: HostRuntime) -> Result<(), Fail> {
+    let mut schedule = schedule_of(rt.alloc(), b"r0*2 r0 r1 r1*3 e0").ok_or("refused")?;
+    let runs = [(Run(0), 3), (Run(1), 4), (Expire(0), 1)];
+    assert_eq!(rt; schedule.len(), 8);
+    assert_eq!(rt; schedule.runs().len(), 3);
+    for (run, (choice, times)) in schedule.runs().iter().zip(&runs) {
+        assert!(rt; run.choice == *choice && run.times == *times);
+    }
+    for (position, choice) in [
+        (0, Some(Run(0))),
+        (2, Some(Run(0))),
+        (3, Some(Run(1))),
+        (7, Some(Expire(0))),
+        (8, None),
+    ] {
+        assert!(rt; schedule.get(position) == choice, "at {position}");
+    }
+    assert!(rt; schedule.push(Expire(0), 2).is_ok() && schedule.push(Run(5), 0).is_ok());
+    let choices = schedule.to_choices(rt.alloc())?;
+    assert_eq!(rt; choices.len(), 10);
+    assert!(rt; Schedule::from_choices(rt.alloc(), &choices)?.same(&schedule));
+    assert!(rt; Schedule::of(rt.alloc(), schedule.runs())?.same(&schedule));
+    assert!(rt; !Schedule::new(rt.alloc()).same(&schedule));
+    assert!(rt; schedule_of(rt.alloc(), b"r0*0").is_none());
+    Ok(())
+}
+
+#[test]
+fn a_million_nodes_are_a_thousand_edges(rt: HostRuntime) -> Result<(), Fail> {
+    let mut text = String::new(rt.alloc());
+    for k in 0..1000 {
+        write!(text, "s{k}: r{k}*1000\n")?;
+    }
+    let plan = read_plan(rt.alloc(), text.as_bytes())
+        .ok()
+        .ok_or("refused")?;
+    assert_eq!(rt; plan.nodes(), 1_000_001);
+    assert_eq!(rt; plan.edges().len(), 1000);
+    for (last, want) in [("t: r999*999", (0, 1001)), ("t: r999*1001", (26, 1001))] {
+        let whole = format!(in rt.alloc(); "{}{last}", text.as_str())?;
+        assert!(rt; outcome(&rt, whole.as_bytes()) == want, "{last}");
+    }
+    Ok(())
 }

@@ -96,7 +96,7 @@ impl Gate for Counting {
         let pieces = self.pieces.fetch_add(1, Ordering::SeqCst);
         self.workers.fetch_sub(worker as u64, Ordering::SeqCst);
         if let Ok(path) = piece.path(self.alloc) {
-            let choices = path.choices().len() as u64;
+            let choices = path.len() as u64;
             self.paths.fetch_add(choices, Ordering::SeqCst);
         }
         let own = piece.choices() as u64;

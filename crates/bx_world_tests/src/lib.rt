@@ -12,6 +12,8 @@ mod exits;
 #[cfg(test)]
 mod lines;
 #[cfg(test)]
+mod memory;
+#[cfg(test)]
 mod reports;
 #[cfg(test)]
 mod samples;

@@ -36,7 +36,7 @@ pub fn spawning(alloc: Global, native: &str, rest: &str) -> Result<String, Fault
     Ok(items)
 }
 
-fn image_of(alloc: Global, first: &str, second: &str) -> Result<Image, Fault> {
+pub fn image_of(alloc: Global, first: &str, second: &str) -> Result<Image, Fault> {
     let mut text = String::from_str(alloc, HEAD)?;
     text.push_str(first)?;
     text.push_str(SECOND)?;
@@ -52,7 +52,8 @@ pub fn report_of(alloc: Global, first: &str, second: &str, choices: &str) -> Res
         applied: 0,
         refused: None,
     };
-    let choices = read_choices(alloc, choices.as_bytes())?.ok_or(Fault::NotEnabled)?;
+    let schedule = read_choices(alloc, choices.as_bytes())?.ok_or(Fault::NotEnabled)?;
+    let choices = schedule.to_choices(alloc)?;
     for choice in &choices {
         if end.applied < u64::MAX {
             advance(alloc, &mut end, &image, *choice)?;

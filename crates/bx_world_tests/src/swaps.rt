@@ -166,7 +166,7 @@ fn end_of(
         applied: 0,
         refused: None,
     };
-    for choice in schedule.choices() {
+    for choice in &schedule.to_choices(alloc)? {
         if end.applied < u64::MAX {
             advance(alloc, &mut end, image, *choice)?;
         }
@@ -262,11 +262,12 @@ fn drawn_positions(
 fn long_exchanges(alloc: Global) -> Result<Option<usize>, Fault> {
     let image = image(alloc, &[LOOPS])?;
     let mut by_hand = drawn(alloc, 100_000)?;
-    let given = Schedule::of(Vec::from_slice(alloc, &by_hand)?);
+    let given = Schedule::from_choices(alloc, &by_hand)?;
     let positions = drawn_positions(alloc, &mut by_hand, 2_000)?;
     let (m, f) = (atom(&image, "m"), atom(&image, "f"));
     let made = check_swaps(alloc, &image, m, f, &given, &positions)?;
-    let is_right = made.same(&Schedule::of(by_hand)) && lead_alike(alloc, &image, &given, &made)?;
+    let wanted = Schedule::from_choices(alloc, &by_hand)?;
+    let is_right = made.same(&wanted) && lead_alike(alloc, &image, &given, &made)?;
     Ok(if is_right {
         Some(positions.len())
     } else {
