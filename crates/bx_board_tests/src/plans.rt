@@ -203,31 +203,6 @@ fn schedules_end_and_part_within_a_run(rt: HostRuntime) -> Result<(), Fail> {
     Ok(())
 }
 
-#[test]
-fn ways_are_compared_by_their_choices(rt: HostRuntime) -> Result<(), Fail> {
-    let one = read_plan(rt.alloc(), b"a: r0*5 r1*2\nb: r0*3 r1")
-        .ok()
-        .ok_or("refused")?;
-    let other = read_plan(rt.alloc(), b"a: r0*2\nb: r0*3 r1*4\nc: r0*5 r1")
-        .ok()
-        .ok_or("refused")?;
-    // In the first plan r0*5 r1*2 are the nodes 1 to 7, and r1 behind the third is 8. In the other r0*3 r1*4 are 1 to 7, and r0*2
-    // and r1 behind the third are 8 to 10.
-    for (node, at, same) in [
-        (3, 3, true),
-        (8, 4, true),
-        (5, 9, true),
-        (6, 10, true),
-        (7, 10, false),
-        (4, 4, false),
-        (0, 0, true),
-        (0, 1, false),
-    ] {
-        assert!(rt; one.same_path(node, &other, at) == same, "{node} and {at}");
-    }
-    Ok(())
-}
-
 /// The schedule of these entries.
 fn schedule_of(alloc: Global, entries: &[u8]) -> Option<Schedule> {
     read_choices(alloc, entries).ok()?
