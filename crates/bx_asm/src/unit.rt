@@ -6,13 +6,13 @@ ghost use Rattle.bx_asm.specs.Drafts.{Grows, all_items, head_of, at_number};
 ghost use Rattle.bx_asm.specs.Limits.{first, register_fault, register_faults, count};
 ghost use Rattle.bx_asm.specs.Numbered.{item_of};
 
-use crate::apart::{copy_items, take_room};
+use crate::apart::copy_items;
 use crate::lookup::{Lookup, Named};
 use crate::numbered::Numbered;
 use crate::numbering::Draft;
 use crate::operands::NumberedItem;
 use bx_listing::{Export, Function, Import, Listing};
-use bx_terms::AtomId;
+use bx_terms::{AtomId, take_room};
 use indexmap::IndexSet;
 use std::alloc::{AllocError, Global};
 use std::marker::Model;

@@ -1,6 +1,7 @@
 //! What a process holds: values, x registers, stack frames, links.
 #![tactic(auto)]
 
+mod apart;
 mod frames;
 pub mod laws;
 mod links;

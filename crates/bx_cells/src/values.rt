@@ -34,6 +34,18 @@ impl Value {
         })
     }
 
+    /// An equal value that shares nothing counted with this one. It takes the room that its term takes, and is out of memory
+    /// past it.
+    pub fn apart(&self, alloc: Global, room: &mut usize) -> Result<Value, AllocError>
+        ensures { IfOk result (λ v. v ≡ self.now) }
+    {
+        Ok(match self {
+            Value::Term(term) => Value::Term(term.apart(alloc, room)?),
+            Value::Tag(place) => Value::Tag(*place),
+            Value::Trace(class) => Value::Trace(*class),
+        })
+    }
+
     /// Whether it is anything but a tuple and a list cell, whose contents are shared.
     #[inline(always)]
     pub fn is_flat(&self) -> bool

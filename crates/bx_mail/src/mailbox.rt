@@ -165,6 +165,14 @@ impl Mailbox {
         })
     }
 
+    /// Makes the mailbox apart from those that its messages came from and went to: no message shares anything counted, for which
+    /// threads would wait for each other. Where room or memory run out, some still do. The mailbox is the same in each case.
+    pub fn unshare(&mut self, alloc: Global, room: &mut usize) -> Result<(), AllocError>
+        ensures { self.new ≡ self.old }
+    {
+        self.slots.unshare(alloc, room)
+    }
+
     /// Whether both have the same messages, and have passed the same number of them.
     pub fn same(&self, other: &Mailbox) -> bool
         ensures { IsTrue result ↔ (self.now ≡ other.now) }

@@ -31,6 +31,18 @@ impl Clone for Slot {
     }
 }
 
+impl Slot {
+    /// Has the message share nothing counted with others; where room or memory run out, it stays as it was.
+    fn unshare(&mut self, alloc: Global, room: &mut usize) -> Result<(), AllocError>
+        ensures { self.new ≡ self.old }
+    {
+        match &mut self.message {
+            Some(message) => message.unshare(alloc, room),
+            None => Ok(()),
+        }
+    }
+}
+
 /// How many slots there may be: as many as 32 bits number, which take 128 GiB.
 const MOST_SLOTS: usize = u32::MAX as usize;
 
@@ -173,6 +185,23 @@ impl Slots {
         let slots = self.slots.clone()?;
         Ok(Slots { slots })
     }
+
+    /// Has the messages share nothing counted with others, as far as room and memory go.
+    pub(crate) fn unshare(&mut self, alloc: Global, room: &mut usize) -> Result<(), AllocError>
+        ensures { self.new ≡ self.old }
+    {
+        unshare_each(alloc, room, &mut self.slots)
+    }
+}
+
+#[tactic(auto, using(bx_terms::proofs::Rows::set_own))]
+fn unshare_each(alloc: Global, room: &mut usize, slots: &mut Vec<Slot>) -> Result<(), AllocError>
+    ensures { slots.new.items ≡ slots.old.items }
+{
+    for at in 0..slots.len() {
+        slots[at].unshare(alloc, room)?;
+    }
+    Ok(())
 }
 
 /// Whether so many slots hold the same messages, from where two links lead.

@@ -87,6 +87,14 @@ impl Channels {
         Ok(Channels { rows })
     }
 
+    /// Makes the channels apart from those that their signals came from and went to: no signal shares anything counted, for which
+    /// threads would wait for each other. Where room or memory run out, some still do. The channels are the same in each case.
+    pub fn unshare(&mut self, alloc: Global, room: &mut usize) -> Result<(), AllocError>
+        ensures { self.new ≡ self.old }
+    {
+        unshare_each(alloc, room, &mut self.rows)
+    }
+
     /// Whether the same signals wait in both.
     pub fn same(&self, other: &Channels) -> bool
         ensures { IsTrue result ↔ (self.now ≡ other.now) }
@@ -188,6 +196,16 @@ impl Channels {
             self.take_back(from, links[left]);
         }
     }
+}
+
+#[tactic(auto, using(bx_terms::proofs::Rows::set_own))]
+fn unshare_each(alloc: Global, room: &mut usize, rows: &mut Vec<Row>) -> Result<(), AllocError>
+    ensures { rows.new.items ≡ rows.old.items }
+{
+    for at in 0..rows.len() {
+        rows[at].unshare(alloc, room)?;
+    }
+    Ok(())
 }
 
 fn push_all_pairs(rows: &[Row], found: &mut Vec<(u32, u32)>) -> Result<(), AllocError>

@@ -314,6 +314,17 @@ impl Queue {
         Ok(signals)
     }
 
+    /// Has the signals share nothing counted with others, as far as room and memory go.
+    pub(crate) fn unshare(&mut self, alloc: Global, room: &mut usize) -> Result<(), AllocError>
+        ensures { self.new ≡ self.old }
+    {
+        match &mut self.held {
+            Held::Nothing => Ok(()),
+            Held::One(first) => first.unshare(alloc, room),
+            Held::Row(signals) => unshare_each(alloc, room, signals),
+        }
+    }
+
     /// Whether both hold the same signals in the same order.
     pub(crate) fn same(&self, other: &Queue) -> bool
         ensures { IsTrue result ↔ (self.now ≡ other.now) }
@@ -350,6 +361,20 @@ fn hand_first(signals: &mut VecDeque<Signal>, mailbox: &mut Mailbox) -> Result<b
         }
         None => Ok(false),
     }
+}
+
+#[tactic(auto, using(bx_terms::proofs::Rows::set_own))]
+fn unshare_each(
+    alloc: Global,
+    room: &mut usize,
+    signals: &mut VecDeque<Signal>,
+) -> Result<(), AllocError>
+    ensures { signals.new.items ≡ signals.old.items }
+{
+    for at in 0..signals.len() {
+        signals[at].unshare(alloc, room)?;
+    }
+    Ok(())
 }
 
 /// A row of signals but its last.

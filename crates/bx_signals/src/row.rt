@@ -168,6 +168,27 @@ impl Row {
     {
         push_pairs_of(&self.lines, from, pairs)
     }
+
+    /// Has the signals share nothing counted with others, as far as room and memory go.
+    pub(crate) fn unshare(&mut self, alloc: Global, room: &mut usize) -> Result<(), AllocError>
+        ensures { self.new ≡ self.old }
+    {
+        unshare_each(alloc, room, &mut self.lines)
+    }
+}
+
+#[tactic(auto, using(bx_terms::proofs::Rows::set_own))]
+fn unshare_each(
+    alloc: Global,
+    room: &mut usize,
+    lines: &mut Vec<(u32, Queue)>,
+) -> Result<(), AllocError>
+    ensures { lines.new.items ≡ lines.old.items }
+{
+    for at in 0..lines.len() {
+        lines[at].1.unshare(alloc, room)?;
+    }
+    Ok(())
 }
 
 /// The queues of a sender; without a row none.

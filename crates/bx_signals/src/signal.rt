@@ -1,8 +1,10 @@
 //! Signals.
 
+ghost use Rattle.std.specs.Prelude.{◌≡◌};
+
 use bx_share::Same;
 use bx_terms::Term;
-use std::alloc::AllocError;
+use std::alloc::{AllocError, Global};
 
 /// What goes from one process to another.
 ///
@@ -18,6 +20,21 @@ pub enum Signal {
     LinkExit(Term),
     /// The sender asks the receiver, by `exit/2`, to end with this reason.
     Exit(Term),
+}
+
+impl Signal {
+    /// Has the term share nothing counted with others; where room or memory run out, it stays as it was.
+    pub(crate) fn unshare(&mut self, alloc: Global, room: &mut usize) -> Result<(), AllocError>
+        ensures { self.new ≡ self.old }
+    {
+        match self {
+            Signal::Message(term) => term.unshare(alloc, room),
+            Signal::LinkExit(reason) => reason.unshare(alloc, room),
+            Signal::Exit(reason) => reason.unshare(alloc, room),
+            Signal::Link => Ok(()),
+            Signal::Unlink => Ok(()),
+        }
+    }
 }
 
 impl Clone for Signal {

@@ -1,6 +1,6 @@
--- A row of terms from a place on.
-use Rattle.std.proofs.Common.{◌≡◌, ℕ, ◌<◌, zero, suc, List, [], ◌∷◌, length, get_or, drop, refl, ap, subst, slice_range, arith}
-use Rattle.std.proofs.lemmas.List.{take_rest}
+-- Rows of terms.
+use Rattle.std.proofs.Common.{◌≡◌, ◌∙◌, ℕ, ◌<◌, zero, suc, List, [], ◌∷◌, length, get_or, drop, refl, ap, subst, slice_range, slice_set, arith}
+use Rattle.std.proofs.lemmas.List.{take_rest, set-get_or}
 use Rattle.bx_terms.specs.Tree.{Tree, listed, nodes}
 use Rattle.bx_terms.specs.Order.{size}
 
@@ -32,3 +32,7 @@ pub nodes_after_first : (xs : List Tree) (i : ℕ) (x : Tree) → i < length (sl
 nodes_after_first xs i x here is =
     let rest = take_rest xs 1 in
     nodes_in_rest xs i x (subst (λ ys. i < length ys) rest here) (subst (λ ys. x ≡ get_or ys i x) rest is)
+
+-- a row is the same after an element was replaced by an equal one
+pub set_own : {A : Type 0} (xs : List A) (i : ℕ) (x y : A) → x ≡ get_or xs i x → y ≡ x → slice_set xs i y ≡ xs
+set_own xs i x y is same = ap (slice_set xs i) (same ∙ is) ∙ set-get_or xs i x

@@ -3,6 +3,7 @@
 //! `Trap::Unsupported` is raised nowhere: reading refuses what is not run. It stays for an instruction that is read before it is run.
 #![tactic(auto)]
 
+mod apart;
 mod atom_table;
 mod atom_text;
 mod faults;
@@ -14,6 +15,7 @@ mod places;
 mod printing;
 mod terms;
 
+pub use apart::{take_room, terms_apart};
 pub use atom_table::{AtomId, Atoms};
 pub use atom_text::push_atom;
 pub use faults::{Fault, Name};

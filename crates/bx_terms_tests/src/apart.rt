@@ -1,0 +1,68 @@
+//! Terms and mailboxes apart from those that they equal, and the room that this takes.
+
+use crate::built::{Flat, cons, tuple};
+use bx_mail::Mailbox;
+use bx_terms::{MAX_HEIGHT, Term};
+use std::alloc::{AllocError, Global};
+use std::test::Fail;
+
+/// `[7|{1,nil}]`: a cell and two elements, so that it takes a room of 3.
+fn sample(alloc: Global) -> Result<Term, AllocError> {
+    let pair = tuple(alloc, &[Flat::Int(1), Flat::Nil])?;
+    cons(alloc, Term::int(7), pair)
+}
+
+/// Whether the term apart is the same, and what is left of the room; none past the room.
+fn apart_of(alloc: Global, term: &Term, room: usize) -> Option<(bool, usize)> {
+    let mut room = room;
+    let apart = term.apart(alloc, &mut room).ok()?;
+    Some((apart.same(term), room))
+}
+
+#[test]
+fn a_term_apart_takes_room_for_each_cell_and_element(rt: HostRuntime) -> Result<(), Fail> {
+    let term = sample(rt.alloc())?;
+    assert!(rt; apart_of(rt.alloc(), &term, 5) == Some((true, 2)));
+    assert!(rt; apart_of(rt.alloc(), &term, 3) == Some((true, 0)));
+    assert!(rt; apart_of(rt.alloc(), &term, 2).is_none());
+    assert!(rt; apart_of(rt.alloc(), &Term::pid(4), 0) == Some((true, 0)));
+    Ok(())
+}
+
+/// `levels` cells one in another, as tails.
+fn long(alloc: Global, levels: u32) -> Result<Term, AllocError> {
+    let mut term = Term::nil();
+    for _ in 0..levels {
+        term = cons(alloc, Term::nil(), term)?;
+    }
+    Ok(term)
+}
+
+#[test]
+fn a_term_as_high_as_may_be_is_made_apart(rt: HostRuntime) -> Result<(), Fail> {
+    let term = long(rt.alloc(), MAX_HEIGHT)?;
+    assert!(rt; apart_of(rt.alloc(), &term, 10_000) == Some((true, 0)));
+    assert!(rt; apart_of(rt.alloc(), &term, 9_999).is_none());
+    Ok(())
+}
+
+/// Whether a mailbox of the sample, passed over, and another is the same after it was made apart with so much room, and what the
+/// answer and the room left are.
+fn unshared(alloc: Global, room: usize) -> Result<(bool, bool, usize), AllocError> {
+    let mut mailbox = Mailbox::new(alloc);
+    mailbox.add(sample(alloc)?).map_err(|_| AllocError)?;
+    mailbox.add(sample(alloc)?).map_err(|_| AllocError)?;
+    mailbox.pass();
+    let before = mailbox.copy(alloc)?;
+    let mut room = room;
+    let is_done = mailbox.unshare(alloc, &mut room).is_ok();
+    Ok((mailbox.same(&before), is_done, room))
+}
+
+#[test]
+fn a_mailbox_apart_is_the_same_mailbox(rt: HostRuntime) -> Result<(), Fail> {
+    assert!(rt; unshared(rt.alloc(), 7)? == (true, true, 1));
+    let past = unshared(rt.alloc(), 5)?;
+    assert!(rt; past.0 && !past.1);
+    Ok(())
+}
