@@ -8,6 +8,7 @@ pub mod Ending
 pub mod Faults
 pub mod Looking
 pub mod Moving
+pub mod Tuples
 pub mod Passing
 pub mod Process
 pub mod Reading

@@ -45,7 +45,7 @@ impl Proc {
     }
 
     /// `call` and `call_only`.
-    #[inline(never)]
+    #[inline(always)]
     #[tactic(auto, unfolding(crate::specs::Table::rule))]
     pub(crate) fn call(
         &mut self,

@@ -32,6 +32,17 @@ impl Pending {
         })
     }
 
+    /// An equal fault that shares nothing counted with this one. It takes the room that its value takes.
+    pub(crate) fn apart(&self, alloc: Global, room: &mut usize) -> Result<Pending, AllocError>
+        ensures { IfOk result (λ f. f ≡ self.now) }
+    {
+        let value = self.value.apart(alloc, room)?;
+        Ok(Pending {
+            class: self.class,
+            value,
+        })
+    }
+
     /// Whether both have the same class and the same value.
     pub fn same(&self, other: &Pending) -> bool
         ensures { IsTrue result ↔ (self.now ≡ other.now) }
@@ -63,6 +74,17 @@ impl Status {
             Status::Ready => Status::Ready,
             Status::Waiting => Status::Waiting,
             Status::Ended(reason) => Status::Ended(reason.copy(alloc)?),
+        })
+    }
+
+    /// An equal status that shares nothing counted with this one. It takes the room that its reason takes.
+    pub(crate) fn apart(&self, alloc: Global, room: &mut usize) -> Result<Status, AllocError>
+        ensures { IfOk result (λ s. s ≡ self.now) }
+    {
+        Ok(match self {
+            Status::Ready => Status::Ready,
+            Status::Waiting => Status::Waiting,
+            Status::Ended(reason) => Status::Ended(reason.apart(alloc, room)?),
         })
     }
 

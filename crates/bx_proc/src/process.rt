@@ -9,7 +9,7 @@ use bx_bifs::Native;
 use bx_cells::{Frames, Links, Registers};
 use bx_mail::Mailbox;
 use bx_share::Copied;
-use bx_terms::{Fault, Place, Term};
+use bx_terms::{Fault, Place, Term, take_room};
 use std::alloc::{AllocError, Global};
 use std::marker::Model;
 
@@ -103,6 +103,34 @@ impl Proc {
         ensures { result ≡ self.now.place }
     {
         self.place
+    }
+
+    /// An equal process that shares nothing counted with this one. It takes one of the room for each register, frame, message and
+    /// link, and what their terms take, and is out of memory past it.
+    pub fn apart(&self, alloc: Global, room: &mut usize) -> Result<Proc, AllocError>
+        ensures { IfOk result (λ p. p ≡ self.now) }
+    {
+        let fault = match &self.fault {
+            Some(fault) => Some(fault.apart(alloc, room)?),
+            None => None,
+        };
+        take_room(room, self.links.as_slice().len())?;
+        take_room(room, self.mailbox.len())?;
+        let mut mailbox = self.mailbox.copy(alloc)?;
+        mailbox.unshare(alloc, room)?;
+        Ok(Proc {
+            x: self.x.apart(alloc, room)?,
+            cp: self.cp,
+            frames: self.frames.apart(alloc, room)?,
+            place: self.place,
+            fault,
+            mailbox,
+            links: self.links.copy(alloc)?,
+            trap_exit: self.trap_exit,
+            status: self.status.apart(alloc, room)?,
+            expires: self.expires,
+            asked: self.asked,
+        })
     }
 
     /// Whether the process may run: it is ready, or it waits and has a message that it did not pass over.

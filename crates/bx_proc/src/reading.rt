@@ -2,6 +2,7 @@
 
 ghost use Rattle.std.specs.Prelude.{◌≡◌, ◌⊎◌, Ok, Err, IfOk, IfSome, OnErr, MatchResult, option_map};
 ghost use Rattle.bx_terms.specs.Tree.{int};
+ghost use Rattle.bx_terms.specs.View.{seen};
 ghost use Rattle.bx_asm.specs.Instructed.{source_of};
 ghost use Rattle.bx_asm.specs.declared.instruction.Register.TheVariants.{X, Y};
 ghost use Rattle.bx_proc.specs.Spelled.{spelled_source};
@@ -162,6 +163,33 @@ impl Proc {
         }
     }
 
+    /// What the term that an operand gives shows, where that is an integer, an atom or nil.
+    #[inline(always)]
+    pub(crate) fn flat(&self, _tables: Lookup<'_>, operand: &Operand) -> Option<View<'_>>
+        ensures { IfSome result
+            (λ v. term_at (spelled_source _tables.entry operand.now) self.now ≡ Ok (seen v)) }
+    {
+        match *operand {
+            Operand::X(number) => self.flat_in(Register::X(number)),
+            Operand::Y(number) => self.flat_in(Register::Y(number)),
+            Operand::Integer(value) => Some(View::Int(value)),
+            Operand::Atom(atom) => Some(View::Atom(atom)),
+            Operand::Nil => Some(View::Nil),
+            _ => None,
+        }
+    }
+
+    /// What the term in a register shows, where that is an integer, an atom or nil.
+    #[inline(always)]
+    fn flat_in(&self, register: Register) -> Option<View<'_>>
+        ensures { IfSome result (λ v. term_in register self.now ≡ Ok (seen v)) }
+    {
+        match self.term(register) {
+            Ok(term) => flat_of(term),
+            Err(_) => None,
+        }
+    }
+
     /// The term that a source gives, to be looked at.
     #[inline(always)]
     pub(crate) fn seen<'a>(&'a self, source: Source<'a>) -> Result<Seen<'a>, Trap>
@@ -294,6 +322,18 @@ fn integer_of(term: &Term) -> Option<i64>
 {
     match term.view() {
         View::Int(value) => Some(value),
+        _ => None,
+    }
+}
+
+#[inline(always)]
+fn flat_of(term: &Term) -> Option<View<'_>>
+    ensures { IfSome result (λ v. term.now ≡ seen v) }
+{
+    match term.view() {
+        View::Int(value) => Some(View::Int(value)),
+        View::Atom(atom) => Some(View::Atom(atom)),
+        View::Nil => Some(View::Nil),
         _ => None,
     }
 }
