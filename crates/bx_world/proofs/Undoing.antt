@@ -3,7 +3,6 @@ use Rattle.std.proofs.Common.{◌≡◌, ◌≢◌, ℕ, ◌-◌, ◌∷◌, ◌
 use Rattle.std.specs.Prelude.{◌==◌, ◌||◌, if◌then◌else◌}
 use Rattle.std.proofs.lemmas.List.{length-append}
 use Rattle.std.proofs.Math.Seq.{take-append_seam}
-use Rattle.bx_bifs.specs.declared.natives.Native.{Native}
 use Rattle.bx_terms.specs.Tree.{Tree}
 use Rattle.bx_terms.specs.Outcomes.{Does}
 use Rattle.bx_terms.specs.declared.faults.Fault.{Fault}

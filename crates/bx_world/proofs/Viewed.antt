@@ -1,6 +1,7 @@
 -- Rows that are seen through a view.
 use Rattle.std.proofs.Common.{◌≡◌, ◌≢◌, ℕ, ◌+◌, ◌<◌, ◌≤◌, List, [], ◌∷◌, ◌++◌, length, get_or, take, drop, map, sym, ap, ◌∙◌, arith}
 use Rattle.std.proofs.Math.ListN.{set}
+use Rattle.std.proofs.Math.Seq.{map-set_same}
 use Rattle.std.proofs.lemmas.List.{take_more, take_all, drop_more, map-set, get_or-map, length-map, map-append}
 
 -- what is seen of the next element comes next
@@ -26,6 +27,10 @@ goes_on (x ∷ xs) y ys zs e nothing = cc
 
 pub seen_set : {A B : Type 0} (f : A → B) (xs : List A) (i : ℕ) (x : A) → map f (set xs i x) ≡ set (map f xs) i (f x)
 seen_set f xs i x = map-set f xs i x
+
+-- an element that is seen as the one in its place
+pub seen_again : {A B : Type 0} (f : A → B) (xs : List A) (i : ℕ) (x y : A) → x ≡ get_or xs i x → f y ≡ f x → map f (set xs i y) ≡ map f xs
+seen_again f xs i x y is same = map-set_same f xs i y x (same ∙ ap f is)
 
 -- a row that was seen so far, one element further
 pub seen_further : {A B C : Type 0} (f : A → C) (h : B → C) (done new : List B) (xs : List A) (i : ℕ) (x : A) (y : B) → i < length xs → x ≡ get_or xs i x

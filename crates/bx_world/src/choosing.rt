@@ -1,15 +1,16 @@
 //! A choice among the processes, beside the lanes.
 
-ghost use Rattle.std.specs.Prelude.{◌≡◌, ◌≢◌, ◌<◌, ◌++◌, [], IsTrue, OnOk, OnErr, slice_get};
-ghost use Rattle.bx_world.specs.Batches.{MadeGoes};
-ghost use Rattle.bx_world.specs.declared.choices.Choice.TheVariants as choices;
-ghost use Rattle.bx_world.specs.Enabled.{deliveries};
+ghost use Rattle.std.specs.Prelude.{◌≡◌, ◌≢◌, ◌++◌, [], IsTrue, OnOk, OnErr, slice_get};
+ghost use Rattle.bx_terms.specs.Outcomes.{Does};
+ghost use Rattle.bx_world.specs.Enabled.{able, may_at, may_run, deliveries};
+ghost use Rattle.bx_world.specs.Lifetimes.{lives_run};
+ghost use Rattle.bx_world.specs.Choosing.{made, born_too};
 
 use crate::acts::Act;
 use crate::choices::Choice;
 use crate::lanes::Lanes;
 use crate::procs::Procs;
-use crate::turns::{Batch, Turn};
+use crate::turns::Turn;
 use bx_load::Image;
 use bx_proc::Proc;
 use bx_share::Hold;
@@ -17,8 +18,7 @@ use bx_signals::Channels;
 use bx_terms::Fault;
 use std::alloc::{AllocError, Global};
 
-/// Makes a choice that is enabled; another changes nothing. A run is made more often, at most so many times, as long as each
-/// concerns nobody else. Where one asks for a spawn, there is a child.
+/// Makes a choice that is enabled; another changes nothing. Where a run asks for a spawn, there is a child.
 #[inline(always)]
 pub(crate) fn make<P: Hold<Proc>, C: Hold<Lanes>>(
     alloc: Global,
@@ -26,23 +26,19 @@ pub(crate) fn make<P: Hold<Proc>, C: Hold<Lanes>>(
     procs: &mut Procs<P>,
     lanes: &mut C,
     choice: Choice,
-    times: u64,
-) -> Batch<Turn>
-    requires { 0 < times }
-    ensures few { result.before < times }
-    ensures done { MadeGoes image.now choice (procs.old, C.shown lanes.old) (procs.new, C.shown lanes.new)
-        result.before result.last }
+) -> Result<Turn, Fault>
+    ensures { Does (IsTrue (able choice procs.old (C.shown lanes.old)))
+        (procs.old, C.shown lanes.old) (procs.new, C.shown lanes.new) result
+        (made image.now choice procs.old (C.shown lanes.old)) }
 {
     match choice {
-        Choice::Run(pid) => run(alloc, image, procs, lanes, pid, times),
-        Choice::Deliver(from, to) => {
-            Batch::alone(procs.act(alloc, image, lanes, to, Act::Hear(from)))
-        }
-        Choice::Expire(pid) => Batch::alone(procs.act(alloc, image, lanes, pid, Act::Expire)),
+        Choice::Run(pid) => run(alloc, image, procs, lanes, pid),
+        Choice::Deliver(from, to) => procs.act(alloc, image, lanes, to, Act::Hear(from)),
+        Choice::Expire(pid) => procs.act(alloc, image, lanes, pid, Act::Expire),
     }
 }
 
-/// Runs a process, at most so many instructions; where the last of them asks for a spawn, there is a child.
+/// Runs one instruction of a process; where that asks for a spawn, there is a child.
 #[inline(always)]
 fn run<P: Hold<Proc>, C: Hold<Lanes>>(
     alloc: Global,
@@ -50,28 +46,14 @@ fn run<P: Hold<Proc>, C: Hold<Lanes>>(
     procs: &mut Procs<P>,
     lanes: &mut C,
     pid: u32,
-    times: u64,
-) -> Batch<Turn>
-    requires { 0 < times }
-    ensures few { result.before < times }
-    ensures done { MadeGoes image.now (choices.Run pid) (procs.old, C.shown lanes.old)
-        (procs.new, C.shown lanes.new) result.before result.last }
+) -> Result<Turn, Fault>
+    ensures { Does (IsTrue (may_at may_run (slice_get procs.old pid)))
+        (procs.old, C.shown lanes.old) (procs.new, C.shown lanes.new) result
+        (born_too image.now pid (lives_run image.now pid (C.shown lanes.old) procs.old)) }
 {
-    let Batch { before, last } = procs.run(alloc, image, lanes, pid, times);
-    let turn = match last {
-        Ok(turn) => turn,
-        Err(refused) => return Batch {
-            before,
-            last: Err(refused),
-        },
-    };
-    if let Turn::Bears(birth) = turn {
-        let last = procs.bear(alloc, image, lanes, pid, birth);
-        return Batch { before, last };
-    }
-    Batch {
-        before,
-        last: Ok(turn),
+    match procs.act(alloc, image, lanes, pid, Act::Run)? {
+        Turn::Bears(birth) => procs.bear(alloc, image, lanes, pid, birth),
+        turn => Ok(turn),
     }
 }
 

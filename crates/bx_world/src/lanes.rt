@@ -1,6 +1,6 @@
 //! What the processes of a world share.
 
-ghost use Rattle.std.specs.Prelude.{◌≡◌, []};
+ghost use Rattle.std.specs.Prelude.{◌≡◌, [], IfOk};
 ghost use Rattle.std.specs.FinMap as map;
 ghost use Rattle.bx_world.specs.Sharing.{hearing};
 
@@ -33,6 +33,16 @@ impl Lanes {
         ensures { result.now ≡ self.now.output }
     {
         &self.output
+    }
+
+    /// Equal lanes that share nothing counted with these.
+    pub(crate) fn apart(&self, alloc: Global, room: &mut usize) -> Result<Lanes, AllocError>
+        ensures { IfOk result (λ lanes. lanes ≡ self.now) }
+    {
+        let output = self.output.apart(alloc, room)?;
+        let mut channels = self.channels.copy(alloc)?;
+        channels.unshare(alloc, room)?;
+        Ok(Lanes { channels, output })
     }
 
     /// Takes the signal that waits first.

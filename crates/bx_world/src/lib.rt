@@ -3,6 +3,7 @@
 
 mod acts;
 mod asking;
+mod bursts;
 mod choices;
 mod choosing;
 mod delivering;

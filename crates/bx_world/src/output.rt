@@ -4,7 +4,7 @@ ghost use Rattle.std.specs.Prelude.{◌≡◌, ◌∷◌, ◌++◌, [], OnOk, If
 ghost use Rattle.bx_signals.specs.Waiting.{front};
 
 use bx_share::{Same, same_rows};
-use bx_terms::Term;
+use bx_terms::{Term, take_room};
 use std::alloc::{AllocError, Global};
 use std::marker::Model;
 
@@ -63,6 +63,15 @@ impl Output {
         Ok(Output { items })
     }
 
+    /// An equal output, whose terms share nothing counted with these. It takes one of the room for each term, and what it takes
+    /// itself.
+    pub(crate) fn apart(&self, alloc: Global, room: &mut usize) -> Result<Output, AllocError>
+        ensures { IfOk result (λ o. o ≡ self.now) }
+    {
+        let items = items_apart(alloc, room, &self.items)?;
+        Ok(Output { items })
+    }
+
     /// Takes back the term that was put last.
     pub fn take_back(&mut self)
         ensures { self.new ≡ front self.old }
@@ -75,4 +84,21 @@ impl Same for Output {
     fn same(&self, other: &Output) -> bool {
         same_rows(&self.items, &other.items)
     }
+}
+
+#[tactic(auto, using(std::proofs::lemmas::List::take_more))]
+fn items_apart(
+    alloc: Global,
+    room: &mut usize,
+    items: &[(u32, Term)],
+) -> Result<Vec<(u32, Term)>, AllocError>
+    ensures { IfOk result (λ row. row.items ≡ items.now) }
+{
+    take_room(room, items.len())?;
+    let mut row = Vec::with_capacity(alloc, items.len())?;
+    for at in 0..items.len() {
+        let term = items[at].1.apart(alloc, room)?;
+        row.push((items[at].0, term))?;
+    }
+    Ok(row)
 }

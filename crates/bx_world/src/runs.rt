@@ -1,12 +1,11 @@
 //! Runs: what a list of choices leads to.
 
-ghost use Rattle.std.specs.Prelude.{◌≡◌, ◌↔◌, ◌+◌, ◌<◌, IsTrue, Ok};
+ghost use Rattle.std.specs.Prelude.{◌≡◌, ◌↔◌, ◌+◌, ◌<◌, ◌≤◌, ◌||◌, IsTrue, Ok, is_some, replicate};
 ghost use Rattle.bx_terms.specs.Outcomes.{Does};
-ghost use Rattle.bx_world.specs.Running.{advanced, AdvanceTakes, DoesMany, DoesSome};
+ghost use Rattle.bx_world.specs.Running.{advanced, ran, AdvanceTakes, DoesMany, DoesSome};
 
 use crate::choices::Choice;
 use crate::lanes::Lanes;
-use crate::turns::Batch;
 use crate::world::World;
 use bx_load::Image;
 use bx_proc::Proc;
@@ -42,6 +41,14 @@ impl<P: Hold<Proc>, C: Hold<Lanes>> Model for RunEnd<P, C> {
 }
 
 impl<P: Hold<Proc>, C: Hold<Lanes>> RunEnd<P, C> {
+    /// Whether nothing changes any more: a choice was refused, or the world has trapped.
+    #[inline(always)]
+    fn is_over(&self) -> bool
+        ensures { result ≡ (is_some self.now.refused || is_some self.now.world.trap) }
+    {
+        self.refused.is_some() || self.world.trap().is_some()
+    }
+
     /// Whether both have led to equal worlds, by as many choices, and the same choice was refused, or none.
     pub fn same(&self, other: &RunEnd<P, C>) -> bool
         ensures { IsTrue result ↔ (self.now ≡ other.now) }
@@ -67,16 +74,56 @@ pub fn advance<P: Hold<Proc>, C: Hold<Lanes>>(
     ensures { Does (AdvanceTakes choice end.old) end.old end.new result
         (Ok (advanced image.now choice end.old, tt)) }
 {
+    let made = run_on(alloc, end, image, choice, 1);
+    if made == 1 {
+        return Ok(());
+    }
+    advance_whole(alloc, end, image, choice)
+}
+
+/// The same, whatever the choice has to do with others.
+#[inline(never)]
+fn advance_whole<P: Hold<Proc>, C: Hold<Lanes>>(
+    alloc: Global,
+    end: &mut RunEnd<P, C>,
+    image: &Image,
+    choice: Choice,
+) -> Result<(), Fault>
+    requires { end.old.applied < u64.MAX }
+    ensures { Does (AdvanceTakes choice end.old) end.old end.new result
+        (Ok (advanced image.now choice end.old, tt)) }
+{
     if end.refused.is_some() {
         return Ok(());
     }
-    match end.world.apply(alloc, image, choice) {
+    match end.world.apply_whole(alloc, image, choice) {
         Ok(()) => end.applied += 1,
         Err(Fault::NotEnabled) => end.refused = Some(choice),
         Err(Fault::Memory) => return Err(Fault::Memory),
         Err(_) => {} // the world has trapped: nothing changes any more
     }
     Ok(())
+}
+
+/// Equal choices, at most so many, as long as each is a run that is done where its process stands: how many they were.
+#[inline(always)]
+fn run_on<P: Hold<Proc>, C: Hold<Lanes>>(
+    alloc: Global,
+    end: &mut RunEnd<P, C>,
+    image: &Image,
+    choice: Choice,
+    times: u64,
+) -> u64
+    requires { end.old.applied + times ≤ u64.MAX }
+    ensures few { result ≤ times }
+    ensures done { end.new ≡ ran image.now (replicate result choice) end.old }
+{
+    if end.refused.is_some() {
+        return 0;
+    }
+    let made = end.world.run_on(alloc, image, choice, times);
+    end.applied += made;
+    made
 }
 
 /// So many choices more, all of them equal: what so many calls of `advance` give. Once one was refused or the world has
@@ -116,21 +163,13 @@ fn advance_some<P: Hold<Proc>, C: Hold<Lanes>>(
     requires few { end.old.applied + times < u64.MAX }
     ensures { DoesSome image.now choice times end.old end.new result }
 {
-    if end.refused.is_some() {
+    if end.is_over() {
         return Ok(times);
     }
-    let Batch { before, last } = end.world.apply_batch(alloc, image, choice, times);
-    end.applied += before;
-    let Err(fault) = last else {
-        end.applied += 1;
-        return Ok(before + 1);
-    };
-    if let Fault::Memory = fault {
-        return Err(Fault::Memory);
+    let made = run_on(alloc, end, image, choice, times);
+    if made == 0 {
+        advance_whole(alloc, end, image, choice)?;
+        return Ok(1);
     }
-    if let Fault::NotEnabled = fault {
-        end.refused = Some(choice);
-        return Ok(times);
-    }
-    Ok(times) // the world has trapped: nothing changes any more
+    Ok(made)
 }

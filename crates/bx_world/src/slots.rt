@@ -1,21 +1,22 @@
 //! The life of one pid, as it is kept.
 
-ghost use Rattle.std.specs.Prelude.{◌≡◌, ◌↔◌, ◌<◌, Some, IsTrue, IfOk};
+ghost use Rattle.std.specs.Prelude.{◌≡◌, ◌↔◌, ◌≤◌, Some, IsTrue, IfOk};
 ghost use Rattle.bx_terms.specs.Outcomes.{Does};
 ghost use Rattle.bx_terms.specs.Tree.{Tree};
 ghost use Rattle.bx_world.specs.Acting.{life_acted, exited_acted, MayLack};
-ghost use Rattle.bx_world.specs.Batches.{LifeGoes};
+ghost use Rattle.bx_world.specs.Batches.{LifeRunsOn};
 ghost use Rattle.bx_world.specs.Enabled.{may_run, may_expire};
 ghost use Rattle.bx_world.specs.Lives.{life};
 ghost use Rattle.bx_world.specs.Seen.{life_of, status_of, place_of};
 ghost use Rattle.bx_world.specs.World.{Gone};
 
 use crate::acts::Act;
+use crate::bursts::run_on;
 use crate::delivering::receive_gone;
 use crate::lanes::Lanes;
-use crate::lives::{act_on, run};
+use crate::lives::act_on;
 use crate::shown::Shown;
-use crate::turns::{Batch, Turn};
+use crate::turns::Turn;
 use bx_load::Image;
 use bx_proc::{Proc, Status};
 use bx_share::{Hold, Same};
@@ -59,42 +60,23 @@ impl<P: Hold<Proc>> Slot<P> {
 }
 
 impl<P: Hold<Proc>> Slot<P> {
-    /// Runs the process of this pid, where it can run, at most so many instructions. Where it ends, its reason takes its place.
+    /// Runs the process of this pid as long as each instruction is done where it stands, at most so many: how many they were.
     #[inline(always)]
-    pub(crate) fn run<C: Hold<Lanes>>(
+    pub(crate) fn run_on<C: Hold<Lanes>>(
         &mut self,
         alloc: Global,
         image: &Image,
         lanes: &mut C,
         pid: u32,
         times: u64,
-    ) -> Batch<Turn>
-        requires { 0 < times }
-        ensures few { result.before < times }
-        ensures done { LifeGoes image.now pid (life P.shown self.old, C.shown lanes.old)
-            (life P.shown self.new, C.shown lanes.new) result.before result.last }
+    ) -> u64
+        ensures few { result ≤ times }
+        ensures done { LifeRunsOn image.now pid result (life P.shown self.old, C.shown lanes.old)
+            (life P.shown self.new, C.shown lanes.new) }
     {
-        let Slot::Live(holder) = self else {
-            return Batch::alone(Err(Fault::NotEnabled));
-        };
-        let Batch { before, last } = run(alloc, image, holder, lanes, pid, times);
-        let turn = match last {
-            Ok(turn) => turn,
-            Err(refused) => return Batch {
-                before,
-                last: Err(refused),
-            },
-        };
-        if let Turn::Ended(reason) = turn {
-            *self = Slot::Gone(reason);
-            return Batch {
-                before,
-                last: Ok(Turn::Ran),
-            };
-        }
-        Batch {
-            before,
-            last: Ok(turn),
+        match self {
+            Slot::Live(holder) => run_on(alloc, image, holder, lanes, pid, times),
+            Slot::Gone(_) => 0,
         }
     }
 }
@@ -198,6 +180,23 @@ pub(crate) fn share_slot<P: Hold<Proc>>(
     match slot {
         Slot::Live(holder) => Ok(Slot::Live(holder.share(alloc)?)),
         Slot::Gone(reason) => Ok(Slot::Gone(reason.copy(alloc)?)),
+    }
+}
+
+/// What is kept of a process, where it shares nothing counted with others.
+pub(crate) fn apart_slot<P: Hold<Proc>>(
+    alloc: Global,
+    room: &mut usize,
+    slot: &Slot<P>,
+) -> Result<Slot<P>, AllocError>
+    ensures { IfOk result (λ other. life P.shown other ≡ life P.shown slot.now) }
+{
+    match slot {
+        Slot::Live(holder) => {
+            let process = holder.see().apart(alloc, room)?;
+            Ok(Slot::Live(P::put(alloc, process)?))
+        }
+        Slot::Gone(reason) => Ok(Slot::Gone(reason.apart(alloc, room)?)),
     }
 }
 

@@ -1,9 +1,7 @@
-//! What a choice was at one process, and many equal ones.
-
-ghost use Rattle.std.specs.Prelude.{◌≡◌};
+//! What a choice was at one process.
 
 use crate::requests::Birth;
-use bx_terms::{Fault, Term, Trap};
+use bx_terms::{Term, Trap};
 
 /// What a run or a signal was, beside what it made of its process and of the lanes.
 #[derive(Debug, Drop)]
@@ -15,22 +13,4 @@ pub enum Turn {
     Trapped(Trap),
     /// The process asks for another one: nothing has changed yet.
     Bears(Birth),
-}
-
-/// Equal choices one behind the other: those that were made whole, and the answer of the one behind them.
-#[derive(Debug, Drop)]
-pub struct Batch<T> {
-    pub before: u64,
-    pub last: Result<T, Fault>,
-}
-
-impl<T> Batch<T> {
-    /// One choice alone.
-    #[inline(always)]
-    pub(crate) fn alone(last: Result<T, Fault>) -> Batch<T>
-        ensures first { result.before ≡ 0 }
-        ensures answer { result.last ≡ last }
-    {
-        Batch { before: 0, last }
-    }
 }

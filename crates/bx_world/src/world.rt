@@ -1,12 +1,12 @@
 //! Worlds, stepped by one choice at a time.
 
-ghost use Rattle.std.specs.Prelude.{◌≡◌, ◌≢◌, ◌↔◌, ◌<◌, ◌≤◌, [], length, option_map, slice_get, IsTrue, IsSome, IfOk, OnErr, Ok};
+ghost use Rattle.std.specs.Prelude.{◌≡◌, ◌≢◌, ◌↔◌, ◌≤◌, [], length, option_map, slice_get, IsTrue, IsSome, IfOk, OnErr, Ok};
 ghost use Rattle.bx_terms.specs.Outcomes.{Does, Gives};
 ghost use Rattle.bx_load.specs.Image.{export};
 ghost use Rattle.bx_world.specs.World.{started};
 ghost use Rattle.bx_world.specs.Enabled.{enabled, open_choices, can};
 ghost use Rattle.bx_world.specs.Choosing.{applied};
-ghost use Rattle.bx_world.specs.Batches.{WorldGoes};
+ghost use Rattle.bx_world.specs.Batches.{WorldRunsOn};
 ghost use Rattle.bx_world.specs.Seen.{life_of, seen, standing_of, place_in};
 
 use crate::choices::{Choice, Choices};
@@ -15,7 +15,7 @@ use crate::lanes::Lanes;
 use crate::outcomes::{Outcome, Standing};
 use crate::procs::Procs;
 use crate::shown::Shown;
-use crate::turns::{Batch, Turn};
+use crate::turns::Turn;
 use bx_load::Image;
 use bx_proc::Proc;
 use bx_share::{ArcHold, Hold, RcHold, Same};
@@ -133,50 +133,52 @@ impl<P: Hold<Proc>, C: Hold<Lanes>> World<P, C> {
         ensures { Does (IsTrue (can self.old choice)) self.old self.new result
             (applied image.now choice self.old) }
     {
-        let Batch { before: _, last } = self.apply_batch(alloc, image, choice, 1);
-        last
+        let made = self.run_on(alloc, image, choice, 1);
+        if made == 1 {
+            return Ok(());
+        }
+        self.apply_whole(alloc, image, choice)
     }
 
-    /// Applies a choice as often as one look at its process allows, at most so many times: all but the last are applied, and the
-    /// last is answered as by `apply`.
+    /// Applies a run of a process as long as each instruction is done where it stands, at most so many times: how many they
+    /// were. Of any other choice it is none.
     #[inline(always)]
-    pub(crate) fn apply_batch(
+    pub(crate) fn run_on(&mut self, alloc: Global, image: &Image, choice: Choice, times: u64) -> u64
+        ensures few { result ≤ times }
+        ensures done { WorldRunsOn image.now choice result self.old self.new }
+    {
+        if self.trap.is_some() {
+            return 0;
+        }
+        match choice {
+            Choice::Run(pid) => self.procs.run_on(alloc, image, &mut self.lanes, pid, times),
+            _ => 0,
+        }
+    }
+
+    /// Applies a choice, whatever it has to do with others.
+    #[inline(never)]
+    pub(crate) fn apply_whole(
         &mut self,
         alloc: Global,
         image: &Image,
         choice: Choice,
-        times: u64,
-    ) -> Batch<()>
-        requires { 0 < times }
-        ensures few { result.before < times }
-        ensures done { WorldGoes image.now choice self.old self.new result.before result.last }
+    ) -> Result<(), Fault>
+        ensures { Does (IsTrue (can self.old choice)) self.old self.new result
+            (applied image.now choice self.old) }
     {
         if self.trap.is_some() {
-            return Batch::alone(Err(Fault::Halted));
+            return Err(Fault::Halted);
         }
         let pid = choice.actor();
-        let Batch { before, last } = make(
-            alloc,
-            image,
-            &mut self.procs,
-            &mut self.lanes,
-            choice,
-            times,
-        );
-        let turn = match last {
+        let turn = match make(alloc, image, &mut self.procs, &mut self.lanes, choice) {
             Ok(turn) => turn,
-            Err(refused) => return Batch {
-                before,
-                last: Err(refused),
-            },
+            Err(refused) => return Err(refused),
         };
         if let Turn::Trapped(kind) = turn {
             self.trap = Some((kind, pid));
         }
-        Batch {
-            before,
-            last: Ok(()),
-        }
+        Ok(())
     }
 
     /// An equal world, which later choices in this one do not change.
@@ -192,6 +194,20 @@ impl<P: Hold<Proc>, C: Hold<Lanes>> World<P, C> {
             lanes,
             trap: self.trap,
         })
+    }
+
+    /// Puts in the place of each process, and of what they share, an equal one that shares nothing counted with other worlds, so
+    /// that threads whose worlds parted late do not wait for one count. Nothing that can be seen changes.
+    ///
+    /// One of the room goes for each register, frame, link, message in a mailbox and displayed term, and for each list cell and
+    /// element of a tuple. Where room or memory run out, the rest stays shared.
+    pub fn unshare(&mut self, alloc: Global, room: &mut usize) -> Result<(), AllocError>
+        ensures { self.new ≡ self.old }
+    {
+        self.procs.unshare(alloc, room)?;
+        let lanes = self.lanes.see().apart(alloc, room)?;
+        self.lanes = C::put(alloc, lanes)?;
+        Ok(())
     }
 
     /// What can be seen of the world.

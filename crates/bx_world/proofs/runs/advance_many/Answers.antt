@@ -1,7 +1,4 @@
-use Rattle.std.proofs.Common.{◌-◌, arith, subst}
-use Rattle.std.specs.Prelude.{Result, Err, ℕ}
-use Rattle.bx_terms.specs.declared.faults.Fault.{Fault}
-use Rattle.bx_world.specs.Running.{DoesSome}
+use Rattle.std.proofs.Common.{◌-◌, arith}
 use Rattle.bx_world.proofs.Many.{few_made, more_made, many_lack}
 use Rattle.bx_world.proofs.runs.advance_many.Goals as goal
 

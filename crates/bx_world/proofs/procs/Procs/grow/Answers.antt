@@ -13,7 +13,7 @@ use Rattle.bx_world.specs.Births.{other_if, newborn, lives_answered, unborn_at_t
 use Rattle.bx_world.proofs.Acted.{spawned_is}
 use Rattle.bx_world.proofs.Changing.{err_through}
 use Rattle.bx_world.proofs.Keeping.{lives_answered_kept}
-use Rattle.bx_world.proofs.Growing.{popped, grown_trapped, grown_stands}
+use Rattle.bx_world.proofs.Growing.{popped, grown_trapped}
 use Rattle.bx_world.proofs.procs.Procs.grow.Goals as goal
 
 pub returns-in-Ok-Trapped : goal.returns-in-Ok-Trapped
