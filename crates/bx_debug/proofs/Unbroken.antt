@@ -1,20 +1,22 @@
 -- Choices given one after another to a run, where no breakpoint is set: none is looked behind, and why it went no further is known
 -- at the end.
-use Rattle.std.proofs.Common.{◌≡◌, ℕ, ◌+◌, ◌<◌, ◌≤◌, ◌⊎◌, inl, inr, List, length, get_or, Bool, true, false, Option, Some, None, refl, sym, ap, ◌∙◌, subst, arith}
+use Rattle.std.proofs.Common.{◌≡◌, ℕ, zero, suc, ◌+◌, ◌-◌, ◌<◌, ◌≤◌, ◌⊎◌, inl, inr, List, [], ◌∷◌, length, take, drop, get_or, Bool, true, false, Option, Some, None, refl, sym, ap, ◌∙◌, subst, arith}
 use Rattle.std.specs.Prelude.{◌||◌, if◌then◌else◌, is_some}
 use Rattle.std.specs.FinSet as set
+use Rattle.std.proofs.lemmas.List.{drop_more, length-drop, length-take-le}
 use Rattle.bx_terms.specs.declared.kinds.Trap.{Trap}
 use Rattle.bx_load.specs.Image.{Loaded}
 use Rattle.bx_world.specs.declared.choices.Choice.{Choice}
+use Rattle.bx_world.specs.declared.choices.Choice.TheVariants.{Run}
 use Rattle.bx_world.specs.World.{State}
 use Rattle.bx_world.specs.Enabled.{can}
 use Rattle.bx_world.specs.Choosing.{chosen}
-use Rattle.bx_world.specs.Running.{Ended, advanced}
+use Rattle.bx_world.specs.Running.{Ended, advanced, ran}
 use Rattle.bx_debug.specs.Going.{break_behind, ended_by, else_stop, halted, stop_before}
-use Rattle.bx_debug.specs.Leading.{Leads}
+use Rattle.bx_debug.specs.Leading.{Leads, Reaches}
 use Rattle.bx_debug.specs.declared.stops.Stop.{Stop}
 use Rattle.bx_debug.specs.declared.stops.Stop.TheVariants.{NotEnabled, Trapped}
-use Rattle.bx_debug.proofs.Walking.{breaks_none, leads_before, leads_behind, leads_on}
+use Rattle.bx_debug.proofs.Walking.{breaks_none, leads_before, leads_behind, leads_on, same_element}
 
 -- why it went no further
 abbrev pub why : Ended → Option Stop
@@ -118,3 +120,47 @@ pub leads_nowhere : (image : Loaded) (choices : List Choice) (from : State) (i :
     → Leads image set.empty choices from i here None → Leads image set.empty choices from i here (Some stop)
 leads_nowhere image choices from i here choice stop short is trapped lead =
     leads_before image set.empty choices from i here choice here stop short is (ap (λ (s : Option Stop). else_stop s (if can here choice then None else Some (NotEnabled choice))) trapped, refl) lead
+
+-- a run at its beginning
+abbrev pub fresh : State → Ended
+fresh w = record { world = w; applied = 0; refused = None }
+
+-- choices more
+given_all : (image : Loaded) (first at : ℕ) (choices : List Choice) (end : Ended) → Given first at end → Given first (at + length choices) (ran image choices end)
+given_all image first at [] end given = let same : at ≡ at + 0 = omega arith in subst (λ (n : ℕ). Given first n end) same given
+given_all image first at (choice ∷ more) end given =
+    let count : at + 1 + length more ≡ at + length (choice ∷ more) = omega arith in
+    subst (λ (n : ℕ). Given first n (ran image more (advanced image choice end))) count (given_all image first (at + 1) more (advanced image choice end) (given_on image choice first at end given))
+
+unbroken_all : (image : Loaded) (choices : List Choice) (from : State) (first at n : ℕ) (end : Ended) → at + n ≤ length choices → Given first at end → Unbroken image choices from first end
+    → Unbroken image choices from first (ran image (take n (drop at choices)) end)
+unbroken_all image choices from first at zero end within given so_far = so_far
+unbroken_all image choices from first at (suc n) end within given so_far =
+    let short : at < length choices = omega arith in
+    let choice = get_or choices at (Run 0) in
+    let next = advanced image choice end in
+    let on = unbroken_on image choices from first at end choice short (same_element choices at (Run 0) choice short) given so_far in
+    subst (λ (cs : List Choice). Unbroken image choices from first (ran image (take (suc n) cs) end)) (sym (drop_more choices at (Run 0) short))
+    (unbroken_all image choices from first (at + 1) n next (omega arith) (given_on image choice first at end given) on)
+
+-- the run of choices from one number up to another, in a world that has not trapped
+module _ (image : Loaded) (choices : List Choice) (first past : ℕ) (w : State) (end : Ended) (ordered : first < past) (within : past ≤ length choices) (is : end ≡ ran image (take (past - first) (drop first choices)) (fresh w)) where
+  pub all_given : Given first past end
+  all_given =
+      let rest : length (take (past - first) (drop first choices)) ≡ past - first = length-take-le (past - first) (drop first choices) (omega (arith, length-drop first choices)) in
+      let count : first + length (take (past - first) (drop first choices)) ≡ past = omega (arith, rest) in
+      subst (λ (e : Ended). Given first past e) (sym is)
+      (subst (λ (n : ℕ). Given first n (ran image (take (past - first) (drop first choices)) (fresh w))) count (given_all image first first (take (past - first) (drop first choices)) (fresh w) (given_none first w)))
+
+  pub all_unbroken : (from : State) → halted w.trap ≡ None → Leads image set.empty choices from first w None → Reaches image set.empty choices from first past (first + end.applied) end.world (why end)
+  all_unbroken from free lead =
+      let none : first ≡ first + 0 = omega arith in
+      let start : Unbroken image choices from first (fresh w) =
+      subst (λ (s : Option Stop). Leads image set.empty choices from (first + 0) w s) (sym free) (subst (λ (n : ℕ). Leads image set.empty choices from n w None) none lead) in
+      let given = all_given in
+      record {
+        further = omega arith;
+        before = given.before;
+        whole = given.whole;
+        leads = subst (λ (e : Ended). Unbroken image choices from first e) (sym is) (unbroken_all image choices from first first (past - first) (fresh w) (omega arith) (given_none first w) start);
+      }

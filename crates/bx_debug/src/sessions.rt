@@ -219,7 +219,7 @@ impl<'a> Session<'a> {
     /// independent where they stand. The position stays, the choices behind it and the breakpoints, and the world that is shown.
     ///
     /// `NotIndependent` with the number exactly where they are not, or one of them does not stand there. Memory is taken only
-    /// where both do.
+    /// where both do and concern different processes.
     pub fn swap(&mut self, alloc: Global, number: usize) -> Result<(), Fault>
         ensures { Swaps number self.old self.new result }
     {

@@ -9,8 +9,8 @@ ghost use Rattle.bx_debug.specs.Leading.{come, Begins, Leads, Reaches, Walks, We
 use crate::places::Places;
 use crate::stops::{Stop, choose, ended_by, halted, stop_behind};
 use bx_load::Image;
-use bx_replay::{RcEnd, Trail, copied, shared};
-use bx_world::{Choice, RcWorld, RunEnd, advance};
+use bx_replay::{RcEnd, Trail, advance_all, copied, shared};
+use bx_world::{Choice, RcWorld, RunEnd};
 use std::alloc::{AllocError, Global};
 
 /// Applies the choices of a row from one number up to another, in order, as far as nothing stops them: before which number
@@ -68,11 +68,7 @@ fn stretch_unbroken(
     }
     end.applied = 0;
     end.refused = None;
-    for at in first..past {
-        if let Err(_) = advance(alloc, end, image, choices[at]) {
-            return Err(AllocError);
-        }
-    }
+    advance_all(alloc, end, image, &choices[first..past])?;
     Ok((first + end.applied as usize, ended_by(end)))
 }
 

@@ -1,15 +1,14 @@
 -- What a trail keeps stays good where choices are put behind, and where its tail is another one.
-use Rattle.std.proofs.Common.{◌≡◌, ◌≢◌, ℕ, ◌+◌, ◌-◌, ◌^◌, ◌<◌, ◌≤◌, inl, inr, List, [], ◌∷◌, ◌++◌, length, take, drop, refl, sym, ap, subst, ◌∙◌, arith, length-append}
+use Rattle.std.proofs.Common.{◌≡◌, ℕ, ◌+◌, ◌-◌, ◌^◌, ◌<◌, ◌≤◌, inl, inr, List, [], ◌∷◌, ◌++◌, length, take, drop, refl, sym, ap, subst, ◌∙◌, arith, length-append}
 use Rattle.std.specs.Prelude.{Bool, true, false, if◌then◌else◌, slice_index_or}
-use Rattle.std.proofs.lemmas.List.{append-nil, take_all, take_more, length-take-le, get_or-take, get_or_append_left, get_or-append_right, get_or_push, get_or_default}
+use Rattle.std.proofs.lemmas.List.{append-nil, take_all, length-take-le, get_or-take, get_or_append_left, get_or-append_right, get_or_push, get_or_default}
 use Rattle.bx_load.specs.Image.{Loaded}
 use Rattle.bx_world.specs.declared.choices.Choice.{Choice}
-use Rattle.bx_world.specs.Running.{Ended, advanced, ran}
-use Rattle.bx_world.proofs.Lawful.{ran_on}
+use Rattle.bx_world.specs.Running.{Ended, ran}
 use Rattle.bx_replay.specs.Courses.{Course, reached}
 use Rattle.bx_replay.specs.Keeping.{IsReached, AreKept, Parts}
 use Rattle.bx_replay.specs.declared.kept.Kept.{Kept}
-use Rattle.bx_replay.proofs.Beginnings.{below, bounded, course, reached_longer, reached_before, reached_behind}
+use Rattle.bx_replay.proofs.Beginnings.{below, bounded, course, onward, reached_longer, reached_before, reached_behind}
 
 -- by how many choices
 abbrev pub count_of : Kept → ℕ
@@ -102,20 +101,18 @@ pub longer : (image : Loaded) (start : Ended) (choices more : List Choice) (kept
     → AreKept (course image start (choices ++ more)) kept
 longer image start choices more kept are few = record { few = few; ends = λ k d h. longer_reached image start _ choices more (are.ends k d h); past = are.past; rising = are.rising }
 
--- one choice more, which is applied
-pub next_reached : (image : Loaded) (start here next : Ended) (choices : List Choice) (i : ℕ) (choice : Choice) → i < length choices → choice ≡ slice_index_or choices i choice
-    → here ≡ reached i (course image start choices) → here.applied ≡ start.applied + i → next ≡ advanced image choice here → here.applied < next.applied
-    → (next ≡ reached (i + 1) (course image start choices)) × (next.applied ≡ start.applied + (i + 1)) × IsReached (course image start choices) next
-next_reached image start here next choices i choice short is at count step more =
+-- choices more, each of which is applied
+pub further_reached : (image : Loaded) (start here next : Ended) (choices : List Choice) (i n : ℕ) → i ≤ n → n ≤ length choices → here ≡ reached i (course image start choices)
+    → next ≡ ran image (take (n - i) (drop i choices)) here → start.applied + n ≤ next.applied
+    → (next ≡ reached n (course image start choices)) × (next.applied ≡ start.applied + n) × IsReached (course image start choices) next
+further_reached image start here next choices i n le within at step more =
     let c : Course = course image start choices in
-    let taken : take (i + 1) choices ≡ take i choices ++ choice ∷ [] = take_more choices i choice short ∙ ap (λ x. take i choices ++ x ∷ []) (sym is) in
-    let there : next ≡ reached (i + 1) c =
-    step ∙ ap (advanced image choice) at ∙ sym (ran_on image (take i choices) (choice ∷ []) start) ∙ ap (λ (zs : List Choice). ran image zs start) (sym taken) in
-    let few = bounded c (i + 1) (omega arith) in
+    let there : next ≡ reached n c = step ∙ onward image start choices i n here choices le refl at in
+    let few = bounded c n within in
     let same = ap (λ (e : Ended). e.applied) there in
-    let all : next.applied ≡ start.applied + (i + 1) = omega arith in
-    let far : i + 1 ≡ next.applied - start.applied = omega arith in
-    (there, all, record { ahead = omega arith; within = omega arith; is = there ∙ ap (λ n. reached n c) far })
+    let all : next.applied ≡ start.applied + n = omega arith in
+    let far : n ≡ next.applied - start.applied = omega arith in
+    (there, all, record { ahead = omega arith; within = omega arith; is = there ∙ ap (λ k. reached k c) far })
 
 -- where all of them lead
 pub all_reached : (image : Loaded) (start end : Ended) (choices : List Choice) → end.applied ≡ start.applied + length choices → end ≡ ran image choices start → IsReached (course image start choices) end

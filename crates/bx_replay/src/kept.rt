@@ -4,10 +4,10 @@ ghost use Rattle.std.specs.Prelude.{◌≡◌, ◌+◌, ◌-◌, ◌<◌, ◌≤
 ghost use Rattle.bx_replay.specs.Courses.{Course};
 ghost use Rattle.bx_replay.specs.Keeping.{AreKept, IsReached, Parts, Turns};
 
-use crate::runs::{RcEnd, copied};
+use crate::runs::{RcEnd, advance_all, copied};
 use crate::weights::cells;
 use bx_load::Image;
-use bx_world::{Choice, advance};
+use bx_world::Choice;
 use std::alloc::{AllocError, Global};
 
 /// How many choices lie between one that is kept and the next, at the least.
@@ -44,6 +44,13 @@ impl Kept {
         ensures { IsTrue result → self.now.end.applied < applied }
     {
         applied >= self.next && applied > self.end.applied
+    }
+
+    /// By how many choices more, where so many lead, the next one is kept; one at least.
+    pub(crate) fn room(&self, applied: u64) -> usize
+        ensures { 0 < result }
+    {
+        self.next.saturating_sub(applied).max(1) as usize
     }
 }
 
@@ -107,15 +114,16 @@ pub(crate) fn keep_all(
 {
     let mut kept = Vec::new(alloc);
     let mut end = copied(alloc, &start.end)?;
-    for choice in choices {
-        let before = end.applied;
-        if let Err(_) = advance(alloc, &mut end, image, *choice) {
-            return Err(AllocError);
-        }
-        if end.applied <= before {
+    let mut at = 0;
+    while at < choices.len() {
+        let room = last_of(start, &kept, kept.len()).room(end.applied);
+        let past = at + room.min(choices.len() - at);
+        advance_all(alloc, &mut end, image, &choices[at..past])?;
+        if end.applied < start.count() + past as u64 {
             return Ok(kept); // nothing changes any more
         }
         keep_if_due(alloc, start, &mut kept, &end)?;
+        at = past;
     }
     Ok(kept)
 }

@@ -8,5 +8,5 @@ mod trails;
 mod weights;
 
 pub use independence::apart;
-pub use runs::{RcEnd, copied, follow, shared};
+pub use runs::{RcEnd, advance_all, copied, follow, shared};
 pub use trails::Trail;

@@ -1,9 +1,9 @@
 //! Trails.
 
-ghost use Rattle.std.specs.Prelude.{◌≡◌, ◌↔◌, ◌+◌, ◌++◌, ◌<◌, ◌≤◌, ◌^◌, [], length, take, IfOk, IsTrue, OnErr, OnOk};
+ghost use Rattle.std.specs.Prelude.{◌≡◌, ◌↔◌, ◌+◌, ◌++◌, ◌<◌, ◌≤◌, ◌^◌, [], drop, length, take, IfOk, IsSome, IsTrue, OnErr, OnOk};
 ghost use Rattle.bx_world.specs.Running.{ran};
 ghost use Rattle.bx_replay.specs.Courses.{reached};
-ghost use Rattle.bx_replay.specs.Exchanges.{Exchanges};
+ghost use Rattle.bx_replay.specs.Exchanges.{next_apart, Exchanges};
 
 use crate::independence::{apart_at, are_independent};
 use crate::kept::{Kept, keep_all, keep_if_due, last_of, replace, within};
@@ -159,7 +159,7 @@ impl<'a> Trail<'a> {
     {
         let here = self.start.count() + self.choices.len() as u64;
         let last = last_of(&self.start, &self.kept, self.kept.len());
-        last.next.saturating_sub(here).max(1) as usize
+        last.room(here)
     }
 
     /// Puts choices behind the others that were made there and led to this end, each of them applied.
@@ -207,10 +207,12 @@ impl<'a> Trail<'a> {
 
     /// Exchanges the choice at that position, from 0 on, and the one behind it, where they are independent there; whether they are.
     ///
-    /// That leaves where each longer beginning leads as it was, so of what is kept only what lies between the two is replaced.
+    /// That leaves where each longer beginning leads as it was, so of what is kept only what lies between the two is replaced. Memory
+    /// is taken only where two choices of different processes stand there.
     pub fn exchange(&mut self, alloc: Global, position: usize) -> Result<bool, AllocError>
         ensures done { IfOk result (Exchanges position self.old self.new) }
         ensures err { OnErr result (self.new ≡ self.old) }
+        ensures apart { OnErr result (IsSome (next_apart (drop position self.old.choices))) }
     {
         let Some((first, second)) = apart_at(&self.choices, position) else {
             return Ok(false);

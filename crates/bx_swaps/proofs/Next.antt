@@ -1,5 +1,5 @@
 -- Two choices that stand next to each other in a list begin what stands from the first of them on.
-use Rattle.std.proofs.Common.{◌≡◌, ℕ, zero, suc, List, [], ◌∷◌, Option, Some, None}
+use Rattle.std.proofs.Common.{◌≡◌, ℕ, zero, suc, List, [], ◌∷◌, Some, None}
 use Rattle.std.specs.Prelude.{◌==◌, if◌then◌else◌, drop, slice_get}
 use Rattle.bx_world.specs.declared.choices.Choice.{Choice}
 use Rattle.bx_world.specs.Enabled.{actor}

@@ -1,10 +1,13 @@
-use Rattle.std.proofs.Common.{◌≡◌, ◌+◌, ◌<◌, length, get_or, sym, ap, ◌∙◌, subst, arith}
-use Rattle.bx_terms.proofs.Outcomes.{ok_pair}
+use Rattle.std.proofs.Common.{◌≡◌, ℕ, ◌+◌, ◌<◌, length, get_or, Option, None, sym, ap, ◌∙◌, subst, arith}
+use Rattle.std.specs.FinSet as set
 use Rattle.bx_world.specs.declared.choices.Choice.TheVariants.{Run}
-use Rattle.bx_world.specs.Running.{Ended, advanced}
+use Rattle.bx_world.specs.World.{State}
+use Rattle.bx_world.specs.Running.{Ended}
 use Rattle.bx_debug.specs.Going.{halted}
+use Rattle.bx_debug.specs.Leading.{Leads, Reaches}
+use Rattle.bx_debug.specs.declared.stops.Stop.{Stop}
 use Rattle.bx_debug.proofs.Walking.{same_element}
-use Rattle.bx_debug.proofs.Unbroken.{Given, Unbroken, given_on, leads_nowhere, unbroken_on}
+use Rattle.bx_debug.proofs.Unbroken.{all_given, all_unbroken, leads_nowhere, why}
 use Rattle.bx_debug.proofs.walks.stretch_unbroken.Goals as goal
 
 pub returns-in-Some-clause-way : goal.returns-in-Some-clause-way
@@ -20,18 +23,38 @@ returns-in-Some-clause-way c = λ from lead.
       leads = leads_nowhere c.args.image.now c.args.choices.now from i c.args.end.now.world choice c.in-Some.stop short is (ap (λ (e : Ended). halted e.world.trap) (sym c.end.view_is) ∙ sym c.halted.ensures ∙ c.in-Some.is) lead;
     }
 
-pub loop-at-preserved : goal.loop-at-preserved
-loop-at-preserved c =
+pub overflow_add-result : goal.overflow_add-result
+overflow_add-result c =
+    let given = all_given c.args.image.now c.args.choices.now c.args.first c.args.past c.end.inside.world c.advance_all.new.end c.requires.ordered c.requires.within c.in_ok-advance_all.ensures in
+    let applied = ap (λ (e : Ended). e.applied) c.end-2.view_is in
+    let before = given.before in
+    omega (arith, before, applied, c.ranges.past.fits)
+
+pub returns-clause-between : goal.returns-clause-between
+returns-clause-between c =
+    let given = all_given c.args.image.now c.args.choices.now c.args.first c.args.past c.end.inside.world c.advance_all.new.end c.requires.ordered c.requires.within c.in_ok-advance_all.ensures in
+    let applied = ap (λ (e : Ended). e.applied) c.end-2.view_is in
+    let before = given.before in
+    (omega arith, omega (arith, before, applied))
+
+pub returns-clause-whole : goal.returns-clause-whole
+returns-clause-whole c = λ none.
+    let given = all_given c.args.image.now c.args.choices.now c.args.first c.args.past c.end.inside.world c.advance_all.new.end c.requires.ordered c.requires.within c.in_ok-advance_all.ensures in
+    let applied = ap (λ (e : Ended). e.applied) c.end-2.view_is in
+    let whole = given.whole (sym c.ended_by.ensures ∙ none) in
+    omega (arith, whole, applied)
+
+pub returns-clause-way : goal.returns-clause-way
+returns-clause-way c = λ from lead.
     let image = c.args.image.now in
     let choices = c.args.choices.now in
     let first = c.args.first in
-    let i = c.loop-at.at in
-    let choice = get_or choices i (Run 0) in
-    let short : i < length choices = omega (arith, c.requires.within) in
-    let is : choice ≡ get_or choices i choice = same_element choices i (Run 0) choice short in
-    let made : advanced image choice c.loop-at.end ≡ c.advance.new.end = (ok_pair _ _ _ _ c.in_default-advance.ensures).0 in
-    let far = c.loop-at.invariant in
-    record {
-      count = subst (λ (e : Ended). Given first (i + 1) e) made (given_on image choice first i c.loop-at.end far.count);
-      leads = λ from lead. subst (λ (e : Ended). Unbroken image choices from first e) made (unbroken_on image choices from first i c.loop-at.end choice short is far.count (far.leads from lead));
-    }
+    let past = c.args.past in
+    let world = c.end.inside.world in
+    let next = c.advance_all.new.end in
+    let there : c.args.end.now.world ≡ world = sym (ap (λ (e : Ended). e.world) c.end.view_is) in
+    let applied = ap (λ (e : Ended). e.applied) c.end-2.view_is in
+    let on = all_unbroken image choices first past world next c.requires.ordered c.requires.within c.in_ok-advance_all.ensures from (sym c.halted.ensures ∙ c.in_default.is)
+    (subst (λ (w : State). Leads image set.empty choices from first w None) there lead) in
+    subst (λ (s : Option Stop). Reaches image set.empty choices from first past (first + c.end-2.inside.applied) next.world s) (sym c.ended_by.ensures)
+    (subst (λ (n : ℕ). Reaches image set.empty choices from first past (first + n) next.world (why next)) (sym applied) on)

@@ -1,28 +1,24 @@
-use Rattle.std.proofs.Common.{◌≡◌, ◌<◌, length, get_or, refl, sym, ap, ◌∙◌, arith}
-use Rattle.std.proofs.lemmas.List.{get_or_default}
-use Rattle.bx_terms.proofs.Outcomes.{ok_pair}
-use Rattle.bx_world.specs.declared.choices.Choice.TheVariants.{Run}
-use Rattle.bx_world.specs.Running.{Ended, advanced}
+use Rattle.std.proofs.Common.{◌+◌, ◌≤◌, length, refl, ap, arith}
+use Rattle.bx_world.specs.Running.{Ended}
 use Rattle.bx_replay.proofs.Beginnings.{course}
-use Rattle.bx_replay.proofs.Keeps.{next_reached}
+use Rattle.bx_replay.proofs.Keeps.{further_reached}
 use Rattle.bx_replay.proofs.kept.keep_all.Goals as goal
 
-pub loop-choice-preserved : goal.loop-choice-preserved
-loop-choice-preserved c =
+pub loop-at-preserved : goal.loop-at-preserved
+loop-at-preserved c =
     let image = c.args.image.now in
     let start = c.args.start.now.end in
     let choices = c.args.choices.now in
-    let i = c.loop-choice.choice-index in
-    let choice = get_or choices i (Run 0) in
-    let short : i < length choices = c.loop-choice-test.true in
-    let next = c.advance.new.end in
-    let step : next ≡ advanced image choice c.loop-choice.end = sym (ok_pair _ _ _ _ c.in_default.ensures).0 in
-    let old = ap (λ (e : Ended). e.applied) c.end.view_is in
-    let new = ap (λ (e : Ended). e.applied) c.end-in-loop-choice.view_is in
-    let more : c.loop-choice.end.applied < next.applied = omega (arith, c.if-end-before.false) in
-    let on = next_reached image start c.loop-choice.end next choices i choice short (get_or_default choices i (Run 0) choice short) c.loop-choice.invariant.here c.loop-choice.invariant.count step more in
+    let past = c.loop-at.at + c.min.result in
+    let next = c.advance_all.new.end in
+    let so_far = c.loop-at.invariant in
+    let within : past ≤ length choices = omega (arith, so_far.within, c.min.ensures) in
+    let applied = ap (λ (e : Ended). e.applied) c.end-in-loop-at.view_is in
+    let all : start.applied + past ≤ next.applied = omega (arith, applied, c.count.ensures, c.if-end-count.false) in
+    let on = further_reached image start c.loop-at.end next choices c.loop-at.at past (omega arith) within so_far.here c.in_ok-advance_all.ensures all in
     record {
+      within = within;
       here = on.0;
       count = on.1;
-      kept = c.keep_if_due.ensures.kept (course image start choices) refl c.loop-choice.invariant.kept on.2;
+      kept = c.keep_if_due.ensures.kept (course image start choices) refl so_far.kept on.2;
     }

@@ -1,4 +1,4 @@
-use Rattle.std.proofs.Common.{◌≡◌, ◌<◌, ◌-◌, length, sym, ap, ◌∙◌, arith, rules}
+use Rattle.std.proofs.Common.{◌≡◌, ◌<◌, ◌-◌, length, ap, ◌∙◌, arith, rules}
 use Rattle.std.specs.Prelude.{List, slice_index_or}
 use Rattle.bx_world.specs.Running.{Ended}
 use Rattle.bx_replay.specs.declared.kept.Kept.{Kept}

@@ -1,5 +1,5 @@
 use Rattle.std.proofs.Common.{◌≡◌, ◌<◌, ◌-◌, length, refl, sym, ap, subst, ◌∙◌, arith}
-use Rattle.std.specs.Prelude.{List, slice_index_or}
+use Rattle.std.specs.Prelude.{List}
 use Rattle.std.proofs.lemmas.List.{get_or_default}
 use Rattle.bx_world.specs.Running.{Ended}
 use Rattle.bx_replay.specs.Keeping.{Parts}

@@ -1,6 +1,6 @@
-use Rattle.std.proofs.Common.{◌≡◌, ◌+◌, ◌-◌, ◌≤◌, ◌<◌, length, refl, sym, ap, subst, ◌∙◌, arith}
+use Rattle.std.proofs.Common.{◌≡◌, ◌+◌, ◌-◌, ◌<◌, refl, sym, ap, subst, ◌∙◌, arith}
 use Rattle.std.specs.Prelude.{List, slice_index_or}
-use Rattle.bx_replay.specs.Courses.{Course, reached}
+use Rattle.bx_replay.specs.Courses.{reached}
 use Rattle.bx_replay.specs.Keeping.{Parts}
 use Rattle.bx_replay.specs.declared.kept.Kept.{Kept}
 use Rattle.bx_replay.proofs.Beginnings.{course, if_ok_at, onward}
