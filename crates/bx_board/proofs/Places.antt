@@ -1,11 +1,11 @@
 -- Where the chains of a plan's tree begin and end.
-use Rattle.std.proofs.Common.{◌≡◌, ◌⊎◌, inl, inr, ℕ, zero, suc, ◌+◌, ◌-◌, ◌<◌, ◌≤◌, ◌==◌, ◌||◌, Bool, true, false, Some, List, [], ◌∷◌, length, option_map, slice_get, refl, sym, ap, ◌∙◌, arith}
+use Rattle.std.proofs.Common.{◌≡◌, ◌⊎◌, inl, inr, ℕ, zero, suc, ◌+◌, ◌<◌, ◌≤◌, ◌==◌, ◌||◌, Bool, true, false, Some, List, [], ◌∷◌, length, option_map, slice_get, refl, sym, ap, ◌∙◌, arith}
 use Rattle.std.specs.List.{list_any}
 use Rattle.std.proofs.lemmas.Bool.{both_ways, eq-eqb}
 use Rattle.bx_world.specs.Running.{Ended}
 use Rattle.bx_plan.specs.Planned.{Planned}
 use Rattle.bx_plan.specs.Trees.{parent}
-use Rattle.bx_chains.specs.Chains.{AreChains, Begins, Chained, Owned, above, ends_at, first, last, owner}
+use Rattle.bx_chains.specs.Chains.{AreChains, Begins, Chained, Owns, above, ends_at, first, last}
 use Rattle.bx_chains.proofs.Counting.{below_or_past}
 use Rattle.bx_chains.proofs.Growing.{goes_on_is, inner_or_final, last_final, last_inner}
 use Rattle.bx_board.specs.declared.slots.Slot.TheVariants.{Waiting, Done}
@@ -26,9 +26,9 @@ module _ (plan : Planned) (all : Chained) (is : AreChains plan all) where
     one (inr h) = omega (arith, h)
 
   -- a chain ends where the next one begins, or with the nodes
-  pub last_within : (c : ℕ) → c < length all.heads → last all c < length all.owners
+  pub last_within : (c : ℕ) → c < length all.heads → last all c < all.nodes
   last_within c h = one (inner_or_final all c) where
-    one : (c + 1 < length all.heads) ⊎ (length all.heads ≤ c + 1) → last all c < length all.owners
+    one : (c + 1 < length all.heads) ⊎ (length all.heads ≤ c + 1) → last all c < all.nodes
     one (inl l) = let next = is.chains.begins (c + 1) (omega arith) l in omega (arith, last_inner all c l, next.positive, next.within)
     one (inr p) = omega (arith, last_final all c p, is.chains.owned)
 
@@ -50,15 +50,12 @@ module _ (plan : Planned) (all : Chained) (is : AreChains plan all) where
     ordered (inr g) = omega (arith, last_final all c g, begins.within)
 
   -- a node at which a schedule ends is the last of its chain
-  pub end_last : (node : ℕ) → node < length plan.tree.paths → ends_at plan node ≡ true → last all (owner all node) ≡ node
-  end_last node h ended = one (below_or_past node (last all (owner all node))) where
-    own : Owned all node
-    own = is.chains.owners node (omega (arith, h, is.nodes))
-
-    one : (node < last all (owner all node)) ⊎ (last all (owner all node) ≤ node) → last all (owner all node) ≡ node
+  pub end_last : (c node : ℕ) → Owns all c node → ends_at plan node ≡ true → last all c ≡ node
+  end_last c node own ended = one (below_or_past node (last all c)) where
+    one : (node < last all c) ⊎ (last all c ≤ node) → last all c ≡ node
     one (inl l) =
-        let on = goes_on_is plan (node + 1) (is.chains.inside (owner all node) (node + 1) own.chain (omega (arith, own.behind)) (omega (arith, l))) in
-        let back : parent plan.tree (node + 1) ≡ node = omega (arith, is.chains.behind (owner all node) (node + 1) own.chain (omega (arith, own.behind)) (omega (arith, l))) in
+        let on = goes_on_is plan (node + 1) (is.chains.inside c (node + 1) own.chain (omega (arith, own.behind)) (omega (arith, l))) in
+        let back : parent plan.tree (node + 1) ≡ node = omega (arith, is.chains.behind c (node + 1) own.chain (omega (arith, own.behind)) (omega (arith, l))) in
         absurd (both_ways (ends_at plan node) (ap (ends_at plan) (sym back) ∙ on.unended) ended)
     one (inr g) = omega (arith, g, own.before)
 

@@ -29,7 +29,7 @@ no_job =
       image = record { atoms = []; modules = [] };
       start = (nobody, nobody);
       plan = record { lines = []; tree = record { steps = []; paths = [] } };
-      chains = record { heads = []; kids = []; owners = [] };
+      chains = record { heads = []; kids = []; nodes = 0 };
     }
 
 -- the world at the start; none of a start that is not exported

@@ -1,12 +1,12 @@
 //! A book behind a lock, which workers serve.
 
-ghost use Rattle.std.specs.Prelude.{◌≡◌, ◌⊎◌, IfErr, IfOk, IfSome, MatchBool};
+ghost use Rattle.std.specs.Prelude.{◌≡◌, ◌≢◌, ◌⊎◌, IfErr, IfOk, IfSome, MatchBool};
 ghost use Rattle.bx_board.specs.Counted.{counts_of};
 ghost use Rattle.bx_board.specs.Kept.{GivesBack, Happens, IsOf, MayLease, Takes};
-ghost use Rattle.bx_board.specs.Machine.{Holds};
+ghost use Rattle.bx_board.specs.Machine.{standing, Holds};
 
 use crate::books::Book;
-use crate::slots::{Counts, Event};
+use crate::slots::{Counts, Event, Slot};
 use crate::working::{Lease, Piece, work_over};
 use bx_load::Image;
 use bx_terms::Fault;
@@ -129,7 +129,7 @@ impl<'a, J: Campaign> Shelf<'a, J> {
     fn accept(&mut self, worker: usize, chain: usize, piece: Piece<'a>) -> bool
         requires { IsOf J.job piece chain }
         ensures { MatchBool result (Happens self.old (Event.Submit worker chain) self.new)
-            (self.new ≡ self.old) }
+            ((self.new ≡ self.old) × (standing self.old.state chain ≢ Slot.Leased worker)) }
     {
         self.book.accept(worker, chain, piece)
     }

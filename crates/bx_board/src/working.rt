@@ -15,6 +15,10 @@ use bx_world::advance_many;
 use std::alloc::{AllocError, Global};
 use std::marker::Model;
 
+/// How many choices of a chain pay for a copy of one register, message, list cell or element, so that what is copied before a chain
+/// is a small part of its work.
+const CHOICES_A_COPY: usize = 8;
+
 /// A chain of a plan's tree: nodes in a row, and the chain's number.
 #[derive(Clone, Copy, Debug, PartialEq, Eq)]
 pub(crate) struct Span {
@@ -162,11 +166,14 @@ impl<'a> Piece<'a> {
     }
 }
 
-/// An end that goes on independently of that one.
-fn branch(alloc: Global, from: &ArcEnd) -> Result<ArcEnd, Fault>
+/// An end that goes on independently of that one. So that workers whose chains part late do not wait for one count, it shares
+/// nothing counted with that one where the world is small beside the choices to come.
+fn branch(alloc: Global, from: &ArcEnd, choices: usize) -> Result<ArcEnd, Fault>
     ensures { Gives ⊤ (λ end. end) result (Ok from.now) }
 {
-    let world = from.world.snapshot(alloc)?;
+    let mut world = from.world.snapshot(alloc)?;
+    let mut room = choices / CHOICES_A_COPY;
+    let _ = world.unshare(alloc, &mut room);
     Ok(ArcEnd {
         world,
         applied: from.applied,
@@ -190,7 +197,7 @@ fn run_chain(
 {
     let _nodes = plan.nodes();
     let edges = plan.edges();
-    let mut end = branch(alloc, from)?;
+    let mut end = branch(alloc, from, span.last - span.first + 1)?;
     let mut number = edge_to(edges, span.first);
     let mut node = span.first;
     while node <= span.last {

@@ -1,26 +1,22 @@
--- The chains of the nodes so far, with a node more.
-use Rattle.std.proofs.Common.{◌≡◌, ◌≢◌, ◌⊎◌, inl, inr, ℕ, zero, suc, ◌+◌, ◌-◌, ◌<◌, ◌≤◌, ◌==◌, ◌&&◌, not, nat_lt, Bool, true, false, List, [], ◌∷◌, ◌++◌, length, get_or, set, replicate, refl, sym, ap, subst, ◌∙◌, arith, length-append, append_assoc}
+-- The chains of the nodes so far, with a chain more.
+use Rattle.std.proofs.Common.{◌≡◌, ◌≢◌, ◌⊎◌, inl, inr, ℕ, ◌+◌, ◌-◌, ◌<◌, ◌≤◌, ◌==◌, ◌&&◌, not, nat_lt, Bool, true, false, List, [], ◌∷◌, ◌++◌, length, get_or, set, refl, sym, ap, ◌∙◌, arith, length-append}
 use Rattle.std.proofs.Math.ListN.{get_or-append, get_or-eq_default}
 use Rattle.std.proofs.Math.Seq.{get_or-append_seam}
-use Rattle.std.proofs.lemmas.List.{append-nil, get_or-set_same, get_or-set_other, length-set}
+use Rattle.std.proofs.lemmas.List.{get_or-set_same, get_or-set_other, length-set}
 use Rattle.std.proofs.lemmas.Bool.{cases_eq, cases_Bool, and_parts, eqb-true, eq-eqb, lt-ltb, le-ltb, ltb-true, ltb-false, cond-true, cond-false}
 use Rattle.bx_world.specs.declared.choices.Choice.TheVariants.{Run}
 use Rattle.bx_plan.specs.Planned.{Planned}
 use Rattle.bx_plan.specs.Trees.{IsTree, parent}
 use Rattle.bx_chains.specs.declared.chains.Head.{Head}
-use Rattle.bx_chains.specs.Chains.{child_count, ends_at, goes_on, Chained, no_head, first, above, last, kids, owner, times, one_if, is_kid, Begins, Owned, AreSoFar, lengthened, begun}
+use Rattle.bx_chains.specs.Chains.{child_count, ends_at, goes_on, Chained, no_head, first, above, last, kids, times, one_if, is_kid, Begins, Owns, AreSoFar, begun}
 use Rattle.bx_chains.proofs.Counting.{count_two, times-append, not_eq, flipped, below_or_past, both_true, mid_false, and_true, and_false}
-
--- a node more, which goes on the last chain
-abbrev pub extended : Chained → Chained
-extended all = record { heads = all.heads; kids = all.kids; owners = all.owners ++ (length all.heads - 1) ∷ [] }
 
 -- ---- the last node of a chain
 
 pub last_inner : (all : Chained) (c : ℕ) → c + 1 < length all.heads → last all c ≡ first all (c + 1) - 1
 last_inner all c h = cond-true (nat_lt (c + 1) (length all.heads)) _ _ (lt-ltb (c + 1) (length all.heads) h)
 
-pub last_final : (all : Chained) (c : ℕ) → length all.heads ≤ c + 1 → last all c ≡ length all.owners - 1
+pub last_final : (all : Chained) (c : ℕ) → length all.heads ≤ c + 1 → last all c ≡ all.nodes - 1
 last_final all c h = cond-false (nat_lt (c + 1) (length all.heads)) _ _ (le-ltb (c + 1) (length all.heads) h)
 
 -- a chain is the last one, or another follows
@@ -29,6 +25,13 @@ inner_or_final all c = one (cases_Bool (nat_lt (c + 1) (length all.heads))) wher
   one : (nat_lt (c + 1) (length all.heads) ≡ true) ⊎ (nat_lt (c + 1) (length all.heads) ≡ false) → (c + 1 < length all.heads) ⊎ (length all.heads ≤ c + 1)
   one (inl e) = inl (ltb-true (c + 1) (length all.heads) e)
   one (inr e) = inr (ltb-false (c + 1) (length all.heads) e)
+
+-- a chain owns the nodes from its first one on, up to where the next one begins
+pub owns_between : (all : Chained) (c next node : ℕ) → next ≡ c + 1 → next ≤ length all.heads → first all c ≤ node → (next < length all.heads → node < first all next) → node < all.nodes → Owns all c node
+owns_between all c next node is within behind before inside = record { chain = omega (arith, is, within); behind = behind; before = one (inner_or_final all c) } where
+  one : (c + 1 < length all.heads) ⊎ (length all.heads ≤ c + 1) → node ≤ last all c
+  one (inl l) = let there : node < first all next = before (omega (arith, is, l)) in omega (arith, there, ap (first all) is, last_inner all c l)
+  one (inr g) = omega (arith, inside, last_final all c g)
 
 root_or_more : (c : ℕ) → (c ≡ 0) ⊎ (0 < c)
 root_or_more c = one (cases_eq c 0) where
@@ -56,156 +59,73 @@ goes_on_is plan node h =
       unended = not_true (ends_at plan (parent plan.tree node)) a.1;
     }
 
+-- the next nodes up to that one are a chain, and that chain owns the first one's parent
+pub record AreNext (plan : Planned) (all : Chained) (under past : ℕ) : Type 0 where
+  pub some : all.nodes < past
+  pub within : past ≤ length plan.tree.paths
+  pub own : Owns all under (parent plan.tree all.nodes)
+  pub fresh : goes_on plan all.nodes ≡ false
+  pub on : (node : ℕ) → all.nodes < node → node < past → goes_on plan node ≡ true
+  pub behind : (node : ℕ) → all.nodes < node → node < past → parent plan.tree node ≡ node - 1
+
 module _ (plan : Planned) (all : Chained) (is : AreSoFar plan all) where
   -- a chain begins before the nodes end
-  first_within : (c : ℕ) → c < length all.heads → first all c < length all.owners
+  first_within : (c : ℕ) → c < length all.heads → first all c < all.nodes
   first_within c h = one (root_or_more c) where
-    one : (c ≡ 0) ⊎ (0 < c) → first all c < length all.owners
+    one : (c ≡ 0) ⊎ (0 < c) → first all c < all.nodes
     one (inl e) = omega (arith, ap (first all) e, is.root, is.owned)
     one (inr p) = (is.begins c p h).within
 
-  pub last_within : (c : ℕ) → c < length all.heads → last all c < length all.owners
+  pub last_within : (c : ℕ) → c < length all.heads → last all c < all.nodes
   last_within c h = one (inner_or_final all c) where
-    one : (c + 1 < length all.heads) ⊎ (length all.heads ≤ c + 1) → last all c < length all.owners
+    one : (c + 1 < length all.heads) ⊎ (length all.heads ≤ c + 1) → last all c < all.nodes
     one (inl l) = omega (arith, last_inner all c l, first_within (c + 1) l, is.owned)
     one (inr l) = omega (arith, last_final all c l, is.owned)
 
-  -- ---- a node goes on
+  -- ---- a chain more
 
-  module _ (on : goes_on plan (length all.owners) ≡ true) (next : parent plan.tree (length all.owners) ≡ length all.owners - 1) where
-    longer : length (extended all).owners ≡ length all.owners + 1
-    longer = length-append all.owners ((length all.heads - 1) ∷ [])
-
-    same_inner : (c : ℕ) → c + 1 < length all.heads → last (extended all) c ≡ last all c
-    same_inner c h = last_inner (extended all) c h ∙ sym (last_inner all c h)
-
-    last_grows : (c : ℕ) → c < length all.heads → last all c ≤ last (extended all) c
-    last_grows c h = one (inner_or_final all c) where
-      one : (c + 1 < length all.heads) ⊎ (length all.heads ≤ c + 1) → last all c ≤ last (extended all) c
-      one (inl l) = omega (arith, same_inner c l)
-      one (inr l) = omega (arith, last_final all c l, last_final (extended all) c l, longer)
-
-    begins_still : (c : ℕ) → 0 < c → c < length all.heads → Begins plan (extended all) c
-    begins_still c p h =
-        let old = is.begins c p h in
-        record {
-          positive = old.positive;
-          within = omega (arith, old.within, longer);
-          fresh = old.fresh;
-          below = old.below;
-          stands = same_inner (above all c) (omega (arith, old.below)) ∙ old.stands;
-        }
-
-    inside_still : (c node : ℕ) → c < length all.heads → first all c < node → node ≤ last (extended all) c → goes_on plan node ≡ true
-    inside_still c node h a b = one (inner_or_final all c) where
-      final : length all.heads ≤ c + 1 → (node ≡ length all.owners) ⊎ (node ≢ length all.owners) → goes_on plan node ≡ true
-      final l (inl e) = ap (goes_on plan) e ∙ on
-      final l (inr e) = is.inside c node h a (omega (arith, e, b, last_final all c l, last_final (extended all) c l, longer))
-
-      one : (c + 1 < length all.heads) ⊎ (length all.heads ≤ c + 1) → goes_on plan node ≡ true
-      one (inl l) = is.inside c node h a (omega (arith, b, same_inner c l))
-      one (inr l) = final l (cases_eq node (length all.owners))
-
-    behind_still : (c node : ℕ) → c < length all.heads → first all c < node → node ≤ last (extended all) c → parent plan.tree node ≡ node - 1
-    behind_still c node h a b = one (inner_or_final all c) where
-      final : length all.heads ≤ c + 1 → (node ≡ length all.owners) ⊎ (node ≢ length all.owners) → parent plan.tree node ≡ node - 1
-      final l (inl e) = ap (parent plan.tree) e ∙ next ∙ ap (λ n. n - 1) (sym e)
-      final l (inr e) = is.behind c node h a (omega (arith, e, b, last_final all c l, last_final (extended all) c l, longer))
-
-      one : (c + 1 < length all.heads) ⊎ (length all.heads ≤ c + 1) → parent plan.tree node ≡ node - 1
-      one (inl l) = is.behind c node h a (omega (arith, b, same_inner c l))
-      one (inr l) = final l (cases_eq node (length all.owners))
-
-    owned_still : (node : ℕ) → node < length (extended all).owners → Owned (extended all) node
-    owned_still node h = one (cases_eq node (length all.owners)) where
-      one : (node ≡ length all.owners) ⊎ (node ≢ length all.owners) → Owned (extended all) node
-      one (inl e) =
-          let same : owner (extended all) node ≡ length all.heads - 1 = ap (owner (extended all)) e ∙ get_or-append_seam all.owners (length all.heads - 1) [] 0 in
-          record {
-            chain = omega (arith, same, is.some);
-            behind = omega (arith, ap (first all) same, e, first_within (length all.heads - 1) (omega (arith, is.some)));
-            before = omega (arith, ap (last (extended all)) same, last_final (extended all) (length all.heads - 1) (omega (arith, is.some)), longer, e);
-          }
-      one (inr e) =
-          let old = is.owners node (omega (arith, h, longer, e)) in
-          let same : owner (extended all) node ≡ owner all node = get_or-append all.owners ((length all.heads - 1) ∷ []) 0 node (omega (arith, h, longer, e)) in
-          record {
-            chain = omega (arith, same, old.chain);
-            behind = omega (arith, ap (first all) same, old.behind);
-            before = omega (arith, ap (last (extended all)) same, last_grows (owner all node) old.chain, old.before);
-          }
-
-    pub goes_further : AreSoFar plan (extended all)
-    goes_further = record {
-      some = is.some;
-      owned = omega (arith, longer);
-      rows = is.rows;
-      root = is.root;
-      begins = begins_still;
-      rises = is.rises;
-      inside = inside_still;
-      behind = behind_still;
-      owners = owned_still;
-      kids = is.kids;
-    }
-
-    pub goes_with : (new : Chained) → new ≡ extended all → AreSoFar plan new × (length new.owners ≡ length all.owners + 1)
-    goes_with new e = subst (λ x. AreSoFar plan x × (length x.owners ≡ length all.owners + 1)) (sym e) (goes_further, longer)
-
-  -- ---- a node begins a chain
-
-  module _ (tree : IsTree plan.tree) (within : length all.owners < length plan.tree.paths) (fresh : goes_on plan (length all.owners) ≡ false) where
-    up_before : parent plan.tree (length all.owners) < length all.owners
-    up_before = tree.below (length all.owners) is.owned within
-
-    own : Owned all (parent plan.tree (length all.owners))
-    own = is.owners (parent plan.tree (length all.owners)) up_before
-
+  module _ (tree : IsTree plan.tree) (under past : ℕ) (are : AreNext plan all under past) where
     -- a step to a node with that parent
-    steps_there : (k : ℕ) → parent plan.tree k ≡ parent plan.tree (length all.owners) → ((get_or plan.tree.steps (k - 1) (0, Run 0)).0 == parent plan.tree (length all.owners)) ≡ true
-    steps_there k e = eq-eqb (parent plan.tree k) (parent plan.tree (length all.owners)) e
+    steps_there : (k : ℕ) → parent plan.tree k ≡ parent plan.tree all.nodes → ((get_or plan.tree.steps (k - 1) (0, Run 0)).0 == parent plan.tree all.nodes) ≡ true
+    steps_there k e = eq-eqb (parent plan.tree k) (parent plan.tree all.nodes) e
 
     -- the parent is the last node of its chain: else the next node there were its only child
-    parent_is_last : last all (owner all (parent plan.tree (length all.owners))) ≡ parent plan.tree (length all.owners)
-    parent_is_last = one (cases_eq (last all (owner all (parent plan.tree (length all.owners)))) (parent plan.tree (length all.owners))) where
-      one : (last all (owner all (parent plan.tree (length all.owners))) ≡ parent plan.tree (length all.owners)) ⊎ (last all (owner all (parent plan.tree (length all.owners))) ≢ parent plan.tree (length all.owners))
-          → last all (owner all (parent plan.tree (length all.owners))) ≡ parent plan.tree (length all.owners)
+    parent_is_last : last all under ≡ parent plan.tree all.nodes
+    parent_is_last = one (cases_eq (last all under) (parent plan.tree all.nodes)) where
+      one : (last all under ≡ parent plan.tree all.nodes) ⊎ (last all under ≢ parent plan.tree all.nodes) → last all under ≡ parent plan.tree all.nodes
       one (inl e) = e
       one (inr e) =
-          let p = parent plan.tree (length all.owners) in
-          let ahead : p + 1 ≤ last all (owner all p) = omega (arith, e, own.before) in
-          let on = goes_on_is plan (p + 1) (is.inside (owner all p) (p + 1) own.chain (omega (arith, own.behind)) ahead) in
-          let here : parent plan.tree (p + 1) ≡ p = omega (arith, is.behind (owner all p) (p + 1) own.chain (omega (arith, own.behind)) ahead) in
-          let lower : p + 1 - 1 < length all.owners - 1 = omega (arith, ahead, last_within (owner all p) own.chain) in
-          let two = count_two (λ step. step.0 == p) plan.tree.steps (p + 1 - 1) (length all.owners - 1) (0, Run 0) lower (omega (arith, tree.count, within, is.owned)) (steps_there (p + 1) here) (steps_there (length all.owners) refl) in
+          let p = parent plan.tree all.nodes in
+          let ahead : p + 1 ≤ last all under = omega (arith, e, are.own.before) in
+          let on = goes_on_is plan (p + 1) (is.inside under (p + 1) are.own.chain (omega (arith, are.own.behind)) ahead) in
+          let here : parent plan.tree (p + 1) ≡ p = omega (arith, is.behind under (p + 1) are.own.chain (omega (arith, are.own.behind)) ahead) in
+          let lower : p + 1 - 1 < all.nodes - 1 = omega (arith, ahead, last_within under are.own.chain) in
+          let two = count_two (λ step. step.0 == p) plan.tree.steps (p + 1 - 1) (all.nodes - 1) (0, Run 0) lower (omega (arith, tree.count, are.some, are.within, is.owned)) (steps_there (p + 1) here) (steps_there all.nodes refl) in
           let single : child_count plan.tree p ≡ 1 = sym (ap (child_count plan.tree) here) ∙ on.single in
           absurd (omega (arith, two, single))
 
     abbrev next : Chained
-    next = begun (owner all (parent plan.tree (length all.owners))) all
+    next = begun under past all
 
     more_heads : length next.heads ≡ length all.heads + 1
-    more_heads = length-append all.heads ((record { first = length all.owners; above = owner all (parent plan.tree (length all.owners)) }) ∷ [])
-
-    more_owners : length next.owners ≡ length all.owners + 1
-    more_owners = length-append all.owners (length all.heads ∷ [])
+    more_heads = length-append all.heads ((record { first = all.nodes; above = under }) ∷ [])
 
     old_head : (c : ℕ) → c < length all.heads → get_or next.heads c no_head ≡ get_or all.heads c no_head
-    old_head c h = get_or-append all.heads ((record { first = length all.owners; above = owner all (parent plan.tree (length all.owners)) }) ∷ []) no_head c h
+    old_head c h = get_or-append all.heads ((record { first = all.nodes; above = under }) ∷ []) no_head c h
 
-    new_head : get_or next.heads (length all.heads) no_head ≡ record { first = length all.owners; above = owner all (parent plan.tree (length all.owners)) }
-    new_head = get_or-append_seam all.heads (record { first = length all.owners; above = owner all (parent plan.tree (length all.owners)) }) [] no_head
+    new_head : get_or next.heads (length all.heads) no_head ≡ record { first = all.nodes; above = under }
+    new_head = get_or-append_seam all.heads (record { first = all.nodes; above = under }) [] no_head
 
     old_first : (c : ℕ) → c < length all.heads → first next c ≡ first all c
     old_first c h = ap (λ (x : Head). x.first) (old_head c h)
 
-    new_first : first next (length all.heads) ≡ length all.owners
+    new_first : first next (length all.heads) ≡ all.nodes
     new_first = ap (λ (x : Head). x.first) new_head
 
     old_above : (c : ℕ) → c < length all.heads → above next c ≡ above all c
     old_above c h = ap (λ (x : Head). x.above) (old_head c h)
 
-    new_above : above next (length all.heads) ≡ owner all (parent plan.tree (length all.owners))
+    new_above : above next (length all.heads) ≡ under
     new_above = ap (λ (x : Head). x.above) new_head
 
     old_last : (c : ℕ) → c < length all.heads → last next c ≡ last all c
@@ -216,33 +136,33 @@ module _ (plan : Planned) (all : Chained) (is : AreSoFar plan all) where
           let place : c + 1 ≡ length all.heads = omega (arith, h, l) in
           omega (arith, last_final all c l, last_inner next c (omega (arith, h, more_heads)), ap (first next) place, new_first)
 
-    new_last : last next (length all.heads) ≡ length all.owners
-    new_last = omega (arith, last_final next (length all.heads) (omega (arith, more_heads)), more_owners)
+    new_last : last next (length all.heads) ≡ past - 1
+    new_last = last_final next (length all.heads) (omega (arith, more_heads))
 
     begins_more : (c : ℕ) → 0 < c → c < length next.heads → Begins plan next c
     begins_more c p h = one (cases_eq c (length all.heads)) where
       one : (c ≡ length all.heads) ⊎ (c ≢ length all.heads) → Begins plan next c
       one (inl e) =
           let begins = ap (first next) e ∙ new_first in
-          let under = ap (above next) e ∙ new_above in
+          let on = ap (above next) e ∙ new_above in
           record {
             positive = omega (arith, begins, is.owned);
-            within = omega (arith, begins, more_owners);
-            fresh = ap (goes_on plan) begins ∙ fresh;
-            below = omega (arith, under, own.chain, e);
-            stands = ap (last next) under ∙ old_last (owner all (parent plan.tree (length all.owners))) own.chain ∙ parent_is_last ∙ ap (parent plan.tree) (sym begins);
+            within = omega (arith, begins, are.some);
+            fresh = ap (goes_on plan) begins ∙ are.fresh;
+            below = omega (arith, on, are.own.chain, e);
+            stands = ap (last next) on ∙ old_last under are.own.chain ∙ parent_is_last ∙ ap (parent plan.tree) (sym begins);
           }
       one (inr e) =
           let less : c < length all.heads = omega (arith, h, more_heads, e) in
           let old = is.begins c p less in
           let begins = old_first c less in
-          let under = old_above c less in
+          let on = old_above c less in
           record {
             positive = omega (arith, begins, old.positive);
-            within = omega (arith, begins, old.within, more_owners);
+            within = omega (arith, begins, old.within, are.some);
             fresh = ap (goes_on plan) begins ∙ old.fresh;
-            below = omega (arith, under, old.below);
-            stands = ap (last next) under ∙ old_last (above all c) (omega (arith, old.below, less)) ∙ old.stands ∙ ap (parent plan.tree) (sym begins);
+            below = omega (arith, on, old.below);
+            stands = ap (last next) on ∙ old_last (above all c) (omega (arith, old.below, less)) ∙ old.stands ∙ ap (parent plan.tree) (sym begins);
           }
 
     rises_more : (c : ℕ) → c + 1 < length next.heads → first next c < first next (c + 1)
@@ -258,7 +178,7 @@ module _ (plan : Planned) (all : Chained) (is : AreSoFar plan all) where
     inside_more : (c node : ℕ) → c < length next.heads → first next c < node → node ≤ last next c → goes_on plan node ≡ true
     inside_more c node h a b = one (cases_eq c (length all.heads)) where
       one : (c ≡ length all.heads) ⊎ (c ≢ length all.heads) → goes_on plan node ≡ true
-      one (inl e) = absurd (omega (arith, ap (first next) e, new_first, ap (last next) e, new_last, a, b))
+      one (inl e) = are.on node (omega (arith, ap (first next) e, new_first, a)) (omega (arith, ap (last next) e, new_last, b, are.some))
       one (inr e) =
           let less : c < length all.heads = omega (arith, h, more_heads, e) in
           is.inside c node less (omega (arith, old_first c less, a)) (omega (arith, old_last c less, b))
@@ -266,44 +186,21 @@ module _ (plan : Planned) (all : Chained) (is : AreSoFar plan all) where
     behind_more : (c node : ℕ) → c < length next.heads → first next c < node → node ≤ last next c → parent plan.tree node ≡ node - 1
     behind_more c node h a b = one (cases_eq c (length all.heads)) where
       one : (c ≡ length all.heads) ⊎ (c ≢ length all.heads) → parent plan.tree node ≡ node - 1
-      one (inl e) = absurd (omega (arith, ap (first next) e, new_first, ap (last next) e, new_last, a, b))
+      one (inl e) = are.behind node (omega (arith, ap (first next) e, new_first, a)) (omega (arith, ap (last next) e, new_last, b, are.some))
       one (inr e) =
           let less : c < length all.heads = omega (arith, h, more_heads, e) in
           is.behind c node less (omega (arith, old_first c less, a)) (omega (arith, old_last c less, b))
-
-    owned_more : (node : ℕ) → node < length next.owners → Owned next node
-    owned_more node h = one (cases_eq node (length all.owners)) where
-      one : (node ≡ length all.owners) ⊎ (node ≢ length all.owners) → Owned next node
-      one (inl e) =
-          let same : owner next node ≡ length all.heads = ap (owner next) e ∙ get_or-append_seam all.owners (length all.heads) [] 0 in
-          record {
-            chain = omega (arith, same, more_heads);
-            behind = omega (arith, ap (first next) same, new_first, e);
-            before = omega (arith, ap (last next) same, new_last, e);
-          }
-      one (inr e) =
-          let less : node < length all.owners = omega (arith, h, more_owners, e) in
-          let old = is.owners node less in
-          let same : owner next node ≡ owner all node = get_or-append all.owners (length all.heads ∷ []) 0 node less in
-          record {
-            chain = omega (arith, same, old.chain, more_heads);
-            behind = omega (arith, ap (first next) same, old_first (owner all node) old.chain, old.behind);
-            before = omega (arith, ap (last next) same, old_last (owner all node) old.chain, old.before);
-          }
 
     -- ---- what stands on each chain
 
     -- the new chain stands on that one
     abbrev new_kid : ℕ → ℕ → ℕ
-    new_kid c d = one_if ((owner all (parent plan.tree (length all.owners)) == c) && (d == length all.heads))
+    new_kid c d = one_if ((under == c) && (d == length all.heads))
 
     more_kids : length next.kids ≡ length all.kids + 1
     more_kids =
-        length-append (set all.kids (owner all (parent plan.tree (length all.owners))) (kids all (owner all (parent plan.tree (length all.owners))) ++ length all.heads ∷ [])) ([] ∷ [])
-        ∙ ap (λ n. n + 1) (length-set all.kids (owner all (parent plan.tree (length all.owners))) (kids all (owner all (parent plan.tree (length all.owners))) ++ length all.heads ∷ []))
-
-    abbrev under : ℕ
-    under = owner all (parent plan.tree (length all.owners))
+        length-append (set all.kids under (kids all under ++ length all.heads ∷ [])) ([] ∷ [])
+        ∙ ap (λ n. n + 1) (length-set all.kids under (kids all under ++ length all.heads ∷ []))
 
     abbrev set_kids : List (List ℕ)
     set_kids = set all.kids under (kids all under ++ length all.heads ∷ [])
@@ -331,8 +228,8 @@ module _ (plan : Planned) (all : Chained) (is : AreSoFar plan all) where
     row_more c d = one (cases_eq c under) where
       here : (c ≡ under) → times d (kids next c) ≡ times d (kids all c) + one_if (d == length all.heads)
       here e =
-          let less : c < length all.heads = omega (arith, e, own.chain) in
-          let row : kids next c ≡ kids all under ++ length all.heads ∷ [] = same_row c less ∙ ap (λ i. get_or set_kids i []) e ∙ get_or-set_same all.kids under (kids all under ++ length all.heads ∷ []) [] (omega (arith, own.chain, is.rows)) in
+          let less : c < length all.heads = omega (arith, e, are.own.chain) in
+          let row : kids next c ≡ kids all under ++ length all.heads ∷ [] = same_row c less ∙ ap (λ i. get_or set_kids i []) e ∙ get_or-set_same all.kids under (kids all under ++ length all.heads ∷ []) [] (omega (arith, are.own.chain, is.rows)) in
           ap (times d) row ∙ times-append d (kids all under) (length all.heads ∷ []) ∙ ap (λ n. times d (kids all under) + n) (times_last d ∙ ap one_if (flipped (length all.heads) d)) ∙ ap (λ i. times d (kids all i) + one_if (d == length all.heads)) (sym e)
 
       one : (c ≡ under) ⊎ (c ≢ under) → times d (kids next c) ≡ times d (kids all c) + new_kid c d
@@ -376,36 +273,12 @@ module _ (plan : Planned) (all : Chained) (is : AreSoFar plan all) where
     pub begins_another : AreSoFar plan next
     begins_another = record {
       some = omega (arith, more_heads);
-      owned = omega (arith, more_owners);
+      owned = omega (arith, are.some);
       rows = more_kids ∙ ap (λ n. n + 1) is.rows ∙ sym more_heads;
       root = old_first 0 is.some ∙ is.root;
       begins = begins_more;
       rises = rises_more;
       inside = inside_more;
       behind = behind_more;
-      owners = owned_more;
       kids = kids_more;
     }
-
-    pub begins_with : (new : Chained) → new ≡ next → AreSoFar plan new × (length new.owners ≡ length all.owners + 1)
-    begins_with new e = subst (λ x. AreSoFar plan x × (length x.owners ≡ length all.owners + 1)) (sym e) (begins_another, more_owners)
-
--- ---- so many nodes go on
-
-lengthened_none : (all : Chained) → lengthened 0 all ≡ all
-lengthened_none all = ap (λ os. record { heads = all.heads; kids = all.kids; owners = os }) (append-nil all.owners)
-
-lengthened_more : (n : ℕ) (all : Chained) → lengthened n (extended all) ≡ lengthened (suc n) all
-lengthened_more n all = ap (λ os. record { heads = all.heads; kids = all.kids; owners = os }) (append_assoc all.owners ((length all.heads - 1) ∷ []) (replicate n (length all.heads - 1)))
-
-pub goes_on_by : (plan : Planned) (n : ℕ) (all : Chained) → AreSoFar plan all
-    → ((node : ℕ) → length all.owners ≤ node → node < length all.owners + n → goes_on plan node ≡ true)
-    → ((node : ℕ) → length all.owners ≤ node → node < length all.owners + n → parent plan.tree node ≡ node - 1)
-    → AreSoFar plan (lengthened n all) × (length (lengthened n all).owners ≡ length all.owners + n)
-goes_on_by plan zero all is on next =
-    let none : length all.owners ≡ length all.owners + 0 = omega arith in
-    subst (λ x. AreSoFar plan x × (length x.owners ≡ length all.owners + 0)) (sym (lengthened_none all)) (is, none)
-goes_on_by plan (suc n) all is on next =
-    let first = goes_with plan all is (on (length all.owners) (omega arith) (omega arith)) (next (length all.owners) (omega arith) (omega arith)) (extended all) refl in
-    let more = goes_on_by plan n (extended all) first.0 (λ node h l. on node (omega (arith, first.1, h)) (omega (arith, first.1, l))) (λ node h l. next node (omega (arith, first.1, h)) (omega (arith, first.1, l))) in
-    subst (λ x. AreSoFar plan x × (length x.owners ≡ length all.owners + suc n)) (lengthened_more n all) (more.0, omega (arith, more.1, first.1))

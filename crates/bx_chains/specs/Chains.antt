@@ -1,6 +1,6 @@
 -- The chains of a plan's tree. Chain 0 is the root alone. Each other chain is a run of nodes of which each but the last has
 -- one child, the next one, and ends no schedule; no chain can be made longer.
-use Rattle.std.specs.Prelude.{◌≡◌, ℕ, ◌+◌, ◌-◌, ◌<◌, ◌≤◌, ◌==◌, ◌&&◌, not, nat_lt, Bool, true, false, if◌then◌else◌, List, [], ◌∷◌, ◌++◌, length, count_by, replicate, slice_index_or, slice_set}
+use Rattle.std.specs.Prelude.{◌≡◌, ℕ, ◌+◌, ◌-◌, ◌<◌, ◌≤◌, ◌==◌, ◌&&◌, not, nat_lt, Bool, true, false, if◌then◌else◌, List, [], ◌∷◌, ◌++◌, length, count_by, slice_index_or, slice_set}
 use Rattle.std.specs.List.{list_any}
 use Rattle.bx_world.specs.declared.choices.Choice.{Choice}
 use Rattle.bx_plan.specs.Planned.{Planned}
@@ -26,8 +26,8 @@ pub record Chained : Type 0 where
   pub heads : List Head
   -- by chain, the chains that stand on it
   pub kids : List (List ℕ)
-  -- by node, its chain
-  pub owners : List ℕ
+  -- how many nodes lie in them
+  pub nodes : ℕ
 
 abbrev pub no_head : Head
 no_head = record { first = 0; above = 0 }
@@ -40,13 +40,10 @@ above all c = (slice_index_or all.heads c no_head).above
 
 -- a chain's nodes are those before the next chain's
 abbrev pub last : Chained → ℕ → ℕ
-last all c = if nat_lt (c + 1) (length all.heads) then first all (c + 1) - 1 else length all.owners - 1
+last all c = if nat_lt (c + 1) (length all.heads) then first all (c + 1) - 1 else all.nodes - 1
 
 abbrev pub kids : Chained → ℕ → List ℕ
 kids all c = slice_index_or all.kids c []
-
-abbrev pub owner : Chained → ℕ → ℕ
-owner all node = slice_index_or all.owners node 0
 
 abbrev pub chain_count : Chained → ℕ
 chain_count all = length all.heads
@@ -66,44 +63,40 @@ is_kid all c d = nat_lt 0 d && nat_lt d (length all.heads) && above all d == c
 -- chain before it
 pub record Begins (plan : Planned) (all : Chained) (c : ℕ) : Type 0 where
   pub positive : 0 < first all c
-  pub within : first all c < length all.owners
+  pub within : first all c < all.nodes
   pub fresh : goes_on plan (first all c) ≡ false
   pub below : above all c < c
   pub stands : last all (above all c) ≡ parent plan.tree (first all c)
 
-pub record Owned (all : Chained) (node : ℕ) : Type 0 where
-  pub chain : owner all node < length all.heads
-  pub behind : first all (owner all node) ≤ node
-  pub before : node ≤ last all (owner all node)
+-- a node is one of a chain's
+pub record Owns (all : Chained) (c node : ℕ) : Type 0 where
+  pub chain : c < length all.heads
+  pub behind : first all c ≤ node
+  pub before : node ≤ last all c
 
 -- the chains of the nodes so far
 pub record AreSoFar (plan : Planned) (all : Chained) : Type 0 where
   pub some : 0 < length all.heads
-  pub owned : 0 < length all.owners
+  pub owned : 0 < all.nodes
   pub rows : length all.kids ≡ length all.heads
   pub root : first all 0 ≡ 0
   pub begins : (c : ℕ) → 0 < c → c < length all.heads → Begins plan all c
   pub rises : (c : ℕ) → c + 1 < length all.heads → first all c < first all (c + 1)
   pub inside : (c node : ℕ) → c < length all.heads → first all c < node → node ≤ last all c → goes_on plan node ≡ true
   pub behind : (c node : ℕ) → c < length all.heads → first all c < node → node ≤ last all c → parent plan.tree node ≡ node - 1
-  pub owners : (node : ℕ) → node < length all.owners → Owned all node
   pub kids : (c d : ℕ) → times d (kids all c) ≡ one_if (is_kid all c d)
 
 -- the chains of all nodes
 pub record AreChains (plan : Planned) (all : Chained) : Type 0 where
-  pub nodes : length all.owners ≡ length plan.tree.paths
+  pub nodes : all.nodes ≡ length plan.tree.paths
   pub chains : AreSoFar plan all
 
--- so many nodes more, which go on the last chain
-abbrev pub lengthened : ℕ → Chained → Chained
-lengthened times all = record { heads = all.heads; kids = all.kids; owners = all.owners ++ replicate times (length all.heads - 1) }
-
--- a node more, which begins a chain on that one
-abbrev pub begun : ℕ → Chained → Chained
-begun at all = record {
-  heads = all.heads ++ (record { first = length all.owners; above = at }) ∷ [];
+-- the next nodes up to that one, a chain on that chain
+abbrev pub begun : ℕ → ℕ → Chained → Chained
+begun at past all = record {
+  heads = all.heads ++ (record { first = all.nodes; above = at }) ∷ [];
   kids = slice_set all.kids at (kids all at ++ length all.heads ∷ []) ++ [] ∷ [];
-  owners = all.owners ++ length all.heads ∷ [];
+  nodes = past;
 }
 
 -- the choices that lead to a chain's last node

@@ -1,7 +1,7 @@
 //! Chains of nodes by number, and what stands above and below each.
 
 ghost use Rattle.std.specs.Prelude.{◌≡◌, ◌+◌, ◌<◌, length, slice_index, slice_index_or};
-ghost use Rattle.bx_chains.specs.Chains.{first, last, above, kids, owner};
+ghost use Rattle.bx_chains.specs.Chains.{first, last, above, kids, Owns};
 
 use bx_share::List;
 use std::marker::Model;
@@ -19,7 +19,8 @@ pub(crate) struct Head {
 pub struct Chains {
     pub(crate) heads: Vec<Head>,
     pub(crate) kids: Vec<List<usize>>,
-    pub(crate) owners: Vec<usize>,
+    /// How many nodes lie in them.
+    pub(crate) nodes: usize,
 }
 
 impl Model for Chains {
@@ -30,7 +31,7 @@ impl Model for Chains {
     ghost view = { λ c. record {
       heads = c.heads.items;
       kids = c.kids.items;
-      owners = c.owners.items;
+      nodes = c.nodes;
     } };
 }
 
@@ -53,7 +54,7 @@ impl Chains {
     /// A chain's last node.
     pub fn last(&self, chain: usize) -> usize
         requires chain { chain < length self.now.heads }
-        requires some { 0 < length self.now.owners }
+        requires some { 0 < self.now.nodes }
         requires next { chain + 1 < length self.now.heads → 0 < first self.now (chain + 1) }
         ensures { result ≡ last self.now chain }
     {
@@ -61,7 +62,7 @@ impl Chains {
         if chain + 1 < count {
             self.heads[chain + 1].first - 1
         } else {
-            self.owners.len() - 1
+            self.nodes - 1
         }
     }
 
@@ -81,11 +82,23 @@ impl Chains {
         self.kids[chain].as_slice()
     }
 
-    /// The chain of a node.
+    /// The chain of a node, found by halving.
     pub fn owner(&self, node: usize) -> usize
-        requires { node < length self.now.owners }
-        ensures { result ≡ owner self.now node }
+        requires within { node < self.now.nodes }
+        requires some { 0 < length self.now.heads }
+        requires root { first self.now 0 ≡ 0 }
+        ensures { Owns self.now result node }
     {
-        self.owners[node]
+        let mut low = 0;
+        let mut high = self.heads.len();
+        while high - low > 1 {
+            let middle = low + (high - low) / 2;
+            if self.heads[middle].first <= node {
+                low = middle;
+            } else {
+                high = middle;
+            }
+        }
+        low
     }
 }

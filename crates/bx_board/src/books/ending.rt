@@ -66,7 +66,7 @@ impl<'a> Book<'a> {
     pub(crate) fn accept(&mut self, worker: usize, chain: usize, piece: Piece<'a>) -> bool
         requires { IsOf self.old.job piece chain }
         ensures { MatchBool result (Happens self.old (Event.Submit worker chain) self.new)
-            (self.new ≡ self.old) }
+            ((self.new ≡ self.old) × (standing self.old.state chain ≢ Slot.Leased worker)) }
     {
         if let Some(_fault) = self.refusal(worker, chain) {
             return false;

@@ -1,7 +1,7 @@
 use Rattle.std.proofs.Common.{◌≡◌, ℕ, ◌+◌, ◌-◌, ◌<◌, length, replicate, min, sym, subst, ap, ◌∙◌, arith}
 use Rattle.bx_terms.specs.declared.faults.Fault.{Fault}
 use Rattle.bx_world.specs.Running.{Ended, ran}
-use Rattle.bx_plan.specs.Edges.{edge_at, steps_of, tree_by, IsOn}
+use Rattle.bx_plan.specs.Edges.{edge_at, steps_of, IsOn}
 use Rattle.bx_plan.specs.Trees.{Tree}
 use Rattle.bx_plan.proofs.Rows.{edge_within}
 use Rattle.bx_board.specs.Working.{run_up_to}

@@ -1,4 +1,4 @@
-use Rattle.std.proofs.Common.{◌≡◌, ◌+◌, ◌-◌, length, get_or, sym, subst, ap, ◌∙◌, arith}
+use Rattle.std.proofs.Common.{◌≡◌, ◌+◌, ◌-◌, get_or, sym, subst, ap, ◌∙◌, arith}
 use Rattle.std.specs.Prelude.{Contains}
 use Rattle.bx_chains.specs.Chains.{Chained, AreSoFar, goes_on}
 use Rattle.bx_chains.specs.Cuts.{AreCuts}
@@ -55,7 +55,7 @@ loop-cut-preserved c =
     elim c.if-cut-past.branch [
       | then-cut-past+in_ok-add w ↦
           let added = w.in_ok-add.ensures in
-          let kept = subst (λ (a : Chained). AreSoFar plan a × (length a.owners ≡ get_or items here.cut-index 0 + 1)) (sym w.all-is) added in
+          let kept = subst (λ (a : Chained). AreSoFar plan a × (a.nodes ≡ get_or items here.cut-index 0 + 1)) (sym w.all-is) added in
           record {
             chains = kept.0;
             past = kept.1 ∙ sym w.past-is;
@@ -66,7 +66,7 @@ loop-cut-preserved c =
       | else-cut-past w ↦
           record {
             chains = subst (AreSoFar plan) (sym w.all-is) here.invariant.chains;
-            past = ap (λ (a : Chained). length a.owners) w.all-is ∙ here.invariant.past ∙ sym w.past-is;
+            past = ap (λ (a : Chained). a.nodes) w.all-is ∙ here.invariant.past ∙ sym w.past-is;
             some = omega (arith, w.past-is, here.invariant.some);
             behind = subst (λ k. Contains items (k - 1)) (sym w.past-is) here.invariant.behind;
             before = before_more items here.cut-index here.past c.if-cut-past.past here.invariant.before (omega (arith, w.past-is)) (omega (arith, w.past-is, w.if-cut-past.false));
