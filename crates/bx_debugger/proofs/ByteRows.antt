@@ -17,7 +17,7 @@ appends_none (Some xs) None k = k
 appends_none (Some xs) (Some ys) k = k ∙ sym (append-nil xs)
 
 told_quit : (h : Hearing) → is_quit h.line ≡ true → told h (h.line ∷ []) ≡ []
-told_quit h q = ap (λ (b : Bool). if b then [] else (answered h.number h.line h.session).0 ++ []) q
+told_quit h q = ap (λ (b : Bool). if b then [] else (answered h.sources h.number h.line h.session).0 ++ []) q
 
 -- a code that is not a line feed
 no_feed : (b : ℕ) → (b ≡ 10 → ⊥) → (b == 10) ≡ false

@@ -3,6 +3,7 @@ use Rattle.std.proofs.Common.{◌≡◌, ◌∙◌, ◌+◌, ◌≤◌, ◌⊎�
 use Rattle.std.specs.Io.KnownBytes.{Appends, Consumes, IsAtEnd}
 use Rattle.std.proofs.KnownBytes.{Appends-trans, Consumes-trans}
 use Rattle.bx_debug.specs.Sessions.{History}
+use Rattle.bx_engine.specs.Sources.{Sources}
 use Rattle.bx_debugger.specs.Answers.{after_lines, has_quit}
 use Rattle.bx_debugger.specs.Lines.{begun_line, ended_lines, last_line}
 use Rattle.bx_debugger.specs.Talks.{Ends, Follows, Hearing, Hears, Lacks, Talks, ended_in, heard, lines_in, quits, told}
@@ -11,20 +12,22 @@ use Rattle.bx_engine.specs.declared.failures.Failure.TheVariants.{Refused, Read,
 use Rattle.bx_terms.specs.declared.faults.Fault.TheVariants.{Memory, TooLarge}
 use Rattle.bx_debugger.proofs.LineRows.{after-append, answers-append, begun-append, ended-append, quit-append}
 
-abbrev hearing_of : History → ℕ → List ℕ → ℕ → Hearing
-hearing_of s n line left = record { session = s; number = n; line = line; left = left }
+abbrev hearing_of : History → Sources → ℕ → List ℕ → ℕ → Hearing
+hearing_of s sources n line left = record { session = s; sources = sources; number = n; line = line; left = left }
 
 -- hearings with equal parts are equal
-pub hearing_is : (h i : Hearing) → h.session ≡ i.session → h.number ≡ i.number → h.line ≡ i.line → h.left ≡ i.left → h ≡ i
-hearing_is h i s n l r =
-    ap (λ (x : History). hearing_of x h.number h.line h.left) s ∙ ap (λ (x : ℕ). hearing_of i.session x h.line h.left) n
-    ∙ ap (λ (x : List ℕ). hearing_of i.session i.number x h.left) l ∙ ap (λ (x : ℕ). hearing_of i.session i.number i.line x) r
+pub hearing_is : (h i : Hearing) → h.session ≡ i.session → h.sources ≡ i.sources → h.number ≡ i.number → h.line ≡ i.line → h.left ≡ i.left → h ≡ i
+hearing_is h i s t n l r =
+    ap (λ (x : History). hearing_of x h.sources h.number h.line h.left) s ∙ ap (λ (x : Sources). hearing_of i.session x h.number h.line h.left) t
+    ∙ ap (λ (x : ℕ). hearing_of i.session i.sources x h.line h.left) n ∙ ap (λ (x : List ℕ). hearing_of i.session i.sources i.number x h.left) l
+    ∙ ap (λ (x : ℕ). hearing_of i.session i.sources i.number i.line x) r
 
 pub heard-append : (h : Hearing) (a b : List ℕ) → heard (heard h a) b ≡ heard h (a ++ b)
 heard-append h a b =
     let ended = ended-append h.line a b in
     hearing_is (heard (heard h a) b) (heard h (a ++ b))
-    (sym (after-append h.number (ended_in h a) (ended_in (heard h a) b) h.session) ∙ ap (λ (ls : List (List ℕ)). after_lines h.number ls h.session) (sym ended))
+    (sym (after-append h.sources h.number (ended_in h a) (ended_in (heard h a) b) h.session) ∙ ap (λ (ls : List (List ℕ)). after_lines h.sources h.number ls h.session) (sym ended))
+    refl
     (let l = length-append (ended_in h a) (ended_in (heard h a) b) in let e = ap length ended in omega arith)
     (sym (begun-append h.line a b))
     (let l = length-append a b in omega arith)
@@ -34,7 +37,7 @@ quits-append h a b = ap has_quit (ended-append h.line a b) ∙ quit-append (ende
 
 -- the answers behind bytes that were heard
 pub told_behind : (h : Hearing) (a : List ℕ) (ys : List (List ℕ)) → quits h a ≡ false → told h (ended_in h a) ++ told (heard h a) ys ≡ told h (ended_in h a ++ ys)
-told_behind h a ys on = sym (answers-append h.number (ended_in h a) ys h.session on)
+told_behind h a ys on = sym (answers-append h.sources h.number (ended_in h a) ys h.session on)
 
 pub lines-append : (h : Hearing) (a b : List ℕ) → ended_in h a ++ lines_in (heard h a) b ≡ lines_in h (a ++ b)
 lines-append h a b =
@@ -59,7 +62,7 @@ follows-append w v u h i j a b first second =
 -- no byte
 pub follows_nothing : (w : Option (List ℕ)) (h : Hearing) → Appends w w [] → Follows w w h h []
 follows_nothing w h none = record {
-  state = hearing_is h (heard h []) refl (omega arith) refl (omega arith);
+  state = hearing_is h (heard h []) refl refl (omega arith) refl (omega arith);
   goes_on = refl;
   written = none;
 }

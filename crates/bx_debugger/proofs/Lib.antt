@@ -1,10 +1,13 @@
 pub mod LineRows
 pub mod HearingRows
 pub mod ByteRows
+pub mod ReplyRows
 pub mod TurnRows
 pub mod TitleRows
 pub mod OpeningRows
 pub mod LifeRows
 pub mod ItemRows
+pub mod TraceRows
+pub mod SwapLaw
 pub mod PlanRows
 pub mod PlanLaw

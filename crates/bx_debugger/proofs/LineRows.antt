@@ -1,6 +1,7 @@
 -- Lines of texts that are joined, and their answers.
 use Rattle.std.proofs.Common.{◌≡◌, ◌∙◌, ◌+◌, ℕ, suc, Bool, true, false, ◌||◌, ◌==◌, List, [], ◌∷◌, ◌++◌, length, if◌then◌else◌, append_assoc, arith, refl, sym, ap}
 use Rattle.bx_debug.specs.Sessions.{History}
+use Rattle.bx_engine.specs.Sources.{Sources}
 use Rattle.bx_debugger.specs.Answers.{after_lines, answered, answers, has_quit, is_quit}
 use Rattle.bx_debugger.specs.Lines.{begun_line, ended_lines}
 
@@ -32,33 +33,33 @@ quit-append (x ∷ xs) ys = go (is_quit x) (quit-append xs ys)
     go true h = refl
     go false h = h
 
-pub after-append : (n : ℕ) (xs ys : List (List ℕ)) (s : History) → after_lines n (xs ++ ys) s ≡ after_lines (n + length xs) ys (after_lines n xs s)
-after-append n [] ys s = let e : n + 0 ≡ n = omega arith in rw e refl
-after-append n (x ∷ xs) ys s =
+pub after-append : (sources : Sources) (n : ℕ) (xs ys : List (List ℕ)) (s : History) → after_lines sources n (xs ++ ys) s ≡ after_lines sources (n + length xs) ys (after_lines sources n xs s)
+after-append sources n [] ys s = let e : n + 0 ≡ n = omega arith in rw e refl
+after-append sources n (x ∷ xs) ys s =
     let e : n + suc (length xs) ≡ (n + 1) + length xs = omega arith in
-    rw e (after-append (n + 1) xs ys (answered n x s).1)
+    rw e (after-append sources (n + 1) xs ys (answered sources n x s).1)
 
 -- where no line quits, the answers to those behind come behind
-pub answers-append : (n : ℕ) (xs ys : List (List ℕ)) (s : History) → has_quit xs ≡ false
-    → answers n (xs ++ ys) s ≡ answers n xs s ++ answers (n + length xs) ys (after_lines n xs s)
-answers-append n [] ys s none = let e : n + 0 ≡ n = omega arith in rw e refl
-answers-append n (x ∷ xs) ys s none = go (is_quit x) none (λ on. answers-append (n + 1) xs ys (answered n x s).1 on)
+pub answers-append : (sources : Sources) (n : ℕ) (xs ys : List (List ℕ)) (s : History) → has_quit xs ≡ false
+    → answers sources n (xs ++ ys) s ≡ answers sources n xs s ++ answers sources (n + length xs) ys (after_lines sources n xs s)
+answers-append sources n [] ys s none = let e : n + 0 ≡ n = omega arith in rw e refl
+answers-append sources n (x ∷ xs) ys s none = go (is_quit x) none (λ on. answers-append sources (n + 1) xs ys (answered sources n x s).1 on)
   where
     go : (b : Bool) → (b || has_quit xs) ≡ false
-        → (has_quit xs ≡ false → answers (n + 1) (xs ++ ys) (answered n x s).1 ≡ answers (n + 1) xs (answered n x s).1 ++ answers (n + 1 + length xs) ys (after_lines (n + 1) xs (answered n x s).1))
-        → (if b then [] else (answered n x s).0 ++ answers (n + 1) (xs ++ ys) (answered n x s).1)
-        ≡ (if b then [] else (answered n x s).0 ++ answers (n + 1) xs (answered n x s).1) ++ answers (n + length (x ∷ xs)) ys (after_lines n (x ∷ xs) s)
+        → (has_quit xs ≡ false → answers sources (n + 1) (xs ++ ys) (answered sources n x s).1 ≡ answers sources (n + 1) xs (answered sources n x s).1 ++ answers sources (n + 1 + length xs) ys (after_lines sources (n + 1) xs (answered sources n x s).1))
+        → (if b then [] else (answered sources n x s).0 ++ answers sources (n + 1) (xs ++ ys) (answered sources n x s).1)
+        ≡ (if b then [] else (answered sources n x s).0 ++ answers sources (n + 1) xs (answered sources n x s).1) ++ answers sources (n + length (x ∷ xs)) ys (after_lines sources n (x ∷ xs) s)
     go true h more = absurd (cc)
     go false h more =
         let e : n + suc (length xs) ≡ n + 1 + length xs = omega arith in
-        rw e (ap (λ (t : List ℕ). (answered n x s).0 ++ t) (more h) ∙ sym (append_assoc (answered n x s).0 (answers (n + 1) xs (answered n x s).1) (answers (n + 1 + length xs) ys (after_lines (n + 1) xs (answered n x s).1))))
+        rw e (ap (λ (t : List ℕ). (answered sources n x s).0 ++ t) (more h) ∙ sym (append_assoc (answered sources n x s).0 (answers sources (n + 1) xs (answered sources n x s).1) (answers sources (n + 1 + length xs) ys (after_lines sources (n + 1) xs (answered sources n x s).1))))
 
 -- nothing behind a line that quits is answered
-pub answers_past : (n : ℕ) (xs ys : List (List ℕ)) (s : History) → has_quit xs ≡ true → answers n (xs ++ ys) s ≡ answers n xs s
-answers_past n [] ys s quits = absurd (cc)
-answers_past n (x ∷ xs) ys s quits = go (is_quit x) quits (λ on. answers_past (n + 1) xs ys (answered n x s).1 on)
+pub answers_past : (sources : Sources) (n : ℕ) (xs ys : List (List ℕ)) (s : History) → has_quit xs ≡ true → answers sources n (xs ++ ys) s ≡ answers sources n xs s
+answers_past sources n [] ys s quits = absurd (cc)
+answers_past sources n (x ∷ xs) ys s quits = go (is_quit x) quits (λ on. answers_past sources (n + 1) xs ys (answered sources n x s).1 on)
   where
-    go : (b : Bool) → (b || has_quit xs) ≡ true → (has_quit xs ≡ true → answers (n + 1) (xs ++ ys) (answered n x s).1 ≡ answers (n + 1) xs (answered n x s).1)
-        → (if b then [] else (answered n x s).0 ++ answers (n + 1) (xs ++ ys) (answered n x s).1) ≡ (if b then [] else (answered n x s).0 ++ answers (n + 1) xs (answered n x s).1)
+    go : (b : Bool) → (b || has_quit xs) ≡ true → (has_quit xs ≡ true → answers sources (n + 1) (xs ++ ys) (answered sources n x s).1 ≡ answers sources (n + 1) xs (answered sources n x s).1)
+        → (if b then [] else (answered sources n x s).0 ++ answers sources (n + 1) (xs ++ ys) (answered sources n x s).1) ≡ (if b then [] else (answered sources n x s).0 ++ answers sources (n + 1) xs (answered sources n x s).1)
     go true h more = refl
-    go false h more = ap (λ (t : List ℕ). (answered n x s).0 ++ t) (more h)
+    go false h more = ap (λ (t : List ℕ). (answered sources n x s).0 ++ t) (more h)

@@ -11,12 +11,13 @@ use Rattle.bx_load.specs.Image.{Loaded}
 use Rattle.bx_debug.specs.Sessions.{History}
 use Rattle.bx_engine.specs.Loads.{image_of, of_no_file}
 use Rattle.bx_engine.specs.Runs.{Names, or_start}
+use Rattle.bx_engine.specs.Sources.{Sources, sources_of}
 use Rattle.bx_engine.specs.Starts.{begun_by, start_in, token_in}
 use Rattle.bx_engine.specs.Units.{◌>>=◌, ClearBefore, FilesGive}
 use Rattle.bx_engine.specs.declared.failures.Failure.{Failure}
 use Rattle.bx_engine.specs.declared.failures.Failure.TheVariants.{Refused, Read, Write, Start}
 use Rattle.bx_debugger.specs.Opening.{session_at, session_behind, session_of}
-use Rattle.bx_debugger.specs.Talks.{Debugs, IsBefore, Talks, begins}
+use Rattle.bx_debugger.specs.Talks.{Debugs, Hearing, IsBefore, Talks, begins}
 
 -- a start begins with an atom
 begun : (token : Option (List ℕ × ℕ)) (start : List ℕ) (names : Names) → token_in start 0 ≡ token → start_in start ≡ Some names → IsSome token
@@ -53,12 +54,22 @@ before_session start given names w r image fault takes e i h = inl (go fault h, 
     go Memory g = (takes_start start names e, refl)
     go f g = named start given names e ∙ loaded given names (Ok image) i ∙ ap of_no_file g
 
+-- nothing was read yet of the lines
+begun_so : (file count : ℕ) (talk begun : Hearing) (old new had rest : Option (List ℕ)) (answer : Result (Unit {0}) Failure) → file ≡ count → talk ≡ begun
+    → Talks file talk old new had rest answer → Talks count begun old new had rest answer
+begun_so file count talk begun old new had rest answer n t talks =
+    subst (λ k. Talks k begun old new had rest answer) n (subst (λ h. Talks file h old new had rest answer) t talks)
+
 -- lines are read
-pub debugs_so : (start : List ℕ) (given : List (List ℕ)) (names : Names) (old new had rest : Option (List ℕ)) (image : Loaded) (s : History) (file : ℕ) (answer : Result (Unit {0}) Failure)
-    → start_in start ≡ Some names → image_of given ≡ Ok image → session_at image names ≡ Ok s → file ≡ length given → Talks file (begins s) old new had rest answer
-    → Debugs start given (session_of start given) old new had rest answer
-debugs_so start given names old new had rest image s file answer e i h n talks =
-    inr (s, named start given names e ∙ loaded given names (Ok image) i ∙ ap of_no_file h, subst (λ k. Talks k (begins s) old new had rest answer) n talks)
+pub debugs_so : (start : List ℕ) (given : List (List ℕ)) (names : Names) (old new had rest : Option (List ℕ)) (image : Loaded) (sources : Sources) (s : History) (file : ℕ) (talk : Hearing) (answer : Result (Unit {0}) Failure)
+    → start_in start ≡ Some names → image_of given ≡ Ok image → sources ≡ sources_of given → session_at image names ≡ Ok s → file ≡ length given → talk ≡ begins sources s
+    → Talks file talk old new had rest answer → Debugs start given (session_of start given) old new had rest answer
+debugs_so start given names old new had rest image sources s file talk answer e i l h n t talks =
+    inr (
+      s,
+      named start given names e ∙ loaded given names (Ok image) i ∙ ap of_no_file h,
+      begun_so file (length given) talk (begins (sources_of given) s) old new had rest answer n (t ∙ ap (λ x. begins x s) l) talks,
+    )
 
 pub same_length : {A : Type 0} (rem : A → Option (List ℕ)) (old : List A) (given : List (List ℕ)) → map rem old ≡ map (λ text. Some text) given → length old ≡ length given
 same_length rem old given known = sym (length-map old rem) ∙ ap length known ∙ length-map given (λ text. Some text)

@@ -110,7 +110,7 @@ pub talks_over : (file : ℕ) (w v had rest : Option (List ℕ)) (h : Hearing) (
 talks_over file w v had rest h piece extra c le b =
     let read = b.0 in
     let past = b.1 in
-    let lines : told h (lines_in h read) ≡ told h (ended_in h read) = answers_past h.number (ended_in h read) (last_line (begun_line h.line read)) h.session b.3.0 in
+    let lines : told h (lines_in h read) ≡ told h (ended_in h read) = answers_past h.sources h.number (ended_in h read) (last_line (begun_line h.line read)) h.session b.3.0 in
     (read, past ++ extra, consumes_so had rest piece extra read past b.2 c, shorter piece read past h.left b.2 le, (inr b.3.0, subst (Appends w v) (sym lines) b.3.1))
 
 -- a line of these bytes has no answer

@@ -1,11 +1,11 @@
 -- What each line of a debugger is answered, and what it makes of the session.
-use Rattle.std.specs.Prelude.{◌≡◌, ℕ, ◌+◌, nat_lt, Bool, false, ◌||◌, if◌then◌else◌, List, [], ◌∷◌, ◌++◌, Option, Some, None, Result, Ok, Err, length, codes, decimal, slice_get}
+use Rattle.std.specs.Prelude.{◌≡◌, ℕ, ◌+◌, nat_lt, Bool, false, ◌||◌, if◌then◌else◌, List, [], ◌∷◌, ◌++◌, Option, Some, None, Result, Ok, Err, length, codes, decimal, slice_get, ◌-◌}
 use Rattle.std.specs.Str.{bytes_eq}
 use Rattle.bx_terms.specs.Kinds.{trap_name}
 use Rattle.bx_terms.specs.Printed.{printed_pid}
 use Rattle.bx_terms.specs.Refusals.{refusal}
 use Rattle.bx_terms.specs.declared.faults.Fault.{Fault}
-use Rattle.bx_terms.specs.declared.faults.Fault.TheVariants.{BadCommand, Memory, TooLong}
+use Rattle.bx_terms.specs.declared.faults.Fault.TheVariants.{BadCommand, BeforeStart, Memory, TooLong}
 use Rattle.bx_load.specs.Image.{Loaded}
 use Rattle.bx_load.specs.Names.{place_text}
 use Rattle.bx_world.specs.Texts.{outcome_lines, spelling}
@@ -15,12 +15,16 @@ use Rattle.bx_world.specs.World.{Life}
 use Rattle.bx_debug.specs.Sessions.{History, behind, world_of, stepped, back, forward, gone, with_break, without_break}
 use Rattle.bx_debug.specs.declared.stops.Stop.{Stop}
 use Rattle.bx_debug.specs.declared.stops.Stop.TheVariants as stops
-use Rattle.bx_debugger.specs.Commands.{Ordered, Step, Back, Forward, Go, Break, Clear, Show, Where, Look, Signals, Items, Plan, Help, ordered_by}
+use Rattle.bx_engine.specs.Sources.{Sources}
+use Rattle.bx_debugger.specs.Commands.{Ordered, Step, Back, Forward, Go, Swap, Break, Clear, Show, Where, Look, Signals, Items, Trace, Plan, Help, ordered_by}
 use Rattle.bx_debugger.specs.Functions.{list_answer}
 use Rattle.bx_debugger.specs.Help.{help_answer}
 use Rattle.bx_debugger.specs.Look.{look_answer}
 use Rattle.bx_debugger.specs.Plan.{plan_line}
+use Rattle.bx_debugger.specs.Program.{Program, program_of}
 use Rattle.bx_debugger.specs.Signals.{signals_answer}
+use Rattle.bx_debugger.specs.Swap.{swap_of}
+use Rattle.bx_debugger.specs.Trace.{trace_answer}
 use Rattle.bx_debugger.specs.Where.{where_answer}
 
 -- a call that moves the session and its definition; where memory runs out, nothing is said
@@ -61,9 +65,13 @@ abbrev pub shown_lines : History → List ℕ
 shown_lines s = outcome_lines s.image.atoms s.at None (seen (world_of s))
 
 -- a process that is not there is refused
-abbrev pub looked : ℕ → Loaded → ℕ → Option Life → List ℕ
-looked n image p None = refused_line n (BadCommand n)
-looked n image p (Some life) = look_answer image p life
+abbrev pub looked : ℕ → Program → ℕ → Option Life → List ℕ
+looked n program p None = refused_line n (BadCommand n)
+looked n program p (Some life) = look_answer program p life
+
+-- the last choices before the position, of which there must be so many
+abbrev pub traced : ℕ → Program → ℕ → History → List ℕ
+traced n program count s = if nat_lt s.at count then refused_line n BeforeStart else trace_answer program (s.at - count) s
 
 -- the choices as a line of a plan, which takes 100,000 at most
 abbrev pub planned : ℕ → List ℕ → List Choice → List ℕ
@@ -72,28 +80,31 @@ planned n name choices =
     else plan_line name choices ++ codes "\n"
 
 -- the answer to a command on line n, and the session behind it
-abbrev pub replied : ℕ → Ordered → History → List ℕ × History
-replied n (Step choice) s = moved n s (stepped choice s)
-replied n (Back count) s = moved n s (back count s)
-replied n (Forward count) s = moved n s (forward count s)
-replied n (Go choices) s = (went_line (gone choices s), (gone choices s).0)
-replied n (Break place) s = (codes "ok\n", with_break place s)
-replied n (Clear place) s = (codes "ok\n", without_break place s)
-replied n Show s = (shown_lines s, s)
-replied n Where s = (where_answer s.image (world_of s).processes, s)
-replied n (Look p) s = (looked n s.image p (slice_get (world_of s).processes p), s)
-replied n Signals s = (signals_answer s.image.atoms (world_of s).lanes.channels, s)
-replied n (Items first past) s = (list_answer s.image first.«module» first.item past, s)
-replied n (Plan name) s = (planned n name (behind s), s)
-replied n Help s = (help_answer, s)
+abbrev pub replied : Sources → ℕ → Ordered → History → List ℕ × History
+replied sources n (Step choice) s = moved n s (stepped choice s)
+replied sources n (Back count) s = moved n s (back count s)
+replied sources n (Forward count) s = moved n s (forward count s)
+replied sources n (Go choices) s = (went_line (gone choices s), (gone choices s).0)
+replied sources n (Swap number) s = moved n s (swap_of number s)
+replied sources n (Break place) s = (codes "ok\n", with_break place s)
+replied sources n (Clear place) s = (codes "ok\n", without_break place s)
+replied sources n Show s = (shown_lines s, s)
+replied sources n Where s = (where_answer (program_of sources s) (world_of s).processes, s)
+replied sources n (Look p) s = (looked n (program_of sources s) p (slice_get (world_of s).processes p), s)
+replied sources n Signals s = (signals_answer s.image.atoms (world_of s).lanes.channels, s)
+replied sources n (Items first past) s = (list_answer (program_of sources s) first.«module» first.item past, s)
+replied sources n (Trace count) s = (traced n (program_of sources s) count s, s)
+replied sources n (Plan name) s = (planned n name (behind s), s)
+replied sources n Help s = (help_answer, s)
 
 -- a line that spells no command is refused
-abbrev pub ordered_so : ℕ → Option Ordered → History → List ℕ × History
-ordered_so n None s = (refused_line n (BadCommand n), s)
-ordered_so n (Some order) s = replied n order s
+abbrev pub ordered_so : Sources → ℕ → Option Ordered → History → List ℕ × History
+ordered_so sources n None s = (refused_line n (BadCommand n), s)
+ordered_so sources n (Some order) s = replied sources n order s
 
-abbrev pub answered : ℕ → List ℕ → History → List ℕ × History
-answered n line s = ordered_so n (ordered_by s.image line) s
+-- what a line is answered over code whose items stand there, and the session behind it
+abbrev pub answered : Sources → ℕ → List ℕ → History → List ℕ × History
+answered sources n line s = ordered_so sources n (ordered_by s.image line) s
 
 -- the line that ends a session; it is answered nothing, and nothing behind it counts
 abbrev pub is_quit : List ℕ → Bool
@@ -104,12 +115,12 @@ has_quit [] = false
 has_quit (line ∷ more) = is_quit line || has_quit more
 
 -- the answers to the lines from line n on
-abbrev pub answers : ℕ → List (List ℕ) → History → List ℕ
-answers n [] s = []
-answers n (line ∷ more) s =
-    if is_quit line then [] else (answered n line s).0 ++ answers (n + 1) more (answered n line s).1
+abbrev pub answers : Sources → ℕ → List (List ℕ) → History → List ℕ
+answers sources n [] s = []
+answers sources n (line ∷ more) s =
+    if is_quit line then [] else (answered sources n line s).0 ++ answers sources (n + 1) more (answered sources n line s).1
 
 -- what lines from line n on, none of which quits, make of the session
-abbrev pub after_lines : ℕ → List (List ℕ) → History → History
-after_lines n [] s = s
-after_lines n (line ∷ more) s = after_lines (n + 1) more (answered n line s).1
+abbrev pub after_lines : Sources → ℕ → List (List ℕ) → History → History
+after_lines sources n [] s = s
+after_lines sources n (line ∷ more) s = after_lines sources (n + 1) more (answered sources n line s).1

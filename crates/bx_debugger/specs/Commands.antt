@@ -19,6 +19,7 @@ pub data Ordered : Type 0 where
   Back : ℕ → Ordered
   Forward : ℕ → Ordered
   Go : List Choice → Ordered
+  Swap : ℕ → Ordered
   Break : Place → Ordered
   Clear : Place → Ordered
   Show : Ordered
@@ -27,6 +28,8 @@ pub data Ordered : Type 0 where
   Signals : Ordered
   -- the items of a function: the address of the first, and the number behind the last
   Items : Place → ℕ → Ordered
+  -- how many of the last choices
+  Trace : ℕ → Ordered
   -- with this name
   Plan : List ℕ → Ordered
   Help : Ordered
@@ -125,10 +128,12 @@ about image parts =
     else if bytes_eq parts.0 (codes "back") then option_map Back (number_of most_number parts.1)
     else if bytes_eq parts.0 (codes "forward") then option_map Forward (number_of most_number parts.1)
     else if bytes_eq parts.0 (codes "go") then option_map (λ entries. Go (spread entries)) (entries_of parts.1)
+    else if bytes_eq parts.0 (codes "swap") then option_map Swap (number_of most_number parts.1)
     else if bytes_eq parts.0 (codes "break") then option_map Break (place_named image parts.1)
     else if bytes_eq parts.0 (codes "clear") then option_map Clear (place_named image parts.1)
     else if bytes_eq parts.0 (codes "look") then option_map Look (number_of most_pid parts.1)
     else if bytes_eq parts.0 (codes "list") then option_map items_of (function_in image parts.1)
+    else if bytes_eq parts.0 (codes "trace") then option_map Trace (number_of most_number parts.1)
     else if bytes_eq parts.0 (codes "plan") then plan_named parts.1
     else None
 

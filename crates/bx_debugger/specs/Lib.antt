@@ -1,11 +1,14 @@
+pub mod Program
 pub mod Words
 pub mod Where
 pub mod Signals
 pub mod Look
 pub mod Functions
+pub mod Trace
 pub mod Help
 pub mod Alike
 pub mod Plan
+pub mod Swap
 pub mod Commands
 pub mod CommandView
 pub mod Answers

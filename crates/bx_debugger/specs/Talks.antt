@@ -7,18 +7,22 @@ use Rattle.bx_terms.specs.declared.faults.Fault.TheVariants.{Memory, TooLarge}
 use Rattle.bx_debug.specs.Sessions.{History}
 use Rattle.bx_engine.specs.Inputs.{input_limit}
 use Rattle.bx_engine.specs.Runs.{TakesMemory}
+use Rattle.bx_engine.specs.Sources.{Sources, sources_of}
 use Rattle.bx_engine.specs.Starts.{start_in}
 use Rattle.bx_engine.specs.Units.{ClearBefore}
 use Rattle.bx_engine.specs.declared.failures.Failure.{Failure}
 use Rattle.bx_engine.specs.declared.failures.Failure.TheVariants.{Refused, Read, Write, Start}
 use Rattle.bx_debugger.specs.Answers.{after_lines, answered, answers, has_quit, is_quit}
 use Rattle.bx_debugger.specs.Lines.{begun_line, ended_lines, last_line}
+use Rattle.bx_debugger.specs.Program.{sources_code}
 use Rattle.bx_debugger.specs.declared.talks.Next.{Next}
 use Rattle.bx_debugger.specs.declared.talks.Next.TheVariants.{More, Over}
 
 -- a session whose lines are being read
 pub record Hearing : Type 0 where
   pub session : History
+  -- where the items of its code stand
+  pub sources : Sources
   -- the number of the line that has begun, from 1
   pub number : ℕ
   -- what was read of it
@@ -29,13 +33,14 @@ pub record Hearing : Type 0 where
 -- what a proof tells two of them apart by
 abbrev pub hearing_code : Coded History → Coded Hearing
 hearing_code session =
-    code_by (History × (ℕ × (List ℕ × ℕ))) (coded× session (coded× coded_ℕ (coded× (coded_list coded_ℕ) coded_ℕ)))
-    (λ h. (h.session, (h.number, (h.line, h.left))))
-    (λ t. record { session = t.0; number = t.1.0; line = t.1.1.0; left = t.1.1.1 })
+    code_by (History × (Sources × (ℕ × (List ℕ × ℕ))))
+    (coded× session (coded× sources_code (coded× coded_ℕ (coded× (coded_list coded_ℕ) coded_ℕ))))
+    (λ h. (h.session, (h.sources, (h.number, (h.line, h.left)))))
+    (λ t. record { session = t.0; sources = t.1.0; number = t.1.1.0; line = t.1.1.1.0; left = t.1.1.1.1 })
     (λ _. refl)
 
-abbrev pub begins : History → Hearing
-begins s = record { session = s; number = 1; line = []; left = input_limit }
+abbrev pub begins : Sources → History → Hearing
+begins sources s = record { session = s; sources = sources; number = 1; line = []; left = input_limit }
 
 -- the lines that these bytes end
 abbrev pub ended_in : Hearing → List ℕ → List (List ℕ)
@@ -51,12 +56,13 @@ quits h bytes = has_quit (ended_in h bytes)
 
 -- the answers to lines from the one on that has begun
 abbrev pub told : Hearing → List (List ℕ) → List ℕ
-told h lines = answers h.number lines h.session
+told h lines = answers h.sources h.number lines h.session
 
 -- behind bytes whose ended lines are all answered
 abbrev pub heard : Hearing → List ℕ → Hearing
 heard h bytes = record {
-  session = after_lines h.number (ended_in h bytes) h.session;
+  session = after_lines h.sources h.number (ended_in h bytes) h.session;
+  sources = h.sources;
   number = h.number + length (ended_in h bytes);
   line = begun_line h.line bytes;
   left = h.left - length bytes;
@@ -64,8 +70,8 @@ heard h bytes = record {
 
 -- one line is answered, or quits; where memory runs out, nothing is written
 abbrev pub Replies : Option (List ℕ) → Option (List ℕ) → Hearing → Hearing → Result Next Failure → Type 0
-Replies old new h after (Ok More) = (is_quit h.line ≡ false) × Appends old new (answered h.number h.line h.session).0
-    × (after ≡ record h { session = (answered h.number h.line h.session).1 })
+Replies old new h after (Ok More) = (is_quit h.line ≡ false) × Appends old new (answered h.sources h.number h.line h.session).0
+    × (after ≡ record h { session = (answered h.sources h.number h.line h.session).1 })
 Replies old new h after (Ok Over) = (is_quit h.line ≡ true) × Keeps old new
 Replies old new h after (Err (Refused Memory file)) = (file ≡ None) × (is_quit h.line ≡ false) × Keeps old new
 Replies old new h after (Err Write) = Unit {0}
@@ -159,4 +165,4 @@ IsEarly files Start = Unit {0}
 abbrev pub Debugs : List ℕ → List (List ℕ) → Result History Failure → Option (List ℕ) → Option (List ℕ) → Option (List ℕ) → Option (List ℕ) → Result (Unit {0}) Failure → Type 0
 Debugs start given said old new had rest answer =
     (IsBefore start given said answer × Keeps old new × Keeps had rest)
-    ⊎ ((s : History) × (said ≡ Ok s) × Talks (length given) (begins s) old new had rest answer)
+    ⊎ ((s : History) × (said ≡ Ok s) × Talks (length given) (begins (sources_of given) s) old new had rest answer)

@@ -2,30 +2,30 @@
 use Rattle.std.specs.Prelude.{ℕ, ◌+◌, List, [], ◌∷◌, ◌++◌, Option, codes}
 use Rattle.bx_terms.specs.Printed.{printed, printed_pid}
 use Rattle.bx_terms.specs.declared.places.Place.{Place}
-use Rattle.bx_load.specs.Image.{Loaded}
 use Rattle.bx_proc.specs.declared.parts.Status.{Status}
 use Rattle.bx_proc.specs.declared.parts.Status.TheVariants.{Ready, Waiting, Ended}
 use Rattle.bx_world.specs.World.{Life, Live, Gone}
+use Rattle.bx_debugger.specs.Program.{Program}
 use Rattle.bx_debugger.specs.Words.{here_words}
 
 -- a process that has not ended stands at an address, which one lacks whose function is not there
-abbrev pub status_words : Loaded → Option Place → Status → List ℕ
-status_words image place Ready = codes "ready " ++ here_words image place
-status_words image place Waiting = codes "waiting " ++ here_words image place
-status_words image place (Ended reason) = codes "ended " ++ printed image.atoms reason
+abbrev pub status_words : Program → Option Place → Status → List ℕ
+status_words program place Ready = codes "ready " ++ here_words program place
+status_words program place Waiting = codes "waiting " ++ here_words program place
+status_words program place (Ended reason) = codes "ended " ++ printed program.image.atoms reason
 
-abbrev pub life_words : Loaded → Life → List ℕ
-life_words image (Live process) = status_words image process.place process.status
-life_words image (Gone reason) = codes "ended " ++ printed image.atoms reason
+abbrev pub life_words : Program → Life → List ℕ
+life_words program (Live process) = status_words program process.place process.status
+life_words program (Gone reason) = codes "ended " ++ printed program.image.atoms reason
 
--- `<0.0.0> ready race:7 ITEM`
-abbrev pub life_line : Loaded → ℕ → Life → List ℕ
-life_line image p life = printed_pid p ++ codes " " ++ life_words image life ++ codes "\n"
+-- `<0.0.0> ready race:9 race.erl:6 ITEM`
+abbrev pub life_line : Program → ℕ → Life → List ℕ
+life_line program p life = printed_pid p ++ codes " " ++ life_words program life ++ codes "\n"
 
 -- a line for each process, from this pid on
-abbrev pub life_lines : Loaded → ℕ → List Life → List ℕ
-life_lines image p [] = []
-life_lines image p (life ∷ more) = life_line image p life ++ life_lines image (p + 1) more
+abbrev pub life_lines : Program → ℕ → List Life → List ℕ
+life_lines program p [] = []
+life_lines program p (life ∷ more) = life_line program p life ++ life_lines program (p + 1) more
 
-abbrev pub where_answer : Loaded → List Life → List ℕ
-where_answer image lives = life_lines image 0 lives ++ codes "end\n"
+abbrev pub where_answer : Program → List Life → List ℕ
+where_answer program lives = life_lines program 0 lives ++ codes "end\n"

@@ -10,23 +10,23 @@ use Rattle.bx_cells.specs.declared.values.Value.TheVariants as values
 use Rattle.bx_listing.specs.Items.{Item}
 use Rattle.bx_listing.specs.Writing.{item_words}
 use Rattle.bx_load.specs.Image.{Loaded}
-use Rattle.bx_load.specs.Names.{place_text}
 use Rattle.bx_load.specs.Numbering.{numbered_at}
+use Rattle.bx_debugger.specs.Program.{Program, located_text}
 
 -- the address where there is one, and a dash where there is none
-abbrev pub place_words : Loaded → Option Place → List ℕ
-place_words image None = codes "-"
-place_words image (Some place) = place_text image place
+abbrev pub place_words : Program → Option Place → List ℕ
+place_words program None = codes "-"
+place_words program (Some place) = located_text program place
 
 -- an item as a listing writes it, without its full stop; a dash where there is none
 abbrev pub item_or_dash : Loaded → Option Item → List ℕ
 item_or_dash image None = codes "-"
 item_or_dash image (Some item) = item_words image.atoms item
 
--- an address and the item there, each a dash where there is none
-abbrev pub here_words : Loaded → Option Place → List ℕ
-here_words image None = codes "- -"
-here_words image (Some place) = place_text image place ++ codes " " ++ item_or_dash image (numbered_at image place)
+-- an address, where it stands in its source and the item there; an address or an item that is not there is a dash
+abbrev pub here_words : Program → Option Place → List ℕ
+here_words program None = codes "- -"
+here_words program (Some place) = located_text program place ++ codes " " ++ item_or_dash program.image (numbered_at program.image place)
 
 abbrev pub class_words : Class → List ℕ
 class_words classes.Throw = codes "throw"
@@ -34,10 +34,10 @@ class_words classes.Error = codes "error"
 class_words classes.Exit = codes "exit"
 
 -- what a register holds: a term, a catch tag or a trace
-abbrev pub value_words : Loaded → Value → List ℕ
-value_words image (values.Term term) = printed image.atoms term
-value_words image (values.Tag place) = codes "catch " ++ place_text image place
-value_words image (values.Trace class) = codes "trace " ++ class_words class
+abbrev pub value_words : Program → Value → List ℕ
+value_words program (values.Term term) = printed program.image.atoms term
+value_words program (values.Tag place) = codes "catch " ++ located_text program place
+value_words program (values.Trace class) = codes "trace " ++ class_words class
 
 -- a line for each term, behind a word
 abbrev pub term_lines : List (List ℕ) → List ℕ → List Tree → List ℕ

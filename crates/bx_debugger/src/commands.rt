@@ -29,6 +29,8 @@ pub(crate) enum Command {
     Forward(u32),
     /// Makes choices in order, up to the first that stops it.
     Go(Vec<Choice>),
+    /// Exchanges the choice of that number, from 1 on, and the one behind it.
+    Swap(u32),
     /// Sets a breakpoint.
     Break(Place),
     /// Lets runs break off there no more.
@@ -43,6 +45,8 @@ pub(crate) enum Command {
     Signals,
     /// Shows the items of a function: from an address up to a number.
     Items(Place, u32),
+    /// Shows so many of the last choices, and what each met.
+    Trace(u32),
     /// Shows the choices so far as a line of a plan, of this name.
     Plan(String),
     /// Shows the commands.
@@ -105,6 +109,9 @@ fn about(alloc: Global, image: &Image, word: &[u8], rest: &[u8]) -> Result<Optio
     if word == b"go".as_slice() {
         return Ok(choices_in(alloc, rest)?.map(Command::Go));
     }
+    if word == b"swap".as_slice() {
+        return Ok(number_of(rest, u32::MAX).map(Command::Swap));
+    }
     if word == b"break".as_slice() {
         return Ok(place_named(alloc, image, rest)?.map(Command::Break));
     }
@@ -116,6 +123,9 @@ fn about(alloc: Global, image: &Image, word: &[u8], rest: &[u8]) -> Result<Optio
     }
     if word == b"list".as_slice() {
         return items_named(alloc, image, rest);
+    }
+    if word == b"trace".as_slice() {
+        return Ok(number_of(rest, u32::MAX).map(Command::Trace));
     }
     if word == b"plan".as_slice() {
         return plan_named(alloc, rest);

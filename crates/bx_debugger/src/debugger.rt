@@ -7,9 +7,9 @@ ghost use Rattle.bx_debugger.specs.Opening.{session_at, session_of};
 ghost use Rattle.bx_debugger.specs.Talks.{Debugs, IsEarly};
 
 use crate::prompts::{NoPrompt, Prompt};
-use crate::talks::answer_all;
+use crate::talks::{Talk, answer_all};
 use bx_debug::Session;
-use bx_engine::{Failure, Start, image_of, start_of};
+use bx_engine::{Failure, Start, located_image_of, start_of};
 use bx_load::Image;
 use bx_terms::Fault;
 use std::alloc::Global;
@@ -63,15 +63,16 @@ pub fn prompted_debug_text<R: Read, C: Read, W: Write, P: Prompt>(
         Err(failure) => return Err(failure),
     };
     let file = listings.len();
-    let image = match image_of(alloc, listings) {
-        Ok(image) => image,
+    let (image, sources) = match located_image_of(alloc, listings) {
+        Ok(program) => program,
         Err(failure) => return Err(failure),
     };
     let session = match session_at(alloc, &image, &start) {
         Ok(session) => session,
         Err(fault) => return Err(Failure::Refused(fault, None)),
     };
-    answer_all(alloc, file, session, commands, writer, prompt)
+    let talk = Talk::new(alloc, session, &sources);
+    answer_all(alloc, file, talk, commands, writer, prompt)
 }
 
 /// A session at the start that was named; `NoEntry` where the module does not export that function of no arguments.

@@ -12,6 +12,7 @@ macro_rules! commands {
   back N       Goes back over N choices
   forward N    Goes forward over N choices
   go C C ..    Makes choices in order, up to the first that stops it; C*N makes C N times
+  swap K       Exchanges choices K and K+1 where they are independent
   break M:I    Lets go stop behind a run that leaves its process at item I of module M
   break M:F/A  Lets go stop where a call of that function begins
   clear M:I    Takes such a place back, which M:F/A names too
@@ -20,6 +21,7 @@ macro_rules! commands {
   look P       Shows all that process P holds
   signals      Shows the signals that wait
   list M:F/A   Shows the items of a function
+  trace N      Shows the last N choices, each with what it met
   plan NAME    Shows the choices so far as a line of a plan
   help         Shows these lines
   quit         Ends the session")

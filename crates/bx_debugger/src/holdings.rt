@@ -6,10 +6,10 @@ ghost use Rattle.bx_world.specs.Seen.{life_of};
 ghost use Rattle.bx_debugger.specs.Words.{place_words};
 ghost use Rattle.bx_debugger.specs.Look.{fault_line, frame_lines, held_lines, life_holds, link_lines, look_answer, mail_lines, other_lines, own_lines, place_line, trapping_line, x_lines, y_lines, y_words};
 
+use crate::programs::Program;
 use crate::standings::push_life_line;
-use crate::words::{class_word, push_place, push_place_or_dash, push_term, push_terms, push_value};
+use crate::words::{class_word, push_place_or_dash, push_term, push_terms, push_value};
 use bx_cells::{Frames, Value};
-use bx_load::Image;
 use bx_mail::Mailbox;
 use bx_proc::{Pending, Proc};
 use bx_terms::{Atoms, Place, push_pid};
@@ -20,51 +20,51 @@ use std::alloc::{AllocError, Global};
 fn push_place_line(
     alloc: Global,
     out: &mut String,
-    image: &Image,
+    program: &Program<'_>,
     word: &str,
     place: Option<Place>,
 ) -> Result<(), AllocError>
     ensures { OnOk result
-        (string_bytes out.new ≡ string_bytes out.old ++ place_line image.now word.now place) }
+        (string_bytes out.new ≡ string_bytes out.old ++ place_line program.now word.now place) }
 {
     let Some(place) = place else {
         return Ok(());
     };
     out.push_str(word)?;
     out.push_str(" ")?;
-    push_place(alloc, out, image, place)?;
+    program.push_place(alloc, out, place)?;
     out.push_str("\n")
 }
 
 fn push_x(
     alloc: Global,
     out: &mut String,
-    image: &Image,
+    program: &Program<'_>,
     number: usize,
     cell: &Option<Value>,
 ) -> Result<(), AllocError>
     ensures { OnOk result (string_bytes out.new
-        ≡ string_bytes out.old ++ x_lines image.now (listed number (cell.now ∷ []))) }
+        ≡ string_bytes out.old ++ x_lines program.now (listed number (cell.now ∷ []))) }
 {
     let Some(value) = cell else {
         return Ok(());
     };
     write!(out, "x{number} ")?;
-    push_value(alloc, out, image, value)?;
+    push_value(alloc, out, program, value)?;
     out.push_str("\n")
 }
 
 fn push_xs(
     alloc: Global,
     out: &mut String,
-    image: &Image,
+    program: &Program<'_>,
     cells: &[Option<Value>],
 ) -> Result<(), AllocError>
     ensures { OnOk result
-        (string_bytes out.new ≡ string_bytes out.old ++ x_lines image.now (listed 0 cells.now)) }
+        (string_bytes out.new ≡ string_bytes out.old ++ x_lines program.now (listed 0 cells.now)) }
 {
     for number in 0..cells.len() {
-        push_x(alloc, out, image, number, &cells[number])?;
+        push_x(alloc, out, program, number, &cells[number])?;
     }
     Ok(())
 }
@@ -72,17 +72,17 @@ fn push_xs(
 fn push_y(
     alloc: Global,
     out: &mut String,
-    image: &Image,
+    program: &Program<'_>,
     number: usize,
     cell: &Option<Value>,
 ) -> Result<(), AllocError>
     ensures { OnOk result (string_bytes out.new
-        ≡ string_bytes out.old ++ y_lines image.now number (cell.now ∷ [])) }
+        ≡ string_bytes out.old ++ y_lines program.now number (cell.now ∷ [])) }
 {
     write!(out, "y{number}")?;
     if let Some(value) = cell {
         out.push_str(" ")?;
-        push_value(alloc, out, image, value)?;
+        push_value(alloc, out, program, value)?;
     }
     out.push_str("\n")
 }
@@ -90,14 +90,14 @@ fn push_y(
 fn push_ys(
     alloc: Global,
     out: &mut String,
-    image: &Image,
+    program: &Program<'_>,
     cells: &[Option<Value>],
 ) -> Result<(), AllocError>
     ensures { OnOk result
-        (string_bytes out.new ≡ string_bytes out.old ++ y_lines image.now 0 cells.now) }
+        (string_bytes out.new ≡ string_bytes out.old ++ y_lines program.now 0 cells.now) }
 {
     for number in 0..cells.len() {
-        push_y(alloc, out, image, number, &cells[number])?;
+        push_y(alloc, out, program, number, &cells[number])?;
     }
     Ok(())
 }
@@ -105,31 +105,31 @@ fn push_ys(
 fn push_frame(
     alloc: Global,
     out: &mut String,
-    image: &Image,
+    program: &Program<'_>,
     saved: Option<Place>,
     cells: &[Option<Value>],
 ) -> Result<(), AllocError>
     ensures { OnOk result (string_bytes out.new ≡ string_bytes out.old
-        ++ (codes "frame " ++ place_words image.now saved ++ codes "\n" ++ y_lines image.now 0 cells.now)) }
+        ++ (codes "frame " ++ place_words program.now saved ++ codes "\n" ++ y_lines program.now 0 cells.now)) }
 {
     out.push_str("frame ")?;
-    push_place_or_dash(alloc, out, image, saved)?;
+    push_place_or_dash(alloc, out, program, saved)?;
     out.push_str("\n")?;
-    push_ys(alloc, out, image, cells)
+    push_ys(alloc, out, program, cells)
 }
 
 fn push_frames(
     alloc: Global,
     out: &mut String,
-    image: &Image,
+    program: &Program<'_>,
     stack: &Frames,
 ) -> Result<(), AllocError>
     ensures { OnOk result
-        (string_bytes out.new ≡ string_bytes out.old ++ frame_lines image.now stack.now) }
+        (string_bytes out.new ≡ string_bytes out.old ++ frame_lines program.now stack.now) }
 {
     let mut left = stack.copy(alloc)?;
     while let Some((_, saved)) = left.top() {
-        push_frame(alloc, out, image, saved, left.top_cells())?;
+        push_frame(alloc, out, program, saved, left.top_cells())?;
         left.pop();
     }
     Ok(())
@@ -192,16 +192,16 @@ fn push_fault(
 fn push_own(
     alloc: Global,
     out: &mut String,
-    image: &Image,
+    program: &Program<'_>,
     process: &Proc,
 ) -> Result<(), AllocError>
     ensures { OnOk result
-        (string_bytes out.new ≡ string_bytes out.old ++ own_lines image.now process.now) }
+        (string_bytes out.new ≡ string_bytes out.old ++ own_lines program.now process.now) }
 {
-    push_place_line(alloc, out, image, "expires", process.expiry())?;
-    push_place_line(alloc, out, image, "cp", process.continuation())?;
-    push_xs(alloc, out, image, process.registers().as_slice())?;
-    push_frames(alloc, out, image, process.stack())
+    push_place_line(alloc, out, program, "expires", process.expiry())?;
+    push_place_line(alloc, out, program, "cp", process.continuation())?;
+    push_xs(alloc, out, program, process.registers().as_slice())?;
+    push_frames(alloc, out, program, process.stack())
 }
 
 fn push_other(
@@ -222,27 +222,27 @@ fn push_other(
 fn push_held(
     alloc: Global,
     out: &mut String,
-    image: &Image,
+    program: &Program<'_>,
     process: &Proc,
 ) -> Result<(), AllocError>
     ensures { OnOk result
-        (string_bytes out.new ≡ string_bytes out.old ++ held_lines image.now process.now) }
+        (string_bytes out.new ≡ string_bytes out.old ++ held_lines program.now process.now) }
 {
-    push_own(alloc, out, image, process)?;
-    push_other(alloc, out, image.atoms(), process)
+    push_own(alloc, out, program, process)?;
+    push_other(alloc, out, program.image().atoms(), process)
 }
 
 fn push_holdings(
     alloc: Global,
     out: &mut String,
-    image: &Image,
+    program: &Program<'_>,
     shown: &Shown<'_>,
 ) -> Result<(), AllocError>
     ensures { OnOk result (string_bytes out.new
-        ≡ string_bytes out.old ++ life_holds image.now (life_of shown.now)) }
+        ≡ string_bytes out.old ++ life_holds program.now (life_of shown.now)) }
 {
     match shown {
-        Shown::Live(process) => push_held(alloc, out, image, *process),
+        Shown::Live(process) => push_held(alloc, out, program, *process),
         Shown::Gone(_) => Ok(()),
     }
 }
@@ -251,15 +251,15 @@ fn push_holdings(
 pub(crate) fn push_look(
     alloc: Global,
     out: &mut String,
-    image: &Image,
+    program: &Program<'_>,
     pid: u32,
     shown: &Shown<'_>,
 ) -> Result<(), AllocError>
     ensures { OnOk result (string_bytes out.new
-        ≡ string_bytes out.old ++ look_answer image.now pid (life_of shown.now)) }
+        ≡ string_bytes out.old ++ look_answer program.now pid (life_of shown.now)) }
 {
     out.push_str("process ")?;
-    push_life_line(alloc, out, image, pid, shown)?;
-    push_holdings(alloc, out, image, shown)?;
+    push_life_line(alloc, out, program, pid, shown)?;
+    push_holdings(alloc, out, program, shown)?;
     out.push_str("end\n")
 }

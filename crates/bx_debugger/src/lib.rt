@@ -8,11 +8,13 @@ mod holdings;
 pub mod laws;
 mod listings;
 mod plan_lines;
+mod programs;
 mod prompts;
 mod replies;
 mod signal_lines;
 mod standings;
 mod talks;
+mod traces;
 mod words;
 
 pub use debugger::{debug_text, prompted_debug_text};

@@ -3,8 +3,8 @@
 ghost use Rattle.std.specs.Prelude.{◌≡◌, ◌++◌, ◌-◌, OnOk, string_bytes};
 ghost use Rattle.bx_debugger.specs.Functions.{item_line, item_lines, list_answer};
 
+use crate::programs::Program;
 use crate::words::push_here;
-use bx_load::Image;
 use bx_terms::Place;
 use std::alloc::{AllocError, Global};
 
@@ -12,13 +12,13 @@ use std::alloc::{AllocError, Global};
 fn push_item_line(
     alloc: Global,
     out: &mut String,
-    image: &Image,
+    program: &Program<'_>,
     place: Place,
 ) -> Result<(), AllocError>
     ensures { OnOk result
-        (string_bytes out.new ≡ string_bytes out.old ++ item_line image.now place) }
+        (string_bytes out.new ≡ string_bytes out.old ++ item_line program.now place) }
 {
-    push_here(alloc, out, image, Some(place))?;
+    push_here(alloc, out, program, Some(place))?;
     out.push_str("\n")
 }
 
@@ -26,19 +26,19 @@ fn push_item_line(
 fn push_items(
     alloc: Global,
     out: &mut String,
-    image: &Image,
+    program: &Program<'_>,
     first: Place,
     past: u32,
 ) -> Result<(), AllocError>
     ensures { OnOk result (string_bytes out.new
-        ≡ string_bytes out.old ++ item_lines image.now first.«module» first.item (past - first.item)) }
+        ≡ string_bytes out.old ++ item_lines program.now first.«module» first.item (past - first.item)) }
 {
     for item in first.item..past {
         let place = Place {
             module: first.module,
             item,
         };
-        push_item_line(alloc, out, image, place)?;
+        push_item_line(alloc, out, program, place)?;
     }
     Ok(())
 }
@@ -47,13 +47,13 @@ fn push_items(
 pub(crate) fn push_list(
     alloc: Global,
     out: &mut String,
-    image: &Image,
+    program: &Program<'_>,
     first: Place,
     past: u32,
 ) -> Result<(), AllocError>
     ensures { OnOk result (string_bytes out.new
-        ≡ string_bytes out.old ++ list_answer image.now first.«module» first.item past) }
+        ≡ string_bytes out.old ++ list_answer program.now first.«module» first.item past) }
 {
-    push_items(alloc, out, image, first, past)?;
+    push_items(alloc, out, program, first, past)?;
     out.push_str("end\n")
 }

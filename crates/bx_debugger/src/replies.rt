@@ -4,10 +4,11 @@ ghost use Rattle.std.specs.Prelude.{◌≡◌, ◌++◌, IfOk, IsSome, Result, S
 ghost use Rattle.bx_terms.specs.Refusals.{refusal};
 ghost use Rattle.bx_terms.specs.declared.faults.Fault.{Fault};
 ghost use Rattle.bx_debug.specs.Sessions.{History, behind, world_of};
-ghost use Rattle.bx_debugger.specs.Answers.{Moves, answered, looked, moved, planned, refused_line, refused_text, replied, standing, stop_words, went_line, shown_lines};
+ghost use Rattle.bx_debugger.specs.Answers.{Moves, answered, looked, moved, planned, refused_line, refused_text, replied, standing, stop_words, traced, went_line, shown_lines};
 ghost use Rattle.bx_debugger.specs.CommandView.{ordered};
 ghost use Rattle.bx_debugger.specs.Functions.{list_answer};
 ghost use Rattle.bx_debugger.specs.Help.{help_answer};
+ghost use Rattle.bx_debugger.specs.Program.{program_of};
 ghost use Rattle.bx_debugger.specs.Signals.{signals_answer};
 ghost use Rattle.bx_debugger.specs.Where.{where_answer};
 
@@ -16,9 +17,12 @@ use crate::help::push_help;
 use crate::holdings::push_look;
 use crate::listings::push_list;
 use crate::plan_lines::push_plan;
+use crate::programs::Program;
 use crate::signal_lines::push_signals;
 use crate::standings::push_where;
+use crate::traces::push_trace;
 use bx_debug::{Session, Stop};
+use bx_engine::Sources;
 use bx_load::Image;
 use bx_terms::{Fault, Place};
 use bx_world::{choice_text, outcome_text};
@@ -27,20 +31,22 @@ use std::alloc::{AllocError, Global};
 /// How many choices a line of a plan makes at most.
 const MOST_CHOICES: usize = 100_000;
 
-/// Does what a line orders, and gives the text of the answer; `number` is the line's, from 1.
+/// Does what a line orders, and gives the text of the answer; `number` is the line's, from 1. The items of the session's code stand
+/// where `sources` says.
 ///
 /// It can only run out of memory.
 pub(crate) fn answer_line(
     alloc: Global,
     session: &mut Session<'_>,
+    sources: &Sources,
     number: usize,
     line: &[u8],
 ) -> Result<String, Fault>
-    ensures { IfOk result (λ text. (string_bytes text, session.new) ≡ answered number line.now
-        session.old) }
+    ensures { IfOk result (λ text. (string_bytes text, session.new) ≡ answered sources.now number
+        line.now session.old) }
 {
     match command_of(alloc, session.image(), line)? {
-        Some(command) => reply(alloc, session, number, &command),
+        Some(command) => reply(alloc, session, sources, number, &command),
         None => refusal_line(alloc, number, &Fault::BadCommand { line: number }),
     }
 }
@@ -49,10 +55,11 @@ pub(crate) fn answer_line(
 fn reply(
     alloc: Global,
     session: &mut Session<'_>,
+    sources: &Sources,
     number: usize,
     command: &Command,
 ) -> Result<String, Fault>
-    ensures { IfOk result (λ text. (string_bytes text, session.new) ≡ replied number
+    ensures { IfOk result (λ text. (string_bytes text, session.new) ≡ replied sources.now number
         (ordered command.now) session.old) }
 {
     match command {
@@ -72,6 +79,10 @@ fn reply(
             let stop = session.go(alloc, choices)?;
             went_line(alloc, session, &stop)
         }
+        Command::Swap(choice) => {
+            let done = session.swap(alloc, *choice as usize);
+            moved_line(alloc, session, number, done)
+        }
         Command::Break(place) => {
             session.set_break(alloc, *place)?;
             Ok(String::from_str(alloc, "ok\n")?)
@@ -81,25 +92,36 @@ fn reply(
             Ok(String::from_str(alloc, "ok\n")?)
         }
         Command::Show => shown_lines(alloc, session),
-        Command::Look(pid) => looked(alloc, session, number, *pid),
-        Command::Where => Ok(standings(alloc, session)?),
+        Command::Look(pid) => looked(alloc, session, sources, number, *pid),
+        Command::Where => Ok(standings(alloc, session, sources)?),
         Command::Signals => Ok(signal_lines(alloc, session)?),
-        Command::Items(first, past) => Ok(item_lines(alloc, session.image(), *first, *past)?),
+        Command::Items(first, past) => {
+            let program = Program::new(session.image(), sources);
+            Ok(item_lines(alloc, &program, *first, *past)?)
+        }
+        Command::Trace(count) => traced(alloc, session, sources, number, *count),
         Command::Plan(name) => planned(alloc, session, number, name),
         Command::Help => Ok(help_lines(alloc)?),
     }
 }
 
 /// The answer to `look P`: what the process holds, or that there is none.
-fn looked(alloc: Global, session: &Session<'_>, number: usize, pid: u32) -> Result<String, Fault>
-    ensures { IfOk result (λ text. string_bytes text ≡ looked number session.now.image pid
-        (slice_get (world_of session.now).processes pid)) }
+fn looked(
+    alloc: Global,
+    session: &Session<'_>,
+    sources: &Sources,
+    number: usize,
+    pid: u32,
+) -> Result<String, Fault>
+    ensures { IfOk result (λ text. string_bytes text
+        ≡ looked number (program_of sources.now session.now) pid (slice_get (world_of session.now).processes pid)) }
 {
     let Some(shown) = session.world().process(pid) else {
         return refusal_line(alloc, number, &Fault::BadCommand { line: number });
     };
+    let program = Program::new(session.image(), sources);
     let mut out = String::new(alloc);
-    push_look(alloc, &mut out, session.image(), pid, &shown)?;
+    push_look(alloc, &mut out, &program, pid, &shown)?;
     Ok(out)
 }
 
@@ -200,12 +222,13 @@ fn shown_lines(alloc: Global, session: &Session<'_>) -> Result<String, Fault>
 }
 
 /// How each process stands.
-fn standings(alloc: Global, session: &Session<'_>) -> Result<String, AllocError>
+fn standings(alloc: Global, session: &Session<'_>, sources: &Sources) -> Result<String, AllocError>
     ensures { IfOk result (λ text. string_bytes text
-        ≡ where_answer session.now.image (world_of session.now).processes) }
+        ≡ where_answer (program_of sources.now session.now) (world_of session.now).processes) }
 {
+    let program = Program::new(session.image(), sources);
     let mut out = String::new(alloc);
-    push_where(alloc, &mut out, session.image(), session.world())?;
+    push_where(alloc, &mut out, &program, session.world())?;
     Ok(out)
 }
 
@@ -221,12 +244,39 @@ fn signal_lines(alloc: Global, session: &Session<'_>) -> Result<String, AllocErr
 }
 
 /// The items from an address up to a number.
-fn item_lines(alloc: Global, image: &Image, first: Place, past: u32) -> Result<String, AllocError>
+fn item_lines(
+    alloc: Global,
+    program: &Program<'_>,
+    first: Place,
+    past: u32,
+) -> Result<String, AllocError>
     ensures { IfOk result
-        (λ text. string_bytes text ≡ list_answer image.now first.«module» first.item past) }
+        (λ text. string_bytes text ≡ list_answer program.now first.«module» first.item past) }
 {
     let mut out = String::new(alloc);
-    push_list(alloc, &mut out, image, first, past)?;
+    push_list(alloc, &mut out, program, first, past)?;
+    Ok(out)
+}
+
+/// The last choices before the position, of which there must be so many.
+fn traced(
+    alloc: Global,
+    session: &Session<'_>,
+    sources: &Sources,
+    number: usize,
+    count: u32,
+) -> Result<String, Fault>
+    ensures { IfOk result (λ text. string_bytes text
+        ≡ traced number (program_of sources.now session.now) count session.now) }
+{
+    let at = session.at();
+    let count = count as usize;
+    if count > at {
+        return refusal_line(alloc, number, &Fault::BeforeStart);
+    }
+    let program = Program::new(session.image(), sources);
+    let mut out = String::new(alloc);
+    push_trace(alloc, &mut out, &program, session, at - count)?;
     Ok(out)
 }
 

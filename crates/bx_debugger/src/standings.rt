@@ -4,8 +4,8 @@ ghost use Rattle.std.specs.Prelude.{◌≡◌, ◌+◌, ◌++◌, OnOk, drop, st
 ghost use Rattle.bx_world.specs.Seen.{life_of};
 ghost use Rattle.bx_debugger.specs.Where.{life_line, life_lines, life_words, status_words, where_answer};
 
+use crate::programs::Program;
 use crate::words::{push_here, push_term};
-use bx_load::Image;
 use bx_terms::{Place, push_pid};
 use bx_world::{RcWorld, Shown, Status};
 use std::alloc::{AllocError, Global};
@@ -13,25 +13,25 @@ use std::alloc::{AllocError, Global};
 fn push_status(
     alloc: Global,
     out: &mut String,
-    image: &Image,
+    program: &Program<'_>,
     place: Option<Place>,
     status: &Status,
 ) -> Result<(), AllocError>
     ensures { OnOk result
-        (string_bytes out.new ≡ string_bytes out.old ++ status_words image.now place status.now) }
+        (string_bytes out.new ≡ string_bytes out.old ++ status_words program.now place status.now) }
 {
     match status {
         Status::Ready => {
             out.push_str("ready ")?;
-            push_here(alloc, out, image, place)
+            push_here(alloc, out, program, place)
         }
         Status::Waiting => {
             out.push_str("waiting ")?;
-            push_here(alloc, out, image, place)
+            push_here(alloc, out, program, place)
         }
         Status::Ended(reason) => {
             out.push_str("ended ")?;
-            push_term(alloc, out, image.atoms(), reason)
+            push_term(alloc, out, program.image().atoms(), reason)
         }
     }
 }
@@ -39,17 +39,17 @@ fn push_status(
 fn push_life(
     alloc: Global,
     out: &mut String,
-    image: &Image,
+    program: &Program<'_>,
     shown: &Shown<'_>,
 ) -> Result<(), AllocError>
     ensures { OnOk result (string_bytes out.new
-        ≡ string_bytes out.old ++ life_words image.now (life_of shown.now)) }
+        ≡ string_bytes out.old ++ life_words program.now (life_of shown.now)) }
 {
     match shown {
-        Shown::Live(process) => push_status(alloc, out, image, process.place(), process.status()),
+        Shown::Live(process) => push_status(alloc, out, program, process.place(), process.status()),
         Shown::Gone(reason) => {
             out.push_str("ended ")?;
-            push_term(alloc, out, image.atoms(), *reason)
+            push_term(alloc, out, program.image().atoms(), *reason)
         }
     }
 }
@@ -58,16 +58,16 @@ fn push_life(
 pub(crate) fn push_life_line(
     alloc: Global,
     out: &mut String,
-    image: &Image,
+    program: &Program<'_>,
     pid: u32,
     shown: &Shown<'_>,
 ) -> Result<(), AllocError>
     ensures { OnOk result (string_bytes out.new
-        ≡ string_bytes out.old ++ life_line image.now pid (life_of shown.now)) }
+        ≡ string_bytes out.old ++ life_line program.now pid (life_of shown.now)) }
 {
     push_pid(alloc, out, pid)?;
     out.push_str(" ")?;
-    push_life(alloc, out, image, shown)?;
+    push_life(alloc, out, program, shown)?;
     out.push_str("\n")
 }
 
@@ -76,15 +76,15 @@ pub(crate) fn push_life_line(
 fn push_life_at(
     alloc: Global,
     out: &mut String,
-    image: &Image,
+    program: &Program<'_>,
     world: &RcWorld,
     pid: u32,
 ) -> Result<(), AllocError>
-    ensures { OnOk result (string_bytes out.new ++ life_lines image.now (pid + 1) (drop (pid + 1) world.now.processes)
-        ≡ string_bytes out.old ++ life_lines image.now pid (drop pid world.now.processes)) }
+    ensures { OnOk result (string_bytes out.new ++ life_lines program.now (pid + 1) (drop (pid + 1) world.now.processes)
+        ≡ string_bytes out.old ++ life_lines program.now pid (drop pid world.now.processes)) }
 {
     match world.process(pid) {
-        Some(shown) => push_life_line(alloc, out, image, pid, &shown),
+        Some(shown) => push_life_line(alloc, out, program, pid, &shown),
         None => Ok(()),
     }
 }
@@ -93,14 +93,14 @@ fn push_life_at(
 pub(crate) fn push_where(
     alloc: Global,
     out: &mut String,
-    image: &Image,
+    program: &Program<'_>,
     world: &RcWorld,
 ) -> Result<(), AllocError>
     ensures { OnOk result (string_bytes out.new
-        ≡ string_bytes out.old ++ where_answer image.now world.now.processes) }
+        ≡ string_bytes out.old ++ where_answer program.now world.now.processes) }
 {
     for pid in 0..world.len() {
-        push_life_at(alloc, out, image, world, pid as u32)?;
+        push_life_at(alloc, out, program, world, pid as u32)?;
     }
     out.push_str("end\n")
 }

@@ -1,13 +1,13 @@
 //! Lines of commands, read piece by piece and answered one by one.
 
-ghost use Rattle.std.specs.Prelude.{◌<◌, ◌≤◌, [], ◌∷◌, OnOk, length};
+ghost use Rattle.std.specs.Prelude.{◌≡◌, ◌<◌, ◌≤◌, [], ◌∷◌, OnOk, length};
 ghost use Rattle.std.specs.Io.KnownBytes.{Appends};
 ghost use Rattle.bx_debugger.specs.Talks.{Feeds, Finishes, Replies, Talks, Turns, begins};
 
 use crate::prompts::Prompt;
 use crate::replies::answer_line;
 use bx_debug::Session;
-use bx_engine::{Failure, INPUT_LIMIT, MOST_ASKS};
+use bx_engine::{Failure, INPUT_LIMIT, MOST_ASKS, Sources};
 use bx_terms::Fault;
 use std::alloc::Global;
 use std::io;
@@ -26,10 +26,11 @@ pub(crate) enum Next {
     Over,
 }
 
-/// A session, the line that has begun and its number from 1, and how many bytes more may come.
+/// A session, where the items of its code stand, the line that has begun and its number from 1, and how many bytes more may come.
 #[derive(Drop)]
 pub(crate) struct Talk<'a> {
     session: Session<'a>,
+    sources: &'a Sources,
     number: usize,
     line: Vec<u8>,
     left: usize,
@@ -55,6 +56,7 @@ impl<'a> Model for Talk<'a> {
 
     ghost view = { λ t. record {
       session = t.session;
+      sources = t.sources.now;
       number = t.number;
       line = t.line.items;
       left =
@@ -70,20 +72,15 @@ impl<'a> Model for Talk<'a> {
 pub(crate) fn answer_all<C: Read, W: Write, P: Prompt>(
     alloc: Global,
     file: usize,
-    session: Session<'_>,
+    talk: Talk<'_>,
     commands: &mut C,
     writer: &mut W,
     prompt: &P,
 ) -> Result<(), Failure>
-    ensures { Talks file (begins session.entry) (W.contents writer.old) (W.contents writer.new)
+    ensures { Talks file talk.entry (W.contents writer.old) (W.contents writer.new)
         (C.remaining commands.old) (C.remaining commands.new) result }
 {
-    let mut talk = Talk {
-        session,
-        number: 1,
-        line: Vec::new(alloc),
-        left: INPUT_LIMIT,
-    };
+    let mut talk = talk;
     let mut chunk = [0; PIECE];
     for _ in 0..MOST_ASKS {
         prompt.ask(talk.session.at(), talk.session.len());
@@ -97,6 +94,19 @@ pub(crate) fn answer_all<C: Read, W: Write, P: Prompt>(
 }
 
 impl<'a> Talk<'a> {
+    /// Nothing was read yet.
+    pub(crate) fn new(alloc: Global, session: Session<'a>, sources: &'a Sources) -> Talk<'a>
+        ensures { result ≡ begins sources.entry.now session.entry }
+    {
+        Talk {
+            session,
+            sources,
+            number: 1,
+            line: Vec::new(alloc),
+            left: INPUT_LIMIT,
+        }
+    }
+
     /// Asks a reader once, and answers each line that what it gave ends.
     fn turn<C: Read, W: Write>(
         &mut self,
@@ -191,7 +201,9 @@ impl<'a> Talk<'a> {
         if self.line.as_slice() == b"quit".as_slice() {
             return Ok(Next::Over);
         }
-        let Ok(text) = answer_line(alloc, &mut self.session, self.number, &self.line) else {
+        let sources = self.sources;
+        let Ok(text) = answer_line(alloc, &mut self.session, sources, self.number, &self.line)
+        else {
             return Err(Failure::Refused(Fault::Memory, None));
         };
         match send(text.as_bytes(), writer) {

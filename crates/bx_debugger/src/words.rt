@@ -2,10 +2,10 @@
 
 ghost use Rattle.std.specs.Prelude.{◌≡◌, ◌++◌, OnOk, string_bytes};
 ghost use Rattle.bx_terms.specs.Printed.{printed};
-ghost use Rattle.bx_load.specs.Names.{place_text};
 ghost use Rattle.bx_load.specs.Numbering.{numbered_at};
 ghost use Rattle.bx_debugger.specs.Words.{class_words, here_words, item_or_dash, place_words, term_lines, value_words};
 
+use crate::programs::Program;
 use bx_cells::Value;
 use bx_dis::item_text;
 use bx_load::Image;
@@ -26,34 +26,18 @@ pub(crate) fn push_term(
     out.push_str(text.as_str())
 }
 
-/// Adds an address, as `break` names it.
-pub(crate) fn push_place(
-    alloc: Global,
-    out: &mut String,
-    image: &Image,
-    place: Place,
-) -> Result<(), AllocError>
-    ensures { OnOk result
-        (string_bytes out.new ≡ string_bytes out.old ++ place_text image.now place) }
-{
-    match image.place_name(alloc, place) {
-        Ok(text) => out.push_str(text.as_str()),
-        Err(_) => Err(AllocError),
-    }
-}
-
 /// Adds an address, or a dash where there is none.
 pub(crate) fn push_place_or_dash(
     alloc: Global,
     out: &mut String,
-    image: &Image,
+    program: &Program<'_>,
     place: Option<Place>,
 ) -> Result<(), AllocError>
     ensures { OnOk result
-        (string_bytes out.new ≡ string_bytes out.old ++ place_words image.now place) }
+        (string_bytes out.new ≡ string_bytes out.old ++ place_words program.now place) }
 {
     match place {
-        Some(place) => push_place(alloc, out, image, place),
+        Some(place) => program.push_place(alloc, out, place),
         None => out.push_str("-"),
     }
 }
@@ -72,21 +56,21 @@ fn push_item(alloc: Global, out: &mut String, image: &Image, place: Place) -> Re
     }
 }
 
-/// Adds an address and the item there.
+/// Adds an address, where it stands in its source, and the item there.
 pub(crate) fn push_here(
     alloc: Global,
     out: &mut String,
-    image: &Image,
+    program: &Program<'_>,
     place: Option<Place>,
 ) -> Result<(), AllocError>
     ensures { OnOk result
-        (string_bytes out.new ≡ string_bytes out.old ++ here_words image.now place) }
+        (string_bytes out.new ≡ string_bytes out.old ++ here_words program.now place) }
 {
     match place {
         Some(place) => {
-            push_place(alloc, out, image, place)?;
+            program.push_place(alloc, out, place)?;
             out.push_str(" ")?;
-            push_item(alloc, out, image, place)
+            push_item(alloc, out, program.image(), place)
         }
         None => out.push_str("- -"),
     }
@@ -107,17 +91,17 @@ pub(crate) fn class_word(class: Class) -> &'static str
 pub(crate) fn push_value(
     alloc: Global,
     out: &mut String,
-    image: &Image,
+    program: &Program<'_>,
     value: &Value,
 ) -> Result<(), AllocError>
     ensures { OnOk result
-        (string_bytes out.new ≡ string_bytes out.old ++ value_words image.now value.now) }
+        (string_bytes out.new ≡ string_bytes out.old ++ value_words program.now value.now) }
 {
     match value {
-        Value::Term(term) => push_term(alloc, out, image.atoms(), term),
+        Value::Term(term) => push_term(alloc, out, program.image().atoms(), term),
         Value::Tag(place) => {
             out.push_str("catch ")?;
-            push_place(alloc, out, image, *place)
+            program.push_place(alloc, out, *place)
         }
         Value::Trace(class) => {
             out.push_str("trace ")?;

@@ -1,5 +1,5 @@
 -- A failure behind a start that was read is that of the whole, and nothing is written.
-use Rattle.std.proofs.Common.{◌≡◌, ◌∙◌, ℕ, List, Option, None, Some, Result, Ok, Err, refl, sym, ap, subst}
+use Rattle.std.proofs.Common.{◌≡◌, ◌∙◌, ℕ, List, Option, None, Some, Result, Err, refl, sym, ap, subst}
 use Rattle.std.specs.Prelude.{IsSome}
 use Rattle.std.proofs.KnownBytes.{Keeps-refl}
 use Rattle.bx_terms.specs.declared.faults.Fault.TheVariants.{Memory}

@@ -5,4 +5,4 @@ use Rattle.bx_debugger.proofs.holdings.push_xs.Given as goal
 
 -- what is written and what is left to write make the whole
 abbrev pub invariant-loop-number : goal.invariant-loop-number
-invariant-loop-number l = string_bytes l.out ++ x_lines l.image (listed l.number (drop l.number l.cells)) ≡ string_bytes l.fn.out ++ x_lines l.image (listed 0 l.cells)
+invariant-loop-number l = string_bytes l.out ++ x_lines l.program (listed l.number (drop l.number l.cells)) ≡ string_bytes l.fn.out ++ x_lines l.program (listed 0 l.cells)

@@ -1,8 +1,8 @@
 use Rattle.std.proofs.Common.{List, ℕ}
-use Rattle.bx_debugger.specs.Talks.{Hears, begins}
+use Rattle.bx_debugger.specs.Talks.{Hears}
 use Rattle.bx_debugger.proofs.talks.answer_all.Given as goal
 
 -- what the reader gave was heard
 abbrev pub invariant-loop : goal.invariant-loop
 invariant-loop g l = (read : List ℕ) × Hears (g.W.Write.contents l.fn.writer) (g.W.Write.contents l.writer) (g.C.Read.remaining l.fn.commands) (g.C.Read.remaining l.commands)
-    (begins l.fn.session) l.talk read
+    l.fn.talk l.talk read

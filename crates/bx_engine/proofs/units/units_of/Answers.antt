@@ -1,8 +1,6 @@
-use Rattle.std.proofs.Common.{rules, ◌≡◌, ◌<◌, ◌≤◌, ◌+◌, ◌∙◌, List, ℕ, Some, map, subst, sym, ap, length}
+use Rattle.std.proofs.Common.{rules, ◌<◌, ◌≤◌, ◌+◌, ◌∙◌, List, subst, sym, ap, length}
 use Rattle.bx_listing.specs.Code.{Code}
 use Rattle.bx_listing.specs.Reading.{Table}
-use Rattle.bx_listing.specs.Locations.{Located}
-use Rattle.bx_engine.specs.Sources.{Sources}
 use Rattle.bx_engine.proofs.FileRows.{next_file, so_far_next, sources_next, first_fault, clear_here, failed_files, all_files, all_sources, left_after, SoFar}
 use Rattle.bx_engine.proofs.units.units_of.Goals as goal
 

@@ -1,0 +1,66 @@
+-- `trace N`: the last choices before the position, oldest first, each with what it met.
+use Rattle.std.specs.Prelude.{ℕ, ◌+◌, List, [], ◌∷◌, ◌++◌, Option, Some, None, Result, Ok, Err, codes, decimal, drop, slice_get, take}
+use Rattle.bx_terms.specs.Options.{◌>>=◌}
+use Rattle.bx_terms.specs.declared.faults.Fault.{Fault}
+use Rattle.bx_terms.specs.declared.places.Place.{Place}
+use Rattle.bx_signals.specs.Channels.{waiting}
+use Rattle.bx_signals.specs.Waiting.{first}
+use Rattle.bx_signals.specs.declared.signal.Signal.{Signal}
+use Rattle.bx_load.specs.Image.{Loaded}
+use Rattle.bx_world.specs.declared.choices.Choice.{Choice}
+use Rattle.bx_world.specs.declared.choices.Choice.TheVariants.{Run, Deliver, Expire}
+use Rattle.bx_world.specs.Choosing.{applied}
+use Rattle.bx_world.specs.Seen.{place_in}
+use Rattle.bx_world.specs.Texts.{spelling}
+use Rattle.bx_world.specs.World.{Life, Live, Gone, State}
+use Rattle.bx_debug.specs.Leading.{led}
+use Rattle.bx_debug.specs.Sessions.{History, behind}
+use Rattle.bx_debugger.specs.Program.{Program}
+use Rattle.bx_debugger.specs.Signals.{signal_words}
+use Rattle.bx_debugger.specs.Words.{here_words, place_words}
+
+-- where a process goes on when its wait is over
+abbrev pub expires_of : Life → Option Place
+expires_of (Live process) = process.expires
+expires_of (Gone reason) = None
+
+abbrev pub expires_in : ℕ → State → Option Place
+expires_in p w = slice_get w.processes p >>= expires_of
+
+-- a signal as `signals` shows it, and a dash where none waits
+abbrev pub signal_or_dash : List (List ℕ) → Option Signal → List ℕ
+signal_or_dash texts None = codes "-"
+signal_or_dash texts (Some signal) = signal_words texts signal
+
+-- what a choice meets: a run the item at its process's address, a delivery the signal that waits first, and an expiration the address
+-- where its process goes on
+abbrev pub met_words : Program → Choice → State → List ℕ
+met_words program (Run p) w = here_words program (place_in p w)
+met_words program (Deliver p q) w = signal_or_dash program.image.atoms (first (waiting w.lanes.channels (p, q)))
+met_words program (Expire p) w = place_words program (expires_in p w)
+
+-- `12 r1 `
+abbrev pub choice_words : ℕ → Choice → List ℕ
+choice_words n choice = decimal n ++ codes " " ++ spelling choice ++ codes " "
+
+-- `12 r1 race:31 race.erl:11 ITEM`
+abbrev pub trace_line : Program → ℕ → Choice → State → List ℕ
+trace_line program n choice w = choice_words n choice ++ met_words program choice w ++ codes "\n"
+
+-- a choice that is refused changes nothing
+abbrev pub world_behind : State → Result (State × Unit {0}) Fault → State
+world_behind w (Ok after) = after.0
+world_behind w (Err fault) = w
+
+abbrev pub made : Loaded → Choice → State → State
+made image choice w = world_behind w (applied image choice w)
+
+-- a line for each choice, of which the first is made in this world and has this number
+abbrev pub trace_lines : Program → ℕ → State → List Choice → List ℕ
+trace_lines program n w [] = []
+trace_lines program n w (choice ∷ more) = trace_line program n choice w ++ trace_lines program (n + 1) (made program.image choice w) more
+
+-- the choices between the first k and the position, counted from 1
+abbrev pub trace_answer : Program → ℕ → History → List ℕ
+trace_answer program k s =
+    trace_lines program (k + 1) (led s.image (take k s.choices) s.start) (drop k (behind s)) ++ codes "end\n"

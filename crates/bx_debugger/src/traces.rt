@@ -1,0 +1,130 @@
+//! `trace N`: the last choices before the position, each with what it met.
+
+ghost use Rattle.std.specs.Prelude.{◌≡◌, ◌≤◌, ◌++◌, OnOk, option_map, string_bytes};
+ghost use Rattle.bx_debugger.specs.Trace.{choice_words, expires_in, made, met_words, signal_or_dash, trace_answer, trace_line};
+
+use crate::programs::Program;
+use crate::signal_lines::push_signal;
+use crate::words::{push_here, push_place_or_dash};
+use bx_debug::Session;
+use bx_load::Image;
+use bx_signals::Signal;
+use bx_terms::{Atoms, Fault, Place};
+use bx_world::{Choice, RcWorld, Shown, choice_text};
+use std::alloc::{AllocError, Global};
+
+/// Where the process of that pid goes on when its wait for a time is over.
+fn expires_in(pid: u32, world: &RcWorld) -> Option<Place>
+    ensures { result ≡ expires_in pid world.now }
+{
+    match world.process(pid)? {
+        Shown::Live(process) => process.expiry(),
+        Shown::Gone(_) => None,
+    }
+}
+
+/// Adds a signal as `signals` shows it, or a dash where there is none.
+fn push_signal_or_dash(
+    alloc: Global,
+    out: &mut String,
+    atoms: &Atoms,
+    signal: Option<&Signal>,
+) -> Result<(), AllocError>
+    ensures { OnOk result (string_bytes out.new
+        ≡ string_bytes out.old ++ signal_or_dash atoms.now (option_map (λ s. s.now) signal.entry)) }
+{
+    match signal {
+        Some(signal) => push_signal(alloc, out, atoms, signal),
+        None => out.push_str("-"),
+    }
+}
+
+/// Adds what a choice meets in a world.
+fn push_met(
+    alloc: Global,
+    out: &mut String,
+    program: &Program<'_>,
+    choice: Choice,
+    world: &RcWorld,
+) -> Result<(), AllocError>
+    ensures { OnOk result
+        (string_bytes out.new ≡ string_bytes out.old ++ met_words program.now choice world.now) }
+{
+    match choice {
+        Choice::Run(pid) => push_here(alloc, out, program, world.place(pid)),
+        Choice::Deliver(from, to) => {
+            let signal = world.channels().first(from, to);
+            push_signal_or_dash(alloc, out, program.image().atoms(), signal)
+        }
+        Choice::Expire(pid) => push_place_or_dash(alloc, out, program, expires_in(pid, world)),
+    }
+}
+
+/// Adds a choice behind its number.
+fn push_choice(
+    alloc: Global,
+    out: &mut String,
+    number: usize,
+    choice: Choice,
+) -> Result<(), AllocError>
+    ensures { OnOk result
+        (string_bytes out.new ≡ string_bytes out.old ++ choice_words number choice) }
+{
+    let Ok(text) = choice_text(alloc, choice) else {
+        return Err(AllocError);
+    };
+    write!(out, "{number} ")?;
+    out.push_str(text.as_str())?;
+    out.push_str(" ")
+}
+
+/// Adds the line of a choice, before which its number stands, in the world where it is made.
+fn push_trace_line(
+    alloc: Global,
+    out: &mut String,
+    program: &Program<'_>,
+    numbered: (usize, Choice),
+    world: &RcWorld,
+) -> Result<(), AllocError>
+    ensures { OnOk result (string_bytes out.new
+        ≡ string_bytes out.old ++ trace_line program.now numbered.0 numbered.1 world.now) }
+{
+    let (number, choice) = numbered;
+    push_choice(alloc, out, number, choice)?;
+    push_met(alloc, out, program, choice, world)?;
+    out.push_str("\n")
+}
+
+/// Makes a choice. One that is refused changes nothing.
+fn make(alloc: Global, image: &Image, choice: Choice, world: &mut RcWorld) -> Result<(), AllocError>
+    ensures { OnOk result (world.new ≡ made image.now choice world.old) }
+{
+    match world.apply(alloc, image, choice) {
+        Err(Fault::Memory) => Err(AllocError),
+        _ => Ok(()),
+    }
+}
+
+/// Adds the answer to `trace`: a line for each choice before the position but the first ones, and `end`.
+///
+/// Only choices behind the nearest world that the session kept before them are made again.
+pub(crate) fn push_trace(
+    alloc: Global,
+    out: &mut String,
+    program: &Program<'_>,
+    session: &Session<'_>,
+    first: usize,
+) -> Result<(), AllocError>
+    requires { first ≤ session.now.at }
+    ensures { OnOk result (string_bytes out.new
+        ≡ string_bytes out.old ++ trace_answer program.now first session.now) }
+{
+    let choices = &session.choices()[..session.at()];
+    let mut world = session.world_at(alloc, first)?;
+    for at in first..choices.len() {
+        let choice = choices[at];
+        push_trace_line(alloc, out, program, (at + 1, choice), &world)?;
+        make(alloc, program.image(), choice, &mut world)?;
+    }
+    out.push_str("end\n")
+}
