@@ -156,9 +156,9 @@ fn ratio(one: u128, other: u128) -> (u128, u128) {
     (hundredths / 100, hundredths % 100)
 }
 
-/// What one of so many took, in nanoseconds and tenths.
-fn each(nanos: u128, count: u64) -> (u128, u128) {
-    let tenths = nanos
+/// What one of so many took of a whole, and the tenths.
+fn each(whole: u128, count: u64) -> (u128, u128) {
+    let tenths = whole
         .saturating_mul(10)
         .checked_div(u128::from(count))
         .unwrap_or(0);
@@ -175,6 +175,19 @@ pub fn rate<R: Eprint>(rt: &R, name: &str, bytes: u64, nanos: Option<u128>) -> R
         .checked_div(nanos)
         .unwrap_or(0);
     eprintln!(rt; "{name}: {bytes} bytes, {megabytes} MB a second")?;
+    Ok(())
+}
+
+/// Tells how many bytes one of so many took.
+pub fn bytes_each<R: Eprint>(
+    rt: &R,
+    name: &str,
+    bytes: u64,
+    count: u64,
+    unit: &str,
+) -> Result<(), Trouble> {
+    let (whole, rest) = each(u128::from(bytes), count);
+    eprintln!(rt; "{name}: {whole}.{rest} bytes {unit}, {count} of them")?;
     Ok(())
 }
 

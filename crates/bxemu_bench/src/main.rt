@@ -3,19 +3,22 @@
 //! `bxemu_bench listing ITEMS`, `bxemu_bench choices ROUNDS`, `bxemu_bench worlds LAPS`, `bxemu_bench ring ROUNDS`,
 //! `bxemu_bench senders TURNS`, `bxemu_bench session CHOICES`, `bxemu_bench campaign SCHEDULES`, `bxemu_bench units SCHEDULES`;
 //! over a listing in a file `bxemu_bench program CHOICES FILE` and `bxemu_bench forms ROUNDS FILE`; at random
-//! `bxemu_bench walk CHOICES`.
+//! `bxemu_bench walk CHOICES` and `bxemu_bench swaps POSITIONS`; and `bxemu_bench kept CHOICES GROWING`, where nothing grows, or
+//! the stack, mailbox or output.
 #![tactic(auto)]
 
 mod campaigns;
 mod crowds;
 mod figures;
 mod generated;
+mod kept;
 mod listings;
 mod plans;
 mod programs;
 mod replays;
 mod scenes;
 mod sessions;
+mod swaps;
 mod texts;
 mod trouble;
 mod units;
@@ -69,11 +72,11 @@ fn take(rt: &HostRuntime) -> Result<(), Trouble> {
     match words.as_slice() {
         [] | [_] => Ok(()),
         [_, word, number] => by_number(rt, word.as_str(), parsed(number.as_str())?),
-        [_, word, number, file] => by_file(
+        [_, word, number, name] => by_name(
             rt,
             word.as_str(),
             parsed(number.as_str())?,
-            file.as_str(),
+            name.as_str(),
         ),
         _ => Err(Trouble::Usage),
     }
@@ -94,18 +97,19 @@ fn by_number(rt: &HostRuntime, word: &str, number: u32) -> Result<(), Trouble> {
         "ring" => crowds::ring(rt, number),
         "senders" => crowds::senders(rt, number),
         "session" => sessions::measure(rt, number),
+        "swaps" => swaps::measure(rt, number),
         "walk" => walks::measure(rt, number),
         "worlds" => worlds::measure(rt, number),
         _ => Err(Trouble::Usage),
     }
 }
 
-/// Takes a measure that asks for a number and a file.
-fn by_file(rt: &HostRuntime, word: &str, number: u32, file: &str) -> Result<(), Trouble> {
-    let text = fs::read(rt, file)?;
+/// Takes a measure that asks for a number, and for a file or what grows.
+fn by_name(rt: &HostRuntime, word: &str, number: u32, name: &str) -> Result<(), Trouble> {
     match word {
-        "program" => replays::program(rt, number, file, &text),
-        "forms" => texts::measure(rt, number, file, &text),
+        "kept" => kept::measure(rt, number, name),
+        "program" => replays::program(rt, number, name, &fs::read(rt, name)?),
+        "forms" => texts::measure(rt, number, name, &fs::read(rt, name)?),
         _ => Err(Trouble::Usage),
     }
 }

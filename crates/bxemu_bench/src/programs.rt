@@ -3,6 +3,7 @@
 use bx_asm::{Unit, assemble};
 use bx_listing::read_listing;
 use bx_load::{Image, load};
+use bx_replay::RcEnd;
 use bx_terms::{AtomId, Atoms, Fault};
 use bx_world::{Choice, RcWorld, RunEnd, advance};
 use std::alloc::Global;
@@ -64,8 +65,8 @@ impl Program {
         RcWorld::start(alloc, &self.image, self.module, self.start)
     }
 
-    /// Makes these choices from the start: how many there were.
-    pub fn replay(&self, alloc: Global, row: &[Choice]) -> Result<u64, Fault> {
+    /// Where these choices lead from the start.
+    pub fn lead(&self, alloc: Global, row: &[Choice]) -> Result<RcEnd, Fault> {
         let mut end = RunEnd {
             world: self.begin(alloc)?,
             applied: 0,
@@ -76,7 +77,12 @@ impl Program {
                 advance(alloc, &mut end, &self.image, *choice)?;
             }
         }
-        Ok(end.applied)
+        Ok(end)
+    }
+
+    /// Makes these choices from the start: how many there were.
+    pub fn replay(&self, alloc: Global, row: &[Choice]) -> Result<u64, Fault> {
+        Ok(self.lead(alloc, row)?.applied)
     }
 }
 

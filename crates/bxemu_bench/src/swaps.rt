@@ -1,0 +1,172 @@
+//! What exchanges cost of choices that are independent, in a long schedule of a few small processes.
+
+use crate::figures::{Rounds, Watch, figure_beyond, figure_of};
+use crate::programs::Program;
+use crate::trouble::Trouble;
+use bx_plan::Schedule;
+use bx_replay::Trail;
+use bx_swaps::check_swaps;
+use bx_terms::Fault;
+use bx_world::{Choice, RcWorld, RunEnd};
+use rand_core::Rng;
+use rand_pcg::Pcg32;
+use std::alloc::Global;
+
+/// How many choices the schedule makes.
+const CHOICES: u32 = 100_000;
+
+/// How often each measure is taken, in turn with what it is compared with.
+const ROUNDS: u32 = 5;
+
+/// Processes 1 and 2 loop, each by itself; 0 and 3 hand a message to each other.
+const LISTING: &str = "{module,m}. {exports,[{f,0},{g,0},{h,1}]}. {attributes,[]}. {labels,10}.
+{function,h,1,5}. {label,4}. {func_info,{atom,m},{atom,h},1}. {label,5}. {move,{x,0},{x,3}}.
+{label,6}. {loop_rec,{f,7},{x,0}}. remove_message. {move,{x,0},{x,1}}. {move,{x,3},{x,0}}. send. {jump,{f,6}}.
+{label,7}. {wait,{f,6}}.
+{function,g,0,9}. {label,8}. {func_info,{atom,m},{atom,g},0}. {label,9}. {move,{atom,ok},{x,0}}. {jump,{f,9}}.
+{function,f,0,2}. {label,1}. {func_info,{atom,m},{atom,f},0}. {label,2}. {bif,self,{f,0},[],{x,5}}.
+{move,{atom,m},{x,0}}. {move,{atom,g},{x,1}}. {move,nil,{x,2}}. {call_ext,3,{extfunc,erlang,spawn,3}}.
+{move,{atom,m},{x,0}}. {move,{atom,g},{x,1}}. {move,nil,{x,2}}. {call_ext,3,{extfunc,erlang,spawn,3}}.
+{move,{atom,m},{x,0}}. {move,{atom,h},{x,1}}. {put_list,{x,5},nil,{x,2}}. {call_ext,3,{extfunc,erlang,spawn,3}}.
+{move,{x,0},{x,3}}. {move,{atom,t},{x,1}}. send. {jump,{f,6}}.";
+
+/// Exchanges choices at so many positions, drawn among those where the two are independent.
+pub fn measure(rt: &HostRuntime, positions: u32) -> Result<(), Trouble> {
+    let program = Program::of(rt.alloc(), LISTING.as_bytes(), "f")?;
+    let row = walk(rt.alloc(), &program)?;
+    let given = Schedule::from_choices(rt.alloc(), &row)?;
+    let (positions, wanted) = draw(rt.alloc(), &program, row, positions as usize)?;
+    let made = exchanged(rt.alloc(), &program, &given, &positions)?;
+    if !is_right(rt.alloc(), &program, &given, &made, &wanted)? {
+        return Err(Trouble::Wrong);
+    }
+    in_turn(rt, &program, &given, &positions)
+}
+
+/// A schedule, drawn at each choice among those that are enabled.
+fn walk(alloc: Global, program: &Program) -> Result<Vec<Choice>, Fault> {
+    let mut rng = Pcg32::new(1, 11);
+    let mut world = program.begin(alloc)?;
+    let mut row = Vec::new(alloc);
+    for _turn in 0..CHOICES {
+        let Some(choice) = any_enabled(alloc, &mut rng, &world)? else {
+            break;
+        };
+        world.apply(alloc, program.image(), choice)?;
+        row.push(choice)?;
+    }
+    Ok(row)
+}
+
+fn any_enabled(alloc: Global, rng: &mut Pcg32, world: &RcWorld) -> Result<Option<Choice>, Fault> {
+    let open = world.enabled(alloc)?;
+    let at = rng.next_u32() as usize % open.len().max(1);
+    Ok(open.get(at).copied())
+}
+
+/// So many positions, each drawn where the two choices are independent behind the exchanges before it, and the choices with all
+/// exchanges made.
+fn draw(
+    alloc: Global,
+    program: &Program,
+    row: Vec<Choice>,
+    count: usize,
+) -> Result<(Vec<usize>, Vec<Choice>), Fault> {
+    let start = RunEnd {
+        world: program.begin(alloc)?,
+        applied: 0,
+        refused: None,
+    };
+    let mut trail = Trail::of(alloc, program.image(), start, row)?;
+    let mut rng = Pcg32::new(2, 11);
+    let mut positions = Vec::new(alloc);
+    for _draw in 0..u32::MAX {
+        if positions.len() >= count {
+            break;
+        }
+        let at = rng.next_u32() as usize % trail.len().max(1);
+        if trail.exchange(alloc, at)? {
+            positions.push(at)?;
+        }
+    }
+    Ok((positions, trail.into_choices()))
+}
+
+/// The schedule with these exchanges made.
+#[inline(never)]
+fn exchanged(
+    alloc: Global,
+    program: &Program,
+    given: &Schedule,
+    positions: &[usize],
+) -> Result<Schedule, Fault> {
+    check_swaps(
+        alloc,
+        program.image(),
+        program.module(),
+        program.start(),
+        given,
+        positions,
+    )
+}
+
+/// The schedule with no exchange made.
+#[inline(never)]
+fn unexchanged(alloc: Global, program: &Program, given: &Schedule) -> Result<Schedule, Fault> {
+    check_swaps(
+        alloc,
+        program.image(),
+        program.module(),
+        program.start(),
+        given,
+        &[],
+    )
+}
+
+/// Whether the schedule that was made is the wanted one, and a plain run of it leads where one of the given schedule leads.
+fn is_right(
+    alloc: Global,
+    program: &Program,
+    given: &Schedule,
+    made: &Schedule,
+    wanted: &[Choice],
+) -> Result<bool, Fault> {
+    let one = program.lead(alloc, &given.to_choices(alloc)?)?;
+    let other = program.lead(alloc, wanted)?;
+    Ok(made.same(&Schedule::from_choices(alloc, wanted)?) && one.same(&other))
+}
+
+/// What the exchanges cost beyond the run of the schedule, and what a choice of it costs.
+fn in_turn(
+    rt: &HostRuntime,
+    program: &Program,
+    given: &Schedule,
+    positions: &[usize],
+) -> Result<(), Trouble> {
+    let mut with = Rounds::new(rt.alloc());
+    let mut without = Rounds::new(rt.alloc());
+    for _round in 0..ROUNDS {
+        let watch = Watch::start(rt);
+        let _ = exchanged(rt.alloc(), program, given, positions)?;
+        with.push(watch.nanos(rt))?;
+        let watch = Watch::start(rt);
+        let _ = unexchanged(rt.alloc(), program, given)?;
+        without.push(watch.nanos(rt))?;
+    }
+    let count = positions.len() as u64;
+    figure_beyond(
+        rt,
+        "exchanges beyond the run",
+        count,
+        "a position",
+        &mut with,
+        &mut without,
+    )?;
+    figure_of(
+        rt,
+        "the run alone",
+        u64::from(CHOICES),
+        "a choice",
+        &mut without,
+    )
+}
