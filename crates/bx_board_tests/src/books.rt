@@ -1,7 +1,9 @@
 //! Calls of a book in a row, by several workers.
 
-use crate::samples::{APART, APART_TEXT, book, finished, image, plan};
+use crate::samples::{APART, APART_TEXT, BELOW, book, finished, image, plan};
 use bx_board::{Book, Piece, work};
+use bx_load::Image;
+use bx_plan::Plan;
 use bx_terms::Fault;
 use bx_world::Choice;
 use std::alloc::Global;
@@ -41,6 +43,16 @@ const HISTORY: [(Call, &str); 21] = [
     (Call::Lease(3), "none"),
     (Call::Submit(2, 1), "taken"),
     (Call::Counts, "0 0 0 3"),
+];
+
+/// The calls over a plan of a chain on which two stand, which are not born until it is done.
+const ABOVE_ONE: [(Call, &str); 6] = [
+    (Call::Counts, "2 1 0 1"),
+    (Call::Lease(1), "leased"),
+    (Call::Counts, "2 0 1 1"),
+    (Call::Submit(1, 0), "taken"),
+    (Call::Counts, "0 2 0 2"),
+    (Call::Lease(1), "leased"),
 ];
 
 /// A lease that is worked at once.
@@ -110,6 +122,22 @@ fn answer<'a>(
     }
 }
 
+/// The first call of a history that is answered otherwise, where one is.
+fn first_other<'a>(
+    alloc: Global,
+    book: &mut Book<'a>,
+    history: &[(Call, &str)],
+    pieces: &mut Vec<Option<Piece<'a>>>,
+) -> Result<Option<Call>, Fault> {
+    for (call, expected) in history {
+        let got = answer(alloc, book, *call, pieces)?;
+        if got.as_str() != *expected {
+            return Ok(Some(*call));
+        }
+    }
+    Ok(None)
+}
+
 #[test]
 fn each_call_is_one_event_or_a_refusal(rt: HostRuntime) -> Result<(), Fail> {
     let alloc = rt.alloc();
@@ -117,12 +145,64 @@ fn each_call_is_one_event_or_a_refusal(rt: HostRuntime) -> Result<(), Fail> {
     let plan = plan(alloc, APART)?;
     let mut book = book(alloc, &image, &plan)?;
     let mut pieces = Vec::new(alloc);
-    for (call, expected) in HISTORY.iter() {
-        let got = answer(alloc, &mut book, *call, &mut pieces)?;
-        assert_eq!(&rt; got.as_str(), *expected);
-    }
+    assert_eq!(&rt; first_other(alloc, &mut book, &HISTORY, &mut pieces)?, None);
     let text = finished(alloc, &image, book)?;
     assert_eq!(&rt; text.as_str(), APART_TEXT);
+    Ok(())
+}
+
+/// A piece of two choices; none where a call before it is answered otherwise than it should be.
+fn longer_piece<'a>(
+    alloc: Global,
+    image: &'a Image,
+    plan: &'a Plan,
+) -> Result<Option<Piece<'a>>, Fault> {
+    let mut book = book(alloc, image, plan)?;
+    let mut pieces = Vec::new(alloc);
+    if first_other(alloc, &mut book, &ABOVE_ONE, &mut pieces)?.is_some() {
+        return Ok(None);
+    }
+    match pieces.pop() {
+        Some(piece) => Ok(piece),
+        None => Ok(None),
+    }
+}
+
+/// Whether a piece of two choices is no chain's of a plan of one choice a schedule.
+fn is_foreign<'a>(
+    alloc: Global,
+    image: &'a Image,
+    short: &'a Plan,
+    long: &'a Plan,
+) -> Result<bool, Fault> {
+    let Some(piece) = longer_piece(alloc, image, long)? else {
+        return Ok(false);
+    };
+    let mut book = book(alloc, image, short)?;
+    match book.submit(1, piece) {
+        Ok(()) => Ok(false),
+        Err((fault, _piece)) => Ok(fault == Fault::Foreign),
+    }
+}
+
+#[test]
+fn a_chain_of_another_plan_is_foreign(rt: HostRuntime) -> Result<(), Fail> {
+    let alloc = rt.alloc();
+    let image = image(alloc)?;
+    let short = plan(alloc, APART)?;
+    let long = plan(alloc, BELOW)?;
+    assert!(rt; is_foreign(alloc, &image, &short, &long)?);
+    Ok(())
+}
+
+#[test]
+fn a_book_whose_chains_are_not_done_is_unfinished(rt: HostRuntime) -> Result<(), Fail> {
+    let alloc = rt.alloc();
+    let image = image(alloc)?;
+    let plan = plan(alloc, APART)?;
+    let book = book(alloc, &image, &plan)?;
+    let text = finished(alloc, &image, book)?;
+    assert_eq!(&rt; text.as_str(), "Unfinished");
     Ok(())
 }
 

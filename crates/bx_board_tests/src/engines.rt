@@ -1,9 +1,8 @@
 //! Runs of whole texts: the report that is written, or the line of the first failure.
 
 use bx_engine::{Failure, fault_line, run_text};
+use bxemu_testkit::{FailingReader, FailingWriter, told};
 use std::alloc::{AllocError, Global};
-use std::io;
-use std::io::{ErrorKind, Read, Write};
 use std::test::Fail;
 
 const M: &str = "{module,m}.
@@ -65,11 +64,11 @@ fn with_line(
         let names = names(alloc, listings)?;
         fault_line(&failure, &names, &mut written);
     }
-    Ok(String::from_utf8(written).ok().ok_or("text")?)
+    Ok(told(written)?)
 }
 
 /// What a run writes, and behind it the line of its failure.
-fn told<'a>(
+fn told_of_run<'a>(
     alloc: Global,
     listings: &[&'a str],
     start: &str,
@@ -94,10 +93,10 @@ fn reports_of_runs(rt: HostRuntime) -> Result<(), Fail> {
         ),
     ];
     for (plan, want) in rows {
-        let text = told(rt.alloc(), &[M, N], "m:f", plan)?;
+        let text = told_of_run(rt.alloc(), &[M, N], "m:f", plan)?;
         assert!(rt; text.as_str() == want, "{text}");
     }
-    let alone = told(rt.alloc(), &[M], "m:f", "a: r0")?;
+    let alone = told_of_run(rt.alloc(), &[M], "m:f", "a: r0")?;
     assert!(rt;
         alone.as_str()
             == "schedule a\napplied 1\nstate quiet\nprocess <0.0.0> ended {undef,[]}\nend\n"
@@ -135,38 +134,26 @@ fn the_first_failure_is_told(rt: HostRuntime) -> Result<(), Fail> {
         (&[], "m:f", "b", "bxemu: R24 BadLine line 1 in plan\n"),
     ];
     for (listings, start, plan, want) in rows {
-        let text = told(rt.alloc(), listings, start, plan)?;
+        let text = told_of_run(rt.alloc(), listings, start, plan)?;
         assert!(rt; text.as_str() == want, "{text}");
     }
     Ok(())
 }
 
-/// A reader of a text that fails, or that ends, behind it.
-#[derive(Drop)]
-struct FailBehind<'a> {
-    text: &'a [u8],
-    fails: bool,
-}
-
-impl Read for FailBehind<'_> {
-    fn read(&mut self, buf: &mut [u8]) -> io::Result<usize> {
-        if self.fails && self.text.is_empty() {
-            return Err(io::Error::from(ErrorKind::Other));
-        }
-        self.text.read(buf)
-    }
+/// A reader of a text that fails, or ends, behind it.
+fn reader(text: &str, fails: bool) -> FailingReader<'_> {
+    let fails_at = if fails {
+        u32::try_from(text.len()).unwrap_or(u32::MAX)
+    } else {
+        u32::MAX
+    };
+    FailingReader::by_bytes(text.as_bytes(), fails_at)
 }
 
 /// What a run over `M` and a plan that is refused tells, where the listing's reader fails, or else the plan's.
 fn told_of_readers(alloc: Global, listing_fails: bool) -> Result<String, Fail> {
-    let mut listings = [FailBehind {
-        text: M.as_bytes(),
-        fails: listing_fails,
-    }];
-    let mut plan = FailBehind {
-        text: b"a r0",
-        fails: !listing_fails,
-    };
+    let mut listings = [reader(M, listing_fails)];
+    let mut plan = reader("a r0", !listing_fails);
     let mut written = Vec::new(alloc);
     let ended = run_text(alloc, &mut listings, "m:f", &mut plan, &mut written);
     with_line(alloc, ended, 1, written)
@@ -181,32 +168,9 @@ fn readers_that_fail(rt: HostRuntime) -> Result<(), Fail> {
     Ok(())
 }
 
-/// A writer that takes one byte at a time, and fails once there is no room.
-#[derive(Drop)]
-struct Narrow {
-    room: usize,
-}
-
-impl Write for Narrow {
-    fn write(&mut self, buf: &[u8]) -> io::Result<usize> {
-        if self.room == 0 {
-            return Err(io::Error::from(ErrorKind::Other));
-        }
-        if buf.is_empty() {
-            return Ok(0);
-        }
-        self.room -= 1;
-        Ok(1)
-    }
-
-    fn flush(&mut self) -> io::Result<()> {
-        Ok(())
-    }
-}
-
 /// The line of a run whose report has 61 bytes, where there is room for so many; nothing where it does not fail.
-fn told_of_writer(alloc: Global, room: usize) -> Result<String, Fail> {
-    let mut writer = Narrow { room };
+fn told_of_writer(alloc: Global, room: u32) -> Result<String, Fail> {
+    let mut writer = FailingWriter::new(alloc, 1, room);
     let mut plan = b"b:".as_slice();
     let ended = run_text(alloc, &mut [M.as_bytes()], "m:f", &mut plan, &mut writer);
     with_line(alloc, ended, 1, Vec::new(alloc))

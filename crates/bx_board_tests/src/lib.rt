@@ -16,6 +16,8 @@ mod lines;
 #[cfg(test)]
 mod plans;
 #[cfg(test)]
+mod refused_calls;
+#[cfg(test)]
 mod reports;
 #[cfg(test)]
 mod samples;

@@ -2,32 +2,9 @@
 
 use bx_engine::{Failure, fault_line};
 use bx_terms::{Fault, Name};
+use bxemu_testkit::FailingWriter;
 use std::alloc::{AllocError, Global};
-use std::io;
-use std::io::{ErrorKind, Write};
 use std::test::Fail;
-
-/// A writer over memory whose calls fail from one on.
-#[derive(Drop)]
-struct FailAt {
-    written: Vec<u8>,
-    calls_left: u32,
-}
-
-impl Write for FailAt {
-    fn write(&mut self, buf: &[u8]) -> io::Result<usize> {
-        if self.calls_left == 0 {
-            return Err(io::Error::from(ErrorKind::Other));
-        }
-        self.calls_left -= 1;
-        self.written.extend_from_slice(buf)?;
-        Ok(buf.len())
-    }
-
-    fn flush(&mut self) -> io::Result<()> {
-        Ok(())
-    }
-}
 
 /// The names of two listings and a plan.
 fn names(alloc: Global) -> Result<Vec<String>, AllocError> {
@@ -167,11 +144,7 @@ fn gives_the_status_where_the_line_cannot_be_written(rt: HostRuntime) -> Result<
     let whole = b"bxemu: R9 Unsupported line 7 a\\x{a}b in plan\n".as_slice();
     let failure = Failure::Refused(unsupported(alloc, 7, "a\nb")?, Some(2));
     for calls_left in 0..32 {
-        let written = Vec::new(alloc);
-        let mut writer = FailAt {
-            written,
-            calls_left,
-        };
+        let mut writer = FailingWriter::new(alloc, usize::MAX, calls_left);
         assert_eq!(rt; fault_line(&failure, names.as_slice(), &mut writer), 1);
         assert!(rt; whole.starts_with(writer.written.as_slice()));
         assert!(rt; writer.calls_left == 0 || writer.written.as_slice() == whole);

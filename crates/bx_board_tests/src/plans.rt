@@ -4,37 +4,33 @@ use bx_plan::{Plan, Run as Repeat, Schedule, read_choices, read_plan};
 use bx_terms::Fault;
 use bx_world::Choice;
 use bx_world::Choice::{Deliver, Expire, Run};
-use std::alloc::Global;
 use std::test::Fail;
 
 /// What a plan's text is: how many schedules, or the number of the refusal and its line.
-fn outcome(rt: &HostRuntime, text: &[u8]) -> (u8, usize) {
+fn outcome(rt: &HostRuntime, text: &[u8]) -> Result<(u8, usize), Fault> {
     match read_plan(rt.alloc(), text) {
-        Ok(plan) => (0, plan.len()),
-        Err(Fault::BadLine { line }) => (24, line),
-        Err(Fault::NameTwice { line }) => (25, line),
-        Err(Fault::TooLong { line }) => (26, line),
-        Err(_) => (99, 0),
+        Ok(plan) => Ok((0, plan.len())),
+        Err(Fault::BadLine { line }) => Ok((24, line)),
+        Err(Fault::NameTwice { line }) => Ok((25, line)),
+        Err(Fault::TooLong { line }) => Ok((26, line)),
+        Err(fault) => Err(fault),
     }
 }
 
 /// Whether the schedule of this number makes these choices.
-fn makes(rt: &HostRuntime, plan: &Plan, number: usize, choices: &[Choice]) -> bool {
-    match plan.schedule(rt.alloc(), number) {
-        Some(Ok(schedule)) => match schedule.to_choices(rt.alloc()) {
-            Ok(made) => made.as_slice() == choices && schedule.len() == choices.len(),
-            Err(_) => false,
-        },
-        _ => false,
-    }
+fn makes(rt: &HostRuntime, plan: &Plan, number: usize, choices: &[Choice]) -> Result<bool, Fault> {
+    let Some(schedule) = plan.schedule(rt.alloc(), number) else {
+        return Ok(false);
+    };
+    let schedule = schedule?;
+    let made = schedule.to_choices(rt.alloc())?;
+    Ok(made.as_slice() == choices && schedule.len() == choices.len())
 }
 
 #[test]
-fn lines_in_order_with_their_choices(rt: HostRuntime) {
+fn lines_in_order_with_their_choices(rt: HostRuntime) -> Result<(), Fail> {
     let text = "# \u{e9}\n\na: r0*2 d1>1023 r1023\n#\nb_-9Z: d0>0*1 e7\nc:".as_bytes();
-    let Ok(plan) = read_plan(rt.alloc(), text) else {
-        panic!(rt; "refused")
-    };
+    let plan = read_plan(rt.alloc(), text)?;
     assert_eq!(rt; plan.len(), 3);
     let lines: [(&str, &[Choice]); 3] = [
         ("a", &[Run(0), Run(0), Deliver(1, 1023), Run(1023)]),
@@ -43,14 +39,15 @@ fn lines_in_order_with_their_choices(rt: HostRuntime) {
     ];
     for (number, (name, choices)) in lines.iter().enumerate() {
         assert!(rt; plan.label(number) == Some(*name), "at {number}");
-        assert!(rt; makes(&rt, &plan, number, choices), "at {number}");
+        assert!(rt; makes(&rt, &plan, number, choices)?, "at {number}");
     }
     assert!(rt; plan.label(3).is_none());
     assert!(rt; plan.schedule(rt.alloc(), 3).is_none());
+    Ok(())
 }
 
 #[test]
-fn texts_and_their_outcomes(rt: HostRuntime) {
+fn texts_and_their_outcomes(rt: HostRuntime) -> Result<(), Fail> {
     let name64 = b"aaaaaaaaaaaaaaaaaaaaaaaaaaaaaaaaaaaaaaaaaaaaaaaaaaaaaaaaaaaaaaaa:";
     let name65 = b"aaaaaaaaaaaaaaaaaaaaaaaaaaaaaaaaaaaaaaaaaaaaaaaaaaaaaaaaaaaaaaaaa:";
     let cases: [(&[u8], (u8, usize)); 36] = [
@@ -92,20 +89,19 @@ fn texts_and_their_outcomes(rt: HostRuntime) {
         (b"a:\n#\xff\na:", (24, 2)),
     ];
     for (number, (text, want)) in cases.iter().enumerate() {
-        let got = outcome(&rt, text);
+        let got = outcome(&rt, text)?;
         assert_eq!(rt; got.0, want.0, "case {number}");
         assert_eq!(rt; got.1, want.1, "case {number}");
     }
+    Ok(())
 }
 
 #[test]
-fn the_tree_shares_beginnings(rt: HostRuntime) {
-    let Ok(plan) = read_plan(
+fn the_tree_shares_beginnings(rt: HostRuntime) -> Result<(), Fail> {
+    let plan = read_plan(
         rt.alloc(),
         b"a: r0 r1\nb: r0 d0>1\nc: r0 r1 r1\nd:\ne: r0 r1",
-    ) else {
-        panic!(rt; "refused")
-    };
+    )?;
     // Nodes in the order of their first use: r0, r0 r1, r0 d0>1, r0 r1 r1.
     assert_eq!(rt; plan.nodes(), 5);
     let nodes: [(usize, Choice); 4] = [(0, Run(0)), (1, Run(1)), (1, Deliver(0, 1)), (2, Run(1))];
@@ -116,20 +112,17 @@ fn the_tree_shares_beginnings(rt: HostRuntime) {
     for (number, end) in [2, 3, 4, 0, 2].iter().enumerate() {
         assert!(rt; plan.end(number) == Some(*end), "line {number}");
     }
-    let (Ok(path), Some(Ok(schedule))) = (plan.path(rt.alloc(), 2), plan.schedule(rt.alloc(), 4))
-    else {
-        panic!(rt; "no memory")
-    };
+    let path = plan.path(rt.alloc(), 2)?;
+    let schedule = plan.schedule(rt.alloc(), 4).ok_or("no line")??;
     assert!(rt; path.same(&schedule));
+    Ok(())
 }
 
 #[test]
-fn a_million_nodes_and_no_more(rt: HostRuntime) {
+fn a_million_nodes_and_no_more(rt: HostRuntime) -> Result<(), Fail> {
     let mut text = String::new(rt.alloc());
     for k in 0..10 {
-        let Ok(()) = write!(text, "s{k}: r{k}*100000\n") else {
-            panic!(rt; "no memory")
-        };
+        write!(text, "s{k}: r{k}*100000\n")?;
     }
     for (last, want) in [
         ("t: r0", (0, 11)),
@@ -137,25 +130,23 @@ fn a_million_nodes_and_no_more(rt: HostRuntime) {
         ("t: r9*99999 r8", (26, 11)),
         ("", (0, 10)),
     ] {
-        let Ok(whole) = format!(in rt.alloc(); "{}{last}", text.as_str()) else {
-            panic!(rt; "no memory")
-        };
-        let got = outcome(&rt, whole.as_bytes());
+        let whole = format!(in rt.alloc(); "{}{last}", text.as_str())?;
+        let got = outcome(&rt, whole.as_bytes())?;
         assert_eq!(rt; got.0, want.0, "{last}");
         assert_eq!(rt; got.1, want.1, "{last}");
     }
+    Ok(())
 }
 
-/// Whether two texts are plans that are the same; false where one is refused.
-fn same_plans(rt: &HostRuntime, one: &[u8], other: &[u8]) -> bool {
-    match (read_plan(rt.alloc(), one), read_plan(rt.alloc(), other)) {
-        (Ok(one), Ok(other)) => one.same(&other),
-        _ => false,
-    }
+/// Whether two texts are plans that are the same.
+fn same_plans(rt: &HostRuntime, one: &[u8], other: &[u8]) -> Result<bool, Fault> {
+    let one = read_plan(rt.alloc(), one)?;
+    let other = read_plan(rt.alloc(), other)?;
+    Ok(one.same(&other))
 }
 
 #[test]
-fn plans_are_compared_by_names_ends_and_nodes(rt: HostRuntime) {
+fn plans_are_compared_by_names_ends_and_nodes(rt: HostRuntime) -> Result<(), Fail> {
     let rows: [(&[u8], &[u8], bool); 5] = [
         (b"a: r0*2\nb:", b"# again\na: r0 r0\n\nb:\n", true),
         (b"a: r0", b"b: r0", false),
@@ -164,14 +155,15 @@ fn plans_are_compared_by_names_ends_and_nodes(rt: HostRuntime) {
         (b"a: d0>1", b"a: d1>0", false),
     ];
     for (number, (one, other, same)) in rows.iter().enumerate() {
-        assert!(rt; same_plans(&rt, one, other) == *same, "row {number}");
+        assert!(rt; same_plans(&rt, one, other)? == *same, "row {number}");
     }
+    Ok(())
 }
 
 #[test]
 fn schedules_end_and_part_within_a_run(rt: HostRuntime) -> Result<(), Fail> {
     let text = b"a: r0*5 r1*2\nb: r0*3\nc: r0*3 r1*2\nd: r0*8\ne: r0 r0*4 r1\nf: r0*9";
-    let plan = read_plan(rt.alloc(), text).ok().ok_or("refused")?;
+    let plan = read_plan(rt.alloc(), text)?;
     // Nodes in the order of their first use: r0 five times and r1 twice, then r1 twice behind the third r0, then r0 four times
     // behind the fifth.
     let parents = [0, 1, 2, 3, 4, 5, 6, 3, 8, 5, 10, 11, 12];
@@ -186,11 +178,7 @@ fn schedules_end_and_part_within_a_run(rt: HostRuntime) -> Result<(), Fail> {
     }
     // The last line only makes the last edge longer, though the fifth stands between.
     assert_eq!(rt; plan.edges().len(), 4);
-    let nine = plan
-        .schedule(rt.alloc(), 5)
-        .ok_or("no line")?
-        .ok()
-        .ok_or("no memory")?;
+    let nine = plan.schedule(rt.alloc(), 5).ok_or("no line")??;
     assert_eq!(rt; nine.len(), 9);
     assert!(rt;
         nine.runs()
@@ -203,14 +191,9 @@ fn schedules_end_and_part_within_a_run(rt: HostRuntime) -> Result<(), Fail> {
     Ok(())
 }
 
-/// The schedule of these entries.
-fn schedule_of(alloc: Global, entries: &[u8]) -> Option<Schedule> {
-    read_choices(alloc, entries).ok()?
-}
-
 #[test]
 fn neighbours_of_one_choice_are_one_run(rt: HostRuntime) -> Result<(), Fail> {
-    let mut schedule = schedule_of(rt.alloc(), b"r0*2 r0 r1 r1*3 e0").ok_or("refused")?;
+    let mut schedule = read_choices(rt.alloc(), b"r0*2 r0 r1 r1*3 e0")?.ok_or("refused")?;
     let runs = [(Run(0), 3), (Run(1), 4), (Expire(0), 1)];
     assert_eq!(rt; schedule.len(), 8);
     assert_eq!(rt; schedule.runs().len(), 3);
@@ -226,13 +209,14 @@ fn neighbours_of_one_choice_are_one_run(rt: HostRuntime) -> Result<(), Fail> {
     ] {
         assert!(rt; schedule.get(position) == choice, "at {position}");
     }
-    assert!(rt; schedule.push(Expire(0), 2).is_ok() && schedule.push(Run(5), 0).is_ok());
+    schedule.push(Expire(0), 2)?;
+    schedule.push(Run(5), 0)?;
     let choices = schedule.to_choices(rt.alloc())?;
     assert_eq!(rt; choices.len(), 10);
     assert!(rt; Schedule::from_choices(rt.alloc(), &choices)?.same(&schedule));
     assert!(rt; Schedule::of(rt.alloc(), schedule.runs())?.same(&schedule));
     assert!(rt; !Schedule::new(rt.alloc()).same(&schedule));
-    assert!(rt; schedule_of(rt.alloc(), b"r0*0").is_none());
+    assert!(rt; read_choices(rt.alloc(), b"r0*0")?.is_none());
     Ok(())
 }
 
@@ -242,14 +226,12 @@ fn a_million_nodes_are_a_thousand_edges(rt: HostRuntime) -> Result<(), Fail> {
     for k in 0..1000 {
         write!(text, "s{k}: r{k}*1000\n")?;
     }
-    let plan = read_plan(rt.alloc(), text.as_bytes())
-        .ok()
-        .ok_or("refused")?;
+    let plan = read_plan(rt.alloc(), text.as_bytes())?;
     assert_eq!(rt; plan.nodes(), 1_000_001);
     assert_eq!(rt; plan.edges().len(), 1000);
     for (last, want) in [("t: r999*999", (0, 1001)), ("t: r999*1001", (26, 1001))] {
         let whole = format!(in rt.alloc(); "{}{last}", text.as_str())?;
-        assert!(rt; outcome(&rt, whole.as_bytes()) == want, "{last}");
+        assert!(rt; outcome(&rt, whole.as_bytes())? == want, "{last}");
     }
     Ok(())
 }

@@ -4,7 +4,7 @@ use bx_board::{Book, Report, report_text};
 use bx_load::Image;
 use bx_plan::{Plan, read_plan};
 use bx_terms::Fault;
-use bxemu_testkit::atom;
+use bxemu_testkit::{answered, atom};
 use std::alloc::Global;
 
 /// `f/0` of `m` moves an atom and ends: two runs.
@@ -40,13 +40,13 @@ pub fn book<'a>(alloc: Global, image: &'a Image, plan: &'a Plan) -> Result<Book<
     Book::new(alloc, image, atom(image, "m"), atom(image, "f"), plan)
 }
 
-/// A report's text, or the name of the refusal.
+/// A report's text, or the name of the refusal; out of memory is handed on.
 pub fn text_of(
     alloc: Global,
     image: &Image,
     report: Result<Report, Fault>,
 ) -> Result<String, Fault> {
-    match report {
+    match answered(report)? {
         Ok(report) => report_text(alloc, image.atoms(), &report),
         Err(fault) => Ok(String::from_str(alloc, fault.name())?),
     }

@@ -5,7 +5,8 @@ use crate::samples::{BELOW, BELOW_TEXT, image, plan, text_of};
 use bx_board::{Gate, Piece, campaign};
 use bx_load::Image;
 use bx_plan::Plan;
-use bxemu_testkit::atom;
+use bx_terms::Fault;
+use bxemu_testkit::{answered, atom};
 use std::alloc::Global;
 use std::sync::Wait;
 use std::sync::atomic::{AtomicU64, Ordering};
@@ -112,7 +113,8 @@ impl Gate for Counting {
     }
 }
 
-/// What a gate is told of a campaign from that function.
+/// What a gate is told of a campaign from that function. That memory ran out, for the report or for a worker who gave a lease back,
+/// is no answer, and is handed on.
 fn told<R: Threads + Wait + Sync>(
     rt: &R,
     alloc: Global,
@@ -120,11 +122,15 @@ fn told<R: Threads + Wait + Sync>(
     function: &str,
     plan: &Plan,
     workers: u32,
-) -> [u64; 10] {
+) -> Result<[u64; 10], Fault> {
     let gate = Counting::new(alloc);
     let (module, function) = (atom(image, "m"), atom(image, function));
-    let _report = campaign(rt, alloc, image, module, function, plan, workers, &gate);
-    gate.counts()
+    let report = campaign(rt, alloc, image, module, function, plan, workers, &gate);
+    let _ = answered(report)?;
+    if at(&gate.leases) > at(&gate.pieces) {
+        return Err(Fault::Memory);
+    }
+    Ok(gate.counts())
 }
 
 #[test]
@@ -134,7 +140,7 @@ fn a_gate_is_told_of_every_chain(rt: HostRuntime) -> Result<(), Fail> {
     let branching = plan(alloc, BRANCHING)?;
     for workers in [1, 3, 64] {
         assert_eq!(&rt;
-            told(&rt, alloc, &image, "f", &branching, workers),
+            told(&rt, alloc, &image, "f", &branching, workers)?,
             [1, 4, 4, 0, 4, 9, 5, 6, 1, 0]
         );
     }
@@ -148,13 +154,13 @@ fn a_gate_is_told_where_nothing_is_run(rt: HostRuntime) -> Result<(), Fail> {
     let branching = plan(alloc, BRANCHING)?;
     for (workers, function) in [(0, "f"), (65, "f"), (2, "ok")] {
         assert_eq!(&rt;
-            told(&rt, alloc, &image, function, &branching, workers),
+            told(&rt, alloc, &image, function, &branching, workers)?,
             [0; 10]
         );
     }
     let empty = plan(alloc, "")?;
     assert_eq!(&rt;
-        told(&rt, alloc, &image, "f", &empty, 2),
+        told(&rt, alloc, &image, "f", &empty, 2)?,
         [1, 0, 0, 0, 0, 0, 0, 0, 1, 0]
     );
     Ok(())

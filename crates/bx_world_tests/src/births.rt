@@ -5,8 +5,13 @@ use bx_terms::Fault;
 use std::alloc::Global;
 use std::test::Fail;
 
+/// Items of a receive that waits, and shows `late` where nothing comes.
+const LATE: &str =
+    "{label,5}. {loop_rec,{f,6},{x,0}}. remove_message. {call_ext_only,1,{extfunc,erlang,display,1}}.
+{label,6}. {wait_timeout,{f,5},{integer,0}}. timeout. {move,{atom,late},{x,0}}. {call_ext_only,1,{extfunc,erlang,display,1}}.";
+
 /// The items of `f/0`, the choices and the report.
-const ROWS: [(&str, &str, &str); 9] = [
+const ROWS: [(&str, &str, &str); 11] = [
     (
         "{move,{atom,m},{x,0}}. {move,{atom,none},{x,1}}. {move,nil,{x,2}}. {call_ext,3,{extfunc,erlang,spawn,3}}. return.",
         "r0*4 r1",
@@ -51,6 +56,20 @@ const ROWS: [(&str, &str, &str); 9] = [
         "{label,5}. {wait_timeout,{f,5},{integer,10}}. timeout. return.",
         "r0 e0 e0",
         "applied 2\nstate stopped e0\nprocess <0.0.0> ready\nend\n",
+    ),
+    (
+        LATE,
+        "r0*2 e0 r0*3",
+        "applied 6\nstate quiet\nprocess <0.0.0> ended normal\noutput <0.0.0> late\nend\n",
+    ),
+    // the message that was passed over before the wait is the first one of the second receive
+    (
+        "{bif,self,{f,0},[],{x,0}}. {move,{atom,x},{x,1}}. send. {label,5}. {loop_rec,{f,7},{x,0}}.
+{test,is_eq_exact,{f,6},[{x,0},{atom,y}]}. remove_message. return. {label,6}. {loop_rec_end,{f,5}}.
+{label,7}. {wait_timeout,{f,5},{integer,5}}. timeout. {label,8}. {loop_rec,{f,9},{x,0}}. remove_message.
+{call_ext_only,1,{extfunc,erlang,display,1}}. {label,9}. {wait,{f,8}}.",
+        "r0*8 e0 r0*4",
+        "applied 13\nstate quiet\nprocess <0.0.0> ended normal\noutput <0.0.0> x\nend\n",
     ),
 ];
 

@@ -207,6 +207,20 @@ fn ends_are_told_to_links(rt: HostRuntime) -> Result<(), Fail> {
     Ok(())
 }
 
+/// Process 0 gives up the link to process 1, which ends: the exit that comes is dropped, and the unlink finds nobody.
+#[test]
+fn an_exit_of_no_link_is_dropped(rt: HostRuntime) -> Result<(), Fail> {
+    let rest = "{call_ext,1,{extfunc,erlang,unlink,1}}. {label,5}. {wait,{f,5}}.";
+    let parent = spawning(rt.alloc(), "spawn_link", rest)?;
+    let child = "{move,{atom,kill},{x,0}}. {call_ext_only,1,{extfunc,erlang,exit,1}}.";
+    let report = report_of(rt.alloc(), parent.as_str(), child, "r0*6 r1*2 d1>0 d0>1")?;
+    assert!(rt;
+        report.as_str()
+            == "applied 10\nstate quiet\nprocess <0.0.0> waiting\nprocess <0.1.0> ended kill\nend\n"
+    );
+    Ok(())
+}
+
 /// An exit signal whose reason is so high that no term holds it beside a pid: the delivery to a process that traps exits is a trap.
 #[test]
 fn a_reason_too_high_for_a_message(rt: HostRuntime) -> Result<(), Fail> {

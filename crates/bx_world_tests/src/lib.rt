@@ -14,7 +14,11 @@ mod lines;
 #[cfg(test)]
 mod memory;
 #[cfg(test)]
+mod orders;
+#[cfg(test)]
 mod reports;
+#[cfg(test)]
+mod rooms;
 #[cfg(test)]
 mod samples;
 #[cfg(test)]
@@ -29,5 +33,7 @@ mod snapshots;
 mod streams;
 #[cfg(test)]
 mod swaps;
+#[cfg(test)]
+mod traces;
 #[cfg(test)]
 mod worlds;

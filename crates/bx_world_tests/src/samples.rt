@@ -89,6 +89,20 @@ pub const HOLDS: &str = "{module,h}. {exports,[{f,0}]}. {attributes,[]}. {labels
 timeout. {move,{atom,late},{x,0}}. {call_ext,1,{extfunc,erlang,error,1}}.
 {function,g,0,9}. {label,8}. {func_info,{atom,h},{atom,g},0}. {label,9}. return.";
 
+/// The module `LOOP` with lines: of a file in whose name are a tab, a delete and an e with an accent, and of one without a name.
+pub const NAMES: &str = "{module,m}. {exports,[{f,0}]}. {attributes,[]}. {labels,9}.
+{function,f,0,2}. {label,1}. {line,[{location,\"a b\\t\\x{7f}\u{e9}\",3}]}. {func_info,{atom,m},{atom,f},0}. {label,2}.
+{label,3}. {line,[{location,\"\",4294967295}]}. {jump,{f,3}}.";
+
+/// Module `l`, whose `f/0` calls `g/0` within a `try`, and that waits for a time. The last `line` says nothing.
+pub const LINES: &str = "{module,l}. {exports,[{f,0}]}. {attributes,[]}. {labels,8}.
+{function,f,0,2}. {label,1}. {line,[{location,\"l.erl\",3}]}. {func_info,{atom,l},{atom,f},0}. {label,2}.
+{allocate,1,0}. {'try',{y,0},{f,3}}. {line,[{location,\"l.erl\",4}]}. {call,0,{f,5}}.
+{line,[{location,\"l.erl\",6}]}. {label,3}. {try_case,{y,0}}. {deallocate,1}. return.
+{function,g,0,5}. {label,4}. {line,[{location,\"l.erl\",8}]}. {func_info,{atom,l},{atom,g},0}. {label,5}. {allocate,0,0}.
+{line,[{location,\"l.erl\",9}]}. {label,6}. {loop_rec,{f,7},{x,0}}. {loop_rec_end,{f,6}}. {label,7}.
+{wait_timeout,{f,6},{integer,10}}. timeout. {line,[]}. {deallocate,0}. return.";
+
 /// Module `s`, whose `f/0` sends a process each kind of signal but a message, and ends.
 pub const SIGNALS: &str = "{module,s}. {exports,[{f,0}]}. {attributes,[]}. {labels,3}.
 {function,f,0,2}. {label,1}. {func_info,{atom,s},{atom,f},0}. {label,2}.

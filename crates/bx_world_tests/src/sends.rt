@@ -1,7 +1,9 @@
 //! Messages, links, their ends, and the same to oneself.
 
-use crate::reports::{IDLE, TRAPS, WAITS, report_of, spawning};
+use crate::reports::{IDLE, TRAPS, WAITS, image_of, report_of, spawning};
 use bx_terms::Fault;
+use bx_world::{Choice, RcWorld, RunEnd, Shown, advance_many};
+use bxemu_testkit::atom;
 use std::alloc::Global;
 use std::test::Fail;
 
@@ -194,5 +196,32 @@ fn signals_at_each_kind_of_receiver(rt: HostRuntime) -> Result<(), Fail> {
 #[test]
 fn signals_to_oneself(rt: HostRuntime) -> Result<(), Fail> {
     assert_eq!(rt; right_rows(rt.alloc(), &TO_ONESELF)?, TO_ONESELF.len());
+    Ok(())
+}
+
+/// Items that tell oneself a message in each three runs, behind a first one.
+const TELLS_ITSELF: &str =
+    "{move,{atom,a},{x,1}}. {label,5}. {bif,self,{f,0},[],{x,0}}. send. {jump,{f,5}}.";
+
+/// How many messages process 0 holds behind so many runs.
+fn held(alloc: Global, items: &str, runs: u64) -> Result<usize, Fault> {
+    let image = image_of(alloc, items, "return.")?;
+    let mut end = RunEnd {
+        world: RcWorld::start(alloc, &image, atom(&image, "m"), atom(&image, "f"))?,
+        applied: 0,
+        refused: None,
+    };
+    if runs < u64::MAX {
+        advance_many(alloc, &mut end, &image, Choice::Run(0), runs)?;
+    }
+    match end.world.process(0) {
+        Some(Shown::Live(process)) => Ok(process.messages().len()),
+        _ => Ok(0),
+    }
+}
+
+#[test]
+fn a_process_holds_very_many_messages(rt: HostRuntime) -> Result<(), Fail> {
+    assert_eq!(rt; held(rt.alloc(), TELLS_ITSELF, 210_001)?, 70_000);
     Ok(())
 }

@@ -71,18 +71,23 @@ fn talk<P: Hold<Proc>, C: Hold<Lanes>>(
     Ok((choices, kept, world))
 }
 
-/// Whether each snapshot is the world of the choices before it, and goes on as they do.
+/// Whether each snapshot, which is made to share nothing within that room where there is one, is the world of the choices before it,
+/// and goes on as they do.
 fn are_apart<P: Hold<Proc>, C: Hold<Lanes>>(
     alloc: Global,
     image: &Image,
     choices: &[Choice],
     kept: &mut [World<P, C>],
+    room: Option<usize>,
 ) -> Result<bool, Fault> {
     for (number, snapshot) in kept.iter_mut().enumerate() {
         let (Some(before), Some(choice)) = (choices.get(..number), choices.get(number)) else {
             return Ok(false);
         };
         let mut world = run::<P, C>(alloc, image, before)?;
+        if let Some(mut room) = room {
+            let _ = snapshot.unshare(alloc, &mut room);
+        }
         if !snapshot.same(&world) {
             return Ok(false);
         }
@@ -100,9 +105,10 @@ fn talks<P: Hold<Proc>, C: Hold<Lanes>>(
     alloc: Global,
     image: &Image,
     stride: usize,
+    room: Option<usize>,
 ) -> Result<bool, Fault> {
     let (choices, mut kept, world) = talk::<P, C>(alloc, image, stride)?;
-    let apart = are_apart(alloc, image, &choices, kept.as_mut_slice())?;
+    let apart = are_apart(alloc, image, &choices, kept.as_mut_slice(), room)?;
     let same = world.same(&run(alloc, image, &choices)?);
     let outcome = world.outcome(alloc)?;
     let text = outcome_text(alloc, image.atoms(), 7, None, &outcome)?;
@@ -115,12 +121,30 @@ fn snapshots_of_full_worlds_go_on_apart(rt: HostRuntime) -> Result<(), Fail> {
     let image = image(alloc, &[TALK])?;
     for stride in [0, 1, 2, 5] {
         assert!(rt;
-            talks::<RcHold<Proc>, RcHold<Lanes>>(alloc, &image, stride)?,
+            talks::<RcHold<Proc>, RcHold<Lanes>>(alloc, &image, stride, None)?,
             "{stride}"
         );
         assert!(rt;
-            talks::<ArcHold<Proc>, ArcHold<Lanes>>(alloc, &image, stride)?,
+            talks::<ArcHold<Proc>, ArcHold<Lanes>>(alloc, &image, stride, None)?,
             "{stride}"
+        );
+    }
+    Ok(())
+}
+
+/// In a room of 5 or 11 not all of the talk's worlds go: a part of them stays shared.
+#[test]
+fn snapshots_that_share_nothing_go_on_as_others(rt: HostRuntime) -> Result<(), Fail> {
+    let alloc = rt.alloc();
+    let image = image(alloc, &[TALK])?;
+    for room in [0, 5, 11, 1000] {
+        assert!(rt;
+            talks::<RcHold<Proc>, RcHold<Lanes>>(alloc, &image, 2, Some(room))?,
+            "{room}"
+        );
+        assert!(rt;
+            talks::<ArcHold<Proc>, ArcHold<Lanes>>(alloc, &image, 5, Some(room))?,
+            "{room}"
         );
     }
     Ok(())
