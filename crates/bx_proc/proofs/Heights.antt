@@ -1,9 +1,9 @@
 -- How high what is built of others is.
 use Rattle.std.proofs.Common.{◌≡◌, ◌<◌, ◌≤◌, ℕ, Bool, true, false, refl, sym, ◌∙◌, arith}
 use Rattle.std.proofs.lemmas.Bool.Decides.{nat_tests}
-use Rattle.std.specs.Prelude.{IsOkAnd, List, nat_le, Result, Ok, Err, if◌then◌else◌}
+use Rattle.std.specs.Prelude.{IsOkAnd, List, max, nat_le, Result, Ok, Err, if◌then◌else◌}
 use Rattle.bx_terms.specs.Outcomes.{◌>>=◌}
-use Rattle.bx_terms.specs.Tree.{Tree, tuple, listed, height}
+use Rattle.bx_terms.specs.Tree.{Tree, cons, tuple, listed, height}
 use Rattle.bx_terms.specs.declared.kinds.Class.TheVariants.{Throw}
 use Rattle.bx_terms.specs.declared.kinds.Trap.{Trap}
 use Rattle.bx_terms.specs.declared.kinds.Trap.TheVariants.{TermHeight}
@@ -42,6 +42,13 @@ uncaught_high v h = too_high (reason Throw v) (omega (arith, h))
 
 pub uncaught_low : (v : Tree) → height v ≤ 9998 → height (reason Throw v) ≤ 10000
 uncaught_low v h = omega (arith, h)
+
+-- a list cell is one higher than the higher of its parts
+pub cell_low : (t u : Tree) → max (height t) (height u) < 10000 → height (cons t u) ≤ 10000
+cell_low t u h = omega (arith, h)
+
+pub cell_high : (t u : Tree) → 10000 ≤ max (height t) (height u) → within_height (cons t u) ≡ Err TermHeight
+cell_high t u h = too_high (cons t u) (omega (arith, h))
 
 -- a tuple is one higher than its highest element
 pub tuple_low : (n : ℕ) (read : Result (List Tree) Trap) → IsTallest n read → n < 10000 → IsOkAnd read (λ ts. height (tuple (listed ts)) ≤ 10000)

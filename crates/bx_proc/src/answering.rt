@@ -196,7 +196,7 @@ impl Proc {
         let Some(_) = self.leads_to(image, here, kind)? else {
             return self.end(Term::atom(fixed::NORMAL));
         };
-        self.go_on_with(alloc, image, here, kind, value, message)
+        self.go_on_with(image, here, kind, value.copy(alloc)?, message)
     }
 
     /// Where the process goes on behind a native that is answered; nowhere, where it ends.
@@ -214,19 +214,17 @@ impl Proc {
     #[tactic(auto, using(crate::proofs::Noting::noted_on))]
     fn go_on_with(
         &mut self,
-        alloc: Global,
         image: &Image,
         here: Place,
         kind: CallKind,
-        value: &Term,
+        value: Term,
         message: Term,
     ) -> Result<(), Stop>
         requires held { is_some (finite.get self.old.x 0) ≡ true }
         requires goes_on { leads_on (leads_to kind (after image.now here) self.old) ≡ true }
         ensures { Runs (Unit {0}) self.old self.new result
-            (noting message (finished_with (after image.now here) kind value.now self.old)) }
+            (noting message (finished_with (after image.now here) kind value self.old)) }
     {
-        let value = value.copy(alloc)?;
         if let Err(_) = self.mailbox.add(message) {
             return Err(Stop::memory());
         }

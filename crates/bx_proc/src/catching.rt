@@ -4,6 +4,8 @@ ghost use Rattle.std.specs.Prelude.{◌≡◌, ℕ, Ok, Err, Some, option_map};
 ghost use Rattle.bx_asm.specs.Decoding.{catch_row as catch_form, no_match_row as no_match_form, raise_row as raise_form, y_alone};
 ghost use Rattle.bx_asm.specs.Instr as instr;
 ghost use Rattle.bx_asm.specs.Instructed.{source_of};
+ghost use Rattle.bx_load.specs.Image.{Loaded};
+ghost use Rattle.bx_terms.specs.declared.places.Place as places;
 ghost use Rattle.bx_proc.specs.Catching.{tagged, tag_at, caught_of, class_atom, trace_at, mismatched};
 ghost use Rattle.bx_proc.specs.Faults.{within_height};
 ghost use Rattle.bx_proc.specs.Runs.{RunsAt};
@@ -169,13 +171,11 @@ impl Proc {
     pub(crate) fn raise_again(
         &mut self,
         alloc: Global,
-        image: &Image,
-        here: Place,
         tables: Lookup<'_>,
         row: &[Operand],
     ) -> Result<(), Stop>
-        ensures { (pid : ℕ) → RunsAt pid image.now here self.old self.new result
-            (raise_form (spelled tables.entry row.now)) }
+        ensures { (pid : ℕ) (image : Loaded) (here : places.Place) → RunsAt pid image here self.old
+            self.new result (raise_form (spelled tables.entry row.now)) }
     {
         let [trace, value] = row else {
             return Err(Stop::trapped(Trap::BadPlace));
@@ -203,14 +203,9 @@ impl Proc {
     /// `func_info`.
     #[inline(never)]
     #[tactic(auto, unfolding(crate::specs::Table::rule))]
-    pub(crate) fn func_info(
-        &mut self,
-        alloc: Global,
-        image: &Image,
-        here: Place,
-    ) -> Result<(), Stop>
-        ensures { (pid : ℕ) → RunsAt pid image.now here self.old self.new result
-            (Some instr.func_info) }
+    pub(crate) fn func_info(&mut self, alloc: Global) -> Result<(), Stop>
+        ensures { (pid : ℕ) (image : Loaded) (here : places.Place) → RunsAt pid image here self.old
+            self.new result (Some instr.func_info) }
     {
         self.raise(alloc, Class::Error, Term::atom(fixed::FUNCTION_CLAUSE))
     }
@@ -218,9 +213,9 @@ impl Proc {
     /// `int_code_end`.
     #[inline(always)]
     #[tactic(auto, unfolding(crate::specs::Table::rule))]
-    pub(crate) fn int_code_end(&mut self, image: &Image, here: Place) -> Result<(), Stop>
-        ensures { (pid : ℕ) → RunsAt pid image.now here self.old self.new result
-            (Some instr.int_code_end) }
+    pub(crate) fn int_code_end(&mut self) -> Result<(), Stop>
+        ensures { (pid : ℕ) (image : Loaded) (here : places.Place) → RunsAt pid image here self.old
+            self.new result (Some instr.int_code_end) }
     {
         Err(Stop::trapped(Trap::BadPlace))
     }
@@ -228,9 +223,9 @@ impl Proc {
     /// `if_end`.
     #[inline(never)]
     #[tactic(auto, unfolding(crate::specs::Table::rule))]
-    pub(crate) fn if_end(&mut self, alloc: Global, image: &Image, here: Place) -> Result<(), Stop>
-        ensures { (pid : ℕ) → RunsAt pid image.now here self.old self.new result
-            (Some instr.if_end) }
+    pub(crate) fn if_end(&mut self, alloc: Global) -> Result<(), Stop>
+        ensures { (pid : ℕ) (image : Loaded) (here : places.Place) → RunsAt pid image here self.old
+            self.new result (Some instr.if_end) }
     {
         self.raise(alloc, Class::Error, Term::atom(fixed::IF_CLAUSE))
     }
@@ -241,14 +236,12 @@ impl Proc {
     pub(crate) fn no_match(
         &mut self,
         alloc: Global,
-        image: &Image,
-        here: Place,
         mismatch: Mismatch,
         tables: Lookup<'_>,
         row: &[Operand],
     ) -> Result<(), Stop>
-        ensures { (pid : ℕ) → RunsAt pid image.now here self.old self.new result
-            (no_match_form mismatch (spelled tables.entry row.now)) }
+        ensures { (pid : ℕ) (image : Loaded) (here : places.Place) → RunsAt pid image here self.old
+            self.new result (no_match_form mismatch (spelled tables.entry row.now)) }
     {
         let [value] = row else {
             return Err(Stop::trapped(Trap::BadPlace));
