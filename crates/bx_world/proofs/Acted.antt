@@ -16,7 +16,7 @@ use Rattle.bx_proc.specs.Stepping.{StandsFree}
 use Rattle.bx_proc.specs.Signals.{expired}
 use Rattle.bx_proc.specs.declared.parts.Answer.TheVariants.{Value}
 use Rattle.bx_world.specs.declared.acts.Act.{Act}
-use Rattle.bx_world.specs.declared.acts.Act.TheVariants.{Run, Hear, Expire, Spawned, Unspawned}
+use Rattle.bx_world.specs.declared.acts.Act.TheVariants.{Hear, Expire, Spawned, Unspawned}
 use Rattle.bx_world.specs.declared.lanes.Lanes.{Lanes}
 use Rattle.bx_world.specs.declared.slots.Slot.{Slot}
 use Rattle.bx_world.specs.declared.slots.Slot.TheVariants as slots
@@ -24,8 +24,7 @@ use Rattle.bx_world.specs.Lives.{life}
 use Rattle.bx_world.specs.declared.turns.Turn.{Turn}
 use Rattle.bx_world.specs.declared.turns.Turn.TheVariants as turns
 use Rattle.bx_world.specs.World.{Life, Live, Gone}
-use Rattle.bx_world.specs.Turning.{runs}
-use Rattle.bx_world.specs.Lifetimes.{Lived, lived, lived_if, gone_if, life_run, life_expired, put_back, at_life, lives_run, told_at, lives_told, lives_expired, lost_if}
+use Rattle.bx_world.specs.Lifetimes.{Lived, lived, lived_if, gone_if, life_expired, put_back, at_life, told_at, lives_told, lives_expired, lost_if}
 use Rattle.bx_world.specs.Births.{other_if, system_limit, life_answered, lives_answered}
 use Rattle.bx_world.specs.Acting.{process_acted, exited_acted, missed, life_acted, acted_at, lives_acted, MayLack}
 use Rattle.bx_world.proofs.Changing.{does_through, err_through}
@@ -54,11 +53,6 @@ free_runs here x free = ap (λ s. can_run_in s x.mailbox) free.0
 module _ (image : Loaded) (p : ℕ) where
   -- a process that lives
   of_live : (act : Act) (l : Lanes) (x : Process) → life_acted image p act l (Live x) ≡ lived_if (process_acted image p act l x)
-  of_live Run l x = go (can_run x)
-    where
-      go : (b : Bool) → ◌≡◌ {A = Result Lived Fault} (if b then Ok (lived (runs image p l x)) else Err NotEnabled) (lived_if (if b then Ok (runs image p l x) else Err NotEnabled))
-      go true = refl
-      go false = refl
   of_live (Hear q) l x = refl
   of_live Expire l x = go (can_expire x)
     where
@@ -70,7 +64,6 @@ module _ (image : Loaded) (p : ℕ) where
 
   -- one that has exited
   of_exited : (act : Act) (l : Lanes) (reason : Tree) → life_acted image p act l (Gone reason) ≡ gone_if reason (exited_acted act p l)
-  of_exited Run l reason = refl
   of_exited (Hear q) l reason = refl
   of_exited Expire l reason = refl
   of_exited (Spawned child linked) l reason = refl
@@ -133,13 +126,6 @@ module _ (image : Loaded) (p : ℕ) where
       (λ same. ap (λ (n : Lanes). (lives, n)) same) h
 
   -- what each is among the others
-  pub run_is : (l : Lanes) (lives : List Life) → lives_acted image p Run l lives ≡ lives_run image p l lives
-  run_is l lives = go (slice_get lives p)
-    where
-      go : (o : Option Life) → acted_at image p Run l lives o ≡ at_life (life_run image p l) p lives o
-      go None = refl
-      go (Some one) = refl
-
   pub told_is : (q : ℕ) (l : Lanes) (lives : List Life) → lives_acted image p (Hear q) l lives ≡ lives_told q p l lives
   told_is q l lives = go (slice_get lives p)
     where

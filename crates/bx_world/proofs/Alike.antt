@@ -376,10 +376,10 @@ if_same : (b : Bool) (xs ys : List Signal) → (b ≡ true → xs ≡ ys) → (i
 if_same true xs ys same = same refl
 if_same false xs ys same = refl
 
-pub takes_alike : (c : Choice) (w v : State) (pair : ℕ × ℕ) → Finds c w v → takes c w pair ≡ takes c v pair
-takes_alike (Run p) w v pair finds = refl
-takes_alike (Deliver p q) w v pair finds =
+pub takes_alike : (c : Choice) (w v : State) (pair : ℕ × ℕ) → heeds c w ≡ heeds c v → takes c w pair ≡ takes c v pair
+takes_alike (Run p) w v pair signal = refl
+takes_alike (Deliver p q) w v pair signal =
     if_same (same_pair pair (p, q)) (as_row (first (waiting w.lanes.channels pair))) (as_row (first (waiting v.lanes.channels pair)))
     (λ e. let own = equal_pair pair (p, q) e in
-    ap (λ k. as_row (first (waiting w.lanes.channels k))) own ∙ ap as_row finds.signal ∙ ap (λ k. as_row (first (waiting v.lanes.channels k))) (sym own))
-takes_alike (Expire p) w v pair finds = refl
+    ap (λ k. as_row (first (waiting w.lanes.channels k))) own ∙ ap as_row signal ∙ ap (λ k. as_row (first (waiting v.lanes.channels k))) (sym own))
+takes_alike (Expire p) w v pair signal = refl

@@ -304,9 +304,9 @@ sends_none image (Run p) w pair other = run_puts_none image p w.processes w.lane
 sends_none image (Deliver p q) w pair other = puts_none image (Deliver p q) w pair tt other
 sends_none image (Expire p) w pair other = puts_none image (Expire p) w pair tt other
 
--- a choice that is local, and another that leaves its process as it was
-module _ (image : Loaded) (a b : Choice) (w : State) (no_a : IsLocal image w a) (stays : (v : State) → length v.processes ≡ length w.processes → slice_get (chosen image b v).processes (actor a) ≡ slice_get v.processes (actor a))
-    (apart : actor a ≢ actor b) (can_a : can w a ≡ true) (can_b : can w b ≡ true) (a_runs : (chosen image a w).trap ≡ None) (b_runs : (chosen image b (chosen image a w)).trap ≡ None) where
+-- a choice that is local, and another behind it
+module _ (image : Loaded) (a b : Choice) (w : State) (no_a : IsLocal image w a) (apart : actor a ≢ actor b) (can_a : can w a ≡ true) (can_b : can w b ≡ true)
+    (a_runs : (chosen image a w).trap ≡ None) (b_runs : (chosen image b (chosen image a w)).trap ≡ None) where
   flipped : actor b ≢ actor a
   flipped e = apart (sym e)
 
@@ -314,104 +314,108 @@ module _ (image : Loaded) (a b : Choice) (w : State) (no_a : IsLocal image w a) 
   b_finds : Finds b w (chosen image a w)
   b_finds = finds_again image a b w ((chosen_kept image a w no_a).others (actor b) flipped) apart can_a a_runs can_b
 
-  b_acts : Acts image b w (chosen image a w)
+  pub b_acts : Acts image b w (chosen image a w)
   b_acts = acts image b w (chosen image a w) b_finds (sym (chosen_kept image a w no_a).count) (sym (chosen_kept image a w no_a).output) can_b
 
-  b_first : (chosen image b w).trap ≡ None
+  pub b_first : (chosen image b w).trap ≡ None
   b_first = b_acts.trap ∙ b_runs
 
   b_enabled : can (chosen image a w) b ≡ true
   b_enabled = can_from (chosen image a w) b a_runs (sym (able_alike b w (chosen image a w) b_finds) ∙ able_of w b can_b)
 
-  a_finds : Finds a w (chosen image b w)
-  a_finds = finds_again image b a w (stays w refl) flipped can_b b_first can_a
+  -- and in the other order, where the local one is local too, and sends and takes the same
+  module _ (last_a : IsLocal image (chosen image b w) a) (a_enabled : can (chosen image b w) a ≡ true) (a_last : (chosen image a (chosen image b w)).trap ≡ None)
+      (here : slice_get (chosen image b (chosen image a w)).processes (actor a) ≡ slice_get (chosen image a (chosen image b w)).processes (actor a))
+      (sends : posts image a w ≡ posts image a (chosen image b w)) (heeded : heeds a w ≡ heeds a (chosen image b w)) where
+    -- life by life
+    kept_a : (k : ℕ) → k ≢ actor a → slice_get (chosen image a (chosen image b w)).processes k ≡ slice_get (chosen image b w).processes k
+    kept_a k other = (chosen_kept image a (chosen image b w) last_a).others k other
 
-  last_a : IsLocal image (chosen image b w) a
-  last_a = local_again image a w (chosen image b w) a_finds no_a
+    other_life : (k : ℕ) → k ≢ actor a → k ≢ actor b → slice_get (chosen image b (chosen image a w)).processes k ≡ slice_get (chosen image a (chosen image b w)).processes k
+    other_life k e f = one (nat_lt k (length w.processes)) refl where
+      one : (less : Bool) → nat_lt k (length w.processes) ≡ less → slice_get (chosen image b (chosen image a w)).processes k ≡ slice_get (chosen image a (chosen image b w)).processes k
+      one true h =
+          let lower = ltb-true k (length w.processes) h in
+          let count = (chosen_kept image a w no_a).count in
+          (chosen_confined image b (chosen image a w)).2 k f (omega arith) ∙ (chosen_kept image a w no_a).others k e ∙ sym ((chosen_confined image b w).2 k f lower) ∙ sym (kept_a k e)
+      one false h = sym (b_acts.beyond k (ltb-false k (length w.processes) h) f) ∙ sym (kept_a k e)
 
-  a_alike : EndsAlike (actor a) (chosen image a w) (chosen image a (chosen image b w))
-  a_alike = chosen_alike image a w (chosen image b w) no_a a_finds (able_of w a can_a)
+    same_life : (k : ℕ) → slice_get (chosen image b (chosen image a w)).processes k ≡ slice_get (chosen image a (chosen image b w)).processes k
+    same_life k = one (cases_eq k (actor a)) (cases_eq k (actor b)) where
+      one : (k ≡ actor a) ⊎ (k ≢ actor a) → (k ≡ actor b) ⊎ (k ≢ actor b) → slice_get (chosen image b (chosen image a w)).processes k ≡ slice_get (chosen image a (chosen image b w)).processes k
+      one (inl e) f = ap (slice_get (chosen image b (chosen image a w)).processes) e ∙ here ∙ ap (slice_get (chosen image a (chosen image b w)).processes) (sym e)
+      one (inr e) (inl f) = ap (slice_get (chosen image b (chosen image a w)).processes) f ∙ sym b_acts.here ∙ ap (slice_get (chosen image b w).processes) (sym f) ∙ sym (kept_a k e)
+      one (inr e) (inr f) = other_life k e f
 
-  a_last : (chosen image a (chosen image b w)).trap ≡ None
-  a_last = sym a_alike.trap ∙ a_runs
+    as_many : length (chosen image b (chosen image a w)).processes ≡ length (chosen image a (chosen image b w)).processes
+    as_many = sym b_acts.count ∙ sym (chosen_kept image a (chosen image b w) last_a).count
 
-  a_enabled : can (chosen image b w) a ≡ true
-  a_enabled = can_from (chosen image b w) a b_first (sym (able_alike a w (chosen image b w) a_finds) ∙ able_of w a can_a)
+    -- channel by channel
+    same_row : (pair : ℕ × ℕ) → waiting (chosen image b (chosen image a w)).lanes.channels pair ≡ waiting (chosen image a (chosen image b w)).lanes.channels pair
+    same_row pair =
+        both_rows (waiting w.lanes.channels pair) (waiting (chosen image a w).lanes.channels pair) (waiting (chosen image b w).lanes.channels pair)
+        (waiting (chosen image b (chosen image a w)).lanes.channels pair) (waiting (chosen image a (chosen image b w)).lanes.channels pair)
+        (in_channel pair (posts image a w)) (in_channel pair (posts image b w)) (takes a w pair) (takes b w pair)
+        (stepped image a w can_a a_runs pair)
+        (ap (λ ps. waiting (chosen image a w).lanes.channels pair ++ in_channel pair ps) b_acts.posts
+        ∙ stepped image b (chosen image a w) b_enabled b_runs pair
+        ∙ ap (λ ss. ss ++ waiting (chosen image b (chosen image a w)).lanes.channels pair) (sym (takes_alike b w (chosen image a w) pair b_finds.signal)))
+        (stepped image b w can_b b_first pair)
+        (ap (λ ps. waiting (chosen image b w).lanes.channels pair ++ in_channel pair ps) sends
+        ∙ stepped image a (chosen image b w) a_enabled a_last pair
+        ∙ ap (λ ss. ss ++ waiting (chosen image a (chosen image b w)).lanes.channels pair) (sym (takes_alike a w (chosen image b w) pair heeded)))
+        (puts_case (cases_eq pair.0 (actor a))) (takes_case (cases_eq pair.1 (actor a)))
+      where
+        puts_case : (pair.0 ≡ actor a) ⊎ (pair.0 ≢ actor a) → (in_channel pair (posts image a w) ≡ []) ⊎ (in_channel pair (posts image b w) ≡ [])
+        puts_case (inl e) = inr (sends_none image b w pair (λ f. apart (sym e ∙ f)))
+        puts_case (inr other) = inl (sends_none image a w pair other)
 
-  -- life by life
-  kept_a : (k : ℕ) → k ≢ actor a → slice_get (chosen image a (chosen image b w)).processes k ≡ slice_get (chosen image b w).processes k
-  kept_a k other = (chosen_kept image a (chosen image b w) last_a).others k other
+        takes_case : (pair.1 ≡ actor a) ⊎ (pair.1 ≢ actor a) → (takes a w pair ≡ []) ⊎ (takes b w pair ≡ [])
+        takes_case (inl e) = inr (takes_none b w pair (λ f. apart (sym e ∙ f)))
+        takes_case (inr other) = inl (takes_none a w pair other)
 
-  other_life : (k : ℕ) → k ≢ actor a → k ≢ actor b → slice_get (chosen image b (chosen image a w)).processes k ≡ slice_get (chosen image a (chosen image b w)).processes k
-  other_life k e f = one (nat_lt k (length w.processes)) refl where
-    one : (less : Bool) → nat_lt k (length w.processes) ≡ less → slice_get (chosen image b (chosen image a w)).processes k ≡ slice_get (chosen image a (chosen image b w)).processes k
-    one true h =
-        let lower = ltb-true k (length w.processes) h in
-        let count = (chosen_kept image a w no_a).count in
-        (chosen_confined image b (chosen image a w)).2 k f (omega arith) ∙ (chosen_kept image a w no_a).others k e ∙ sym ((chosen_confined image b w).2 k f lower) ∙ sym (kept_a k e)
-    one false h = sym (b_acts.beyond k (ltb-false k (length w.processes) h) f) ∙ sym (kept_a k e)
+    commute : chosen image b (chosen image a w) ≡ chosen image a (chosen image b w)
+    commute =
+        same_state (chosen image b (chosen image a w)) (chosen image a (chosen image b w))
+        (same_everywhere (chosen image b (chosen image a w)).processes (chosen image a (chosen image b w)).processes as_many (λ k h. same_life k))
+        (same_channels (chosen image b (chosen image a w)).lanes.channels (chosen image a (chosen image b w)).lanes.channels same_row)
+        (sym b_acts.output ∙ sym (chosen_kept image a (chosen image b w) last_a).output)
+        (b_runs ∙ sym a_last)
 
-  same_life : (k : ℕ) → slice_get (chosen image b (chosen image a w)).processes k ≡ slice_get (chosen image a (chosen image b w)).processes k
-  same_life k = one (cases_eq k (actor a)) (cases_eq k (actor b)) where
-    one : (k ≡ actor a) ⊎ (k ≢ actor a) → (k ≡ actor b) ⊎ (k ≢ actor b) → slice_get (chosen image b (chosen image a w)).processes k ≡ slice_get (chosen image a (chosen image b w)).processes k
-    one (inl e) f =
-        ap (slice_get (chosen image b (chosen image a w)).processes) e ∙ stays (chosen image a w) (chosen_kept image a w no_a).count ∙ a_alike.life ∙ ap (slice_get (chosen image a (chosen image b w)).processes) (sym e)
-    one (inr e) (inl f) = ap (slice_get (chosen image b (chosen image a w)).processes) f ∙ sym b_acts.here ∙ ap (slice_get (chosen image b w).processes) (sym f) ∙ sym (kept_a k e)
-    one (inr e) (inr f) = other_life k e f
+    no_run_is_local : (a b : Choice) → IsLocal image w a → one_is_local image w a b ≡ true
+    no_run_is_local (Run p) (Run q) idle = ap (λ t. t || runs_local image q w) idle
+    no_run_is_local (Run p) (Deliver q r) idle = refl
+    no_run_is_local (Run p) (Expire q) idle = refl
+    no_run_is_local (Deliver p q) b idle = refl
+    no_run_is_local (Expire p) b idle = refl
 
-  as_many : length (chosen image b (chosen image a w)).processes ≡ length (chosen image a (chosen image b w)).processes
-  as_many = sym b_acts.count ∙ sym (chosen_kept image a (chosen image b w) last_a).count
+    pub may_exchange : AreIndependent image w a b
+    may_exchange = record {
+      first_enabled = can_a;
+      second_enabled = can_b;
+      first_runs = a_runs;
+      second_applied = b_enabled;
+      second_runs = b_runs;
+      apart = apart;
+      local = no_run_is_local a b no_a;
+      same = one_then image a b w can_a b_enabled ∙ commute ∙ sym (one_then image b a w can_b a_enabled);
+    }
 
-  -- channel by channel
-  same_row : (pair : ℕ × ℕ) → waiting (chosen image b (chosen image a w)).lanes.channels pair ≡ waiting (chosen image a (chosen image b w)).lanes.channels pair
-  same_row pair =
-      both_rows (waiting w.lanes.channels pair) (waiting (chosen image a w).lanes.channels pair) (waiting (chosen image b w).lanes.channels pair)
-      (waiting (chosen image b (chosen image a w)).lanes.channels pair) (waiting (chosen image a (chosen image b w)).lanes.channels pair)
-      (in_channel pair (posts image a w)) (in_channel pair (posts image b w)) (takes a w pair) (takes b w pair)
-      (stepped image a w can_a a_runs pair)
-      (ap (λ ps. waiting (chosen image a w).lanes.channels pair ++ in_channel pair ps) b_acts.posts
-      ∙ stepped image b (chosen image a w) b_enabled b_runs pair
-      ∙ ap (λ ss. ss ++ waiting (chosen image b (chosen image a w)).lanes.channels pair) (sym (takes_alike b w (chosen image a w) pair b_finds)))
-      (stepped image b w can_b b_first pair)
-      (ap (λ ps. waiting (chosen image b w).lanes.channels pair ++ in_channel pair ps) (posts_alike image a w (chosen image b w) no_a a_finds)
-      ∙ stepped image a (chosen image b w) a_enabled a_last pair
-      ∙ ap (λ ss. ss ++ waiting (chosen image a (chosen image b w)).lanes.channels pair) (sym (takes_alike a w (chosen image b w) pair a_finds)))
-      (puts_case (cases_eq pair.0 (actor a))) (takes_case (cases_eq pair.1 (actor a)))
-    where
-      puts_case : (pair.0 ≡ actor a) ⊎ (pair.0 ≢ actor a) → (in_channel pair (posts image a w) ≡ []) ⊎ (in_channel pair (posts image b w) ≡ [])
-      puts_case (inl e) = inr (sends_none image b w pair (λ f. apart (sym e ∙ f)))
-      puts_case (inr other) = inl (sends_none image a w pair other)
+  -- where the other leaves the process of the local one as it was
+  module _ (stays : (v : State) → length v.processes ≡ length w.processes → slice_get (chosen image b v).processes (actor a) ≡ slice_get v.processes (actor a)) where
+    a_finds : Finds a w (chosen image b w)
+    a_finds = finds_again image b a w (stays w refl) flipped can_b b_first can_a
 
-      takes_case : (pair.1 ≡ actor a) ⊎ (pair.1 ≢ actor a) → (takes a w pair ≡ []) ⊎ (takes b w pair ≡ [])
-      takes_case (inl e) = inr (takes_none b w pair (λ f. apart (sym e ∙ f)))
-      takes_case (inr other) = inl (takes_none a w pair other)
+    a_alike : EndsAlike (actor a) (chosen image a w) (chosen image a (chosen image b w))
+    a_alike = chosen_alike image a w (chosen image b w) no_a a_finds (able_of w a can_a)
 
-  pub commute : chosen image b (chosen image a w) ≡ chosen image a (chosen image b w)
-  commute =
-      same_state (chosen image b (chosen image a w)) (chosen image a (chosen image b w))
-      (same_everywhere (chosen image b (chosen image a w)).processes (chosen image a (chosen image b w)).processes as_many (λ k h. same_life k))
-      (same_channels (chosen image b (chosen image a w)).lanes.channels (chosen image a (chosen image b w)).lanes.channels same_row)
-      (sym b_acts.output ∙ sym (chosen_kept image a (chosen image b w) last_a).output)
-      (b_runs ∙ sym a_last)
-
-  no_run_is_local : (a b : Choice) → IsLocal image w a → one_is_local image w a b ≡ true
-  no_run_is_local (Run p) (Run q) idle = ap (λ t. t || runs_local image q w) idle
-  no_run_is_local (Run p) (Deliver q r) idle = refl
-  no_run_is_local (Run p) (Expire q) idle = refl
-  no_run_is_local (Deliver p q) b idle = refl
-  no_run_is_local (Expire p) b idle = refl
-
-  may_exchange : AreIndependent image w a b
-  may_exchange = record {
-    first_enabled = can_a;
-    second_enabled = can_b;
-    first_runs = a_runs;
-    second_applied = b_enabled;
-    second_runs = b_runs;
-    apart = apart;
-    local = no_run_is_local a b no_a;
-    same = one_then image a b w can_a b_enabled ∙ commute ∙ sym (one_then image b a w can_b a_enabled);
-  }
+    pub unmoved : AreIndependent image w a b
+    unmoved =
+        may_exchange (local_again image a w (chosen image b w) a_finds no_a)
+        (can_from (chosen image b w) a b_first (sym (able_alike a w (chosen image b w) a_finds) ∙ able_of w a can_a))
+        (sym a_alike.trap ∙ a_runs)
+        (stays (chosen image a w) (chosen_kept image a w no_a).count ∙ a_alike.life)
+        (posts_alike image a w (chosen image b w) no_a a_finds) a_finds.signal
 
 -- a choice that is no run is local
 pub no_run_local : (image : Loaded) (c : Choice) (w : State) → IsNoRun c → IsLocal image w c
@@ -420,12 +424,13 @@ no_run_local image (Deliver p q) w idle = tt
 no_run_local image (Expire p) w idle = tt
 
 pub independent : (image : Loaded) (a b : Choice) (w : State) → IsNoRun a → IsNoRun b → actor a ≢ actor b → can w a ≡ true → can w b ≡ true → (chosen image a w).trap ≡ None → (chosen image b (chosen image a w)).trap ≡ None → AreIndependent image w a b
-independent image a b w no_a no_b apart =
-    may_exchange image a b w (no_run_local image a w no_a) (λ v e. (chosen_kept image b v (no_run_local image b v no_b)).others (actor a) apart) apart
+independent image a b w no_a no_b apart can_a can_b a_runs b_runs =
+    unmoved image a b w (no_run_local image a w no_a) apart can_a can_b a_runs b_runs (λ v e. (chosen_kept image b v (no_run_local image b v no_b)).others (actor a) apart)
 
 -- a process that is there stays as it was beside any choice of another
 pub untouched : (image : Loaded) (b : Choice) (w v : State) (p : ℕ) → p ≢ actor b → p < length w.processes → length v.processes ≡ length w.processes → slice_get (chosen image b v).processes p ≡ slice_get v.processes p
 untouched image b w v p apart there as_many = (chosen_confined image b v).2 p apart (omega (arith, there, as_many))
 
 pub beside_any : (image : Loaded) (a b : Choice) (w : State) → IsLocal image w a → actor a < length w.processes → actor a ≢ actor b → can w a ≡ true → can w b ≡ true → (chosen image a w).trap ≡ None → (chosen image b (chosen image a w)).trap ≡ None → AreIndependent image w a b
-beside_any image a b w local there apart = may_exchange image a b w local (λ v e. untouched image b w v (actor a) apart there e) apart
+beside_any image a b w local there apart can_a can_b a_runs b_runs =
+    unmoved image a b w local apart can_a can_b a_runs b_runs (λ v e. untouched image b w v (actor a) apart there e)

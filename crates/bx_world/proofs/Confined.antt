@@ -3,13 +3,14 @@ use Rattle.std.proofs.Common.{◌≡◌, ◌≢◌, ℕ, zero, suc, ◌+◌, ◌
 use Rattle.std.specs.Prelude.{◌&&◌, if◌then◌else◌, is_none, slice_get, slice_set}
 use Rattle.std.proofs.Math.ListN.{set}
 use Rattle.std.proofs.lemmas.Bool.{cases_eq}
-use Rattle.std.proofs.lemmas.Option.{slice_get_within}
+use Rattle.std.proofs.lemmas.Option.{slice_get_within, slice_get_past}
 use Rattle.bx_terms.specs.Tree.{Tree, pid}
 use Rattle.bx_terms.specs.declared.faults.Fault.{Fault}
 use Rattle.bx_terms.specs.declared.faults.Fault.TheVariants.{NotEnabled}
 use Rattle.bx_load.specs.Image.{Loaded}
 use Rattle.bx_signals.specs.Waiting.{first}
 use Rattle.bx_signals.specs.Channels.{waiting}
+use Rattle.bx_proc.specs.Process.{Process}
 use Rattle.bx_proc.specs.declared.parts.Answer.{Answer}
 use Rattle.bx_proc.specs.declared.parts.Answer.TheVariants.{Value}
 use Rattle.bx_world.specs.declared.choices.Choice.{Choice}
@@ -43,26 +44,50 @@ get_first [] ys k h = absurd (omega arith)
 get_first (x ∷ xs) ys zero h = refl
 get_first (x ∷ xs) ys (suc k) h = get_first xs ys k (omega arith)
 
--- at most one process more, and the others but that one as they were
+-- whoever is there has not ended
+abbrev pub IsNotGone : Option Life → Type 0
+IsNotGone None = Unit {0}
+IsNotGone (Some (Live x)) = Unit {0}
+IsNotGone (Some (Gone reason)) = ⊥
+
+-- at most one process more, which has not ended, and the others but that one as they were
 abbrev pub Confined : ℕ → List Life → List Life → Type 0
-Confined p lives after = (length lives ≤ length after) × (length after ≤ length lives + 1) × ((q : ℕ) → q ≢ p → q < length lives → slice_get after q ≡ slice_get lives q)
+Confined p lives after =
+    (length lives ≤ length after) × (length after ≤ length lives + 1) × ((q : ℕ) → q ≢ p → q < length lives → slice_get after q ≡ slice_get lives q)
+    × ((q : ℕ) → q ≢ p → length lives ≤ q → IsNotGone (slice_get after q))
 
 -- no process more
 abbrev Changed : ℕ → List Life → List Life → Type 0
 Changed p lives after = (length after ≡ length lives) × ((q : ℕ) → q ≢ p → slice_get after q ≡ slice_get lives q)
 
-confined : (p : ℕ) (lives after : List Life) → Changed p lives after → Confined p lives after
-confined p lives after h = (omega (arith, h.0), omega (arith, h.0), λ q other here. h.1 q other)
+not_past : (lives : List Life) (q : ℕ) → length lives ≤ q → IsNotGone (slice_get lives q)
+not_past lives q past = subst IsNotGone (sym (slice_get_past lives q past)) tt
 
-grown : (p : ℕ) (lives after : List Life) (one : Life) → Changed p (lives ++ one ∷ []) after → Confined p lives after
-grown p lives after one h = (
-  omega (arith, h.0, length-append lives (one ∷ [])),
-  omega (arith, h.0, length-append lives (one ∷ [])),
-  λ q other here. h.1 q other ∙ get_first lives (one ∷ []) q here,
+confined : (p : ℕ) (lives after : List Life) → Changed p lives after → Confined p lives after
+confined p lives after h = (
+  omega (arith, h.0),
+  omega (arith, h.0),
+  λ q other here. h.1 q other,
+  λ q other past. subst IsNotGone (sym (h.1 q other)) (not_past lives q past),
+)
+
+-- behind the others
+last_is : (x : Process) (lives : List Life) (q : ℕ) → length lives ≤ q → IsNotGone (slice_get (lives ++ Live x ∷ []) q)
+last_is x [] zero past = tt
+last_is x [] (suc q) past = tt
+last_is x (y ∷ lives) zero past = absurd (omega arith)
+last_is x (y ∷ lives) (suc q) past = last_is x lives q (omega arith)
+
+grown : (p : ℕ) (lives after : List Life) (x : Process) → Changed p (lives ++ Live x ∷ []) after → Confined p lives after
+grown p lives after x h = (
+  omega (arith, h.0, length-append lives (Live x ∷ [])),
+  omega (arith, h.0, length-append lives (Live x ∷ [])),
+  λ q other here. h.1 q other ∙ get_first lives (Live x ∷ []) q here,
+  λ q other past. subst IsNotGone (sym (h.1 q other)) (last_is x lives q past),
 )
 
 unchanged : (p : ℕ) (lives : List Life) → Confined p lives lives
-unchanged p lives = (omega arith, omega arith, λ q other here. refl)
+unchanged p lives = (omega arith, omega arith, λ q other here. refl, λ q other past. not_past lives q past)
 
 abbrev AmongChanged : ℕ → List Life → Result Among Fault → Type 0
 AmongChanged p lives (Ok (w, turn)) = Changed p lives w.0
@@ -93,12 +118,12 @@ told_confined p q l lives None = lost_confined q lives (lost p q l (first (waiti
 told_confined p q l lives (Some one) = weaker q lives (put_back q lives (life_told p q l one)) (put_changed q lives (life_told p q l one))
 
 -- a spawn
-unborn_confined : (p : ℕ) (lives : List Life) (one : Life) (l : Lanes) (r : Result Among Fault) → AmongChanged p (lives ++ one ∷ []) r → AmongConfined p lives (unborn_at_trap lives l r)
-unborn_confined p lives one l (Ok (w, turns.Ran)) h = grown p lives w.0 one h
-unborn_confined p lives one l (Ok (w, turns.Ended reason)) h = grown p lives w.0 one h
-unborn_confined p lives one l (Ok (w, turns.Trapped kind)) h = unchanged p lives
-unborn_confined p lives one l (Ok (w, turns.Bears birth)) h = grown p lives w.0 one h
-unborn_confined p lives one l (Err fault) h = tt
+unborn_confined : (p : ℕ) (lives : List Life) (x : Process) (l : Lanes) (r : Result Among Fault) → AmongChanged p (lives ++ Live x ∷ []) r → AmongConfined p lives (unborn_at_trap lives l r)
+unborn_confined p lives x l (Ok (w, turns.Ran)) h = grown p lives w.0 x h
+unborn_confined p lives x l (Ok (w, turns.Ended reason)) h = grown p lives w.0 x h
+unborn_confined p lives x l (Ok (w, turns.Trapped kind)) h = unchanged p lives
+unborn_confined p lives x l (Ok (w, turns.Bears birth)) h = grown p lives w.0 x h
+unborn_confined p lives x l (Err fault) h = tt
 
 either : (p : ℕ) (lives : List Life) (b : Bool) (r s : Result Among Fault) → AmongConfined p lives r → AmongConfined p lives s → AmongConfined p lives (if b then r else s)
 either p lives true r s h k = h
@@ -111,10 +136,10 @@ born_confined : (image : Loaded) (p : ℕ) (birth : Birth) (l : Lanes) (lives : 
 born_confined image p birth l lives =
     let child = other_if birth.linked (length lives) in
     let value = Value (pid (length lives)) in
-    let one = Live (newborn image p birth) in
+    let x = newborn image p birth in
     either p lives (past_limits birth lives) (lives_answered image p None system_limit l lives) (lives_grown image p birth l lives)
     (weaker p lives (lives_answered image p None system_limit l lives) (answered_changed image p None system_limit l lives))
-    (unborn_confined p lives one l (lives_answered image p child value l (lives ++ one ∷ [])) (answered_changed image p child value l (lives ++ one ∷ [])))
+    (unborn_confined p lives x l (lives_answered image p child value l (lives ++ Live x ∷ [])) (answered_changed image p child value l (lives ++ Live x ∷ [])))
 
 too_confined : (image : Loaded) (p : ℕ) (l : Lanes) (lives : List Life) (r : Result Among Fault) → AmongKept (lives, l) r → AmongConfined p lives r → AmongConfined p lives (born_too image p r)
 too_confined image p l lives (Ok (w, turns.Ran)) kept h = h

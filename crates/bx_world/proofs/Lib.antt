@@ -23,4 +23,5 @@ pub mod Alike
 pub mod Beside
 pub mod Commuting
 pub mod Orders
+pub mod Newborns
 pub mod Crossing

@@ -1,4 +1,4 @@
--- What is asked of one process, in its life and among the others.
+-- What is asked of one process beside its runs, in its life and among the others.
 use Rattle.std.specs.Prelude.{ℕ, List, Option, Some, None, Result, Ok, Err, if◌then◌else◌, IsTrue, slice_get}
 use Rattle.bx_terms.specs.Tree.{pid}
 use Rattle.bx_terms.specs.declared.faults.Fault.{Fault}
@@ -6,19 +6,18 @@ use Rattle.bx_terms.specs.declared.faults.Fault.TheVariants.{NotEnabled}
 use Rattle.bx_load.specs.Image.{Loaded}
 use Rattle.bx_signals.specs.Waiting.{first}
 use Rattle.bx_signals.specs.Channels.{waiting}
-use Rattle.bx_proc.specs.Process.{Process, can_run, can_expire}
+use Rattle.bx_proc.specs.Process.{Process, can_expire}
 use Rattle.bx_proc.specs.Signals.{expired}
 use Rattle.bx_proc.specs.declared.parts.Answer.TheVariants.{Value}
 use Rattle.bx_world.specs.declared.acts.Act.{Act}
-use Rattle.bx_world.specs.declared.acts.Act.TheVariants.{Run, Hear, Expire, Spawned, Unspawned}
+use Rattle.bx_world.specs.declared.acts.Act.TheVariants.{Hear, Expire, Spawned, Unspawned}
 use Rattle.bx_world.specs.declared.lanes.Lanes.{Lanes}
 use Rattle.bx_world.specs.declared.turns.Turn.TheVariants as turns
 use Rattle.bx_world.specs.World.{Life}
 use Rattle.bx_world.specs.Asking.{Done}
-use Rattle.bx_world.specs.Turning.{runs}
 use Rattle.bx_world.specs.Delivering.{received, gone_received, lost}
-use Rattle.bx_world.specs.Enabled.{may_at, may_run, may_expire}
-use Rattle.bx_world.specs.Lifetimes.{Lived, Among, life_run, life_told, life_expired, put_back, lost_if, Waits}
+use Rattle.bx_world.specs.Enabled.{may_at, may_expire}
+use Rattle.bx_world.specs.Lifetimes.{Lived, Among, life_told, life_expired, put_back, lost_if, Waits}
 use Rattle.bx_world.specs.Births.{answering, life_answered, other_if, system_limit}
 
 -- a wait that can expire is over
@@ -27,7 +26,6 @@ expiring lanes x = if can_expire x then Ok ((expired x, lanes), turns.Ran) else 
 
 -- of a process
 abbrev pub process_acted : Loaded → ℕ → Act → Lanes → Process → Result Done Fault
-process_acted image p Run lanes x = if can_run x then Ok (runs image p lanes x) else Err NotEnabled
 process_acted image p (Hear q) lanes x = received q p x lanes
 process_acted image p Expire lanes x = expiring lanes x
 process_acted image p (Spawned child linked) lanes x = Ok (answering image p (other_if linked child) (Value (pid child)) x lanes)
@@ -44,7 +42,6 @@ missed act p lanes = Err NotEnabled
 
 -- of a life
 abbrev pub life_acted : Loaded → ℕ → Act → Lanes → Life → Result Lived Fault
-life_acted image p Run lanes one = life_run image p lanes one
 life_acted image p (Hear q) lanes one = life_told q p lanes one
 life_acted image p Expire lanes one = life_expired lanes one
 life_acted image p (Spawned child linked) lanes one = life_answered image p (other_if linked child) (Value (pid child)) lanes one
@@ -60,7 +57,6 @@ lives_acted image p act lanes lives = acted_at image p act lanes lives (slice_ge
 
 -- where memory may run out: where what is asked for is enabled
 abbrev pub MayLack : Act → ℕ → Lanes → Option Life → Type 0
-MayLack Run p lanes o = IsTrue (may_at may_run o)
 MayLack (Hear q) p lanes o = Waits q p lanes
 MayLack Expire p lanes o = IsTrue (may_at may_expire o)
 MayLack (Spawned child linked) p lanes o = Unit {0}

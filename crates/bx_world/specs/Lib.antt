@@ -3,7 +3,6 @@ pub mod Sharing
 pub mod Requests
 pub mod Asking
 pub mod Turning
-pub mod Batches
 pub mod Delivering
 pub mod Lives
 pub mod Enabled
@@ -11,6 +10,7 @@ pub mod Lifetimes
 pub mod Births
 pub mod Acting
 pub mod Choosing
+pub mod Batches
 pub mod Running
 pub mod Seen
 pub mod Texts

@@ -3,7 +3,7 @@
 use Rattle.std.specs.Prelude.{◌≡◌, ◌<◌, ◌≤◌, IsTrue, ℕ, ◌+◌, List, [], ◌∷◌, replicate, Option, Some, None, Result, Ok, Err, is_some, ◌||◌, if◌then◌else◌, refl}
 use Rattle.std.specs.Coded.{Coded, code_by, coded×, coded_ℕ, coded_option}
 use Rattle.bx_terms.specs.declared.faults.Fault.{Fault}
-use Rattle.bx_terms.specs.declared.faults.Fault.TheVariants.{Memory}
+use Rattle.bx_terms.specs.declared.faults.Fault.TheVariants.{Memory, NotEnabled}
 use Rattle.bx_load.specs.Image.{Loaded}
 use Rattle.bx_world.specs.declared.choices.Choice.{Choice}
 use Rattle.bx_world.specs.World.{State}
@@ -62,3 +62,10 @@ abbrev pub DoesSome : Loaded → Choice → ℕ → Ended → Ended → Result �
 DoesSome image choice times old new (Ok n) = (0 < n) × (n ≤ times) × (new ≡ ran image (replicate n choice) old)
 DoesSome image choice times old new (Err Memory) = Lacks image choice times old new
 DoesSome image choice times old new (Err fault) = ⊥
+
+-- what a choice that was tried leaves: it is counted, or kept where it was not enabled
+abbrev pub Notes : Choice → Result (Unit {0}) Fault → Ended → Ended → Result (Unit {0}) Fault → Type 0
+Notes choice (Ok done) old new answer = (answer ≡ Ok tt) × (new ≡ record old { applied = old.applied + 1 })
+Notes choice (Err NotEnabled) old new answer = (answer ≡ Ok tt) × (new ≡ record old { refused = Some choice })
+Notes choice (Err Memory) old new answer = (answer ≡ Err Memory) × (new ≡ old)
+Notes choice (Err fault) old new answer = (answer ≡ Ok tt) × (new ≡ old)

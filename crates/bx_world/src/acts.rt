@@ -1,10 +1,8 @@
-//! What is asked of one process: by a choice, or by the spawn that it asked for.
+//! What is asked of one process beside its runs: by a choice, or by the spawn that it asked for.
 
 /// What a process is to do.
 #[derive(Clone, Copy, Debug)]
 pub(crate) enum Act {
-    /// Run one instruction.
-    Run,
     /// Take the first signal from that process.
     Hear(u32),
     /// End its wait.

@@ -13,11 +13,11 @@ ghost use Rattle.bx_world.specs.declared.requests.Request.TheVariants as request
 ghost use Rattle.bx_world.specs.declared.turns.Turn.TheVariants as turns;
 ghost use Rattle.bx_world.specs.Asking.{whole, closing, sending, exiting_oneself, linking, unlinking, done_by, unlinked_done, exit_message, low_enough, yes, leaving, ExitTakes};
 
+use crate::actors::Actor;
 use crate::lanes::Lanes;
 use crate::requests::Request;
 use crate::turns::Turn;
 use bx_bifs::is_the_atom;
-use bx_load::Image;
 use bx_proc::{Answer, Proc, Stop, Why};
 use bx_signals::Signal;
 use bx_terms::{Class, Fault, MAX_HEIGHT, Term, TermRefusal, Trap, fixed};
@@ -28,231 +28,6 @@ pub(crate) fn yes() -> Answer
     ensures { result ≡ yes }
 {
     Answer::Value(Term::atom(fixed::TRUE))
-}
-
-/// Does what a process asks of the world, but for a spawn, which is handed on.
-pub(crate) fn perform(
-    alloc: Global,
-    image: &Image,
-    process: &mut Proc,
-    lanes: &mut Lanes,
-    pid: u32,
-    request: Request,
-) -> Result<Turn, Fault>
-    ensures { Does (Unit {0}) (process.old, lanes.old) (process.new, lanes.new) result
-        (Ok (done_by image.now pid request process.old lanes.old)) }
-{
-    match request {
-        Request::Refused => {
-            let answer = Answer::Fault(Class::Error, Term::atom(fixed::BADARG));
-            close_whole(alloc, image, process, lanes, pid, &answer)
-        }
-        Request::Send(to, message) => send(alloc, image, process, lanes, pid, to, message),
-        Request::Exit(to, reason) => exit(alloc, image, process, lanes, pid, to, reason),
-        Request::Link(to) => link(alloc, image, process, lanes, pid, to),
-        Request::Unlink(to) => unlink(alloc, image, process, lanes, pid, to),
-        Request::Display(term) => display(alloc, image, process, lanes, pid, term),
-        Request::Spawn(birth) => Ok(Turn::Bears(birth)),
-    }
-}
-
-/// Tells the links of a process that it has ended.
-pub(crate) fn leave(
-    alloc: Global,
-    process: &Proc,
-    lanes: &mut Lanes,
-    pid: u32,
-    reason: Term,
-) -> Result<Turn, Fault>
-    ensures { Does (Unit {0}) (process.now, lanes.old) (process.now, lanes.new) result
-        (Ok (leaving pid process.now lanes.old reason)) }
-{
-    lanes
-        .channels
-        .put_exits(alloc, pid, process.links(), &reason)?;
-    Ok(Turn::Ended(reason))
-}
-
-/// What an instruction that asked was, where its process does not go on with its answer.
-fn finish(
-    alloc: Global,
-    process: &mut Proc,
-    lanes: &mut Lanes,
-    pid: u32,
-    stop: Stop,
-) -> Result<Turn, Fault>
-    ensures { (old : Process) (said : Process × Effect) → Settles (Unit {0}) old process.old
-        (Err stop) said → Does (Unit {0}) (old, lanes.old) (process.new, lanes.new) result
-        (Ok (closing pid lanes.old said)) }
-{
-    match stop.why() {
-        Why::Ends => match process.take_reason() {
-            Some(reason) => leave(alloc, process, lanes, pid, reason),
-            None => Err(Fault::Memory), // not reached: a reason waits
-        },
-        Why::Trapped(kind) => Ok(Turn::Trapped(kind)),
-        Why::Memory | Why::Asks(_) | Why::Sends => Err(Fault::Memory),
-    }
-}
-
-/// Gives a process its answer: it goes on, or it ends and tells its links.
-#[tactic(auto, using(crate::proofs::Halting::went_on, crate::proofs::Halting::any_takes))]
-pub(crate) fn close(
-    alloc: Global,
-    image: &Image,
-    process: &mut Proc,
-    lanes: &mut Lanes,
-    pid: u32,
-    answer: &Answer,
-) -> Result<Turn, Fault>
-    ensures { Does (Unit {0}) (process.old, lanes.old) (process.new, lanes.new) result
-        (Ok (closing pid lanes.old (settled image.now answer.now process.old))) }
-{
-    match process.settle(alloc, image, answer) {
-        Ok(()) => Ok(Turn::Ran),
-        Err(stop) => finish(alloc, process, lanes, pid, stop),
-    }
-}
-
-/// The same with a message to itself.
-#[tactic(auto, using(crate::proofs::Undoing::whole_alone_with, crate::proofs::Halting::went_on, crate::proofs::Halting::any_takes))]
-fn note(
-    alloc: Global,
-    image: &Image,
-    process: &mut Proc,
-    lanes: &mut Lanes,
-    pid: u32,
-    answer: &Answer,
-    message: Term,
-) -> Result<Turn, Fault>
-    ensures { Does (Unit {0}) (process.old, lanes.old) (process.new, lanes.new) result (Ok (whole
-        (process.old, lanes.old)
-        (closing pid lanes.old (settled_with image.now answer.now message process.old)))) }
-{
-    match process.settle_with(alloc, image, answer, message) {
-        Ok(()) => Ok(Turn::Ran),
-        Err(stop) => finish(alloc, process, lanes, pid, stop),
-    }
-}
-
-/// Gives a process its answer, where nothing else was done.
-#[tactic(auto, using(crate::proofs::Undoing::whole_alone))]
-pub(crate) fn close_whole(
-    alloc: Global,
-    image: &Image,
-    process: &mut Proc,
-    lanes: &mut Lanes,
-    pid: u32,
-    answer: &Answer,
-) -> Result<Turn, Fault>
-    ensures { Does (Unit {0}) (process.old, lanes.old) (process.new, lanes.new) result (Ok (whole
-        (process.old, lanes.old)
-        (closing pid lanes.old (settled image.now answer.now process.old)))) }
-{
-    close(alloc, image, process, lanes, pid, answer)
-}
-
-/// Puts a signal to another process, and gives the sender its answer.
-#[tactic(auto, using(crate::proofs::Undoing::told_trapped, crate::proofs::Undoing::stood, crate::proofs::Undoing::untold))]
-fn tell(
-    alloc: Global,
-    image: &Image,
-    process: &mut Proc,
-    lanes: &mut Lanes,
-    pid: u32,
-    to: u32,
-    signal: Signal,
-    answer: &Answer,
-) -> Result<Turn, Fault>
-    ensures { Does (Unit {0}) (process.old, lanes.old) (process.new, lanes.new) result (Ok (whole
-        (process.old, lanes.old)
-        (sending image.now pid to signal answer.now process.old lanes.old))) }
-{
-    if let Err(_signal) = lanes.channels.put(alloc, pid, to, signal) {
-        return Err(Fault::Memory);
-    }
-    let turn = match close(alloc, image, process, lanes, pid, answer) {
-        Ok(turn) => turn,
-        Err(refused) => {
-            lanes.channels.take_back(pid, to);
-            return Err(refused);
-        }
-    };
-    if let Turn::Trapped(_) = &turn {
-        lanes.channels.take_back(pid, to);
-    }
-    Ok(turn)
-}
-
-fn send(
-    alloc: Global,
-    image: &Image,
-    process: &mut Proc,
-    lanes: &mut Lanes,
-    pid: u32,
-    to: u32,
-    message: Term,
-) -> Result<Turn, Fault>
-    ensures { Does (Unit {0}) (process.old, lanes.old) (process.new, lanes.new) result
-        (Ok (done_by image.now pid (requests.Send to message) process.old lanes.old)) }
-{
-    let answer = Answer::Value(message.copy(alloc)?);
-    if to == pid {
-        return note(alloc, image, process, lanes, pid, &answer, message);
-    }
-    let signal = Signal::Message(message);
-    tell(alloc, image, process, lanes, pid, to, signal, &answer)
-}
-
-fn exit(
-    alloc: Global,
-    image: &Image,
-    process: &mut Proc,
-    lanes: &mut Lanes,
-    pid: u32,
-    to: u32,
-    reason: Term,
-) -> Result<Turn, Fault>
-    ensures { Does (Unit {0}) (process.old, lanes.old) (process.new, lanes.new) result
-        (Ok (done_by image.now pid (requests.Exit to reason) process.old lanes.old)) }
-{
-    if to == pid {
-        return exit_itself(alloc, image, process, lanes, pid, reason);
-    }
-    tell(
-        alloc,
-        image,
-        process,
-        lanes,
-        pid,
-        to,
-        Signal::Exit(reason),
-        &yes(),
-    )
-}
-
-/// A process asks itself to end. No reason that is too high for the message is answered as out of memory.
-fn exit_itself(
-    alloc: Global,
-    image: &Image,
-    process: &mut Proc,
-    lanes: &mut Lanes,
-    pid: u32,
-    reason: Term,
-) -> Result<Turn, Fault>
-    ensures { Does (ExitTakes pid reason process.old.trap_exit) (process.old, lanes.old) (process.new, lanes.new) result (Ok (whole
-        (process.old, lanes.old) (exiting_oneself image.now pid reason process.old lanes.old))) }
-{
-    if is_the_atom(fixed::KILL, &reason) {
-        return leave(alloc, process, lanes, pid, Term::atom(fixed::KILLED));
-    }
-    if !process.traps_exits() {
-        return leave(alloc, process, lanes, pid, reason);
-    }
-    let Some(message) = exit_message(alloc, pid, reason)? else {
-        return Ok(Turn::Trapped(Trap::TermHeight));
-    };
-    note(alloc, image, process, lanes, pid, &yes(), message)
 }
 
 /// The message that an exit signal becomes; `None` where it would be too high. Memory is taken only where it is not.
@@ -279,187 +54,347 @@ pub(crate) fn exit_message(
     }
 }
 
-#[tactic(auto, using(crate::proofs::Undoing::link_trapped, crate::proofs::Undoing::rewhole, crate::proofs::Undoing::unlinked_back))]
-fn link(
-    alloc: Global,
-    image: &Image,
-    process: &mut Proc,
-    lanes: &mut Lanes,
-    pid: u32,
-    to: u32,
-) -> Result<Turn, Fault>
-    ensures { Does (Unit {0}) (process.old, lanes.old) (process.new, lanes.new) result
-        (Ok (whole (process.old, lanes.old) (linking image.now pid to process.old lanes.old))) }
-{
-    if to == pid || process.is_linked(to) {
-        return close_whole(alloc, image, process, lanes, pid, &yes());
-    }
-    process.add_link(to)?;
-    let signal = Signal::Link;
-    let turn = match tell(alloc, image, process, lanes, pid, to, signal, &yes()) {
-        Ok(turn) => turn,
-        Err(refused) => {
-            process.drop_link(to);
-            return Err(refused);
+impl Actor<'_> {
+    /// Does what a process asks of the world, but for a spawn, which is handed on.
+    pub(crate) fn perform(
+        self,
+        process: &mut Proc,
+        lanes: &mut Lanes,
+        request: Request,
+    ) -> Result<Turn, Fault>
+        ensures { Does (Unit {0}) (process.old, lanes.old) (process.new, lanes.new) result
+            (Ok (done_by self.entry.image.now self.entry.pid request process.old lanes.old)) }
+    {
+        match request {
+            Request::Refused => {
+                let answer = Answer::Fault(Class::Error, Term::atom(fixed::BADARG));
+                self.close_whole(process, lanes, &answer)
+            }
+            Request::Send(to, message) => self.send(process, lanes, to, message),
+            Request::Exit(to, reason) => self.exit(process, lanes, to, reason),
+            Request::Link(to) => self.link(process, lanes, to),
+            Request::Unlink(to) => self.unlink(process, lanes, to),
+            Request::Display(term) => self.display(process, lanes, term),
+            Request::Spawn(birth) => Ok(Turn::Bears(birth)),
         }
-    };
-    if let Turn::Trapped(_) = &turn {
+    }
+
+    /// Tells the links of a process that it has ended.
+    pub(crate) fn leave(
+        self,
+        process: &Proc,
+        lanes: &mut Lanes,
+        reason: Term,
+    ) -> Result<Turn, Fault>
+        ensures { Does (Unit {0}) (process.now, lanes.old) (process.now, lanes.new) result
+            (Ok (leaving self.entry.pid process.now lanes.old reason)) }
+    {
+        lanes
+            .channels
+            .put_exits(self.alloc, self.pid, process.links(), &reason)?;
+        Ok(Turn::Ended(reason))
+    }
+
+    /// What an instruction that asked was, where its process does not go on with its answer.
+    fn finish(self, process: &mut Proc, lanes: &mut Lanes, stop: Stop) -> Result<Turn, Fault>
+        ensures { (old : Process) (said : Process × Effect) → Settles (Unit {0}) old process.old
+            (Err stop) said → Does (Unit {0}) (old, lanes.old) (process.new, lanes.new) result
+            (Ok (closing self.entry.pid lanes.old said)) }
+    {
+        match stop.why() {
+            Why::Ends => match process.take_reason() {
+                Some(reason) => self.leave(process, lanes, reason),
+                None => Err(Fault::Memory), // not reached: a reason waits
+            },
+            Why::Trapped(kind) => Ok(Turn::Trapped(kind)),
+            Why::Memory | Why::Asks(_) | Why::Sends => Err(Fault::Memory),
+        }
+    }
+
+    /// Gives a process its answer: it goes on, or it ends and tells its links.
+    #[tactic(auto, using(crate::proofs::Halting::went_on, crate::proofs::Halting::any_takes))]
+    pub(crate) fn close(
+        self,
+        process: &mut Proc,
+        lanes: &mut Lanes,
+        answer: &Answer,
+    ) -> Result<Turn, Fault>
+        ensures { Does (Unit {0}) (process.old, lanes.old) (process.new, lanes.new) result
+            (Ok (closing self.entry.pid lanes.old (settled self.entry.image.now answer.now process.old))) }
+    {
+        match process.settle(self.alloc, self.image, answer) {
+            Ok(()) => Ok(Turn::Ran),
+            Err(stop) => self.finish(process, lanes, stop),
+        }
+    }
+
+    /// The same with a message to itself.
+    #[tactic(auto, using(crate::proofs::Undoing::whole_alone_with, crate::proofs::Halting::went_on, crate::proofs::Halting::any_takes))]
+    fn note(
+        self,
+        process: &mut Proc,
+        lanes: &mut Lanes,
+        answer: &Answer,
+        message: Term,
+    ) -> Result<Turn, Fault>
+        ensures { Does (Unit {0}) (process.old, lanes.old) (process.new, lanes.new) result (Ok (whole
+            (process.old, lanes.old)
+            (closing self.entry.pid lanes.old (settled_with self.entry.image.now answer.now message process.old)))) }
+    {
+        match process.settle_with(self.alloc, self.image, answer, message) {
+            Ok(()) => Ok(Turn::Ran),
+            Err(stop) => self.finish(process, lanes, stop),
+        }
+    }
+
+    /// Gives a process its answer, where nothing else was done.
+    #[tactic(auto, using(crate::proofs::Undoing::whole_alone))]
+    pub(crate) fn close_whole(
+        self,
+        process: &mut Proc,
+        lanes: &mut Lanes,
+        answer: &Answer,
+    ) -> Result<Turn, Fault>
+        ensures { Does (Unit {0}) (process.old, lanes.old) (process.new, lanes.new) result (Ok (whole
+            (process.old, lanes.old)
+            (closing self.entry.pid lanes.old (settled self.entry.image.now answer.now process.old)))) }
+    {
+        self.close(process, lanes, answer)
+    }
+
+    /// Puts a signal to another process, and gives the sender its answer.
+    #[tactic(auto, using(crate::proofs::Undoing::told_trapped, crate::proofs::Undoing::stood, crate::proofs::Undoing::untold))]
+    fn tell(
+        self,
+        process: &mut Proc,
+        lanes: &mut Lanes,
+        to: u32,
+        signal: Signal,
+        answer: &Answer,
+    ) -> Result<Turn, Fault>
+        ensures { Does (Unit {0}) (process.old, lanes.old) (process.new, lanes.new) result (Ok (whole
+            (process.old, lanes.old)
+            (sending self.entry.image.now self.entry.pid to signal answer.now process.old lanes.old))) }
+    {
+        if let Err(_signal) = lanes.channels.put(self.alloc, self.pid, to, signal) {
+            return Err(Fault::Memory);
+        }
+        let turn = match self.close(process, lanes, answer) {
+            Ok(turn) => turn,
+            Err(refused) => {
+                lanes.channels.take_back(self.pid, to);
+                return Err(refused);
+            }
+        };
+        if let Turn::Trapped(_) = &turn {
+            lanes.channels.take_back(self.pid, to);
+        }
+        Ok(turn)
+    }
+
+    fn send(
+        self,
+        process: &mut Proc,
+        lanes: &mut Lanes,
+        to: u32,
+        message: Term,
+    ) -> Result<Turn, Fault>
+        ensures { Does (Unit {0}) (process.old, lanes.old) (process.new, lanes.new) result
+            (Ok (done_by self.entry.image.now self.entry.pid (requests.Send to message) process.old lanes.old)) }
+    {
+        let answer = Answer::Value(message.copy(self.alloc)?);
+        if to == self.pid {
+            return self.note(process, lanes, &answer, message);
+        }
+        let signal = Signal::Message(message);
+        self.tell(process, lanes, to, signal, &answer)
+    }
+
+    fn exit(
+        self,
+        process: &mut Proc,
+        lanes: &mut Lanes,
+        to: u32,
+        reason: Term,
+    ) -> Result<Turn, Fault>
+        ensures { Does (Unit {0}) (process.old, lanes.old) (process.new, lanes.new) result
+            (Ok (done_by self.entry.image.now self.entry.pid (requests.Exit to reason) process.old lanes.old)) }
+    {
+        if to == self.pid {
+            return self.exit_itself(process, lanes, reason);
+        }
+        self.tell(process, lanes, to, Signal::Exit(reason), &yes())
+    }
+
+    /// A process asks itself to end. No reason that is too high for the message is answered as out of memory.
+    fn exit_itself(self, process: &mut Proc, lanes: &mut Lanes, reason: Term) -> Result<Turn, Fault>
+        ensures { Does (ExitTakes self.entry.pid reason process.old.trap_exit) (process.old, lanes.old) (process.new, lanes.new) result (Ok (whole
+            (process.old, lanes.old) (exiting_oneself self.entry.image.now self.entry.pid reason process.old lanes.old))) }
+    {
+        if is_the_atom(fixed::KILL, &reason) {
+            return self.leave(process, lanes, Term::atom(fixed::KILLED));
+        }
+        if !process.traps_exits() {
+            return self.leave(process, lanes, reason);
+        }
+        let Some(message) = exit_message(self.alloc, self.pid, reason)? else {
+            return Ok(Turn::Trapped(Trap::TermHeight));
+        };
+        self.note(process, lanes, &yes(), message)
+    }
+
+    #[tactic(auto, using(crate::proofs::Undoing::link_trapped, crate::proofs::Undoing::rewhole, crate::proofs::Undoing::unlinked_back))]
+    fn link(self, process: &mut Proc, lanes: &mut Lanes, to: u32) -> Result<Turn, Fault>
+        ensures { Does (Unit {0}) (process.old, lanes.old) (process.new, lanes.new) result
+            (Ok (whole (process.old, lanes.old) (linking self.entry.image.now self.entry.pid to process.old lanes.old))) }
+    {
+        if to == self.pid || process.is_linked(to) {
+            return self.close_whole(process, lanes, &yes());
+        }
+        process.add_link(to)?;
+        let signal = Signal::Link;
+        let turn = match self.tell(process, lanes, to, signal, &yes()) {
+            Ok(turn) => turn,
+            Err(refused) => {
+                process.drop_link(to);
+                return Err(refused);
+            }
+        };
+        if let Turn::Trapped(_) = &turn {
+            process.drop_link(to);
+        }
+        Ok(turn)
+    }
+
+    #[tactic(auto, using(crate::proofs::Undoing::back_trapped, crate::proofs::Undoing::rewhole, crate::proofs::Undoing::untold))]
+    fn unlink(self, process: &mut Proc, lanes: &mut Lanes, to: u32) -> Result<Turn, Fault>
+        ensures { Does (Unit {0}) (process.old, lanes.old) (process.new, lanes.new) result
+            (Ok (whole (process.old, lanes.old) (unlinking self.entry.image.now self.entry.pid to process.old lanes.old))) }
+    {
+        if to == self.pid || !process.is_linked(to) {
+            return self.close_whole(process, lanes, &yes());
+        }
+        if let Err(_signal) = lanes.channels.put(self.alloc, self.pid, to, Signal::Unlink) {
+            return Err(Fault::Memory);
+        }
+        let turn = match self.close_without(process, lanes, to) {
+            Ok(turn) => turn,
+            Err(refused) => {
+                lanes.channels.take_back(self.pid, to);
+                return Err(refused);
+            }
+        };
+        if let Turn::Trapped(_) = &turn {
+            lanes.channels.take_back(self.pid, to);
+        }
+        Ok(turn)
+    }
+
+    /// Gives a process its answer, and takes a link of it away: where it ends, that one does not hear of it.
+    #[tactic(auto, using(crate::proofs::Halting::any_takes))]
+    fn close_without(self, process: &mut Proc, lanes: &mut Lanes, to: u32) -> Result<Turn, Fault>
+        ensures { Does (Unit {0}) (process.old, lanes.old) (process.new, lanes.new) result (Ok (whole
+            (process.old, lanes.old)
+            (closing self.entry.pid lanes.old (unlinked_done to (settled self.entry.image.now yes process.old))))) }
+    {
+        match process.settle(self.alloc, self.image, &yes()) {
+            Ok(()) => {
+                process.drop_link(to);
+                Ok(Turn::Ran)
+            }
+            Err(stop) => self.finish_without(process, lanes, to, stop),
+        }
+    }
+
+    /// What an instruction that took a link away was, where its process does not go on.
+    fn finish_without(
+        self,
+        process: &mut Proc,
+        lanes: &mut Lanes,
+        to: u32,
+        stop: Stop,
+    ) -> Result<Turn, Fault>
+        ensures { (old : Process) (said : Process × Effect) → Settles (Unit {0}) old process.old
+            (Err stop) said → Does (Unit {0}) (old, lanes.old) (process.new, lanes.new) result
+            (Ok (whole (old, lanes.old) (closing self.entry.pid lanes.old (unlinked_done to said)))) }
+    {
+        match stop.why() {
+            Why::Ends => match process.take_reason() {
+                Some(reason) => self.leave_without(process, lanes, to, reason),
+                None => Err(Fault::Memory), // not reached: a reason waits
+            },
+            Why::Trapped(kind) => Ok(Turn::Trapped(kind)),
+            Why::Memory | Why::Asks(_) | Why::Sends => Err(Fault::Memory),
+        }
+    }
+
+    /// Tells the links of a process but one that it has ended.
+    fn leave_without(
+        self,
+        process: &mut Proc,
+        lanes: &mut Lanes,
+        to: u32,
+        reason: Term,
+    ) -> Result<Turn, Fault>
+        ensures { Does (Unit {0}) (process.old, lanes.old) (process.new, lanes.new) result
+            (Ok (leaving self.entry.pid (without_link to process.old) lanes.old reason)) }
+    {
+        let others = process.links_but(self.alloc, to)?;
+        lanes
+            .channels
+            .put_exits(self.alloc, self.pid, &others, &reason)?;
         process.drop_link(to);
+        Ok(Turn::Ended(reason))
     }
-    Ok(turn)
-}
 
-#[tactic(auto, using(crate::proofs::Undoing::back_trapped, crate::proofs::Undoing::rewhole, crate::proofs::Undoing::untold))]
-fn unlink(
-    alloc: Global,
-    image: &Image,
-    process: &mut Proc,
-    lanes: &mut Lanes,
-    pid: u32,
-    to: u32,
-) -> Result<Turn, Fault>
-    ensures { Does (Unit {0}) (process.old, lanes.old) (process.new, lanes.new) result
-        (Ok (whole (process.old, lanes.old) (unlinking image.now pid to process.old lanes.old))) }
-{
-    if to == pid || !process.is_linked(to) {
-        return close_whole(alloc, image, process, lanes, pid, &yes());
-    }
-    if let Err(_signal) = lanes.channels.put(alloc, pid, to, Signal::Unlink) {
-        return Err(Fault::Memory);
-    }
-    let turn = match close_without(alloc, image, process, lanes, pid, to) {
-        Ok(turn) => turn,
-        Err(refused) => {
-            lanes.channels.take_back(pid, to);
-            return Err(refused);
+    #[tactic(auto, using(crate::proofs::Undoing::shown_trapped, crate::proofs::Undoing::stood, crate::proofs::Undoing::unshown))]
+    fn display(self, process: &mut Proc, lanes: &mut Lanes, term: Term) -> Result<Turn, Fault>
+        ensures { Does (Unit {0}) (process.old, lanes.old) (process.new, lanes.new) result
+            (Ok (done_by self.entry.image.now self.entry.pid (requests.Display term) process.old lanes.old)) }
+    {
+        if let Err(_term) = lanes.output.push(self.pid, term) {
+            return Err(Fault::Memory);
         }
-    };
-    if let Turn::Trapped(_) = &turn {
-        lanes.channels.take_back(pid, to);
-    }
-    Ok(turn)
-}
-
-/// Gives a process its answer, and takes a link of it away: where it ends, that one does not hear of it.
-#[tactic(auto, using(crate::proofs::Halting::any_takes))]
-fn close_without(
-    alloc: Global,
-    image: &Image,
-    process: &mut Proc,
-    lanes: &mut Lanes,
-    pid: u32,
-    to: u32,
-) -> Result<Turn, Fault>
-    ensures { Does (Unit {0}) (process.old, lanes.old) (process.new, lanes.new) result (Ok (whole
-        (process.old, lanes.old)
-        (closing pid lanes.old (unlinked_done to (settled image.now yes process.old))))) }
-{
-    match process.settle(alloc, image, &yes()) {
-        Ok(()) => {
-            process.drop_link(to);
-            Ok(Turn::Ran)
-        }
-        Err(stop) => finish_without(alloc, process, lanes, pid, to, stop),
-    }
-}
-
-/// What an instruction that took a link away was, where its process does not go on.
-fn finish_without(
-    alloc: Global,
-    process: &mut Proc,
-    lanes: &mut Lanes,
-    pid: u32,
-    to: u32,
-    stop: Stop,
-) -> Result<Turn, Fault>
-    ensures { (old : Process) (said : Process × Effect) → Settles (Unit {0}) old process.old
-        (Err stop) said → Does (Unit {0}) (old, lanes.old) (process.new, lanes.new) result
-        (Ok (whole (old, lanes.old) (closing pid lanes.old (unlinked_done to said)))) }
-{
-    match stop.why() {
-        Why::Ends => match process.take_reason() {
-            Some(reason) => leave_without(alloc, process, lanes, pid, to, reason),
-            None => Err(Fault::Memory), // not reached: a reason waits
-        },
-        Why::Trapped(kind) => Ok(Turn::Trapped(kind)),
-        Why::Memory | Why::Asks(_) | Why::Sends => Err(Fault::Memory),
-    }
-}
-
-/// Tells the links of a process but one that it has ended.
-fn leave_without(
-    alloc: Global,
-    process: &mut Proc,
-    lanes: &mut Lanes,
-    pid: u32,
-    to: u32,
-    reason: Term,
-) -> Result<Turn, Fault>
-    ensures { Does (Unit {0}) (process.old, lanes.old) (process.new, lanes.new) result
-        (Ok (leaving pid (without_link to process.old) lanes.old reason)) }
-{
-    let others = process.links_but(alloc, to)?;
-    lanes.channels.put_exits(alloc, pid, &others, &reason)?;
-    process.drop_link(to);
-    Ok(Turn::Ended(reason))
-}
-
-#[tactic(auto, using(crate::proofs::Undoing::shown_trapped, crate::proofs::Undoing::stood, crate::proofs::Undoing::unshown))]
-fn display(
-    alloc: Global,
-    image: &Image,
-    process: &mut Proc,
-    lanes: &mut Lanes,
-    pid: u32,
-    term: Term,
-) -> Result<Turn, Fault>
-    ensures { Does (Unit {0}) (process.old, lanes.old) (process.new, lanes.new) result
-        (Ok (done_by image.now pid (requests.Display term) process.old lanes.old)) }
-{
-    if let Err(_term) = lanes.output.push(pid, term) {
-        return Err(Fault::Memory);
-    }
-    let turn = match close(alloc, image, process, lanes, pid, &yes()) {
-        Ok(turn) => turn,
-        Err(refused) => {
+        let turn = match self.close(process, lanes, &yes()) {
+            Ok(turn) => turn,
+            Err(refused) => {
+                lanes.output.take_back();
+                return Err(refused);
+            }
+        };
+        if let Turn::Trapped(_) = &turn {
             lanes.output.take_back();
-            return Err(refused);
         }
-    };
-    if let Turn::Trapped(_) = &turn {
-        lanes.output.take_back();
+        Ok(turn)
     }
-    Ok(turn)
-}
 
-/// A process enters another into its set, and gets its answer.
-#[tactic(auto, using(crate::proofs::Undoing::link_trapped, crate::proofs::Undoing::rewhole, crate::proofs::Undoing::unlinked_back, crate::proofs::Undoing::linked_already))]
-pub(crate) fn close_linked(
-    alloc: Global,
-    image: &Image,
-    process: &mut Proc,
-    lanes: &mut Lanes,
-    pid: u32,
-    child: u32,
-    answer: &Answer,
-) -> Result<Turn, Fault>
-    ensures { Does (Unit {0}) (process.old, lanes.old) (process.new, lanes.new) result (Ok (whole
-        (process.old, lanes.old)
-        (closing pid lanes.old (settled image.now answer.now (with_link child process.old))))) }
-{
-    if process.is_linked(child) {
-        return close_whole(alloc, image, process, lanes, pid, answer);
-    }
-    process.add_link(child)?;
-    let turn = match close_whole(alloc, image, process, lanes, pid, answer) {
-        Ok(turn) => turn,
-        Err(refused) => {
-            process.drop_link(child);
-            return Err(refused);
+    /// A process enters another into its set, and gets its answer.
+    #[tactic(auto, using(crate::proofs::Undoing::link_trapped, crate::proofs::Undoing::rewhole, crate::proofs::Undoing::unlinked_back, crate::proofs::Undoing::linked_already))]
+    pub(crate) fn close_linked(
+        self,
+        process: &mut Proc,
+        lanes: &mut Lanes,
+        child: u32,
+        answer: &Answer,
+    ) -> Result<Turn, Fault>
+        ensures { Does (Unit {0}) (process.old, lanes.old) (process.new, lanes.new) result (Ok (whole
+            (process.old, lanes.old)
+            (closing self.entry.pid lanes.old (settled self.entry.image.now answer.now (with_link child process.old))))) }
+    {
+        if process.is_linked(child) {
+            return self.close_whole(process, lanes, answer);
         }
-    };
-    if let Turn::Trapped(_) = &turn {
-        process.drop_link(child);
+        process.add_link(child)?;
+        let turn = match self.close_whole(process, lanes, answer) {
+            Ok(turn) => turn,
+            Err(refused) => {
+                process.drop_link(child);
+                return Err(refused);
+            }
+        };
+        if let Turn::Trapped(_) = &turn {
+            process.drop_link(child);
+        }
+        Ok(turn)
     }
-    Ok(turn)
 }

@@ -57,11 +57,11 @@ fn receive_other(
         }
         Some(Signal::LinkExit(reason)) => {
             let reason = reason.copy(alloc)?;
-            return hear_link_exit(alloc, process, lanes, from, pid, reason);
+            return lanes.hear_link_exit(alloc, process, from, pid, reason);
         }
         Some(Signal::Exit(reason)) => {
             let reason = reason.copy(alloc)?;
-            return hear_exit(alloc, process, lanes, from, pid, reason);
+            return lanes.hear_exit(alloc, process, from, pid, reason);
         }
         Some(Signal::Message(_)) | None => return Err(Fault::NotEnabled),
     }
@@ -69,94 +69,95 @@ fn receive_other(
     Ok(Turn::Ran)
 }
 
-/// A process that may be linked has ended.
-fn hear_link_exit(
-    alloc: Global,
-    process: &mut Proc,
-    lanes: &mut Lanes,
-    from: u32,
-    pid: u32,
-    reason: Term,
-) -> Result<Turn, Fault>
-    ensures { Does (Unit {0}) (process.old, lanes.old) (process.new, lanes.new) result
-        (Ok (by_link from pid process.old reason lanes.old)) }
-{
-    if !process.is_linked(from) {
-        lanes.drop_first(from, pid);
-        return Ok(Turn::Ran);
-    }
-    if process.traps_exits() {
-        let Some(message) = exit_message(alloc, from, reason)? else {
-            return Ok(Turn::Trapped(Trap::TermHeight));
-        };
-        if let Err(_message) = process.add_message(message) {
-            return Err(Fault::Memory);
+impl Lanes {
+    /// A process that may be linked has ended.
+    fn hear_link_exit(
+        &mut self,
+        alloc: Global,
+        process: &mut Proc,
+        from: u32,
+        pid: u32,
+        reason: Term,
+    ) -> Result<Turn, Fault>
+        ensures { Does (Unit {0}) (process.old, self.old) (process.new, self.new) result
+            (Ok (by_link from pid process.old reason self.old)) }
+    {
+        if !process.is_linked(from) {
+            self.drop_first(from, pid);
+            return Ok(Turn::Ran);
         }
-        process.drop_link(from);
-        lanes.drop_first(from, pid);
-        return Ok(Turn::Ran);
-    }
-    if is_the_atom(fixed::NORMAL, &reason) {
-        process.drop_link(from);
-        lanes.drop_first(from, pid);
-        return Ok(Turn::Ran);
-    }
-    let others = process.links_but(alloc, from)?;
-    lanes.channels.put_exits(alloc, pid, &others, &reason)?;
-    process.drop_link(from);
-    lanes.drop_first(from, pid);
-    Ok(Turn::Ended(reason))
-}
-
-/// Another process asks it to end.
-fn hear_exit(
-    alloc: Global,
-    process: &mut Proc,
-    lanes: &mut Lanes,
-    from: u32,
-    pid: u32,
-    reason: Term,
-) -> Result<Turn, Fault>
-    ensures { Does (Unit {0}) (process.old, lanes.old) (process.new, lanes.new) result
-        (Ok (by_exit from pid process.old reason lanes.old)) }
-{
-    if is_the_atom(fixed::KILL, &reason) {
-        return end(alloc, process, lanes, from, pid, Term::atom(fixed::KILLED));
-    }
-    if process.traps_exits() {
-        let Some(message) = exit_message(alloc, from, reason)? else {
-            return Ok(Turn::Trapped(Trap::TermHeight));
-        };
-        if let Err(_message) = process.add_message(message) {
-            return Err(Fault::Memory);
+        if process.traps_exits() {
+            let Some(message) = exit_message(alloc, from, reason)? else {
+                return Ok(Turn::Trapped(Trap::TermHeight));
+            };
+            if let Err(_message) = process.add_message(message) {
+                return Err(Fault::Memory);
+            }
+            process.drop_link(from);
+            self.drop_first(from, pid);
+            return Ok(Turn::Ran);
         }
-        lanes.drop_first(from, pid);
-        return Ok(Turn::Ran);
+        if is_the_atom(fixed::NORMAL, &reason) {
+            process.drop_link(from);
+            self.drop_first(from, pid);
+            return Ok(Turn::Ran);
+        }
+        let others = process.links_but(alloc, from)?;
+        self.channels.put_exits(alloc, pid, &others, &reason)?;
+        process.drop_link(from);
+        self.drop_first(from, pid);
+        Ok(Turn::Ended(reason))
     }
-    if is_the_atom(fixed::NORMAL, &reason) {
-        lanes.drop_first(from, pid);
-        return Ok(Turn::Ran);
-    }
-    end(alloc, process, lanes, from, pid, reason)
-}
 
-/// The process ends, and its links hear of it.
-fn end(
-    alloc: Global,
-    process: &Proc,
-    lanes: &mut Lanes,
-    from: u32,
-    pid: u32,
-    reason: Term,
-) -> Result<Turn, Fault>
-    ensures { Does (Unit {0}) (process.now, lanes.old) (process.now, lanes.new) result
-        (Ok (ending from pid process.now reason lanes.old)) }
-{
-    lanes
-        .channels
-        .put_exits(alloc, pid, process.links(), &reason)?;
-    lanes.drop_first(from, pid);
-    Ok(Turn::Ended(reason))
+    /// Another process asks it to end.
+    fn hear_exit(
+        &mut self,
+        alloc: Global,
+        process: &mut Proc,
+        from: u32,
+        pid: u32,
+        reason: Term,
+    ) -> Result<Turn, Fault>
+        ensures { Does (Unit {0}) (process.old, self.old) (process.new, self.new) result
+            (Ok (by_exit from pid process.old reason self.old)) }
+    {
+        if is_the_atom(fixed::KILL, &reason) {
+            return self.end(alloc, process, from, pid, Term::atom(fixed::KILLED));
+        }
+        if process.traps_exits() {
+            let Some(message) = exit_message(alloc, from, reason)? else {
+                return Ok(Turn::Trapped(Trap::TermHeight));
+            };
+            if let Err(_message) = process.add_message(message) {
+                return Err(Fault::Memory);
+            }
+            self.drop_first(from, pid);
+            return Ok(Turn::Ran);
+        }
+        if is_the_atom(fixed::NORMAL, &reason) {
+            self.drop_first(from, pid);
+            return Ok(Turn::Ran);
+        }
+        self.end(alloc, process, from, pid, reason)
+    }
+
+    /// The process ends, and its links hear of it.
+    fn end(
+        &mut self,
+        alloc: Global,
+        process: &Proc,
+        from: u32,
+        pid: u32,
+        reason: Term,
+    ) -> Result<Turn, Fault>
+        ensures { Does (Unit {0}) (process.now, self.old) (process.now, self.new) result
+            (Ok (ending from pid process.now reason self.old)) }
+    {
+        self.channels
+            .put_exits(alloc, pid, process.links(), &reason)?;
+        self.drop_first(from, pid);
+        Ok(Turn::Ended(reason))
+    }
 }
 
 /// The first signal between two processes of which the second has ended.

@@ -131,6 +131,19 @@ pub fn a_local_choice_may_be_exchanged_with_any()
         second }
 {}
 
+/// A choice that concerns its own process alone and any choice of another actor, both enabled, of which neither order traps and both leave that
+/// process the same, are independent: that all else is the same follows. Where a signal goes to a pid that no process has, it may be the process
+/// that the other choice spawns.
+pub fn two_orders_differ_in_the_local_process_alone()
+    ensures { (image : Loaded) (first second : Choice) (w : State) → IsLocal image w first → actor first
+        ≢ actor second → can w first ≡ true → can w second ≡ true → (chosen image first w).trap ≡
+        None → (chosen image second (chosen image first w)).trap ≡ None →
+        (chosen image first (chosen image second w)).trap ≡ None → slice_get
+        (chosen image second (chosen image first w)).processes (actor first) ≡ slice_get
+        (chosen image first (chosen image second w)).processes (actor first) → AreIndependent image
+        w first second }
+{}
+
 /// Choices that are independent in one order are so in the other, so both are applied in that order too, without a trap.
 pub fn independence_is_mutual()
     ensures { (image : Loaded) (w : State) (first second : Choice) → AreIndependent image w first

@@ -1,6 +1,7 @@
 //! Worlds of processes and channels, stepped by one choice at a time.
 #![tactic(auto)]
 
+mod actors;
 mod acts;
 mod asking;
 mod bursts;
@@ -18,7 +19,6 @@ mod requests;
 mod runs;
 mod shown;
 mod slots;
-mod statuses;
 mod texts;
 mod turns;
 mod world;
@@ -26,10 +26,9 @@ mod world;
 pub use bx_proc::Status;
 pub use choices::{Choice, Choices};
 pub use lanes::Lanes;
-pub use outcomes::{Outcome, Standing};
+pub use outcomes::{Outcome, Standing, Statuses};
 pub use output::Output;
 pub use runs::{RunEnd, advance, advance_many};
 pub use shown::Shown;
-pub use statuses::Statuses;
 pub use texts::{choice_text, outcome_text};
 pub use world::{ArcWorld, RcWorld, World};

@@ -4,8 +4,8 @@ ghost use Rattle.std.specs.Prelude.{◌≡◌, ◌↔◌, IsTrue};
 
 use crate::choices::Choices;
 use crate::output::Output;
-use crate::statuses::Statuses;
-use bx_share::Same;
+use bx_proc::Status;
+use bx_share::{List, Same};
 use bx_terms::Trap;
 
 /// How a world stands.
@@ -35,6 +35,9 @@ impl Standing {
     }
 }
 
+/// How processes stand, by pid from 0.
+pub type Statuses = List<Status>;
+
 /// What can be seen of a world: how it stands, how each process stands, by pid, and what was displayed.
 #[derive(Debug, Drop)]
 pub struct Outcome {
@@ -49,7 +52,23 @@ impl Outcome {
         ensures { IsTrue result ↔ (self.now ≡ other.now) }
     {
         self.state.same(&other.state)
-            && self.statuses.same(&other.statuses)
+            && same_statuses(self.statuses.as_slice(), other.statuses.as_slice())
             && self.output.same(&other.output)
     }
+}
+
+/// Whether processes stand the same, pid by pid.
+#[tactic(auto, using(crate::proofs::Compared::same_so_far, crate::proofs::Compared::same_whole))]
+fn same_statuses(xs: &[Status], ys: &[Status]) -> bool
+    ensures { IsTrue result ↔ (xs.now ≡ ys.now) }
+{
+    if xs.len() != ys.len() {
+        return false;
+    }
+    for at in 0..xs.len() {
+        if !xs[at].same(&ys[at]) {
+            return false;
+        }
+    }
+    true
 }

@@ -1,11 +1,12 @@
 //! Runs: what a list of choices leads to.
 
-ghost use Rattle.std.specs.Prelude.{◌≡◌, ◌↔◌, ◌+◌, ◌<◌, ◌≤◌, ◌||◌, IsTrue, Ok, is_some, replicate};
+ghost use Rattle.std.specs.Prelude.{◌≡◌, ◌↔◌, ◌+◌, ◌<◌, ◌≤◌, ◌||◌, IsTrue, Ok, is_some};
 ghost use Rattle.bx_terms.specs.Outcomes.{Does};
-ghost use Rattle.bx_world.specs.Running.{advanced, ran, AdvanceTakes, DoesMany, DoesSome};
+ghost use Rattle.bx_world.specs.Running.{advanced, AdvanceTakes, DoesMany, DoesSome, Notes};
 
 use crate::choices::Choice;
 use crate::lanes::Lanes;
+use crate::turns::Batch;
 use crate::world::World;
 use bx_load::Image;
 use bx_proc::Proc;
@@ -74,56 +75,8 @@ pub fn advance<P: Hold<Proc>, C: Hold<Lanes>>(
     ensures { Does (AdvanceTakes choice end.old) end.old end.new result
         (Ok (advanced image.now choice end.old, tt)) }
 {
-    let made = run_on(alloc, end, image, choice, 1);
-    if made == 1 {
-        return Ok(());
-    }
-    advance_whole(alloc, end, image, choice)
-}
-
-/// The same, whatever the choice has to do with others.
-#[inline(never)]
-fn advance_whole<P: Hold<Proc>, C: Hold<Lanes>>(
-    alloc: Global,
-    end: &mut RunEnd<P, C>,
-    image: &Image,
-    choice: Choice,
-) -> Result<(), Fault>
-    requires { end.old.applied < u64.MAX }
-    ensures { Does (AdvanceTakes choice end.old) end.old end.new result
-        (Ok (advanced image.now choice end.old, tt)) }
-{
-    if end.refused.is_some() {
-        return Ok(());
-    }
-    match end.world.apply_whole(alloc, image, choice) {
-        Ok(()) => end.applied += 1,
-        Err(Fault::NotEnabled) => end.refused = Some(choice),
-        Err(Fault::Memory) => return Err(Fault::Memory),
-        Err(_) => {} // the world has trapped: nothing changes any more
-    }
+    advance_some(alloc, end, image, choice, 1)?;
     Ok(())
-}
-
-/// Equal choices, at most so many, as long as each is a run that is done where its process stands: how many they were.
-#[inline(always)]
-fn run_on<P: Hold<Proc>, C: Hold<Lanes>>(
-    alloc: Global,
-    end: &mut RunEnd<P, C>,
-    image: &Image,
-    choice: Choice,
-    times: u64,
-) -> u64
-    requires { end.old.applied + times ≤ u64.MAX }
-    ensures few { result ≤ times }
-    ensures done { end.new ≡ ran image.now (replicate result choice) end.old }
-{
-    if end.refused.is_some() {
-        return 0;
-    }
-    let made = end.world.run_on(alloc, image, choice, times);
-    end.applied += made;
-    made
 }
 
 /// So many choices more, all of them equal: what so many calls of `advance` give. Once one was refused or the world has
@@ -160,16 +113,38 @@ fn advance_some<P: Hold<Proc>, C: Hold<Lanes>>(
     times: u64,
 ) -> Result<u64, Fault>
     requires some { 0 < times }
-    requires few { end.old.applied + times < u64.MAX }
+    requires few { end.old.applied + times ≤ u64.MAX }
     ensures { DoesSome image.now choice times end.old end.new result }
 {
     if end.is_over() {
         return Ok(times);
     }
-    let made = run_on(alloc, end, image, choice, times);
-    if made == 0 {
-        advance_whole(alloc, end, image, choice)?;
-        return Ok(1);
+    let Batch { ran, last } = end.world.apply_some(alloc, image, choice, times);
+    end.applied += ran;
+    let Some(last) = last else {
+        return Ok(ran);
+    };
+    match note(end, choice, last) {
+        Ok(()) => Ok(ran + 1),
+        Err(fault) => Err(fault),
     }
-    Ok(made)
+}
+
+/// Counts a choice that was applied, and keeps one that was not enabled.
+#[inline(always)]
+fn note<P: Hold<Proc>, C: Hold<Lanes>>(
+    end: &mut RunEnd<P, C>,
+    choice: Choice,
+    done: Result<(), Fault>,
+) -> Result<(), Fault>
+    requires { end.old.applied < u64.MAX }
+    ensures { Notes choice done end.old end.new result }
+{
+    match done {
+        Ok(()) => end.applied += 1,
+        Err(Fault::NotEnabled) => end.refused = Some(choice),
+        Err(Fault::Memory) => return Err(Fault::Memory),
+        Err(_) => {} // the world has trapped: nothing changes any more
+    }
+    Ok(())
 }

@@ -1,23 +1,22 @@
 //! The life of one pid, as it is kept.
 
-ghost use Rattle.std.specs.Prelude.{◌≡◌, ◌↔◌, ◌≤◌, Some, IsTrue, IfOk};
+ghost use Rattle.std.specs.Prelude.{◌≡◌, ◌↔◌, ◌<◌, Some, IsTrue, IfOk};
 ghost use Rattle.bx_terms.specs.Outcomes.{Does};
 ghost use Rattle.bx_terms.specs.Tree.{Tree};
 ghost use Rattle.bx_world.specs.Acting.{life_acted, exited_acted, MayLack};
-ghost use Rattle.bx_world.specs.Batches.{LifeRunsOn};
+ghost use Rattle.bx_world.specs.Batches.{Fits, LifeRunsOn, life_after, turn_after};
 ghost use Rattle.bx_world.specs.Enabled.{may_run, may_expire};
 ghost use Rattle.bx_world.specs.Lives.{life};
 ghost use Rattle.bx_world.specs.Seen.{life_of, status_of, place_of};
 ghost use Rattle.bx_world.specs.World.{Gone};
 
+use crate::actors::Actor;
 use crate::acts::Act;
 use crate::bursts::run_on;
 use crate::delivering::receive_gone;
 use crate::lanes::Lanes;
-use crate::lives::act_on;
 use crate::shown::Shown;
-use crate::turns::Turn;
-use bx_load::Image;
+use crate::turns::{Batch, Turn};
 use bx_proc::{Proc, Status};
 use bx_share::{Hold, Same};
 use bx_terms::{Fault, Place, Term};
@@ -36,20 +35,19 @@ impl<P: Hold<Proc>> Slot<P> {
     #[tactic(auto, using(crate::proofs::Acted::ended, crate::proofs::Acted::went))]
     pub(crate) fn act<C: Hold<Lanes>>(
         &mut self,
-        alloc: Global,
-        image: &Image,
+        by: Actor<'_>,
         lanes: &mut C,
-        pid: u32,
         act: Act,
     ) -> Result<Turn, Fault>
-        ensures { Does (MayLack act pid (C.shown lanes.old) (Some (life P.shown self.old)))
+        ensures { Does (MayLack act by.entry.pid (C.shown lanes.old) (Some (life P.shown self.old)))
             (life P.shown self.old, C.shown lanes.old) (life P.shown self.new, C.shown lanes.new)
-            result (life_acted image.now pid act (C.shown lanes.old) (life P.shown self.old)) }
+            result (life_acted by.entry.image.now by.entry.pid act (C.shown lanes.old)
+            (life P.shown self.old)) }
     {
         let Slot::Live(holder) = self else {
-            return act_exited(alloc, image, lanes, pid, act);
+            return act_exited(by, lanes, act);
         };
-        match act_on(alloc, image, holder, lanes, pid, act)? {
+        match by.act_on(holder, lanes, act)? {
             Turn::Ended(reason) => {
                 *self = Slot::Gone(reason);
                 Ok(Turn::Ran)
@@ -57,26 +55,50 @@ impl<P: Hold<Proc>> Slot<P> {
             turn => Ok(turn),
         }
     }
-}
 
-impl<P: Hold<Proc>> Slot<P> {
-    /// Runs the process of this pid as long as each instruction is done where it stands, at most so many: how many they were.
+    /// Runs the process of this pid, at most so many times. Where it ends, its reason takes its place.
     #[inline(always)]
-    pub(crate) fn run_on<C: Hold<Lanes>>(
+    pub(crate) fn run<C: Hold<Lanes>>(
         &mut self,
-        alloc: Global,
-        image: &Image,
+        by: Actor<'_>,
         lanes: &mut C,
-        pid: u32,
         times: u64,
-    ) -> u64
-        ensures few { result ≤ times }
-        ensures done { LifeRunsOn image.now pid result (life P.shown self.old, C.shown lanes.old)
-            (life P.shown self.new, C.shown lanes.new) }
+    ) -> Batch<Turn>
+        requires { 0 < times }
+        ensures fits { Fits times result.ran result.last }
+        ensures done { LifeRunsOn by.entry.image.now by.entry.pid
+            (life P.shown self.old, C.shown lanes.old) (life P.shown self.new, C.shown lanes.new)
+            result.ran result.last }
     {
-        match self {
-            Slot::Live(holder) => run_on(alloc, image, holder, lanes, pid, times),
-            Slot::Gone(_) => 0,
+        let Slot::Live(holder) = self else {
+            return Batch {
+                ran: 0,
+                last: Some(Err(Fault::NotEnabled)),
+            };
+        };
+        let Batch { ran, last } = run_on(by, holder, lanes, times);
+        let Some(last) = last else {
+            return Batch { ran, last: None };
+        };
+        let last = self.stay(last);
+        Batch {
+            ran,
+            last: Some(last),
+        }
+    }
+
+    /// What was done to a process; where it has ended, its reason takes its place.
+    #[inline(always)]
+    fn stay(&mut self, done: Result<Turn, Fault>) -> Result<Turn, Fault>
+        ensures life { life P.shown self.new ≡ life_after (life P.shown self.old) done }
+        ensures turn { result ≡ turn_after done }
+    {
+        match done {
+            Ok(Turn::Ended(reason)) => {
+                *self = Slot::Gone(reason);
+                Ok(Turn::Ran)
+            }
+            done => done,
         }
     }
 }
@@ -84,18 +106,13 @@ impl<P: Hold<Proc>> Slot<P> {
 /// A process that has ended does nothing more; signals to it take effect without it.
 #[cold]
 #[inline(never)]
-fn act_exited<C: Hold<Lanes>>(
-    alloc: Global,
-    image: &Image,
-    lanes: &mut C,
-    pid: u32,
-    act: Act,
-) -> Result<Turn, Fault>
-    ensures { (reason : Tree) → Does (MayLack act pid (C.shown lanes.old) (Some (Gone reason)))
+fn act_exited<C: Hold<Lanes>>(by: Actor<'_>, lanes: &mut C, act: Act) -> Result<Turn, Fault>
+    ensures { (reason : Tree) →
+        Does (MayLack act by.entry.pid (C.shown lanes.old) (Some (Gone reason)))
         (Gone reason, C.shown lanes.old) (Gone reason, C.shown lanes.new) result
-        (life_acted image.now pid act (C.shown lanes.old) (Gone reason)) }
+        (life_acted by.entry.image.now by.entry.pid act (C.shown lanes.old) (Gone reason)) }
 {
-    match hear_exited(alloc, lanes, pid, act) {
+    match hear_exited(by.alloc, lanes, by.pid, act) {
         Ok(()) => Ok(Turn::Ran),
         Err(refused) => Err(refused),
     }

@@ -39,27 +39,13 @@ pub fn outcome_text(
         (Ok (outcome_lines atoms.now applied refused outcome.now)) }
 {
     let mut out = String::new(alloc);
-    push_outcome(alloc, &mut out, atoms, applied, refused, outcome)?;
-    Ok(out)
-}
-
-fn push_outcome(
-    alloc: Global,
-    out: &mut String,
-    atoms: &Atoms,
-    applied: u64,
-    refused: Option<Choice>,
-    outcome: &Outcome,
-) -> Result<(), AllocError>
-    ensures { OnOk result (string_bytes out.new ≡ string_bytes out.old ++ outcome_lines atoms.now
-        applied refused outcome.now) }
-{
     write!(out, "applied {applied}\nstate ")?;
-    push_state(alloc, out, refused, &outcome.state)?;
+    push_state(alloc, &mut out, refused, &outcome.state)?;
     out.push_str("\n")?;
-    push_processes(alloc, out, atoms, outcome.statuses.as_slice())?;
-    push_output(alloc, out, atoms, outcome.output.as_slice())?;
-    out.push_str("end\n")
+    push_processes(alloc, &mut out, atoms, outcome.statuses.as_slice())?;
+    push_output(alloc, &mut out, atoms, outcome.output.as_slice())?;
+    out.push_str("end\n")?;
+    Ok(out)
 }
 
 fn push_choice(out: &mut String, choice: Choice) -> Result<(), AllocError>

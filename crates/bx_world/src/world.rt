@@ -1,21 +1,24 @@
 //! Worlds, stepped by one choice at a time.
 
-ghost use Rattle.std.specs.Prelude.{◌≡◌, ◌≢◌, ◌↔◌, ◌≤◌, [], length, option_map, slice_get, IsTrue, IsSome, IfOk, OnErr, Ok};
+ghost use Rattle.std.specs.Prelude.{◌≡◌, ◌≢◌, ◌↔◌, ◌<◌, ◌≤◌, [], length, option_map, slice_get, None, IsTrue, IsSome, IfOk, OnErr, Ok};
 ghost use Rattle.bx_terms.specs.Outcomes.{Does, Gives};
 ghost use Rattle.bx_load.specs.Image.{export};
 ghost use Rattle.bx_world.specs.World.{started};
 ghost use Rattle.bx_world.specs.Enabled.{enabled, open_choices, can};
 ghost use Rattle.bx_world.specs.Choosing.{applied};
-ghost use Rattle.bx_world.specs.Batches.{WorldRunsOn};
+ghost use Rattle.bx_world.specs.Batches.{Fits, WorldActs, WorldRunsOn, state_after, told_after};
+ghost use Rattle.bx_world.specs.declared.choices.Choice.TheVariants as choices;
 ghost use Rattle.bx_world.specs.Seen.{life_of, seen, standing_of, place_in};
 
+use crate::actors::Actor;
+use crate::acts::Act;
 use crate::choices::{Choice, Choices};
-use crate::choosing::{make, push_deliveries};
+use crate::choosing::push_deliveries;
 use crate::lanes::Lanes;
 use crate::outcomes::{Outcome, Standing};
 use crate::procs::Procs;
 use crate::shown::Shown;
-use crate::turns::Turn;
+use crate::turns::{Batch, Turn};
 use bx_load::Image;
 use bx_proc::Proc;
 use bx_share::{ArcHold, Hold, RcHold, Same};
@@ -133,52 +136,89 @@ impl<P: Hold<Proc>, C: Hold<Lanes>> World<P, C> {
         ensures { Does (IsTrue (can self.old choice)) self.old self.new result
             (applied image.now choice self.old) }
     {
-        let made = self.run_on(alloc, image, choice, 1);
-        if made == 1 {
-            return Ok(());
+        match self.apply_some(alloc, image, choice, 1).last {
+            Some(done) => done,
+            None => Ok(()),
         }
-        self.apply_whole(alloc, image, choice)
     }
 
-    /// Applies a run of a process as long as each instruction is done where it stands, at most so many times: how many they
-    /// were. Of any other choice it is none.
+    /// Applies a choice, at most so many times: a run as often as its process runs by itself, and then once more, whatever that has
+    /// to do with others; any other once.
     #[inline(always)]
-    pub(crate) fn run_on(&mut self, alloc: Global, image: &Image, choice: Choice, times: u64) -> u64
-        ensures few { result ≤ times }
-        ensures done { WorldRunsOn image.now choice result self.old self.new }
-    {
-        if self.trap.is_some() {
-            return 0;
-        }
-        match choice {
-            Choice::Run(pid) => self.procs.run_on(alloc, image, &mut self.lanes, pid, times),
-            _ => 0,
-        }
-    }
-
-    /// Applies a choice, whatever it has to do with others.
-    #[inline(never)]
-    pub(crate) fn apply_whole(
+    pub(crate) fn apply_some(
         &mut self,
         alloc: Global,
         image: &Image,
         choice: Choice,
-    ) -> Result<(), Fault>
-        ensures { Does (IsTrue (can self.old choice)) self.old self.new result
-            (applied image.now choice self.old) }
+        times: u64,
+    ) -> Batch<()>
+        requires { 0 < times }
+        ensures fits { Fits times result.ran result.last }
+        ensures done { WorldRunsOn image.now choice self.old self.new result.ran result.last }
     {
         if self.trap.is_some() {
-            return Err(Fault::Halted);
+            return Batch {
+                ran: 0,
+                last: Some(Err(Fault::Halted)),
+            };
         }
-        let pid = choice.actor();
-        let turn = match make(alloc, image, &mut self.procs, &mut self.lanes, choice) {
-            Ok(turn) => turn,
-            Err(refused) => return Err(refused),
+        match choice {
+            Choice::Run(pid) => self.run(Actor { alloc, image, pid }, times),
+            Choice::Deliver(from, pid) => Batch {
+                ran: 0,
+                last: Some(self.act(Actor { alloc, image, pid }, Act::Hear(from))),
+            },
+            Choice::Expire(pid) => Batch {
+                ran: 0,
+                last: Some(self.act(Actor { alloc, image, pid }, Act::Expire)),
+            },
+        }
+    }
+
+    /// Runs a process, at most so many times.
+    #[inline(always)]
+    fn run(&mut self, by: Actor<'_>, times: u64) -> Batch<()>
+        requires going { self.old.trap ≡ None }
+        requires some { 0 < times }
+        ensures fits { Fits times result.ran result.last }
+        ensures done { WorldRunsOn by.entry.image.now (choices.Run by.entry.pid) self.old self.new
+            result.ran result.last }
+    {
+        let Batch { ran, last } = self.procs.run(by, &mut self.lanes, times);
+        let Some(last) = last else {
+            return Batch { ran, last: None };
         };
-        if let Turn::Trapped(kind) = turn {
-            self.trap = Some((kind, pid));
+        let last = self.stop_if_trapped(by.pid, last);
+        Batch {
+            ran,
+            last: Some(last),
         }
-        Ok(())
+    }
+
+    /// Has a process do what it is to do, where it can do it.
+    #[inline(never)]
+    fn act(&mut self, by: Actor<'_>, act: Act) -> Result<(), Fault>
+        requires { self.old.trap ≡ None }
+        ensures { WorldActs by.entry.image.now by.entry.pid act self.old self.new result }
+    {
+        let done = self.procs.act(by, &mut self.lanes, act);
+        self.stop_if_trapped(by.pid, done)
+    }
+
+    /// After a trap no choice is enabled any more.
+    #[inline(always)]
+    fn stop_if_trapped(&mut self, pid: u32, done: Result<Turn, Fault>) -> Result<(), Fault>
+        ensures world { self.new ≡ state_after pid self.old done }
+        ensures told { result ≡ told_after done }
+    {
+        match done {
+            Ok(Turn::Trapped(kind)) => {
+                self.trap = Some((kind, pid));
+                Ok(())
+            }
+            Ok(_) => Ok(()),
+            Err(refused) => Err(refused),
+        }
     }
 
     /// An equal world, which later choices in this one do not change.

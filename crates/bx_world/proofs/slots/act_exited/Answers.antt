@@ -6,9 +6,9 @@ use Rattle.bx_world.proofs.slots.act_exited.Goals as goal
 
 pub returns-in-Ok : goal.returns-in-Ok
 returns-in-Ok g c = λ reason.
-    exited_went c.args.image.now c.args.pid c.args.act reason (g.C.Hold.shown c.args.lanes.now) (g.C.Hold.shown c.hear_exited.new.lanes) (c.in-Ok.ensures reason)
+    exited_went c.args.by.image.now c.args.by.pid c.args.act reason (g.C.Hold.shown c.args.lanes.now) (g.C.Hold.shown c.hear_exited.new.lanes) (c.in-Ok.ensures reason)
 
 pub returns-in-Err : goal.returns-in-Err
 returns-in-Err g c = λ reason.
-    exited_refused c.args.image.now c.args.pid c.args.act reason (g.C.Hold.shown c.args.lanes.now) (g.C.Hold.shown c.hear_exited.new.lanes)
-    (MayLack c.args.act c.args.pid (g.C.Hold.shown c.args.lanes.now) (Some (Gone reason))) c.in-Err.refused (c.in-Err.ensures reason)
+    exited_refused c.args.by.image.now c.args.by.pid c.args.act reason (g.C.Hold.shown c.args.lanes.now) (g.C.Hold.shown c.hear_exited.new.lanes)
+    (MayLack c.args.act c.args.by.pid (g.C.Hold.shown c.args.lanes.now) (Some (Gone reason))) c.in-Err.refused (c.in-Err.ensures reason)

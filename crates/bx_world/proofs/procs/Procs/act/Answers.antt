@@ -12,8 +12,8 @@ pub returns : goal.returns
 returns g c =
     let seen = life g.P.Hold.shown in
     let slots = c.self.inside.slots.items in
-    let image = c.args.image.now in
-    let p = c.args.pid in
+    let image = c.args.by.image.now in
+    let p = c.args.by.pid in
     let here : p < length slots = omega arith in
     let old = g.C.Hold.shown c.args.lanes.now in
     let new = g.C.Hold.shown c.act.new.lanes in

@@ -18,8 +18,8 @@ use Rattle.bx_world.proofs.procs.Procs.grow.Goals as goal
 
 pub returns-in-Ok-Trapped : goal.returns-in-Ok-Trapped
 returns-in-Ok-Trapped g c =
-    let image = c.args.image.now in
-    let p = c.args.pid in
+    let image = c.args.by.image.now in
+    let p = c.args.by.pid in
     let birth = c.args.birth.now in
     let lives = c.args.self.now in
     let l = g.C.Hold.shown c.args.lanes.now in
@@ -41,8 +41,8 @@ returns-in-Ok-Trapped g c =
 
 pub returns-in-Err : goal.returns-in-Err
 returns-in-Err g c =
-    let image = c.args.image.now in
-    let p = c.args.pid in
+    let image = c.args.by.image.now in
+    let p = c.args.by.pid in
     let birth = c.args.birth.now in
     let lives = c.args.self.now in
     let l = g.C.Hold.shown c.args.lanes.now in

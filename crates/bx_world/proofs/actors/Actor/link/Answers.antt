@@ -12,8 +12,8 @@ use Rattle.bx_world.specs.declared.turns.Turn.TheVariants as turns
 use Rattle.bx_world.specs.Sharing.{telling}
 use Rattle.bx_world.specs.Asking.{Done, whole, closing, sending, linking, yes}
 use Rattle.bx_world.proofs.Undoing.{became, refused_back, unlinked_back, linking_new, link_trapped, rewhole}
-use Rattle.bx_world.proofs.asking.link.Goals as goal
-use Rattle.bx_world.proofs.asking.link.Goals.{in-Trapped, in_default}
+use Rattle.bx_world.proofs.actors.Actor.link.Goals as goal
+use Rattle.bx_world.proofs.actors.Actor.link.Goals.{in-Trapped, in_default}
 
 pub returns-in-Err : goal.returns-in-Err
 returns-in-Err c =
@@ -24,8 +24,8 @@ returns-in-Err c =
     let q = c.args.to in
     let fresh : among q x.links ≡ false = sym c.is_linked.ensures.told ∙ c.if-is_linked.false in
     refused_back (x, l) (c.add_link.new.self, l) (y, m) (c.drop_link.new.self, m) c.in-Err.refused
-    (whole (c.add_link.new.self, l) (sending c.args.image.now c.args.pid q signals.Link c.yes-2.result c.add_link.new.self l))
-    (whole (x, l) (linking c.args.image.now c.args.pid q x l))
+    (whole (c.add_link.new.self, l) (sending c.args.self.image.now c.args.self.pid q signals.Link c.yes-2.result c.add_link.new.self l))
+    (whole (x, l) (linking c.args.self.image.now c.args.self.pid q x l))
     (λ same. ap (λ (z : Process). (z, m)) c.drop_link.ensures.dropped ∙ unlinked_back q x y l m c.is_linked.ensures.rising fresh (same ∙ ap (λ (z : Process). (z, l)) (became (with_link q x) c.add_link.new.self c.in_ok-add_link.ensures)))
     c.in-Err.ensures
 
@@ -35,11 +35,11 @@ returns c =
     let l = c.args.lanes.now in
     let y = c.tell.new.process in
     let m = c.tell.new.lanes in
-    let p = c.args.pid in
+    let p = c.args.self.pid in
     let q = c.args.to in
-    let image = c.args.image.now in
+    let image = c.args.self.image.now in
     let fresh : among q x.links ≡ false = sym c.is_linked.ensures.told ∙ c.if-is_linked.false in
-    let other : (q == p) ≡ false = let apart = c.if-to-pid.false in grind (arith, nat_tests) in
+    let other : (q == p) ≡ false = let apart = c.if-to-self.false in grind (arith, nat_tests) in
     let d = closing p (telling (p, q) signals.Link l) (settled image yes (with_link q x)) in
     let answered : ◌≡◌ {A = Result Done Fault} (Ok (whole (with_link q x, l) d)) (Ok ((y, m), c.in-Ok.turn)) =
     ap (λ a. Ok (whole (with_link q x, l) (sending image p q signals.Link a (with_link q x) l))) (sym c.yes-2.ensures)

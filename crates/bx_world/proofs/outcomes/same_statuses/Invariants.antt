@@ -1,5 +1,5 @@
 use Rattle.std.proofs.Common.{◌≡◌, take, length}
-use Rattle.bx_world.proofs.statuses.same_statuses.Given as goal
+use Rattle.bx_world.proofs.outcomes.same_statuses.Given as goal
 
 -- rows of one length that are the same so far
 abbrev pub invariant-loop-at : goal.invariant-loop-at
