@@ -1,16 +1,18 @@
 -- Two independent choices lead a run to the same place in both orders, and where they do they are independent.
-use Rattle.std.proofs.Common.{◌≡◌, ◌≢◌, ℕ, ◌+◌, [], ◌∷◌, Option, Some, None, Bool, true, false, refl, sym, ap, ◌∙◌, arith}
-use Rattle.std.specs.Prelude.{◌↔◌, IsTrue, ◌&&◌, is_some, is_none, if◌then◌else◌}
+use Rattle.std.proofs.Common.{◌≡◌, ◌≢◌, ℕ, ◌+◌, [], ◌∷◌, ◌⊎◌, inl, inr, Option, Some, None, Bool, true, false, refl, sym, ap, ◌∙◌, arith}
+use Rattle.std.specs.Prelude.{◌↔◌, IsTrue, ◌&&◌, ◌||◌, is_some, is_none, if◌then◌else◌, slice_get}
 use Rattle.bx_terms.specs.declared.kinds.Trap.{Trap}
 use Rattle.bx_load.specs.Image.{Loaded}
 use Rattle.bx_world.specs.declared.choices.Choice.{Choice}
+use Rattle.bx_world.specs.declared.choices.Choice.TheVariants.{Run, Deliver, Expire}
 use Rattle.bx_world.specs.World.{State}
 use Rattle.bx_world.specs.Enabled.{able, can, actor}
 use Rattle.bx_world.specs.Choosing.{chosen}
 use Rattle.bx_world.specs.Running.{Ended, advanced, ran}
-use Rattle.bx_world.specs.Independent.{one_is_local, AreIndependent}
-use Rattle.bx_world.proofs.Commuting.{one_then}
+use Rattle.bx_world.specs.Independent.{runs_local, one_is_local, AreIndependent, IsLocal}
 use Rattle.bx_world.proofs.Orders.{either_way, same_world}
+use Rattle.bx_world.proofs.Newborns.{left_alike, second_left_alike}
+use Rattle.bx_replay.specs.Exchanges.{SameProcess}
 
 -- what is enabled is so in a world that has not trapped
 free_of : (t : Option (Trap × ℕ)) (b : Bool) → (is_none t && b) ≡ true → t ≡ None
@@ -74,47 +76,77 @@ both_applied image a b end none is =
     let done = ap (ran image (a ∷ b ∷ [])) (at_of end none) ∙ two image a b end.world end.applied is.first_enabled is.second_applied in
     (ap (λ (e : Ended). e.applied) done ∙ omega arith, ap (λ (e : Ended). e.world.trap) done ∙ is.second_runs)
 
--- what is found by trying
-module _ (image : Loaded) (a b : Choice) (end : Ended) (none : end.refused ≡ None) (enabled_a : can end.world a ≡ true) (enabled_b : can end.world b ≡ true) (apart : actor a ≢ actor b)
-    (local : one_is_local image end.world a b ≡ true) (count : (ran image (a ∷ b ∷ []) end).applied ≡ end.applied + 2) (free : (ran image (a ∷ b ∷ []) end).world.trap ≡ None)
-    (same : ran image (a ∷ b ∷ []) end ≡ ran image (b ∷ a ∷ []) end) where
-  start : end ≡ at end.world end.applied
-  start = at_of end none
+-- an end to which both lead in this order: the second was applied behind the first, and neither trapped
+record Made (image : Loaded) (a b : Choice) (w : State) (one : Ended) : Type 0 where
+  first_runs : (chosen image a w).trap ≡ None
+  second_applied : can (chosen image a w) b ≡ true
+  second_runs : (chosen image b (chosen image a w)).trap ≡ None
+  world : one.world ≡ chosen image b (chosen image a w)
 
-  b_applied : can (chosen image a end.world) b ≡ true
-  b_applied = second_enabled image a b end.world end.applied enabled_a (ap (λ (e : Ended). (ran image (a ∷ b ∷ []) e).applied) (sym start) ∙ count)
+made : (image : Loaded) (a b : Choice) (end one : Ended) → end.refused ≡ None → can end.world a ≡ true → one ≡ ran image (a ∷ b ∷ []) end → one.applied ≡ end.applied + 2 → one.world.trap ≡ None
+    → Made image a b end.world one
+made image a b end one none enabled is count free =
+    let start = at_of end none in
+    let applied : can (chosen image a end.world) b ≡ true =
+    second_enabled image a b end.world end.applied enabled (ap (λ (e : Ended). e.applied) (sym (is ∙ ap (ran image (a ∷ b ∷ [])) start)) ∙ count) in
+    let world : one.world ≡ chosen image b (chosen image a end.world) =
+    ap (λ (e : Ended). e.world) (is ∙ ap (ran image (a ∷ b ∷ [])) start ∙ two image a b end.world end.applied enabled applied) in
+    record {
+      first_runs = untrapped (chosen image a end.world) b applied;
+      second_applied = applied;
+      second_runs = ap (λ (w : State). w.trap) (sym world) ∙ free;
+      world = world;
+    }
 
-  a_applied : can (chosen image b end.world) a ≡ true
-  a_applied = second_enabled image b a end.world end.applied enabled_b
-      (ap (λ (e : Ended). (ran image (b ∷ a ∷ []) e).applied) (sym start) ∙ ap (λ (e : Ended). e.applied) (sym same) ∙ count)
+-- of two that concern different processes, one is local
+either_of : (x y : Bool) → (x || y) ≡ true → (x ≡ true) ⊎ (y ≡ true)
+either_of true y h = inl refl
+either_of false y h = inr h
 
-  in_order : ran image (a ∷ b ∷ []) end ≡ at (chosen image b (chosen image a end.world)) (end.applied + 1 + 1)
-  in_order = ap (ran image (a ∷ b ∷ [])) start ∙ two image a b end.world end.applied enabled_a b_applied
+either_local : (image : Loaded) (w : State) (a b : Choice) → one_is_local image w a b ≡ true → IsLocal image w a ⊎ IsLocal image w b
+either_local image w (Run p) (Run q) h = either_of (runs_local image p w) (runs_local image q w) h
+either_local image w (Run p) (Deliver r s) h = inr tt
+either_local image w (Run p) (Expire r) h = inr tt
+either_local image w (Deliver p q) b h = inl tt
+either_local image w (Expire p) b h = inl tt
 
-  in_turn : ran image (b ∷ a ∷ []) end ≡ at (chosen image a (chosen image b end.world)) (end.applied + 1 + 1)
-  in_turn = ap (ran image (b ∷ a ∷ [])) start ∙ two image b a end.world end.applied enabled_b a_applied
+-- two choices of different processes, both enabled where a run has come that refused none, of which one at least is local
+module _ (image : Loaded) (a b : Choice) (end : Ended) (none : end.refused ≡ None)
+    (may : (can end.world a ≡ true) × (can end.world b ≡ true) × (one_is_local image end.world a b ≡ true)) (apart : actor a ≢ actor b) where
+  -- the one order was tried
+  pub not_made : (one : Ended) (made : Bool) → one ≡ ran image (a ∷ b ∷ []) end → (IsTrue made ↔ ((one.applied ≡ end.applied + 2) × (one.world.trap ≡ None))) → made ≡ false
+      → IsTrue false ↔ ((end.refused ≡ None) × AreIndependent image end.world a b)
+  not_made one made is both not = (
+    λ h. cc,
+    λ h.
+        let k = both_applied image a b end none h.1 in
+        let yes : made ≡ true = both.1 (ap (λ (e : Ended). e.applied) is ∙ k.0, ap (λ (e : Ended). e.world.trap) is ∙ k.1) in
+        sym not ∙ yes,
+  )
 
-  pub found : AreIndependent image end.world a b
-  found = record {
-    first_enabled = enabled_a;
-    second_enabled = enabled_b;
-    first_runs = untrapped (chosen image a end.world) b b_applied;
-    second_applied = b_applied;
-    second_runs = ap (λ (e : Ended). e.world.trap) (sym in_order) ∙ free;
-    apart = apart;
-    local = local;
-    same = one_then image a b end.world enabled_a b_applied ∙ ap (λ (e : Ended). e.world) (sym in_order ∙ same ∙ in_turn) ∙ sym (one_then image b a end.world enabled_b a_applied);
-  }
+  -- the other was tried too, and leaves both processes the same
+  alike : (one other : Ended) → Made image a b end.world one → Made image b a end.world other → SameProcess (actor a) one.world other.world → SameProcess (actor b) one.world other.world → AreIndependent image end.world a b
+  alike one other made turned same_a same_b = go (either_local image end.world a b may.2) where
+    same : (p : ℕ) → SameProcess p one.world other.world → SameProcess p (chosen image b (chosen image a end.world)) (chosen image a (chosen image b end.world))
+    same p h = ap (λ (w : State). slice_get w.processes p) (sym made.world) ∙ h ∙ ap (λ (w : State). slice_get w.processes p) turned.world
 
--- both orders were tried
-pub tried : (image : Loaded) (a b : Choice) (end one other : Ended) (agree : Bool) → one ≡ ran image (a ∷ b ∷ []) end → other ≡ ran image (b ∷ a ∷ []) end → end.refused ≡ None
-    → (can end.world a ≡ true) × (can end.world b ≡ true) × (one_is_local image end.world a b ≡ true) → actor a ≢ actor b
-    → (IsTrue agree ↔ ((one.applied ≡ end.applied + 2) × (one.world.trap ≡ None) × (one ≡ other))) → IsTrue agree ↔ ((end.refused ≡ None) × AreIndependent image end.world a b)
-tried image a b end one other agree one_is other_is none may apart agrees = (
-  λ h.
-      let k = agrees.0 h in
-      (none, found image a b end none may.0 may.1 apart may.2 (ap (λ (e : Ended). e.applied) (sym one_is) ∙ k.0) (ap (λ (e : Ended). e.world.trap) (sym one_is) ∙ k.1) (sym one_is ∙ k.2 ∙ other_is)),
-  λ h.
-      let both = both_applied image a b end none h.1 in
-      agrees.1 (ap (λ (e : Ended). e.applied) one_is ∙ both.0, ap (λ (e : Ended). e.world.trap) one_is ∙ both.1, one_is ∙ same_end image a b end none h.1 ∙ sym other_is),
-)
+    go : IsLocal image end.world a ⊎ IsLocal image end.world b → AreIndependent image end.world a b
+    go (inl local) = left_alike image a b end.world local apart may.0 may.1 made.first_runs made.second_runs turned.second_runs (same (actor a) same_a)
+    go (inr local) = second_left_alike image a b end.world local apart may.0 may.1 turned.first_runs made.second_runs turned.second_runs (same (actor b) same_b)
+
+  pub tried : (one other : Ended) (agree : Bool) → one ≡ ran image (a ∷ b ∷ []) end → other ≡ ran image (b ∷ a ∷ []) end → (one.applied ≡ end.applied + 2) × (one.world.trap ≡ None)
+      → (IsTrue agree ↔ ((other.applied ≡ end.applied + 2) × (other.world.trap ≡ None) × SameProcess (actor a) one.world other.world × SameProcess (actor b) one.world other.world))
+      → IsTrue agree ↔ ((end.refused ≡ None) × AreIndependent image end.world a b)
+  tried one other agree one_is other_is both agrees = (
+    λ h.
+        let k = agrees.0 h in
+        (none, alike one other (made image a b end one none may.0 one_is both.0 both.1) (made image b a end other none may.1 other_is k.0 k.1) k.2 k.3),
+    λ h.
+        let same : one ≡ other = one_is ∙ same_end image a b end none h.1 ∙ sym other_is in
+        agrees.1 (
+          ap (λ (e : Ended). e.applied) (sym same) ∙ both.0,
+          ap (λ (e : Ended). e.world.trap) (sym same) ∙ both.1,
+          ap (λ (e : Ended). slice_get e.world.processes (actor a)) same,
+          ap (λ (e : Ended). slice_get e.world.processes (actor b)) same,
+        ),
+  )

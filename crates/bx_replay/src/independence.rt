@@ -3,11 +3,12 @@
 ghost use Rattle.std.specs.Prelude.{◌≡◌, ◌≢◌, ◌↔◌, ◌+◌, ◌==◌, ◌<◌, ◌≤◌, ◌^◌, if◌then◌else◌, true, drop, length, None, IfOk, IsSome, IsTrue};
 ghost use Rattle.bx_world.specs.Enabled.{actor, can};
 ghost use Rattle.bx_world.specs.Independent.{one_is_local, AreIndependent};
-ghost use Rattle.bx_replay.specs.Exchanges.{next_apart};
+ghost use Rattle.bx_replay.specs.Exchanges.{next_apart, SameProcess};
 
 use crate::runs::{RcEnd, follow};
 use bx_load::Image;
-use bx_world::{Choice, RcWorld};
+use bx_share::Same;
+use bx_world::{Choice, RcWorld, Shown};
 use std::alloc::{AllocError, Global};
 
 /// The choices at that position and right behind it, where they concern different processes.
@@ -51,8 +52,42 @@ fn may_go_first(image: &Image, world: &RcWorld, first: Choice, second: Choice) -
     world.can(first) && world.can(second) && one_is_local(image, world, first, second)
 }
 
-/// Whether two choices that concern different processes are independent where a run has come that refused none: both orders are
-/// tried, and where they lead is compared.
+/// Whether both choices that were made behind `here` were applied, and without a trap.
+fn both_made(here: &RcEnd, there: &RcEnd) -> bool
+    requires { here.now.applied + 2 < 2 ^ 64 }
+    ensures { IsTrue result ↔ ((there.now.applied ≡ here.now.applied + 2) × (there.now.world.trap ≡ None)) }
+{
+    there.applied == here.applied + 2 && there.world.trap().is_none()
+}
+
+/// Whether the process of that pid is the same in both worlds, or in neither.
+fn same_process(one: &RcWorld, other: &RcWorld, pid: u32) -> bool
+    ensures { IsTrue result ↔ SameProcess pid one.now other.now }
+{
+    match (one.process(pid), other.process(pid)) {
+        (Some(Shown::Live(one)), Some(Shown::Live(other))) => one.same(other),
+        (Some(Shown::Gone(one)), Some(Shown::Gone(other))) => one.same(other),
+        (None, None) => true,
+        _ => false,
+    }
+}
+
+/// Whether the other order was made too, and both leave the processes of the two choices the same.
+fn agree(here: &RcEnd, one: &RcEnd, other: &RcEnd, first: Choice, second: Choice) -> bool
+    requires { here.now.applied + 2 < 2 ^ 64 }
+    ensures { IsTrue result ↔
+        ((other.now.applied ≡ here.now.applied + 2) × (other.now.world.trap ≡ None)
+        × SameProcess (actor first) one.now.world other.now.world
+        × SameProcess (actor second) one.now.world other.now.world) }
+{
+    both_made(here, other)
+        && same_process(&one.world, &other.world, first.actor())
+        && same_process(&one.world, &other.world, second.actor())
+}
+
+/// Whether two choices that concern different processes are independent where a run has come that refused none.
+///
+/// Both orders are tried, and what they leave of the two processes is compared: all else is then the same.
 pub(crate) fn are_independent(
     alloc: Global,
     image: &Image,
@@ -69,15 +104,9 @@ pub(crate) fn are_independent(
         return Ok(false);
     }
     let one = follow(alloc, image, here, &[first, second])?;
+    if !both_made(here, &one) {
+        return Ok(false);
+    }
     let other = follow(alloc, image, here, &[second, first])?;
-    Ok(agree(here, &one, &other))
-}
-
-/// Whether both choices of the one order were applied without a trap, and the other order has led to the same place.
-fn agree(here: &RcEnd, one: &RcEnd, other: &RcEnd) -> bool
-    requires { here.now.applied + 2 < 2 ^ 64 }
-    ensures { IsTrue result ↔ ((one.now.applied ≡ here.now.applied + 2) × (one.now.world.trap ≡ None)
-        × (one.now ≡ other.now)) }
-{
-    one.applied == here.applied + 2 && one.world.trap().is_none() && one.same(other)
+    Ok(agree(here, &one, &other, first, second))
 }
