@@ -1,25 +1,31 @@
--- Counting and spreading the choices of entries from left to right.
-use Rattle.std.proofs.Common.{◌≡◌, ℕ, ◌+◌, ◌-◌, ◌^◌, min, ◌++◌, ◌∷◌, List, Option, Some, None, option_map, replicate, refl, sym, ap, ◌∙◌, append_assoc}
+-- Entries are read from left to right.
+use Rattle.std.proofs.Common.{◌≡◌, ℕ, ◌+◌, ◌++◌, ◌∷◌, [], List, Option, Some, None, option_map, replicate, refl, sym, ap, ◌∙◌, append_assoc, append-nil, arith}
 use Rattle.std.specs.Option.{option_and_then}
-use Rattle.bx_world.specs.declared.choices.Choice.{Choice}
 use Rattle.bx_plan.specs.Entry.{Entry}
 use Rattle.bx_plan.specs.Reading.{entry_of, entry_each, count_of, spread}
 
--- the count so far with the choices of these words, up to the greatest number of the machine
-abbrev pub count_after : ℕ → List (List ℕ) → Option ℕ
-count_after count words = option_map (λ entries. min (count + count_of entries) (2 ^ 64 - 1)) (entry_each words)
-
--- the choices so far with those of these words
-abbrev pub spread_after : List Choice → List (List ℕ) → Option (List Choice)
-spread_after choices words = option_map (λ entries. choices ++ spread entries) (entry_each words)
+-- the entries so far with those of these words
+abbrev pub entries_after : List Entry → List (List ℕ) → Option (List Entry)
+entries_after entries words = option_map (λ more. entries ++ more) (entry_each words)
 
 -- one word is read
-pub spread_word : (choices more : List Choice) (word : List ℕ) (words : List (List ℕ)) (entry : Entry) → entry_of word ≡ Some entry → more ≡ choices ++ replicate entry.1 entry.0
-    → spread_after more words ≡ spread_after choices (word ∷ words)
-spread_word choices more word words entry read is =
-    ap (λ cs. spread_after cs words) is ∙ one (entry_each words)
-    ∙ ap (λ o. option_map (λ entries. choices ++ spread entries) (option_and_then (λ e. option_map (λ entries. e ∷ entries) (entry_each words)) o)) (sym read)
+pub entry_next : (entries : List Entry) (word : List ℕ) (words : List (List ℕ)) (entry : Entry) → entry_of word ≡ Some entry → entries_after (entries ++ entry ∷ []) words ≡ entries_after entries (word ∷ words)
+entry_next entries word words entry found =
+    one (entry_each words)
+    ∙ ap (λ o. option_map (λ more. entries ++ more) (option_and_then (λ e. option_map (λ more. e ∷ more) (entry_each words)) o)) (sym found)
   where
-    one : (found : Option (List Entry)) → option_map (λ entries. (choices ++ replicate entry.1 entry.0) ++ spread entries) found ≡ option_map (λ entries. choices ++ spread entries) (option_map (λ entries. entry ∷ entries) found)
+    one : (rest : Option (List Entry)) → option_map (λ more. (entries ++ entry ∷ []) ++ more) rest ≡ option_map (λ more. entries ++ more) (option_map (λ more. entry ∷ more) rest)
     one None = refl
-    one (Some entries) = ap (λ cs. Some cs) (append_assoc choices (replicate entry.1 entry.0) (spread entries))
+    one (Some more) = ap (λ es. Some es) (append_assoc entries (entry ∷ []) more)
+
+pub entry_none : (entries : List Entry) (word : List ℕ) (words : List (List ℕ)) → entry_of word ≡ None → entries_after entries (word ∷ words) ≡ None
+entry_none entries word words found = ap (λ o. option_map (λ more. entries ++ more) (option_and_then (λ e. option_map (λ more. e ∷ more) (entry_each words)) o)) found
+
+-- one entry more
+pub count-push : (entries : List Entry) (entry : Entry) → count_of (entries ++ entry ∷ []) ≡ count_of entries + entry.1
+count-push [] entry = omega arith
+count-push (first ∷ entries) entry = omega (arith, count-push entries entry)
+
+pub spread-push : (entries : List Entry) (entry : Entry) → spread (entries ++ entry ∷ []) ≡ spread entries ++ replicate entry.1 entry.0
+spread-push [] entry = append-nil (replicate entry.1 entry.0)
+spread-push (first ∷ entries) entry = ap (λ cs. replicate first.1 first.0 ++ cs) (spread-push entries entry) ∙ sym (append_assoc (replicate first.1 first.0) (spread entries) (replicate entry.1 entry.0))

@@ -32,9 +32,9 @@ Adds takes new (Ok x) said = (said ≡ Ok (so_far new)) × IsBuilding new
 Adds takes new (Err Memory) said = takes
 Adds takes new (Err fault) said = said ≡ Err fault
 
--- a schedule more, or its nodes are too many
+-- a schedule more in the lines and in the tree, or its nodes are too many
 abbrev pub Pushes : Builder → Builder → Named → Bool → Type 0
-Pushes old new schedule true = (so_far new ≡ so_far old ++ schedule ∷ []) × IsBuilding new
+Pushes old new schedule true = (so_far new ≡ so_far old ++ schedule ∷ []) × IsPlanned (planned new) × IsGrown new.tree
 Pushes old new schedule false = 1000000 < node_count (choices_of (so_far old ++ schedule ∷ []))
 
 -- Out of memory comes before the tree has grown, or while another node has room.

@@ -2,6 +2,7 @@ pub mod Entry
 pub mod Runs
 pub mod Reading
 pub mod Parts
+pub mod Made
 pub mod Lines
 pub mod Plans
 pub mod Planned

@@ -1,21 +1,17 @@
--- What a line's heading holds of it.
-use Rattle.std.specs.Prelude.{◌≡◌, ℕ, ◌-◌, ◌^◌, min, List, [], Some, None, unwrap_or}
+-- What was read of a line.
+use Rattle.std.specs.Prelude.{◌≡◌, ℕ, List, Option, Some, None}
 use Rattle.bx_plan.specs.Entry.{Entry}
+use Rattle.bx_plan.specs.Made.{Make}
 use Rattle.bx_plan.specs.declared.lines.Heading.{Heading}
 use Rattle.bx_plan.specs.declared.lines.Line.{Line}
 use Rattle.bx_plan.specs.declared.lines.Line.TheVariants.{Nothing, Schedule}
-use Rattle.bx_plan.specs.Reading.{tail_of, line_of, count_of}
+use Rattle.bx_plan.specs.Reading.{line_of}
 
--- the entries behind a schedule's colon
-abbrev pub entries_in : List ℕ → List Entry
-entries_in tail = unwrap_or (tail_of tail) []
-
--- the tail spells entries, which make this many choices
-pub record IsHeading (heading : Heading) : Type 0 where
-  pub spelled : tail_of heading.tail.now ≡ Some (entries_in heading.tail.now)
-  pub counted : heading.count ≡ min (count_of (entries_in heading.tail.now)) (2 ^ 64 - 1)
+-- there is a schedule of this name, and this was made of its entries
+abbrev pub IsHeading : Heading → Option (List ℕ × List Entry) → Type 0
+IsHeading heading read = (entries : List Entry) × (read ≡ Some (heading.name.now, entries)) × Make heading.entries entries
 
 -- what was read is what the line says
 abbrev pub Reads : Line → List ℕ → Type 0
 Reads Nothing text = line_of text ≡ Some None
-Reads (Schedule heading) text = (line_of text ≡ Some (Some (heading.name.now, entries_in heading.tail.now))) × IsHeading heading
+Reads (Schedule heading) text = (entries : List Entry) × (line_of text ≡ Some (Some (heading.name.now, entries))) × Make heading.entries entries

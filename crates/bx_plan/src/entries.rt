@@ -1,18 +1,23 @@
 //! Entries: a choice, and how many times it is made.
 
-ghost use Rattle.std.specs.Prelude.{◌≡◌, ◌-◌, ◌^◌, min, option_map, IsSome, IfOk, Ok};
+ghost use Rattle.std.specs.Prelude.{◌≡◌, ◌++◌, ◌∷◌, [], List, option_map, IsSome, MatchOption, None, Ok};
 ghost use Rattle.bx_terms.specs.Outcomes.{Gives};
-ghost use Rattle.bx_plan.specs.Reading.{choice_of, entry_of, entries_of, count_of, spread};
+ghost use Rattle.bx_plan.specs.Entry.{Entry};
+ghost use Rattle.bx_plan.specs.Made.{Make, MakesThese};
+ghost use Rattle.bx_plan.specs.Reading.{choice_of, entry_of, entries_of, spread};
 
 use crate::numbers::number_of;
 use crate::parts::{Parts, cut};
 use crate::schedules::Schedule;
 use bx_terms::Fault;
 use bx_world::Choice;
-use std::alloc::{AllocError, Global};
+use std::alloc::Global;
 
 /// The greatest pid that a plan may name.
 pub(crate) const MOST_PID: u32 = 1023;
+
+/// How many choices a schedule of a plan may make.
+pub(crate) const MOST_CHOICES: usize = 100_000;
 
 /// How many times one entry may make its choice.
 pub(crate) const MOST_TIMES: u32 = 100_000;
@@ -47,46 +52,77 @@ pub(crate) fn entry_of(text: &[u8]) -> Option<(Choice, u32)>
     Some((choice, times))
 }
 
-/// How many choices the entries make, with one space between one entry and the next. No number is
-/// past `usize::MAX`.
-pub(crate) fn count_choices(words: &[u8]) -> Option<usize>
-    ensures { result ≡ option_map (λ entries. min (count_of entries) (2 ^ 64 - 1))
-        (entries_of words.now) }
-{
-    let mut count = 0usize;
-    for word in Parts::new(words, b' ') {
-        let (_, times) = entry_of(word)?;
-        count = count.saturating_add(times as usize);
+/// What entries make: how many choices, no number past `usize::MAX`, and these choices.
+#[derive(Drop)]
+pub(crate) struct Entries {
+    pub(crate) count: usize,
+    pub(crate) schedule: Schedule,
+    /// Whether the schedule is all of them.
+    pub(crate) is_whole: bool,
+}
+
+impl Entries {
+    /// No entries.
+    pub(crate) fn new(alloc: Global) -> Entries
+        ensures { Make result [] }
+    {
+        Entries {
+            count: 0,
+            schedule: Schedule::new(alloc),
+            is_whole: true,
+        }
     }
-    Some(count)
+
+    /// Adds an entry. Past `most` choices, and where memory runs out, they are counted on and not kept.
+    fn add(&mut self, choice: Choice, times: u32, most: usize)
+        ensures { (entries : List Entry) → Make self.old entries
+            → Make self.new (entries ++ (choice, times) ∷ []) }
+    {
+        let times = times as usize;
+        self.count = self.count.saturating_add(times);
+        if self.count > most {
+            self.is_whole = false;
+            return;
+        }
+        let Ok(()) = self.schedule.push(choice, times) else {
+            self.is_whole = false;
+            return;
+        };
+    }
+}
+
+/// Reads entries, with one space between one entry and the next, and keeps at most so many choices.
+pub(crate) fn read_entries(alloc: Global, words: &[u8], most: usize) -> Option<Entries>
+    ensures { MatchOption result (entries_of words.now ≡ None)
+        (λ made. MakesThese made (entries_of words.now)) }
+{
+    let mut entries = Entries::new(alloc);
+    for word in Parts::new(words, b' ') {
+        let (choice, times) = entry_of(word)?;
+        entries.add(choice, times, most);
+    }
+    Some(entries)
 }
 
 /// The choices that a text's entries make, in order, with one space between one entry and the next. An entry is a choice, or a
 /// choice with `*` and how many times it is made, from 1 to 100,000.
 ///
-/// `None` exactly where the text is no such list. It can only run out of memory, and none is taken there.
+/// `None` exactly where the text is no such list. It can only run out of memory, and only where it is one.
 pub fn read_choices(alloc: Global, text: &[u8]) -> Result<Option<Schedule>, Fault>
     ensures { Gives (IsSome (entries_of text.now)) (λ schedule. schedule) result
         (Ok (option_map spread (entries_of text.now))) }
 {
-    if count_choices(text).is_none() {
+    let Some(entries) = read_entries(alloc, text, usize::MAX) else {
         return Ok(None);
+    };
+    let Entries {
+        count: _,
+        schedule,
+        is_whole,
+    } = entries;
+    if is_whole {
+        Ok(Some(schedule))
+    } else {
+        Err(Fault::Memory)
     }
-    let schedule = spread(alloc, text)?;
-    Ok(Some(schedule))
-}
-
-/// The choices that the entries make, with one space between one entry and the next.
-pub(crate) fn spread(alloc: Global, words: &[u8]) -> Result<Schedule, AllocError>
-    requires { IsSome (entries_of words.now) }
-    ensures { IfOk result (λ schedule. Some schedule ≡ option_map spread (entries_of words.now)) }
-{
-    let mut schedule = Schedule::new(alloc);
-    for word in Parts::new(words, b' ') {
-        let Some((choice, times)) = entry_of(word) else {
-            unreachable!()
-        };
-        schedule.push(choice, times as usize)?;
-    }
-    Ok(schedule)
 }

@@ -1,13 +1,15 @@
 //! Lines of a plan.
 
-ghost use Rattle.std.specs.Prelude.{◌≡◌, ◌-◌, ◌^◌, min, true, false, option_map, MatchOption};
+ghost use Rattle.std.specs.Prelude.{◌≡◌, true, false, None, MatchOption};
 ghost use Rattle.std.specs.List.{list_all};
 ghost use Rattle.std.specs.Str.{is_utf8};
-ghost use Rattle.bx_plan.specs.Reading.{is_name_byte, is_name, tail_of, schedule_of, line_of, count_of};
-ghost use Rattle.bx_plan.specs.Lines.{IsHeading, Reads, entries_in};
+ghost use Rattle.bx_plan.specs.Reading.{is_name_byte, is_name, tail_of, schedule_of, line_of};
+ghost use Rattle.bx_plan.specs.Lines.{IsHeading, Reads};
+ghost use Rattle.bx_plan.specs.Made.{MakesThese};
 
-use crate::entries::count_choices;
+use crate::entries::{Entries, MOST_CHOICES, read_entries};
 use crate::parts::cut;
+use std::alloc::Global;
 use std::str;
 
 /// How many bytes a name may have.
@@ -21,14 +23,11 @@ pub(crate) enum Line<'a> {
     Schedule(Heading<'a>),
 }
 
-/// A line that names a schedule, with its entries still to be spread.
-#[derive(Clone, Copy)]
+/// A line that names a schedule.
+#[derive(Drop)]
 pub(crate) struct Heading<'a> {
     pub(crate) name: &'a str,
-    /// What stands behind the colon: nothing, or a space and the entries.
-    pub(crate) tail: &'a [u8],
-    /// How many choices they make, no number past `usize::MAX`.
-    pub(crate) count: usize,
+    pub(crate) entries: Entries,
 }
 
 /// Whether a name may hold this byte.
@@ -75,38 +74,37 @@ pub fn name_of(name: &[u8]) -> Option<&str>
     }
 }
 
-/// How many choices the entries behind a colon make, no number past `usize::MAX`.
-fn count_tail(tail: &[u8]) -> Option<usize>
-    ensures { result ≡ option_map (λ entries. min (count_of entries) (2 ^ 64 - 1))
-        (tail_of tail.now) }
+/// Reads what stands behind a colon: nothing, or a space and entries.
+fn read_tail(alloc: Global, tail: &[u8]) -> Option<Entries>
+    ensures { MatchOption result (tail_of tail.now ≡ None)
+        (λ made. MakesThese made (tail_of tail.now)) }
 {
     match tail {
-        [] => Some(0),
-        [b' ', words @ ..] => count_choices(words),
+        [] => Some(Entries::new(alloc)),
+        [b' ', words @ ..] => read_entries(alloc, words, MOST_CHOICES),
         _ => None,
     }
 }
 
 /// Reads a line that names a schedule.
-fn heading_of(text: &[u8]) -> Option<Heading<'_>>
+fn heading_of(alloc: Global, text: &[u8]) -> Option<Heading<'_>>
     ensures { MatchOption result (schedule_of text.now ≡ None)
-        (λ heading. (schedule_of text.now ≡ Some (heading.name.now, entries_in heading.tail.now)) ×
-        IsHeading heading) }
+        (λ heading. IsHeading heading (schedule_of text.now)) }
 {
     let (name, tail) = cut(text, b':')?;
     let name = name_of(name)?;
-    let count = count_tail(tail)?;
-    Some(Heading { name, tail, count })
+    let entries = read_tail(alloc, tail)?;
+    Some(Heading { name, entries })
 }
 
 /// Reads one line, without its line feed.
-pub(crate) fn line_of(text: &[u8]) -> Option<Line<'_>>
+pub(crate) fn line_of(alloc: Global, text: &[u8]) -> Option<Line<'_>>
     ensures { MatchOption result (line_of text.now ≡ None) (λ line. Reads line text.now) }
 {
     match text {
         [] => Some(Line::Nothing),
         [b'#', ..] if is_utf8(text) => Some(Line::Nothing),
         [b'#', ..] => None,
-        _ => Some(Line::Schedule(heading_of(text)?)),
+        _ => Some(Line::Schedule(heading_of(alloc, text)?)),
     }
 }

@@ -1,24 +1,23 @@
 //! Building a plan line by line.
 
-ghost use Rattle.std.specs.Prelude.{◌≡◌, ◌≤◌, ◌<◌, ◌++◌, ◌∷◌, [], length, MatchBool, IfOk, OnErr, Some};
-ghost use Rattle.bx_plan.specs.Building.{so_far, HasRoom, IsBuilding, Adds, Pushes};
-ghost use Rattle.bx_plan.specs.Lines.{IsHeading, entries_in};
+ghost use Rattle.std.specs.Prelude.{◌≡◌, ◌≤◌, ◌<◌, ◌++◌, ◌∷◌, [], List, length, MatchBool, IfOk, OnErr, Some};
+ghost use Rattle.bx_plan.specs.Building.{planned, so_far, HasRoom, IsBuilding, Adds, Pushes};
+ghost use Rattle.bx_plan.specs.Edges.{IsGrown};
+ghost use Rattle.bx_plan.specs.Entry.{Entry};
+ghost use Rattle.bx_plan.specs.Made.{Make};
 ghost use Rattle.bx_plan.specs.Nodes.{nodes_of};
-ghost use Rattle.bx_plan.specs.Planned.{schedules};
+ghost use Rattle.bx_plan.specs.Planned.{schedules, IsPlanned};
 ghost use Rattle.bx_plan.specs.Plans.{with_read, with_schedule, choices_of, TakesFirst};
-ghost use Rattle.bx_plan.specs.Reading.{line_of, tail_of, spread};
+ghost use Rattle.bx_plan.specs.Reading.{line_of, spread};
 
 use super::{Builder, NamedEnd, Plan};
-use crate::entries;
+use crate::entries::MOST_CHOICES;
 use crate::lines::{Heading, Line, line_of};
 use crate::schedules::Schedule;
 use crate::trees::Growing;
 use bx_terms::{Fault, Name};
 use std::alloc::{AllocError, Global};
 use std::collections::BTreeSet;
-
-/// How many choices a schedule may make.
-const MOST_CHOICES: usize = 100_000;
 
 impl<'a> Builder<'a> {
     /// A plan of no schedules.
@@ -40,7 +39,7 @@ impl<'a> Builder<'a> {
         ensures { Adds (TakesFirst (line_of text.entry.now) ⊥) self.new result
             (with_read number (so_far self.old) (line_of text.entry.now)) }
     {
-        match line_of(text) {
+        match line_of(self.alloc, text) {
             None => Err(Fault::BadLine { line: number }),
             Some(Line::Nothing) => Ok(()),
             Some(Line::Schedule(heading)) => self.add(number, heading),
@@ -49,40 +48,47 @@ impl<'a> Builder<'a> {
 
     /// Adds the schedule of the line of this number.
     fn add(&mut self, number: usize, heading: Heading<'a>) -> Result<(), Fault>
-        requires building { IsBuilding self.old }
-        requires heading { IsHeading heading }
-        ensures { Adds (length (spread (entries_in heading.entry.tail.now)) ≤ 100000) self.new
-            result (with_schedule number (so_far self.old)
-            (heading.entry.name.now, spread (entries_in heading.entry.tail.now))) }
+        requires { IsBuilding self.old }
+        ensures { (entries : List Entry) → Make heading.entry.entries entries
+            → Adds (length (spread entries) ≤ 100000) self.new result
+            (with_schedule number (so_far self.old) (heading.entry.name.now, spread entries)) }
     {
-        if self.names.contains(heading.name) {
-            return Err(Fault::NameTwice { line: number });
-        }
-        if heading.count > MOST_CHOICES {
+        let Heading { name, entries } = heading;
+        if entries.count > MOST_CHOICES {
+            if self.names.contains(name) {
+                return Err(Fault::NameTwice { line: number });
+            }
             return Err(Fault::TooLong { line: number });
         }
-        match self.push(heading) {
+        let Ok(is_new) = self.names.insert(name) else {
+            return Err(Fault::Memory);
+        };
+        if !is_new {
+            return Err(Fault::NameTwice { line: number });
+        }
+        if !entries.is_whole {
+            return Err(Fault::Memory);
+        }
+        match self.push(name, &entries.schedule) {
             Ok(true) => Ok(()),
             Ok(false) => Err(Fault::TooLong { line: number }),
             Err(_) => Err(Fault::Memory),
         }
     }
 
-    /// Adds a schedule of a new name, or says that its nodes are too many.
-    fn push(&mut self, heading: Heading<'a>) -> Result<bool, AllocError>
-        requires building { IsBuilding self.old }
-        requires heading { IsHeading heading }
-        ensures ok { IfOk result (Pushes self.old self.new
-            (heading.entry.name.now, spread (entries_in heading.entry.tail.now))) }
+    /// Adds a schedule's line and its nodes, or says that its nodes are too many.
+    fn push(&mut self, name: &'a str, schedule: &Schedule) -> Result<bool, AllocError>
+        requires planned { IsPlanned (planned self.old) }
+        requires grown { IsGrown self.old.tree }
+        ensures ok { IfOk result (Pushes self.old self.new (name.now, schedule.now)) }
         ensures err { OnErr result (HasRoom self.old self.new) }
+        ensures names { self.new.names ≡ self.old.names }
     {
-        let schedule = spread_tail(self.alloc, heading.tail)?;
         let Some(end) = self.tree.walk(schedule.runs())? else {
             return Ok(false);
         };
-        let name = Name::new(self.alloc, heading.name)?;
+        let name = Name::new(self.alloc, name)?;
         self.lines.push(NamedEnd { name, end })?;
-        self.names.insert(heading.name)?;
         Ok(true)
     }
 
@@ -101,16 +107,5 @@ impl<'a> Builder<'a> {
             lines,
             edges: tree.into_edges(),
         }
-    }
-}
-
-/// The choices of the entries behind a colon.
-fn spread_tail(alloc: Global, tail: &[u8]) -> Result<Schedule, AllocError>
-    requires { tail_of tail.now ≡ Some (entries_in tail.now) }
-    ensures { IfOk result (λ schedule. schedule ≡ spread (entries_in tail.now)) }
-{
-    match tail {
-        [_, words @ ..] => entries::spread(alloc, words),
-        [] => Ok(Schedule::new(alloc)),
     }
 }
