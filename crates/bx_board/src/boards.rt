@@ -7,7 +7,7 @@ ghost use Rattle.bx_board.specs.Machine.{standing, Holds};
 
 use crate::books::Book;
 use crate::slots::{Counts, Event, Slot};
-use crate::working::{Lease, Piece, work_over};
+use crate::working::{Crew, Lease, Piece, work_over};
 use bx_load::Image;
 use bx_terms::Fault;
 use std::alloc::Global;
@@ -148,6 +148,7 @@ impl<'a, J: Campaign> Shelf<'a, J> {
 pub struct Board<'a, J: Campaign> {
     shelf: Mutex<Shelf<'a, J>>,
     changed: Condvar,
+    crew: Crew,
 }
 
 impl<'a, J: Campaign> Board<'a, J> {
@@ -155,9 +156,17 @@ impl<'a, J: Campaign> Board<'a, J> {
     pub fn new(book: Book<'a>) -> Board<'a, J>
         requires { book.job ≡ J.job }
     {
+        Board::of(book, Crew::Several)
+    }
+
+    /// A board of that book for so many workers.
+    pub(crate) fn of(book: Book<'a>, crew: Crew) -> Board<'a, J>
+        requires { book.job ≡ J.job }
+    {
         Board {
             shelf: Mutex::new(Shelf::new(book)),
             changed: Condvar::new(),
+            crew,
         }
     }
 
@@ -165,12 +174,17 @@ impl<'a, J: Campaign> Board<'a, J> {
     pub fn close(self) -> Book<'a>
         ensures { result.job ≡ J.job }
     {
-        let Board { shelf, changed: _ } = self;
+        let Board {
+            shelf,
+            changed: _,
+            crew: _,
+        } = self;
         shelf.into_inner().into_book()
     }
 
-    /// Leases, works and submits until nothing is left for this worker, over a copy of the code that it makes once it has a
-    /// lease. Where memory runs out, the worker's lease is given back: what it did before stays done.
+    /// Leases, works and submits until nothing is left for this worker. Where it is not the only one, it does so over a copy of the
+    /// code that it makes once it has a lease. Where memory runs out, the worker's lease is given back: what it did before stays
+    /// done.
     pub fn serve<R: Wait, G: Gate>(
         &self,
         rt: &R,
@@ -182,18 +196,18 @@ impl<'a, J: Campaign> Board<'a, J> {
     {
         let shared = self.code(rt);
         let mut own = None;
-        let mut is_first = true;
+        let mut copies = matches!(self.crew, Crew::Several);
         for _ in rt.forever() {
             let Some((chain, lease)) = self.next(rt, alloc, worker)? else {
                 return Ok(());
             };
             gate.leased(worker);
-            if is_first {
+            if copies {
                 own = own_code(alloc, shared);
-                is_first = false;
+                copies = false;
             }
             let code = own.as_ref().unwrap_or(shared);
-            match work_over(alloc, code, lease) {
+            match work_over(alloc, code, lease, self.crew) {
                 Ok(piece) => {
                     gate.worked(worker, &piece);
                     if !self.hand_in(rt, worker, chain, piece) {

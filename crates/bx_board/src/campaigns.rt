@@ -10,6 +10,7 @@ ghost use Rattle.bx_board.specs.Reported.{report_by, report_from};
 use crate::boards::{Board, Campaign, Gate};
 use crate::books::{Book, report_alone};
 use crate::reports::Report;
+use crate::working::Crew;
 use bx_load::Image;
 use bx_plan::Plan;
 use bx_terms::{AtomId, Fault};
@@ -57,7 +58,12 @@ fn served<'a, J: Campaign + Send + Sync, R: Threads + Wait + Sync, G: Gate + Syn
     requires { book.job ≡ J.job }
     ensures { result.1.job ≡ J.job }
 {
-    let board = Board::<J>::new(book);
+    let crew = if workers == 1 {
+        Crew::One
+    } else {
+        Crew::Several
+    };
+    let board = Board::<J>::of(book, crew);
     let well = serve_all(rt, alloc, &board, workers, gate);
     (well, board.close())
 }

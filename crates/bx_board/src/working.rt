@@ -2,9 +2,7 @@
 
 ghost use Rattle.std.specs.Prelude.{⊤, ◌≡◌, ◌<◌, IfOk, IfErr, Ok};
 ghost use Rattle.bx_terms.specs.Outcomes.{Gives};
-ghost use Rattle.bx_plan.specs.Trees.{parent};
 ghost use Rattle.bx_board.specs.Jobs.{end_of};
-ghost use Rattle.bx_board.specs.Working.{run_up_to, work_at, IsSpan};
 
 use crate::slots::ArcEnd;
 use bx_load::Image;
@@ -18,6 +16,14 @@ use std::marker::Model;
 /// How many choices of a chain pay for a copy of one register, message, list cell or element, so that what is copied before a chain
 /// is a small part of its work.
 const CHOICES_A_COPY: usize = 8;
+
+/// How many workers run a campaign's chains. What one of several runs is made apart, so that none waits for a count of another's;
+/// one alone shares it all.
+#[derive(Clone, Copy)]
+pub(crate) enum Crew {
+    One,
+    Several,
+}
 
 /// A chain of a plan's tree: nodes in a row, and the chain's number.
 #[derive(Clone, Copy, Debug, PartialEq, Eq)]
@@ -112,6 +118,26 @@ impl<'a> Lease<'a> {
     {
         self.plan.path(alloc, self.span.last)
     }
+
+    /// Runs the chain from the end that the lease holds, an edge of the plan's tree at a time.
+    fn run(&self, alloc: Global, code: &Image, crew: Crew) -> Result<ArcEnd, Fault>
+        requires { code.now ≡ self.now.image }
+        ensures { Gives ⊤ (λ end. end) result (Ok (end_of self.now)) }
+    {
+        let span = self.span;
+        let edges = self.plan.edges();
+        let mut end = branch(alloc, self.from.see(), span.last - span.first + 1, crew)?;
+        let mut number = edge_to(edges, span.first);
+        let mut node = span.first;
+        while node <= span.last {
+            let edge = edges[number];
+            let past = (edge.first + edge.times).min(span.last + 1);
+            advance_many(alloc, &mut end, code, edge.choice, (past - node) as u64)?;
+            number += 1;
+            node = past;
+        }
+        Ok(end)
+    }
 }
 
 impl<'a> Piece<'a> {
@@ -166,48 +192,21 @@ impl<'a> Piece<'a> {
     }
 }
 
-/// An end that goes on independently of that one. So that workers whose chains part late do not wait for one count, it shares
-/// nothing counted with that one where the world is small beside the choices to come.
-fn branch(alloc: Global, from: &ArcEnd, choices: usize) -> Result<ArcEnd, Fault>
+/// An end that goes on independently of that one. What one of several workers runs shares nothing counted with that one where the
+/// world is small beside the choices to come, so that workers whose chains part late do not wait for one count.
+fn branch(alloc: Global, from: &ArcEnd, choices: usize, crew: Crew) -> Result<ArcEnd, Fault>
     ensures { Gives ⊤ (λ end. end) result (Ok from.now) }
 {
     let mut world = from.world.snapshot(alloc)?;
-    let mut room = choices / CHOICES_A_COPY;
-    let _ = world.unshare(alloc, &mut room);
+    if let Crew::Several = crew {
+        let mut room = choices / CHOICES_A_COPY;
+        let _ = world.unshare(alloc, &mut room);
+    }
     Ok(ArcEnd {
         world,
         applied: from.applied,
         refused: from.refused,
     })
-}
-
-/// Runs a chain from the end of what it stands on, an edge of the plan's tree at a time.
-fn run_chain(
-    alloc: Global,
-    image: &Image,
-    start: (AtomId, AtomId),
-    plan: &Plan,
-    span: Span,
-    from: &ArcEnd,
-) -> Result<ArcEnd, Fault>
-    requires span { IsSpan plan.now.tree span.first span.last }
-    requires from { from.now ≡ run_up_to image.now start plan.now.tree
-        (parent plan.now.tree span.first) }
-    ensures { Gives ⊤ (λ end. end) result (Ok (run_up_to image.now start plan.now.tree span.last)) }
-{
-    let _nodes = plan.nodes();
-    let edges = plan.edges();
-    let mut end = branch(alloc, from, span.last - span.first + 1)?;
-    let mut number = edge_to(edges, span.first);
-    let mut node = span.first;
-    while node <= span.last {
-        let edge = edges[number];
-        let past = (edge.first + edge.times).min(span.last + 1);
-        advance_many(alloc, &mut end, image, edge.choice, (past - node) as u64)?;
-        number += 1;
-        node = past;
-    }
-    Ok(end)
 }
 
 /// Runs a leased chain from the end that the lease holds.
@@ -218,56 +217,39 @@ pub fn work<'a>(alloc: Global, lease: Lease<'a>) -> Result<Piece<'a>, (Fault, Le
     ensures err { IfErr result (λ refused. (refused.0 ≡ Fault.Memory) × (refused.1 ≡ lease.entry)) }
 {
     let code = lease.image;
-    work_over(alloc, code, lease)
+    work_over(alloc, code, lease, Crew::Several)
 }
 
-/// The same over code that equals the lease's, as a worker's own.
+/// The same over code that equals the lease's, as a worker's own, and by one worker of that crew.
 pub(crate) fn work_over<'a>(
     alloc: Global,
     code: &Image,
     lease: Lease<'a>,
+    crew: Crew,
 ) -> Result<Piece<'a>, (Fault, Lease<'a>)>
     requires { code.now ≡ lease.image }
     ensures ok { IfOk result (λ piece. piece ≡ lease.entry) }
     ensures err { IfErr result (λ refused. (refused.0 ≡ Fault.Memory) × (refused.1 ≡ lease.entry)) }
 {
+    let end = match lease.run(alloc, code, crew) {
+        Ok(end) => end,
+        Err(fault) => return Err((fault, lease)),
+    };
+    let Ok(end) = ArcHold::put(alloc, end) else {
+        return Err((Fault::Memory, lease));
+    };
     let Lease {
         image,
         start,
         plan,
         span,
-        from,
+        from: _,
     } = lease;
-    let end = match run_chain(alloc, code, start, plan, span, from.see()) {
-        Ok(end) => end,
-        Err(fault) => return Err((
-            fault,
-            Lease {
-                image,
-                start,
-                plan,
-                span,
-                from,
-            },
-        )),
-    };
-    match ArcHold::put(alloc, end) {
-        Ok(end) => Ok(Piece {
-            image,
-            start,
-            plan,
-            span,
-            end,
-        }),
-        Err(_) => Err((
-            Fault::Memory,
-            Lease {
-                image,
-                start,
-                plan,
-                span,
-                from,
-            },
-        )),
-    }
+    Ok(Piece {
+        image,
+        start,
+        plan,
+        span,
+        end,
+    })
 }

@@ -22,54 +22,98 @@ use std::io::{Read, Write};
 use std::sync::Wait;
 use std::thread::Threads;
 
-/// The text of the report of the plan's schedules, by so many workers.
-fn report_of<T: Threads + Wait + Sync, G: Gate>(
-    rt: &T,
-    alloc: Global,
-    image: &Image,
-    start: &Start,
-    plan: &Plan,
-    workers: u32,
-    gate: &G,
-) -> Result<String, Fault>
-    ensures { Gives ⊤ (λ text. string_bytes text) result
-        (campaign_in workers image.now start.now (schedules plan.now)) }
-{
-    if workers == 0 || workers > 64 {
-        return Err(Fault::Workers);
-    }
-    let Some((module, function)) = entry_in(image, start) else {
-        return Err(Fault::NoEntry);
-    };
-    let report = campaign(rt, alloc, image, module, function, plan, workers, gate)?;
-    report_text(alloc, image.atoms(), &report)
+/// The workers of a campaign: how many they are, the runtime that their threads are of, and the gate that is called as they go on.
+#[derive(Drop)]
+pub struct Workers<'a, T, G> {
+    rt: &'a T,
+    pub count: u32,
+    gate: &'a G,
 }
 
-/// The text that a campaign from that start writes, or the first fault of the files.
-fn text_of<T: Threads + Wait + Sync, R: Read, G: Gate>(
-    rt: &T,
-    alloc: Global,
-    listings: &mut [R],
-    start: &Start,
-    plan: &mut R,
-    workers: u32,
-    gate: &G,
-) -> Result<String, Failure>
-    ensures { (given : List (List ℕ)) → (planned : List ℕ) → map R.remaining listings.old ≡ map (λ text. Some text) given → R.remaining plan.old ≡ Some planned
-        → FilesGive (λ text. string_bytes text) result (ClearUpTo given) (campaign_behind workers start.now given planned) }
-{
-    let file = listings.len();
-    let image = match image_of(alloc, listings) {
-        Ok(image) => image,
-        Err(failure) => return Err(failure),
-    };
-    let plan = match plan_in(alloc, file, plan) {
-        Ok(plan) => plan,
-        Err(failure) => return Err(failure),
-    };
-    match report_of(rt, alloc, &image, start, &plan, workers, gate) {
-        Ok(text) => Ok(text),
-        Err(fault) => Err(Failure::Refused(fault, None)),
+impl<'a, T: Threads + Wait + Sync, G: Gate> Workers<'a, T, G> {
+    pub fn new(rt: &'a T, count: u32, gate: &'a G) -> Workers<'a, T, G>
+        ensures { result.count ≡ count }
+    {
+        Workers { rt, count, gate }
+    }
+
+    /// The text of the report of the plan's schedules.
+    fn report_of(
+        &self,
+        alloc: Global,
+        image: &Image,
+        start: &Start,
+        plan: &Plan,
+    ) -> Result<String, Fault>
+        ensures { Gives ⊤ (λ text. string_bytes text) result
+            (campaign_in self.now.count image.now start.now (schedules plan.now)) }
+    {
+        let workers = self.count;
+        if workers == 0 || workers > 64 {
+            return Err(Fault::Workers);
+        }
+        let Some((module, function)) = entry_in(image, start) else {
+            return Err(Fault::NoEntry);
+        };
+        let report = campaign(
+            self.rt, alloc, image, module, function, plan, workers, self.gate,
+        )?;
+        report_text(alloc, image.atoms(), &report)
+    }
+
+    /// The text that a campaign from that start writes, or the first fault of the files.
+    fn text_of<R: Read>(
+        &self,
+        alloc: Global,
+        listings: &mut [R],
+        start: &Start,
+        plan: &mut R,
+    ) -> Result<String, Failure>
+        ensures { (given : List (List ℕ)) → (planned : List ℕ) → map R.remaining listings.old ≡ map (λ text. Some text) given → R.remaining plan.old ≡ Some planned
+            → FilesGive (λ text. string_bytes text) result (ClearUpTo given) (campaign_behind self.now.count start.now given planned) }
+    {
+        let file = listings.len();
+        let image = match image_of(alloc, listings) {
+            Ok(image) => image,
+            Err(failure) => return Err(failure),
+        };
+        let plan = match plan_in(alloc, file, plan) {
+            Ok(plan) => plan,
+            Err(failure) => return Err(failure),
+        };
+        match self.report_of(alloc, &image, start, &plan) {
+            Ok(text) => Ok(text),
+            Err(fault) => Err(Failure::Refused(fault, None)),
+        }
+    }
+
+    /// Writes the report of the plan's schedules, as `campaign_text` does. The gate is told of the end of the workers' work before
+    /// anything is written.
+    pub fn campaign_text<R: Read, W: Write>(
+        &self,
+        alloc: Global,
+        listings: &mut [R],
+        start: &str,
+        plan: &mut R,
+        writer: &mut W,
+    ) -> Result<(), Failure>
+        ensures written { (given : List (List ℕ)) → (planned : List ℕ) → map R.remaining listings.old ≡ map (λ text. Some text) given → R.remaining plan.old ≡ Some planned
+            → Writes (TakesMemory start.now) (W.contents writer.old) (W.contents writer.new) result (ClearStart start.now given) (campaign_of self.now.count start.now given planned) }
+        ensures unwritten { IfErr result (λ failure. (failure ≡ Failure.Write) ⊎ Keeps
+            (W.contents writer.old) (W.contents writer.new)) }
+    {
+        let start = match start_of(alloc, start) {
+            Ok(start) => start,
+            Err(failure) => return Err(failure),
+        };
+        let text = match self.text_of(alloc, listings, &start, plan) {
+            Ok(text) => text,
+            Err(failure) => return Err(failure),
+        };
+        match writer.write_all(text.as_bytes()) {
+            Ok(()) => Ok(()),
+            Err(_) => Err(Failure::Write),
+        }
     }
 }
 
@@ -95,35 +139,6 @@ pub fn campaign_text<T: Threads + Wait + Sync, R: Read, W: Write>(
     ensures unwritten { IfErr result (λ failure. (failure ≡ Failure.Write) ⊎ Keeps
         (W.contents writer.old) (W.contents writer.new)) }
 {
-    watched_campaign_text(rt, alloc, listings, start, plan, workers, writer, &FreeGate)
-}
-
-/// The same with a gate that is called as the workers go on. It is told of the end of their work before anything is written.
-pub fn watched_campaign_text<T: Threads + Wait + Sync, R: Read, W: Write, G: Gate>(
-    rt: &T,
-    alloc: Global,
-    listings: &mut [R],
-    start: &str,
-    plan: &mut R,
-    workers: u32,
-    writer: &mut W,
-    gate: &G,
-) -> Result<(), Failure>
-    ensures written { (given : List (List ℕ)) → (planned : List ℕ) → map R.remaining listings.old ≡ map (λ text. Some text) given → R.remaining plan.old ≡ Some planned
-        → Writes (TakesMemory start.now) (W.contents writer.old) (W.contents writer.new) result (ClearStart start.now given) (campaign_of workers start.now given planned) }
-    ensures unwritten { IfErr result (λ failure. (failure ≡ Failure.Write) ⊎ Keeps
-        (W.contents writer.old) (W.contents writer.new)) }
-{
-    let start = match start_of(alloc, start) {
-        Ok(start) => start,
-        Err(failure) => return Err(failure),
-    };
-    let text = match text_of(rt, alloc, listings, &start, plan, workers, gate) {
-        Ok(text) => text,
-        Err(failure) => return Err(failure),
-    };
-    match writer.write_all(text.as_bytes()) {
-        Ok(()) => Ok(()),
-        Err(_) => Err(Failure::Write),
-    }
+    let workers = Workers::new(rt, workers, &FreeGate);
+    workers.campaign_text(alloc, listings, start, plan, writer)
 }

@@ -12,7 +12,7 @@ mod sources;
 mod starts;
 mod units;
 
-pub use campaigns::{campaign_text, watched_campaign_text};
+pub use campaigns::{Workers, campaign_text};
 pub use dis::dis_text;
 pub use failures::{Failure, fault_line};
 pub use inputs::{INPUT_LIMIT, MOST_ASKS, Unread, read_input};

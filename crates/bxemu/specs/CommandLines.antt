@@ -111,6 +111,19 @@ Orders named (Campaign start plan workers files) =
 Orders named (Debug start files) = IsDebug named start.now (map (λ file. file.now) files.items)
 Orders named (Dis file) = IsDis named file.now
 
+-- the files that it names before the last, and the last: the plan, or the only file; the lines of a session stand for its last
+abbrev pub first_files : Order → List Text
+first_files (Run start plan files) = map (λ file. file.now) files.items
+first_files (Campaign start plan workers files) = map (λ file. file.now) files.items
+first_files (Debug start files) = map (λ file. file.now) files.items
+first_files (Dis file) = []
+
+abbrev pub last_file : Order → Text
+last_file (Run start plan files) = plan.now
+last_file (Campaign start plan workers files) = plan.now
+last_file (Debug start files) = codes "-"
+last_file (Dis file) = file.now
+
 -- an order whose text goes out line by line, so that some of it may be out where it fails
 abbrev pub TellsByLine : Order → Type 0
 TellsByLine (Run start plan files) = ⊥

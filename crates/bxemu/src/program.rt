@@ -5,16 +5,15 @@ ghost use Rattle.std.specs.IoError.{error_kind};
 ghost use Rattle.std.specs.declared.io.ErrorKind.TheVariants.{OutOfMemory};
 ghost use Rattle.clap.specs.Words.{kind_of, subcommand_of};
 ghost use Rattle.bx_terms.specs.declared.faults.Fault.TheVariants.{Memory};
-ghost use Rattle.bxemu.specs.CommandLines.{IsMistaken, NamesSession, RefusesWords, TellsByLine, program};
+ghost use Rattle.bxemu.specs.CommandLines.{IsMistaken, NamesSession, RefusesWords, TellsByLine, first_files, last_file, program};
 ghost use Rattle.bxemu.specs.Statuses.{EndsByKind, status_after};
 
 use crate::commands::{Order, command_of};
 use crate::progress::Progress;
 use crate::prompt::Asking;
+use bx_board::{FreeGate, Gate};
 use bx_debugger::{debug_text, prompted_debug_text};
-use bx_engine::{
-    Failure, campaign_text, dis_text, fault_line, run_text, start_of, watched_campaign_text,
-};
+use bx_engine::{Failure, Workers, dis_text, fault_line, run_text, start_of};
 use bx_terms::Fault;
 use clap::Error;
 use clap::error::ErrorKind;
@@ -25,6 +24,13 @@ use std::sync::Wait;
 use std::thread::Threads;
 use std::time::Clock;
 use std::{env, fs, io};
+
+/// Where a session's lines come from, and where its answers go.
+#[derive(Drop)]
+struct Talk<'t, I, O> {
+    input: &'t mut I,
+    output: &'t mut O,
+}
 
 /// Does what the command line orders, with its text on `output` and lines on `errors`, and gives the status to end with,
 /// 0 to 4. `input` is read for a session alone.
@@ -75,7 +81,8 @@ where
 }
 
 /// Does what an order says, and gives the status to end with. Where it is none of 0 and 4, nothing was written to `output`, but
-/// for a session, whose answers go out line by line.
+/// for a session, whose answers go out line by line. A campaign is watched where `errors` is a terminal, and a session's lines are
+/// asked for there where `input` is one too.
 fn status_of_order<R, I, O, W>(
     rt: &R,
     order: &Order<'_>,
@@ -92,117 +99,41 @@ where
     ensures unwritten { (result ≡ 0) ⊎ (result ≡ 4) ⊎ TellsByLine order.now ⊎ Keeps
         (O.contents output.old) (O.contents output.new) }
 {
+    let Ok(names) = files_of(rt.alloc(), order) else {
+        return fault_line(&memory(), &[], errors);
+    };
+    let names = names.as_slice();
     match order {
-        Order::Run { start, plan, files } => {
-            status_of_run(rt, start, files.as_slice(), plan, output, errors)
+        Order::Run { start, .. } => told(&run(rt, start, names, output), names, errors),
+        Order::Campaign { start, workers, .. } if errors.is_terminal() => {
+            let gate = Progress::new(rt);
+            let workers = Workers::new(rt, *workers, &gate);
+            told(&campaign(rt, &workers, start, names, output), names, errors)
         }
-        Order::Campaign {
-            start,
-            plan,
-            workers,
-            files,
-        } => status_of_campaign(rt, start, files.as_slice(), plan, *workers, output, errors),
-        Order::Debug { start, files } => {
-            status_of_session(rt, start, files.as_slice(), input, output, errors)
+        Order::Campaign { start, workers, .. } => {
+            let workers = Workers::new(rt, *workers, &FreeGate);
+            told(&campaign(rt, &workers, start, names, output), names, errors)
         }
-        Order::Dis { file } => status_of_dis(rt, file, output, errors),
+        Order::Debug { start, .. } => {
+            let asks = input.is_terminal() && errors.is_terminal();
+            let ended = debug(rt, start, names, asks, Talk { input, output });
+            told(&ended, names, errors)
+        }
+        Order::Dis { .. } => told(&dis(rt, names, output), names, errors),
     }
 }
 
-/// Does what `run` orders, and gives the status to end with.
-fn status_of_run<R, O, W>(
-    rt: &R,
-    start: &str,
-    files: &[&str],
-    plan: &str,
-    output: &mut O,
-    errors: &mut W,
-) -> u8
-where
-    R: Files + AllocGlobal,
-    O: Write,
-    W: Write,
-    ensures few { result ≤ 4 }
-    ensures unwritten { (result ≡ 0) ⊎ (result ≡ 4) ⊎ Keeps (O.contents output.old)
-        (O.contents output.new) }
+/// The names of an order's files, by which a failure numbers them. The lines of a session stand for its last.
+fn files_of(alloc: Global, order: &Order<'_>) -> Result<Vec<String>, AllocError>
+    ensures { IfOk result (λ names. map string_bytes names.items
+        ≡ first_files order.now ++ last_file order.now ∷ []) }
 {
-    let names = match names_of(rt.alloc(), files, plan) {
-        Ok(names) => names,
-        Err(_) => return fault_line(&memory(), &[], errors),
-    };
-    let ended = run(rt, start, names.as_slice(), output);
-    told(&ended, names.as_slice(), errors)
-}
-
-/// Does what `campaign` orders, and gives the status to end with. Where `errors` is a terminal, it is watched there.
-fn status_of_campaign<R, O, W>(
-    rt: &R,
-    start: &str,
-    files: &[&str],
-    plan: &str,
-    workers: u32,
-    output: &mut O,
-    errors: &mut W,
-) -> u8
-where
-    R: Files + Eprint + Clock + AllocGlobal + Threads + Wait + Sync,
-    O: Write,
-    W: Write + IsTerminal,
-    ensures few { result ≤ 4 }
-    ensures unwritten { (result ≡ 0) ⊎ (result ≡ 4) ⊎ Keeps (O.contents output.old)
-        (O.contents output.new) }
-{
-    let names = match names_of(rt.alloc(), files, plan) {
-        Ok(names) => names,
-        Err(_) => return fault_line(&memory(), &[], errors),
-    };
-    let watched = errors.is_terminal();
-    let ended = campaign(rt, start, names.as_slice(), workers, watched, output);
-    told(&ended, names.as_slice(), errors)
-}
-
-/// Does what `debug` orders, and gives the status to end with. Where `input` and `errors` are terminals, lines are asked for
-/// there.
-fn status_of_session<R, I, O, W>(
-    rt: &R,
-    start: &str,
-    files: &[&str],
-    input: &mut I,
-    output: &mut O,
-    errors: &mut W,
-) -> u8
-where
-    R: Files + Eprint + AllocGlobal,
-    I: Read + IsTerminal,
-    O: Write,
-    W: Write + IsTerminal,
-    ensures { result ≤ 4 }
-{
-    let names = match names_of(rt.alloc(), files, "-") {
-        Ok(names) => names,
-        Err(_) => return fault_line(&memory(), &[], errors),
-    };
-    let asks = input.is_terminal() && errors.is_terminal();
-    let ended = debug(rt, start, names.as_slice(), asks, input, output);
-    told(&ended, names.as_slice(), errors)
-}
-
-/// Does what `dis` orders, and gives the status to end with.
-fn status_of_dis<R, O, W>(rt: &R, file: &str, output: &mut O, errors: &mut W) -> u8
-where
-    R: Files + AllocGlobal,
-    O: Write,
-    W: Write,
-    ensures few { result ≤ 4 }
-    ensures unwritten { (result ≡ 0) ⊎ (result ≡ 4) ⊎ Keeps (O.contents output.old)
-        (O.contents output.new) }
-{
-    let names = match names_of(rt.alloc(), &[], file) {
-        Ok(names) => names,
-        Err(_) => return fault_line(&memory(), &[], errors),
-    };
-    let ended = dis(rt, names.as_slice(), output);
-    told(&ended, names.as_slice(), errors)
+    match order {
+        Order::Run { plan, files, .. } => names_of(alloc, files.as_slice(), plan),
+        Order::Campaign { plan, files, .. } => names_of(alloc, files.as_slice(), plan),
+        Order::Debug { files, .. } => names_of(alloc, files.as_slice(), "-"),
+        Order::Dis { file } => names_of(alloc, &[], file),
+    }
 }
 
 /// The status that an order ends with: 0 where it was done, and else that of its failure, whose line is written to `errors`.
@@ -295,18 +226,17 @@ where
     }
 }
 
-/// Looks at the start, opens all the files, the plan last, and then writes the report of the campaign. Where it is watched, a line
-/// on standard error tells how far it is, until the report is written.
-fn campaign<R, W>(
+/// Looks at the start, opens all the files, the plan last, and then writes the report of the workers' campaign.
+fn campaign<R, G, W>(
     rt: &R,
+    workers: &Workers<'_, R, G>,
     start: &str,
     names: &[String],
-    workers: u32,
-    watched: bool,
     writer: &mut W,
 ) -> Result<(), Failure>
 where
-    R: Files + Eprint + Clock + AllocGlobal + Threads + Wait + Sync,
+    R: Files + AllocGlobal + Threads + Wait + Sync,
+    G: Gate,
     W: Write,
     ensures { IfErr result (λ failure. (failure ≡ Failure.Write) ⊎ Keeps (W.contents writer.old)
         (W.contents writer.new)) }
@@ -314,19 +244,7 @@ where
     let _ = start_of(rt.alloc(), start)?;
     let mut inputs = open_all(rt, names)?;
     match inputs.split_last_mut() {
-        Some((plan, listings)) if watched => watched_campaign_text(
-            rt,
-            rt.alloc(),
-            listings,
-            start,
-            plan,
-            workers,
-            writer,
-            &Progress::new(rt),
-        ),
-        Some((plan, listings)) => {
-            campaign_text(rt, rt.alloc(), listings, start, plan, workers, writer)
-        }
+        Some((plan, listings)) => workers.campaign_text(rt.alloc(), listings, start, plan, writer),
         None => Ok(()),
     }
 }
@@ -346,19 +264,19 @@ where
     }
 }
 
-/// Looks at the start, opens the listings, which are all the files but the last, and then answers the lines of commands.
-fn debug<R, I, W>(
+/// Looks at the start, opens the listings, which are all the files but the last, and then answers the lines of commands, which are
+/// asked for where it says so.
+fn debug<R, I, O>(
     rt: &R,
     start: &str,
     names: &[String],
     asks: bool,
-    commands: &mut I,
-    writer: &mut W,
+    talk: Talk<'_, I, O>,
 ) -> Result<(), Failure>
 where
     R: Files + Eprint + AllocGlobal,
     I: Read,
-    W: Write,
+    O: Write,
 {
     let _ = start_of(rt.alloc(), start)?;
     let Some((_, listings)) = names.split_last() else {
@@ -366,11 +284,12 @@ where
     };
     let mut inputs = open_all(rt, listings)?;
     let listings = inputs.as_mut_slice();
+    let Talk { input, output } = talk;
     if asks {
         let prompt = Asking::new(rt);
-        return prompted_debug_text(rt.alloc(), listings, start, commands, writer, &prompt);
+        return prompted_debug_text(rt.alloc(), listings, start, input, output, &prompt);
     }
-    debug_text(rt.alloc(), listings, start, commands, writer)
+    debug_text(rt.alloc(), listings, start, input, output)
 }
 
 /// Opens each file, the first that can't be opened being the failure.

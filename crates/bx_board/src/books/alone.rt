@@ -10,7 +10,7 @@ ghost use Rattle.bx_board.specs.Reported.{report_from, report_of};
 
 use crate::books::Book;
 use crate::reports::Report;
-use crate::working::work;
+use crate::working::{Crew, work_over};
 use bx_load::Image;
 use bx_plan::Plan;
 use bx_terms::{AtomId, Fault};
@@ -28,7 +28,8 @@ impl<'a> Book<'a> {
         let Some(lease) = self.lease(alloc, 0)? else {
             return Ok(false);
         };
-        let piece = match work(alloc, lease) {
+        let code = lease.image();
+        let piece = match work_over(alloc, code, lease, Crew::One) {
             Ok(piece) => piece,
             Err((fault, _lease)) => return Err(fault),
         };
