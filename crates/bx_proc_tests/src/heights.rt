@@ -177,7 +177,8 @@ fn is_right(alloc: Global, row: &Row) -> Result<bool, Fail> {
         return is_trapped(alloc, items.as_str(), runs, "TermHeight");
     }
     let report = report_of(alloc, items.as_str(), runs)?;
-    Ok(report.as_str() == ended(alloc, runs, "normal")?.as_str())
+    let wanted = ended(alloc, runs, "normal")?;
+    Ok(report.as_str() == wanted.as_str())
 }
 
 /// How many rows, from the first on, are so.
