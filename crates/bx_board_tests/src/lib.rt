@@ -24,4 +24,6 @@ mod samples;
 #[cfg(test)]
 mod starts;
 #[cfg(test)]
+mod waits;
+#[cfg(test)]
 mod watching;
