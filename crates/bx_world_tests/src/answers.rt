@@ -1,11 +1,7 @@
 //! What a debugger answers to lines, and the line of its failure.
 
-use crate::samples::{HELLO, LOOP, QUOTED, TRAPS, is_told};
-use std::alloc::{AllocError, Global};
+use crate::samples::{HELLO, LOOP, QUOTED, Row, TRAPS, refused_lines, right_rows};
 use std::test::Fail;
-
-/// A listing, the start, lines, what is answered to them, and behind it the line of the failure.
-type Row<'a> = (&'a str, &'a str, &'a str, &'a str);
 
 const IN_ORDER: [Row<'static>; 13] = [
     (
@@ -126,33 +122,6 @@ const ONE_COMMAND: [Row<'static>; 15] = [
         "applied 0\nstate open r0\nprocess <0.0.0> ready\nend\n",
     ),
 ];
-
-/// How many rows, from the first on, are answered so.
-fn right_rows(alloc: Global, rows: &[Row<'_>]) -> Result<usize, AllocError> {
-    for (number, (listing, start, lines, want)) in rows.iter().enumerate() {
-        if !is_told(alloc, listing, start, &mut lines.as_bytes(), want)? {
-            return Ok(number);
-        }
-    }
-    Ok(rows.len())
-}
-
-/// How many lines, from the first on, are refused since they are no command.
-fn refused_lines(alloc: Global, rows: &[&[u8]]) -> Result<usize, AllocError> {
-    for (number, line) in rows.iter().enumerate() {
-        let mut commands = *line;
-        if !is_told(
-            alloc,
-            LOOP,
-            "m:f",
-            &mut commands,
-            "refused R33 BadCommand line 1\n",
-        )? {
-            return Ok(number);
-        }
-    }
-    Ok(rows.len())
-}
 
 #[test]
 fn lines_are_answered_in_order(rt: HostRuntime) -> Result<(), Fail> {

@@ -1,11 +1,7 @@
 //! What a debugger answers to `help` and `plan`.
 
-use crate::samples::{HOLDS, LOOP, SIGNALS, is_told};
-use std::alloc::{AllocError, Global};
+use crate::samples::{HOLDS, LOOP, Row, SIGNALS, refused_lines, right_rows};
 use std::test::Fail;
-
-/// A listing, the start, lines, and what is answered to them.
-type Row<'a> = (&'a str, &'a str, &'a str, &'a str);
 
 const TOLD: [Row<'static>; 6] = [
     (LOOP, "m:f", "plan a", "a:\n"),
@@ -53,28 +49,6 @@ const NO_COMMANDS: [&[u8]; 10] = [
     b"plan a\xff",
     b"plan 0123456789012345678901234567890123456789012345678901234567890123x",
 ];
-
-/// How many rows, from the first on, are answered so.
-fn right_rows(alloc: Global, rows: &[Row<'_>]) -> Result<usize, AllocError> {
-    for (number, (listing, start, lines, want)) in rows.iter().enumerate() {
-        if !is_told(alloc, listing, start, &mut lines.as_bytes(), want)? {
-            return Ok(number);
-        }
-    }
-    Ok(rows.len())
-}
-
-/// How many lines, from the first on, are refused since they are no command.
-fn refused_lines(alloc: Global, rows: &[&[u8]]) -> Result<usize, AllocError> {
-    for (number, line) in rows.iter().enumerate() {
-        let mut commands = *line;
-        let want = "refused R33 BadCommand line 1\n";
-        if !is_told(alloc, LOOP, "m:f", &mut commands, want)? {
-            return Ok(number);
-        }
-    }
-    Ok(rows.len())
-}
 
 #[test]
 fn choices_are_told_as_a_plan(rt: HostRuntime) -> Result<(), Fail> {

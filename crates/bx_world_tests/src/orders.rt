@@ -1,11 +1,7 @@
 //! What a debugger answers to `swap`.
 
-use crate::samples::{LOOP, SIGNALS, TALK, TRAPS, is_told};
-use std::alloc::{AllocError, Global};
+use crate::samples::{LOOP, Row, SIGNALS, TALK, TRAPS, refused_lines, right_rows};
 use std::test::Fail;
-
-/// A listing, the start, lines, and what is answered to them.
-type Row<'a> = (&'a str, &'a str, &'a str, &'a str);
 
 const SWAPPED: [Row<'static>; 5] = [
     // choices 10 to 12 are runs of 1, 0 and 0, each of an instruction that concerns its process alone
@@ -46,28 +42,6 @@ const NO_COMMANDS: [&[u8]; 6] = [
     b"swap 1 2",
     b"swap 4294967296",
 ];
-
-/// How many rows, from the first on, are answered so.
-fn right_rows(alloc: Global, rows: &[Row<'_>]) -> Result<usize, AllocError> {
-    for (number, (listing, start, lines, want)) in rows.iter().enumerate() {
-        if !is_told(alloc, listing, start, &mut lines.as_bytes(), want)? {
-            return Ok(number);
-        }
-    }
-    Ok(rows.len())
-}
-
-/// How many lines, from the first on, are refused since they are no command.
-fn refused_lines(alloc: Global, rows: &[&[u8]]) -> Result<usize, AllocError> {
-    for (number, line) in rows.iter().enumerate() {
-        let mut commands = *line;
-        let want = "refused R33 BadCommand line 1\n";
-        if !is_told(alloc, LOOP, "m:f", &mut commands, want)? {
-            return Ok(number);
-        }
-    }
-    Ok(rows.len())
-}
 
 #[test]
 fn independent_choices_are_exchanged(rt: HostRuntime) -> Result<(), Fail> {

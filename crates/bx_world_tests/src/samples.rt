@@ -40,6 +40,31 @@ pub fn is_told<C: Read>(
     Ok(written.as_slice() == want.as_bytes())
 }
 
+/// A listing, the start, lines, and what is answered to them, behind it the line of the failure where there is one.
+pub type Row<'a> = (&'a str, &'a str, &'a str, &'a str);
+
+/// How many rows, from the first on, are answered so.
+pub fn right_rows(alloc: Global, rows: &[Row<'_>]) -> Result<usize, AllocError> {
+    for (number, (listing, start, lines, want)) in rows.iter().enumerate() {
+        if !is_told(alloc, listing, start, &mut lines.as_bytes(), want)? {
+            return Ok(number);
+        }
+    }
+    Ok(rows.len())
+}
+
+/// How many lines, from the first on, are refused since they are no command.
+pub fn refused_lines(alloc: Global, rows: &[&[u8]]) -> Result<usize, AllocError> {
+    for (number, line) in rows.iter().enumerate() {
+        let mut commands = *line;
+        let want = "refused R33 BadCommand line 1\n";
+        if !is_told(alloc, LOOP, "m:f", &mut commands, want)? {
+            return Ok(number);
+        }
+    }
+    Ok(rows.len())
+}
+
 /// Module `m`, whose `f/0` jumps to itself at item 4.
 pub const LOOP: &str = "{module,m}. {exports,[{f,0}]}. {attributes,[]}. {labels,9}.
 {function,f,0,2}. {label,1}. {func_info,{atom,m},{atom,f},0}. {label,2}.

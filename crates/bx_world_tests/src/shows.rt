@@ -1,11 +1,7 @@
 //! What a debugger shows of where a program stands and what it holds.
 
-use crate::samples::{HOLDS, LOOP, QUOTED, SIGNALS, TRAPS, is_told};
-use std::alloc::{AllocError, Global};
+use crate::samples::{HOLDS, LOOP, QUOTED, Row, SIGNALS, TRAPS, refused_lines, right_rows};
 use std::test::Fail;
-
-/// A listing, the start, lines, and what is answered to them.
-type Row<'a> = (&'a str, &'a str, &'a str, &'a str);
 
 const SHOWN: [Row<'static>; 14] = [
     (
@@ -113,28 +109,6 @@ const NO_COMMANDS: [&[u8]; 22] = [
     b"break m:g/0",
     b"clear n:f/0",
 ];
-
-/// How many rows, from the first on, are answered so.
-fn right_rows(alloc: Global, rows: &[Row<'_>]) -> Result<usize, AllocError> {
-    for (number, (listing, start, lines, want)) in rows.iter().enumerate() {
-        if !is_told(alloc, listing, start, &mut lines.as_bytes(), want)? {
-            return Ok(number);
-        }
-    }
-    Ok(rows.len())
-}
-
-/// How many lines, from the first on, are refused since they are no command.
-fn refused_lines(alloc: Global, rows: &[&[u8]]) -> Result<usize, AllocError> {
-    for (number, line) in rows.iter().enumerate() {
-        let mut commands = *line;
-        let want = "refused R33 BadCommand line 1\n";
-        if !is_told(alloc, LOOP, "m:f", &mut commands, want)? {
-            return Ok(number);
-        }
-    }
-    Ok(rows.len())
-}
 
 #[test]
 fn what_a_program_holds_is_shown(rt: HostRuntime) -> Result<(), Fail> {

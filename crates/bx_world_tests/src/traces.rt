@@ -1,11 +1,9 @@
 //! What a debugger answers to `trace`, and where in the source it shows that a program stands.
 
-use crate::samples::{HOLDS, LINES, LOOP, NAMES, SIGNALS, TALK, TRAPS, is_told};
-use std::alloc::{AllocError, Global};
+use crate::samples::{
+    HOLDS, LINES, LOOP, NAMES, Row, SIGNALS, TALK, TRAPS, refused_lines, right_rows,
+};
 use std::test::Fail;
-
-/// A listing, the start, lines, and what is answered to them.
-type Row<'a> = (&'a str, &'a str, &'a str, &'a str);
 
 const TRACED: [Row<'static>; 8] = [
     (
@@ -91,28 +89,6 @@ const NO_COMMANDS: [&[u8]; 7] = [
     b"trace 4294967296",
     b"trace 1 1",
 ];
-
-/// How many rows, from the first on, are answered so.
-fn right_rows(alloc: Global, rows: &[Row<'_>]) -> Result<usize, AllocError> {
-    for (number, (listing, start, lines, want)) in rows.iter().enumerate() {
-        if !is_told(alloc, listing, start, &mut lines.as_bytes(), want)? {
-            return Ok(number);
-        }
-    }
-    Ok(rows.len())
-}
-
-/// How many lines, from the first on, are refused since they are no command.
-fn refused_lines(alloc: Global, rows: &[&[u8]]) -> Result<usize, AllocError> {
-    for (number, line) in rows.iter().enumerate() {
-        let mut commands = *line;
-        let want = "refused R33 BadCommand line 1\n";
-        if !is_told(alloc, LOOP, "m:f", &mut commands, want)? {
-            return Ok(number);
-        }
-    }
-    Ok(rows.len())
-}
 
 #[test]
 fn the_last_choices_are_shown(rt: HostRuntime) -> Result<(), Fail> {
