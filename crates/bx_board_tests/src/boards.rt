@@ -77,7 +77,7 @@ fn weight(alloc: Global, alone: u64, piece: &Piece<'_>) -> u64 {
     if path.len() as u64 <= alone {
         return 0;
     }
-    match path.runs().last().map(|run| run.choice) {
+    match path.get(path.len().saturating_sub(1)) {
         Some(Choice::Run(0)) => FIRST,
         Some(Choice::Run(1)) => SECOND,
         _ => 0,

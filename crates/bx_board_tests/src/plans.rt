@@ -180,14 +180,13 @@ fn schedules_end_and_part_within_a_run(rt: HostRuntime) -> Result<(), Fail> {
     assert_eq!(rt; plan.edges().len(), 4);
     let nine = plan.schedule(rt.alloc(), 5).ok_or("no line")??;
     assert_eq!(rt; nine.len(), 9);
-    assert!(rt;
-        nine.runs()
-            == [Repeat {
-                choice: Run(0),
-                times: 9
-            }]
-            .as_slice()
-    );
+    let mut left = nine.all();
+    let run = Repeat {
+        choice: Run(0),
+        times: 9,
+    };
+    assert!(rt; left.next_run() == Some(run));
+    assert!(rt; left.is_empty());
     Ok(())
 }
 
@@ -196,10 +195,11 @@ fn neighbours_of_one_choice_are_one_run(rt: HostRuntime) -> Result<(), Fail> {
     let mut schedule = read_choices(rt.alloc(), b"r0*2 r0 r1 r1*3 e0")?.ok_or("refused")?;
     let runs = [(Run(0), 3), (Run(1), 4), (Expire(0), 1)];
     assert_eq!(rt; schedule.len(), 8);
-    assert_eq!(rt; schedule.runs().len(), 3);
-    for (run, (choice, times)) in schedule.runs().iter().zip(&runs) {
-        assert!(rt; run.choice == *choice && run.times == *times);
+    let mut left = schedule.all();
+    for (choice, times) in runs {
+        assert!(rt; left.next_run() == Some(Repeat { choice, times }));
     }
+    assert!(rt; left.next_run().is_none());
     for (position, choice) in [
         (0, Some(Run(0))),
         (2, Some(Run(0))),
@@ -214,7 +214,9 @@ fn neighbours_of_one_choice_are_one_run(rt: HostRuntime) -> Result<(), Fail> {
     let choices = schedule.to_choices(rt.alloc())?;
     assert_eq!(rt; choices.len(), 10);
     assert!(rt; Schedule::from_choices(rt.alloc(), &choices)?.same(&schedule));
-    assert!(rt; Schedule::of(rt.alloc(), schedule.runs())?.same(&schedule));
+    let runs = [(Run(0), 2), (Run(0), 1), (Run(1), 4), (Expire(0), 3)];
+    let runs = runs.map(|(choice, times)| Repeat { choice, times });
+    assert!(rt; Schedule::of(rt.alloc(), &runs)?.same(&schedule));
     assert!(rt; !Schedule::new(rt.alloc()).same(&schedule));
     assert!(rt; read_choices(rt.alloc(), b"r0*0")?.is_none());
     Ok(())

@@ -7,5 +7,6 @@ pub mod Going
 pub mod Moving
 pub mod Lawful
 pub mod Stopped
+pub mod Stretches
 pub mod Unbroken
 pub mod Swapping

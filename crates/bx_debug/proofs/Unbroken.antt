@@ -1,9 +1,9 @@
 -- Choices given one after another to a run, where no breakpoint is set: none is looked behind, and why it went no further is known
 -- at the end.
-use Rattle.std.proofs.Common.{◌≡◌, ℕ, zero, suc, ◌+◌, ◌-◌, ◌<◌, ◌≤◌, ◌⊎◌, inl, inr, List, [], ◌∷◌, length, take, drop, get_or, Bool, true, false, Option, Some, None, refl, sym, ap, ◌∙◌, subst, arith}
+use Rattle.std.proofs.Common.{◌≡◌, ◌≢◌, ℕ, zero, suc, ◌+◌, ◌<◌, ◌≤◌, ◌⊎◌, inl, inr, List, [], ◌∷◌, ◌++◌, length, take, drop, get_or, Bool, true, false, Option, Some, None, refl, sym, ap, ◌∙◌, subst, arith, length-append}
 use Rattle.std.specs.Prelude.{◌||◌, if◌then◌else◌, is_some}
 use Rattle.std.specs.FinSet as set
-use Rattle.std.proofs.lemmas.List.{drop_more, length-drop, length-take-le}
+use Rattle.std.proofs.lemmas.List.{drop_more, take_all, take-append-le}
 use Rattle.bx_terms.specs.declared.kinds.Trap.{Trap}
 use Rattle.bx_load.specs.Image.{Loaded}
 use Rattle.bx_world.specs.declared.choices.Choice.{Choice}
@@ -16,20 +16,20 @@ use Rattle.bx_debug.specs.Going.{break_behind, ended_by, else_stop, halted, stop
 use Rattle.bx_debug.specs.Leading.{Leads, Reaches}
 use Rattle.bx_debug.specs.declared.stops.Stop.{Stop}
 use Rattle.bx_debug.specs.declared.stops.Stop.TheVariants.{NotEnabled, Trapped}
-use Rattle.bx_debug.proofs.Walking.{breaks_none, leads_before, leads_behind, leads_on, same_element}
+use Rattle.bx_debug.proofs.Walking.{breaks_none, leads_before, leads_behind, leads_none, leads_on, same_element}
 
 -- why it went no further
 abbrev pub why : Ended → Option Stop
 why end = ended_by end.refused end.world.trap
 
--- a run that was begun behind so many choices and was given those up to another number: it applied all of them, unless it ended
-pub record Given (first at : ℕ) (end : Ended) : Type 0 where
-  pub before : first + end.applied ≤ at
-  pub whole : why end ≡ None → first + end.applied ≡ at
+-- a run that was given so many choices: it applied all of them, unless it ended
+pub record Given (at : ℕ) (end : Ended) : Type 0 where
+  pub before : end.applied ≤ at
+  pub whole : why end ≡ None → end.applied ≡ at
 
 -- nothing was given to it yet
-pub given_none : (first : ℕ) (w : State) → Given first first (record { world = w; applied = 0; refused = None })
-given_none first w = record { before = omega arith; whole = λ _. omega arith }
+pub given_none : (w : State) → Given 0 (record { world = w; applied = 0; refused = None })
+given_none w = record { before = omega arith; whole = λ _. refl }
 
 -- a choice more: it has ended, and stays so; or it applies the choice; or it refuses it
 abbrev More : Choice → Ended → Ended → Ended → Ended → Option Stop → Option Stop → Type 0
@@ -58,22 +58,22 @@ more image choice end = more_of choice end.refused end.world.trap (can end.world
 no_stop : {A : Type 0} (stop : Option Stop) (found : Stop) → stop ≡ Some found → stop ≡ None → A
 no_stop stop found is none = let no : Some found ≡ None = sym is ∙ none in cc
 
-pub given_on : (image : Loaded) (choice : Choice) (first at : ℕ) (end : Ended) → Given first at end → Given first (at + 1) (advanced image choice end)
-given_on image choice first at end given =
+pub given_on : (image : Loaded) (choice : Choice) (at : ℕ) (end : Ended) → Given at end → Given (at + 1) (advanced image choice end)
+given_on image choice at end given =
     let before = given.before in
     elim (more image choice end) [
-      | inl stays ↦ subst (λ (e : Ended). Given first (at + 1) e) (sym stays.2) (record { before = omega arith; whole = λ none. no_stop (why end) stays.0 stays.1 none })
+      | inl stays ↦ subst (λ (e : Ended). Given (at + 1) e) (sym stays.2) (record { before = omega arith; whole = λ none. no_stop (why end) stays.0 stays.1 none })
       | inr goes ↦ elim goes [
         | inl applies ↦
             let count = given.whole applies.0 in
-            subst (λ (e : Ended). Given first (at + 1) e) (sym applies.2) (record { before = omega arith; whole = λ _. omega arith })
-        | inr refuses ↦ subst (λ (e : Ended). Given first (at + 1) e) (sym refuses.2) (record { before = omega arith; whole = λ none. cc })
+            subst (λ (e : Ended). Given (at + 1) e) (sym applies.2) (record { before = omega arith; whole = λ _. omega arith })
+        | inr refuses ↦ subst (λ (e : Ended). Given (at + 1) e) (sym refuses.2) (record { before = omega arith; whole = λ none. cc })
       ]
     ]
 
 -- the walk of all choices, as far as the run has come
-abbrev pub Unbroken : Loaded → List Choice → State → ℕ → Ended → Type 0
-Unbroken image choices from first end = Leads image set.empty choices from (first + end.applied) end.world (why end)
+abbrev pub Unbroken : Loaded → List Choice → State → Ended → Type 0
+Unbroken image choices from end = Leads image set.empty choices from end.applied end.world (why end)
 
 -- whether a world has trapped
 trapped_or_not : (trap : Option (Trap × ℕ)) → (halted trap ≡ None) ⊎ ((found : Stop) × (halted trap ≡ Some found))
@@ -95,23 +95,23 @@ leads_applied image choices from i here choice short is free lead =
     ]
 
 -- the run is given a choice more
-pub unbroken_on : (image : Loaded) (choices : List Choice) (from : State) (first at : ℕ) (end : Ended) (choice : Choice) → at < length choices → choice ≡ get_or choices at choice → Given first at end
-    → Unbroken image choices from first end → Unbroken image choices from first (advanced image choice end)
-unbroken_on image choices from first at end choice short is given so_far =
+pub unbroken_on : (image : Loaded) (choices : List Choice) (from : State) (at : ℕ) (end : Ended) (choice : Choice) → at < length choices → choice ≡ get_or choices at choice → Given at end
+    → Unbroken image choices from end → Unbroken image choices from (advanced image choice end)
+unbroken_on image choices from at end choice short is given so_far =
     elim (more image choice end) [
-      | inl stays ↦ subst (λ (e : Ended). Unbroken image choices from first e) (sym stays.2) so_far
+      | inl stays ↦ subst (λ (e : Ended). Unbroken image choices from e) (sym stays.2) so_far
       | inr goes ↦ elim goes [
         | inl applies ↦
-            let count : first + end.applied ≡ at = given.whole applies.0 in
+            let count : end.applied ≡ at = given.whole applies.0 in
             let lead : Leads image set.empty choices from at end.world None = subst (λ (s : Option Stop). Leads image set.empty choices from at end.world s) applies.0 (subst (λ (n : ℕ). Leads image set.empty choices from n end.world (why end)) count so_far) in
-            let there : at + 1 ≡ first + (end.applied + 1) = omega arith in
+            let there : at + 1 ≡ end.applied + 1 = omega arith in
             let on = subst (λ (n : ℕ). Leads image set.empty choices from n (chosen image choice end.world) (halted (chosen image choice end.world).trap)) there (leads_applied image choices from at end.world choice short is applies.1 lead) in
-            subst (λ (e : Ended). Unbroken image choices from first e) (sym applies.2) on
+            subst (λ (e : Ended). Unbroken image choices from e) (sym applies.2) on
         | inr refuses ↦
-            let count : first + end.applied ≡ at = given.whole refuses.0 in
+            let count : end.applied ≡ at = given.whole refuses.0 in
             let lead : Leads image set.empty choices from at end.world None = subst (λ (s : Option Stop). Leads image set.empty choices from at end.world s) refuses.0 (subst (λ (n : ℕ). Leads image set.empty choices from n end.world (why end)) count so_far) in
             let before = leads_before image set.empty choices from at end.world choice end.world (NotEnabled choice) short is (refuses.1, refl) lead in
-            subst (λ (e : Ended). Unbroken image choices from first e) (sym refuses.2) (subst (λ (n : ℕ). Leads image set.empty choices from n end.world (Some (NotEnabled choice))) (sym count) before)
+            subst (λ (e : Ended). Unbroken image choices from e) (sym refuses.2) (subst (λ (n : ℕ). Leads image set.empty choices from n end.world (Some (NotEnabled choice))) (sym count) before)
       ]
     ]
 
@@ -121,46 +121,51 @@ pub leads_nowhere : (image : Loaded) (choices : List Choice) (from : State) (i :
 leads_nowhere image choices from i here choice stop short is trapped lead =
     leads_before image set.empty choices from i here choice here stop short is (ap (λ (s : Option Stop). else_stop s (if can here choice then None else Some (NotEnabled choice))) trapped, refl) lead
 
+-- and before the first of some choices
+pub reaches_nowhere : (image : Loaded) (choices : List Choice) (w : State) (stop : Stop) → choices ≢ [] → halted w.trap ≡ Some stop → Reaches image set.empty choices w 0 w (Some stop)
+reaches_nowhere image [] w stop some trapped = absurd (some refl)
+reaches_nowhere image (choice ∷ more) w stop some trapped = record {
+  within = omega arith;
+  whole = λ none. cc;
+  leads = λ rest. leads_nowhere image (choice ∷ more ++ rest) w 0 w choice stop (omega arith) refl trapped (leads_none image set.empty (choice ∷ more ++ rest) w);
+}
+
 -- a run at its beginning
 abbrev pub fresh : State → Ended
 fresh w = record { world = w; applied = 0; refused = None }
 
 -- choices more
-given_all : (image : Loaded) (first at : ℕ) (choices : List Choice) (end : Ended) → Given first at end → Given first (at + length choices) (ran image choices end)
-given_all image first at [] end given = let same : at ≡ at + 0 = omega arith in subst (λ (n : ℕ). Given first n end) same given
-given_all image first at (choice ∷ more) end given =
+given_all : (image : Loaded) (at : ℕ) (choices : List Choice) (end : Ended) → Given at end → Given (at + length choices) (ran image choices end)
+given_all image at [] end given = let same : at ≡ at + 0 = omega arith in subst (λ (n : ℕ). Given n end) same given
+given_all image at (choice ∷ more) end given =
     let count : at + 1 + length more ≡ at + length (choice ∷ more) = omega arith in
-    subst (λ (n : ℕ). Given first n (ran image more (advanced image choice end))) count (given_all image first (at + 1) more (advanced image choice end) (given_on image choice first at end given))
+    subst (λ (n : ℕ). Given n (ran image more (advanced image choice end))) count (given_all image (at + 1) more (advanced image choice end) (given_on image choice at end given))
 
-unbroken_all : (image : Loaded) (choices : List Choice) (from : State) (first at n : ℕ) (end : Ended) → at + n ≤ length choices → Given first at end → Unbroken image choices from first end
-    → Unbroken image choices from first (ran image (take n (drop at choices)) end)
-unbroken_all image choices from first at zero end within given so_far = so_far
-unbroken_all image choices from first at (suc n) end within given so_far =
+unbroken_all : (image : Loaded) (choices : List Choice) (from : State) (at n : ℕ) (end : Ended) → at + n ≤ length choices → Given at end → Unbroken image choices from end
+    → Unbroken image choices from (ran image (take n (drop at choices)) end)
+unbroken_all image choices from at zero end within given so_far = so_far
+unbroken_all image choices from at (suc n) end within given so_far =
     let short : at < length choices = omega arith in
     let choice = get_or choices at (Run 0) in
     let next = advanced image choice end in
-    let on = unbroken_on image choices from first at end choice short (same_element choices at (Run 0) choice short) given so_far in
-    subst (λ (cs : List Choice). Unbroken image choices from first (ran image (take (suc n) cs) end)) (sym (drop_more choices at (Run 0) short))
-    (unbroken_all image choices from first (at + 1) n next (omega arith) (given_on image choice first at end given) on)
+    let on = unbroken_on image choices from at end choice short (same_element choices at (Run 0) choice short) given so_far in
+    subst (λ (cs : List Choice). Unbroken image choices from (ran image (take (suc n) cs) end)) (sym (drop_more choices at (Run 0) short))
+    (unbroken_all image choices from (at + 1) n next (omega arith) (given_on image choice at end given) on)
 
--- the run of choices from one number up to another, in a world that has not trapped
-module _ (image : Loaded) (choices : List Choice) (first past : ℕ) (w : State) (end : Ended) (ordered : first < past) (within : past ≤ length choices) (is : end ≡ ran image (take (past - first) (drop first choices)) (fresh w)) where
-  pub all_given : Given first past end
+-- the run of choices, in a world that has not trapped
+module _ (image : Loaded) (choices : List Choice) (w : State) (end : Ended) (is : end ≡ ran image choices (fresh w)) where
+  pub all_given : Given (length choices) end
   all_given =
-      let rest : length (take (past - first) (drop first choices)) ≡ past - first = length-take-le (past - first) (drop first choices) (omega (arith, length-drop first choices)) in
-      let count : first + length (take (past - first) (drop first choices)) ≡ past = omega (arith, rest) in
-      subst (λ (e : Ended). Given first past e) (sym is)
-      (subst (λ (n : ℕ). Given first n (ran image (take (past - first) (drop first choices)) (fresh w))) count (given_all image first first (take (past - first) (drop first choices)) (fresh w) (given_none first w)))
+      let count : 0 + length choices ≡ length choices = omega arith in
+      subst (λ (e : Ended). Given (length choices) e) (sym is) (subst (λ (n : ℕ). Given n (ran image choices (fresh w))) count (given_all image 0 choices (fresh w) (given_none w)))
 
-  pub all_unbroken : (from : State) → halted w.trap ≡ None → Leads image set.empty choices from first w None → Reaches image set.empty choices from first past (first + end.applied) end.world (why end)
-  all_unbroken from free lead =
-      let none : first ≡ first + 0 = omega arith in
-      let start : Unbroken image choices from first (fresh w) =
-      subst (λ (s : Option Stop). Leads image set.empty choices from (first + 0) w s) (sym free) (subst (λ (n : ℕ). Leads image set.empty choices from n w None) none lead) in
-      let given = all_given in
-      record {
-        further = omega arith;
-        before = given.before;
-        whole = given.whole;
-        leads = subst (λ (e : Ended). Unbroken image choices from first e) (sym is) (unbroken_all image choices from first first (past - first) (fresh w) (omega arith) (given_none first w) start);
-      }
+  all_leads : halted w.trap ≡ None → (rest : List Choice) → Unbroken image (choices ++ rest) w end
+  all_leads free rest =
+      let whole : take (length choices) (choices ++ rest) ≡ choices = take-append-le (length choices) choices rest (omega arith) ∙ take_all (length choices) choices (omega arith) in
+      let start : Unbroken image (choices ++ rest) w (fresh w) = subst (λ (s : Option Stop). Leads image set.empty (choices ++ rest) w 0 w s) (sym free) (leads_none image set.empty (choices ++ rest) w) in
+      subst (λ (e : Ended). Unbroken image (choices ++ rest) w e) (sym is)
+      (subst (λ (cs : List Choice). Unbroken image (choices ++ rest) w (ran image cs (fresh w))) whole
+      (unbroken_all image (choices ++ rest) w 0 (length choices) (fresh w) (omega (arith, length-append choices rest)) (given_none w) start))
+
+  pub all_unbroken : halted w.trap ≡ None → Reaches image set.empty choices w end.applied end.world (why end)
+  all_unbroken free = let given = all_given in record { within = given.before; whole = given.whole; leads = all_leads free }

@@ -1,5 +1,5 @@
 -- Where choices lead that are enabled, each where it is applied, and how far a walk has come.
-use Rattle.std.specs.Prelude.{◌≡◌, ℕ, ◌≤◌, Bool, true, ◌&&◌, List, [], ◌∷◌, length, take, drop, Option, None, Some}
+use Rattle.std.specs.Prelude.{◌≡◌, ℕ, ◌≤◌, Bool, true, ◌&&◌, List, [], ◌∷◌, ◌++◌, length, take, drop, Option, None, Some}
 use Rattle.bx_load.specs.Image.{Loaded}
 use Rattle.bx_world.specs.declared.choices.Choice.{Choice}
 use Rattle.bx_world.specs.World.{State}
@@ -34,12 +34,11 @@ pub record Leads (image : Loaded) (places : PlaceSet) (choices : List Choice) (f
   pub shown : here ≡ led image (take applied choices) from
   pub told : walked image places choices from ≡ resumed (take applied choices) (unless_stopped stop (walked image places (drop applied choices) here))
 
--- the same of choices from one number up to another, all of them where nothing stops it
-pub record Reaches (image : Loaded) (places : PlaceSet) (choices : List Choice) (from : State) (first past reached : ℕ) (here : State) (stop : Option Stop) : Type 0 where
-  pub further : first ≤ reached
-  pub before : reached ≤ past
-  pub whole : stop ≡ None → reached ≡ past
-  pub leads : Leads image places choices from reached here stop
+-- the same of some choices, whatever stands behind them: no more than those are applied, and all of them where nothing stops it
+pub record Reaches (image : Loaded) (places : PlaceSet) (choices : List Choice) (from : State) (applied : ℕ) (here : State) (stop : Option Stop) : Type 0 where
+  pub within : applied ≤ length choices
+  pub whole : stop ≡ None → applied ≡ length choices
+  pub leads : (rest : List Choice) → Leads image places (choices ++ rest) from applied here stop
 
 -- where a run has come that applied so many choices and refused none
 abbrev pub come : State → ℕ → Ended

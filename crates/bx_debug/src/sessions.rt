@@ -12,8 +12,9 @@ ghost use Rattle.bx_debug.specs.Swapping.{Swaps};
 
 use crate::places::Places;
 use crate::stops::{Stop, refusal, stop_at_once};
-use crate::walks::{Walk, follow, into_world};
+use crate::walks::{Walk, into_world};
 use bx_load::Image;
+use bx_plan::Schedule;
 use bx_replay::{Trail, shared};
 use bx_terms::{AtomId, Fault, Place};
 use bx_world::{Choice, RcWorld, RunEnd};
@@ -81,7 +82,7 @@ impl<'a> Session<'a> {
             applied: 0,
             refused: None,
         };
-        let trail = Trail::of(alloc, image, start, Vec::new(alloc))?;
+        let trail = Trail::of(alloc, image, start, Schedule::new(alloc))?;
         Ok(Session {
             trail,
             at: 0,
@@ -119,14 +120,14 @@ impl<'a> Session<'a> {
     pub fn is_empty(&self) -> bool
         ensures { IsTrue result ↔ (self.now.choices ≡ []) }
     {
-        self.trail.choices().is_empty()
+        self.trail.schedule().is_empty()
     }
 
     /// The choices in order, those behind the position included.
-    pub fn choices(&self) -> &[Choice]
+    pub fn schedule(&self) -> &Schedule
         ensures { result.now ≡ self.now.choices }
     {
-        self.trail.choices()
+        self.trail.schedule()
     }
 
     /// The loaded code.
@@ -169,7 +170,9 @@ impl<'a> Session<'a> {
         if let Some(fault) = self.refusal(choice) {
             return Err(fault);
         }
-        self.make(alloc, &[choice])?;
+        let mut choices = Schedule::new(alloc);
+        choices.push(choice, 1)?;
+        self.make(alloc, &choices)?;
         Ok(())
     }
 
@@ -205,7 +208,7 @@ impl<'a> Session<'a> {
     ///
     /// It stops before a choice that is not enabled, behind one that traps, and behind the first run that leaves its process, not
     /// ended, at a breakpoint; what was applied before stays. Memory is taken only where a choice is applied.
-    pub fn go(&mut self, alloc: Global, choices: &[Choice]) -> Result<Stop, Fault>
+    pub fn go(&mut self, alloc: Global, choices: &Schedule) -> Result<Stop, Fault>
         ensures { Does (GoTakes choices.now self.old) self.old self.new result
             (Ok (gone choices.now self.old)) }
     {
@@ -258,19 +261,13 @@ impl<'a> Session<'a> {
     }
 
     /// Makes choices of which one is applied at least, and removes those behind the position: why no more were.
-    fn make(&mut self, alloc: Global, choices: &[Choice]) -> Result<Stop, AllocError>
+    fn make(&mut self, alloc: Global, choices: &Schedule) -> Result<Stop, AllocError>
         requires { GoTakes choices.now self.old }
         ensures ok { IfOk result (λ stop. gone choices.now self.old ≡ (self.new, stop)) }
         ensures err { OnErr result (self.new ≡ self.old) }
     {
-        let walk = follow(
-            alloc,
-            &self.trail,
-            &self.places,
-            &self.world,
-            self.at,
-            choices,
-        )?;
+        let mut walk = Walk::begun(alloc, &self.trail, &self.world, self.at)?;
+        walk.follow(alloc, &self.places, choices)?;
         let Walk { made, end, stop } = walk;
         self.trail.replace_tail(self.at, made)?;
         self.at = self.trail.len();

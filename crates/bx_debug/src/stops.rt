@@ -8,6 +8,7 @@ ghost use Rattle.bx_debug.specs.Leading.{Chooses};
 
 use crate::places::Places;
 use bx_load::Image;
+use bx_plan::Schedule;
 use bx_replay::RcEnd;
 use bx_terms::{Fault, Place, Trap};
 use bx_world::{Choice, RcWorld};
@@ -67,12 +68,12 @@ fn disabled(choice: Choice, world: &RcWorld) -> Option<Fault>
 }
 
 /// Why none of the choices is applied in that world, if none is.
-pub(crate) fn stop_at_once(choices: &[Choice], world: &RcWorld) -> Option<Stop>
+pub(crate) fn stop_at_once(choices: &Schedule, world: &RcWorld) -> Option<Stop>
     ensures { result ≡ stop_at_once choices.now world.now }
 {
-    match choices {
-        [] => Some(Stop::Done),
-        [choice, ..] => stop_before(*choice, world),
+    match choices.all().first() {
+        None => Some(Stop::Done),
+        Some(choice) => stop_before(choice, world),
     }
 }
 

@@ -1,11 +1,11 @@
 -- Choices that are gathered into entries.
-use Rattle.std.proofs.Common.{◌≡◌, ◌∙◌, ℕ, suc, ◌+◌, Bool, true, false, List, [], ◌∷◌, ◌++◌, drop, append_assoc, refl, sym, ap, cond, arith}
+use Rattle.std.proofs.Common.{◌≡◌, ◌≢◌, ◌∙◌, ℕ, zero, suc, ◌+◌, ◌<◌, Bool, true, false, List, [], ◌∷◌, ◌++◌, append_assoc, refl, replicate, sym, ap, cond, arith}
 use Rattle.std.proofs.lemmas.Bool.Decides.{nat_tests}
-use Rattle.std.specs.Prelude.{◌&&◌, ◌==◌}
+use Rattle.std.specs.Prelude.{◌&&◌, ◌==◌, Some, slice_get}
+use Rattle.bx_plan.specs.Entry.{Entry}
 use Rattle.bx_plan.specs.Nodes.{choice_eq}
 use Rattle.bx_world.specs.declared.choices.Choice.{Choice}
 use Rattle.bx_world.specs.declared.choices.Choice.TheVariants.{Run, Deliver, Expire}
-use Rattle.bx_debugger.specs.Alike.{alike}
 use Rattle.bx_debugger.specs.Plan.{before, entries_words, entry_words, gathered}
 
 -- choices that compare alike are the same
@@ -29,31 +29,48 @@ same_choice (Deliver p q) (Expire r) e = let no : false ≡ true = e in cc
 same_choice (Expire p) (Run r) e = let no : false ≡ true = e in cc
 same_choice (Expire p) (Deliver r s) e = let no : false ≡ true = e in cc
 
-drop_one : (n : ℕ) (d : Choice) (cs : List Choice) → drop (n + 1) (d ∷ cs) ≡ drop n cs
-drop_one n d cs = let e : n + 1 ≡ suc n = omega arith in ap (λ k. drop k (d ∷ cs)) e
+eq_self : (c : Choice) → choice_eq c c ≡ true
+eq_self (Run p) = grind (arith, nat_tests)
+eq_self (Deliver p q) = grind (arith, nat_tests)
+eq_self (Expire p) = grind (arith, nat_tests)
 
--- as many neighbours as are the same make the first entry
-pub first_entry : (c : Choice) (cs : List Choice) → gathered (c ∷ cs) ≡ (c, alike c cs + 1) ∷ gathered (drop (alike c cs) cs)
-first_entry c [] = refl
-first_entry c (d ∷ cs) = go (choice_eq c d) refl (first_entry d cs) (first_entry c cs)
+-- entries begin with the choice that stands before them
+heads : (c : Choice) (es : List Entry) → (n : ℕ) × (more : List Entry) × (before c es ≡ (c, n) ∷ more)
+heads c [] = (1, [], refl)
+heads c (e ∷ es) = go (choice_eq c e.0)
   where
-    go : (b : Bool) → choice_eq c d ≡ b → gathered (d ∷ cs) ≡ (d, alike d cs + 1) ∷ gathered (drop (alike d cs) cs)
-        → gathered (c ∷ cs) ≡ (c, alike c cs + 1) ∷ gathered (drop (alike c cs) cs)
-        → before c (gathered (d ∷ cs)) ≡ (c, cond b (alike c cs + 1) 0 + 1) ∷ gathered (drop (cond b (alike c cs + 1) 0) (d ∷ cs))
-    go true e there here =
-        let same : c ≡ d = same_choice c d e in
-        ap (before c) there
-        ∙ ap (λ b. cond b ((c, alike d cs + 1 + 1) ∷ gathered (drop (alike d cs) cs)) ((c, 1) ∷ (d, alike d cs + 1) ∷ gathered (drop (alike d cs) cs))) e
-        ∙ ap (λ x. (c, alike x cs + 1 + 1) ∷ gathered (drop (alike x cs) cs)) (sym same)
-        ∙ ap (λ ds. (c, alike c cs + 1 + 1) ∷ gathered ds) (sym (drop_one (alike c cs) d cs))
-    go false e there here =
-        ap (before c) there
-        ∙ ap (λ b. cond b ((c, alike d cs + 1 + 1) ∷ gathered (drop (alike d cs) cs)) ((c, 1) ∷ (d, alike d cs + 1) ∷ gathered (drop (alike d cs) cs))) e
-        ∙ ap (λ es. (c, 1) ∷ es) (sym there)
+    go : (b : Bool) → (n : ℕ) × (more : List Entry) × (cond b ((c, e.1 + 1) ∷ es) ((c, 1) ∷ e ∷ es) ≡ (c, n) ∷ more)
+    go true = (e.1 + 1, es, refl)
+    go false = (1, e ∷ es, refl)
 
-pub entries_next : (c : Choice) (cs : List Choice) (out new whole : List ℕ) → new ≡ out ++ entry_words (c, alike c cs + 1)
-    → out ++ entries_words (gathered (c ∷ cs)) ≡ whole → new ++ entries_words (gathered (drop (alike c cs) cs)) ≡ whole
-entries_next c cs out new whole written so =
-    let left = entries_words (gathered (drop (alike c cs) cs)) in
-    ap (λ t. t ++ left) written ∙ append_assoc out (entry_words (c, alike c cs + 1)) left
-    ∙ ap (λ es. out ++ entries_words es) (sym (first_entry c cs)) ∙ so
+apart : (c d : Choice) (n : ℕ) (more : List Entry) → d ≢ c → before c ((d, n) ∷ more) ≡ (c, 1) ∷ (d, n) ∷ more
+apart c d n more other = go (choice_eq c d) refl
+  where
+    go : (b : Bool) → choice_eq c d ≡ b → cond b ((c, n + 1) ∷ more) ((c, 1) ∷ (d, n) ∷ more) ≡ (c, 1) ∷ (d, n) ∷ more
+    go true e = absurd (other (sym (same_choice c d e)))
+    go false e = refl
+
+-- a choice before others that begin with another one
+once : (c : Choice) (left : List Choice) → slice_get left 0 ≢ Some c → before c (gathered left) ≡ (c, 1) ∷ gathered left
+once c [] other = refl
+once c (d ∷ ds) other =
+    let head = heads d (gathered ds) in
+    let apart_from : d ≢ c = λ same. other (ap Some same) in
+    ap (before c) head.2 ∙ apart c d head.0 head.1 apart_from ∙ ap (λ es. (c, 1) ∷ es) (sym head.2)
+
+-- a run is one entry
+pub gathered_run : (times : ℕ) (c : Choice) (left : List Choice) → 0 < times → slice_get left 0 ≢ Some c → gathered (replicate times c ++ left) ≡ (c, times) ∷ gathered left
+gathered_run zero c left some other = absurd (omega arith)
+gathered_run (suc zero) c left some other = once c left other
+gathered_run (suc (suc n)) c left some other =
+    let count : suc n + 1 ≡ suc (suc n) = omega arith in
+    ap (before c) (gathered_run (suc n) c left (omega arith) other)
+    ∙ ap (λ b. cond b ((c, suc n + 1) ∷ gathered left) ((c, 1) ∷ (c, suc n) ∷ gathered left)) (eq_self c)
+    ∙ ap (λ m. (c, m) ∷ gathered left) count
+
+pub entries_next : (times : ℕ) (c : Choice) (choices left : List Choice) (out new whole : List ℕ) → 0 < times → choices ≡ replicate times c ++ left → slice_get left 0 ≢ Some c
+    → new ≡ out ++ entry_words (c, times) → out ++ entries_words (gathered choices) ≡ whole → new ++ entries_words (gathered left) ≡ whole
+entries_next times c choices left out new whole some are other written so =
+    let rest = entries_words (gathered left) in
+    ap (λ t. t ++ rest) written ∙ append_assoc out (entry_words (c, times)) rest
+    ∙ ap (λ es. out ++ entries_words es) (sym (ap gathered are ∙ gathered_run times c left some other)) ∙ so

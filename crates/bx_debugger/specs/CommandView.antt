@@ -8,7 +8,7 @@ abbrev pub ordered : Command → Ordered
 ordered (commands.Step choice) = Step choice
 ordered (commands.Back n) = Back n
 ordered (commands.Forward n) = Forward n
-ordered (commands.Go choices) = Go choices.items
+ordered (commands.Go choices) = Go choices
 ordered (commands.Swap number) = Swap number
 ordered (commands.Break place) = Break place
 ordered (commands.Clear place) = Clear place

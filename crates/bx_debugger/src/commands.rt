@@ -3,14 +3,14 @@
 ghost use Rattle.std.specs.Prelude.{⊤, ◌≡◌, ◌+◌, ◌≤◌, Ok, Some, IfOk, IfSome, drop, length, option_map, slice_get};
 ghost use Rattle.bx_terms.specs.AtomTable as atoms;
 ghost use Rattle.bx_terms.specs.Outcomes.{Gives};
-ghost use Rattle.bx_plan.specs.Reading.{entries_of, number_of, spread};
+ghost use Rattle.bx_plan.specs.Reading.{number_of};
 ghost use Rattle.bx_debugger.specs.Commands.{about, alone, beginning, function_in, function_there, items_of, most_number, ordered_by, place_in, place_named, place_there, plan_named};
 ghost use Rattle.bx_debugger.specs.CommandView.{ordered};
 
 use bx_asm::Head;
 use bx_engine::token_at;
 use bx_load::Image;
-use bx_plan::{choice_of, cut, number_of, read_choices, read_plan};
+use bx_plan::{Schedule, choice_of, cut, number_of, read_choices, read_plan};
 use bx_terms::{Fault, Place};
 use bx_world::Choice;
 use std::alloc::{AllocError, Global};
@@ -28,7 +28,7 @@ pub(crate) enum Command {
     /// Moves forward by so many choices.
     Forward(u32),
     /// Makes choices in order, up to the first that stops it.
-    Go(Vec<Choice>),
+    Go(Schedule),
     /// Exchanges the choice of that number, from 1 on, and the one behind it.
     Swap(u32),
     /// Sets a breakpoint.
@@ -75,7 +75,7 @@ fn alone(alloc: Global, word: &[u8]) -> Option<Command>
     ensures { option_map ordered result ≡ alone word.now }
 {
     if word == b"go".as_slice() {
-        return Some(Command::Go(Vec::new(alloc)));
+        return Some(Command::Go(Schedule::new(alloc)));
     }
     if word == b"show".as_slice() {
         return Some(Command::Show);
@@ -107,7 +107,7 @@ fn about(alloc: Global, image: &Image, word: &[u8], rest: &[u8]) -> Result<Optio
         return Ok(number_of(rest, u32::MAX).map(Command::Forward));
     }
     if word == b"go".as_slice() {
-        return Ok(choices_in(alloc, rest)?.map(Command::Go));
+        return Ok(read_choices(alloc, rest)?.map(Command::Go));
     }
     if word == b"swap".as_slice() {
         return Ok(number_of(rest, u32::MAX).map(Command::Swap));
@@ -227,18 +227,6 @@ fn items_named(alloc: Global, image: &Image, text: &[u8]) -> Result<Option<Comma
         Some((first, head)) => Ok(Some(Command::Items(first, first.item + head.count))),
         None => Ok(None),
     }
-}
-
-/// The choices that the entries make, where the text spells some.
-fn choices_in(alloc: Global, text: &[u8]) -> Result<Option<Vec<Choice>>, Fault>
-    ensures { Gives ⊤ (λ choices. option_map (λ v. v.items) choices) result
-        (Ok (option_map spread (entries_of text.now))) }
-{
-    let Some(schedule) = read_choices(alloc, text)? else {
-        return Ok(None);
-    };
-    let choices = schedule.to_choices(alloc)?;
-    Ok(Some(choices))
 }
 
 /// The command to show the choices as a line of a plan of this name, where a plan takes it.

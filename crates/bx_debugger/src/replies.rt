@@ -285,7 +285,7 @@ fn planned(alloc: Global, session: &Session<'_>, number: usize, name: &str) -> R
     ensures { IfOk result
         (λ text. string_bytes text ≡ planned number name.now (behind session.now)) }
 {
-    let choices = &session.choices()[..session.at()];
+    let choices = session.schedule().all().front(session.at());
     if choices.len() > MOST_CHOICES {
         return refusal_line(alloc, number, &Fault::TooLong { line: number });
     }

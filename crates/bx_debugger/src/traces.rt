@@ -1,13 +1,15 @@
 //! `trace N`: the last choices before the position, each with what it met.
 
-ghost use Rattle.std.specs.Prelude.{◌≡◌, ◌≤◌, ◌++◌, OnOk, option_map, string_bytes};
-ghost use Rattle.bx_debugger.specs.Trace.{choice_words, expires_in, made, met_words, signal_or_dash, trace_answer, trace_line};
+ghost use Rattle.std.specs.Prelude.{◌≡◌, ◌+◌, ◌^◌, ◌<◌, ◌≤◌, ◌++◌, List, OnOk, option_map, replicate, string_bytes};
+ghost use Rattle.bx_world.specs.declared.choices.Choice.{Choice};
+ghost use Rattle.bx_debugger.specs.Trace.{choice_words, expires_in, made, met_words, signal_or_dash, trace_answer, trace_line, trace_lines};
 
 use crate::programs::Program;
 use crate::signal_lines::push_signal;
 use crate::words::{push_here, push_place_or_dash};
 use bx_debug::Session;
 use bx_load::Image;
+use bx_plan::Run;
 use bx_signals::Signal;
 use bx_terms::{Atoms, Fault, Place};
 use bx_world::{Choice, RcWorld, Shown, choice_text};
@@ -105,6 +107,28 @@ fn make(alloc: Global, image: &Image, choice: Choice, world: &mut RcWorld) -> Re
     }
 }
 
+/// Adds the lines of a choice that is made so many times in a row, behind so many others, and makes them.
+fn push_run_lines(
+    alloc: Global,
+    out: &mut String,
+    program: &Program<'_>,
+    numbered: (usize, Run),
+    world: &mut RcWorld,
+) -> Result<(), AllocError>
+    requires { numbered.0 + numbered.1.times < 2 ^ 64 }
+    ensures { OnOk result ((rest : List Choice)
+        → string_bytes out.new ++ trace_lines program.now (numbered.0 + numbered.1.times + 1) world.new rest
+        ≡ string_bytes out.old ++ trace_lines program.now (numbered.0 + 1) world.old
+        (replicate numbered.1.times numbered.1.choice ++ rest)) }
+{
+    let (before, run) = numbered;
+    for made in before..before + run.times {
+        push_trace_line(alloc, out, program, (made + 1, run.choice), world)?;
+        make(alloc, program.image(), run.choice, world)?;
+    }
+    Ok(())
+}
+
 /// Adds the answer to `trace`: a line for each choice before the position but the first ones, and `end`.
 ///
 /// Only choices behind the nearest world that the session kept before them are made again.
@@ -119,12 +143,12 @@ pub(crate) fn push_trace(
     ensures { OnOk result (string_bytes out.new
         ≡ string_bytes out.old ++ trace_answer program.now first session.now) }
 {
-    let choices = &session.choices()[..session.at()];
+    let mut left = session.schedule().part(first, session.at());
     let mut world = session.world_at(alloc, first)?;
-    for at in first..choices.len() {
-        let choice = choices[at];
-        push_trace_line(alloc, out, program, (at + 1, choice), &world)?;
-        make(alloc, program.image(), choice, &mut world)?;
+    let mut made = first;
+    while let Some(run) = left.next_run() {
+        push_run_lines(alloc, out, program, (made, run), &mut world)?;
+        made += run.times;
     }
     out.push_str("end\n")
 }

@@ -1,7 +1,6 @@
--- Runs that are joined: one choice more at the end, and that no other such runs make the same choices.
-use Rattle.std.proofs.Common.{◌≡◌, ◌≢◌, ℕ, zero, suc, ◌+◌, ◌-◌, ◌<◌, ◌≤◌, List, [], ◌∷◌, ◌++◌, length, Some, None, get_or, set, take, drop, replicate, refl, sym, ap, subst, ◌∙◌, arith, length-append, append_assoc}
-use Rattle.std.specs.List.{slice_get}
-use Rattle.std.proofs.lemmas.List.{at_drop_more, drop_all, append-nil, take-append-drop, take_all, take_more, take_more_set, length-set, length-replicate, replicate-append-replicate}
+-- Runs in a row: one more behind them, and that no other joined runs make the same choices.
+use Rattle.std.proofs.Common.{◌≡◌, ℕ, zero, suc, ◌+◌, ◌<◌, ◌≤◌, List, [], ◌∷◌, ◌++◌, length, get_or, take, replicate, refl, sym, ap, subst, ◌∙◌, arith, length-append, append_assoc}
+use Rattle.std.proofs.lemmas.List.{append-nil, take_more, length-replicate}
 use Rattle.bx_world.specs.declared.choices.Choice.{Choice}
 use Rattle.bx_world.specs.declared.choices.Choice.TheVariants as choices
 use Rattle.bx_plan.specs.declared.schedules.Run.{Run}
@@ -10,65 +9,6 @@ use Rattle.bx_plan.specs.Runs.{spread_runs, AreJoined, BeginsElsewhere}
 pub spread-append : (xs ys : List Run) → spread_runs (xs ++ ys) ≡ spread_runs xs ++ spread_runs ys
 spread-append [] ys = refl
 spread-append (x ∷ xs) ys = ap (λ cs. replicate x.times x.choice ++ cs) (spread-append xs ys) ∙ sym (append_assoc (replicate x.times x.choice) (spread_runs xs) (spread_runs ys))
-
--- the runs but for the last one, and that
-split_last : (runs : List Run) (last : ℕ) (d : Run) → last + 1 ≡ length runs → runs ≡ take last runs ++ get_or runs last d ∷ []
-split_last runs last d e = sym (take_all (last + 1) runs (omega arith)) ∙ take_more runs last d (omega arith)
-
-split_set : (runs : List Run) (last : ℕ) (r : Run) → last + 1 ≡ length runs → set runs last r ≡ take last runs ++ r ∷ []
-split_set runs last r e = sym (take_all (last + 1) (set runs last r) (omega (arith, length-set runs last r))) ∙ take_more_set runs last r (omega arith)
-
--- ---- one run more
-
-elsewhere_push : (c : Choice) (front : List Run) (r s : Run) → s.choice ≡ r.choice → BeginsElsewhere c (front ++ r ∷ []) → BeginsElsewhere c (front ++ s ∷ [])
-elsewhere_push c [] r s e h = λ same. h (sym e ∙ same)
-elsewhere_push c (f ∷ front) r s e h = h
-
--- the last run longer
-longer : (front : List Run) (r s : Run) → s.choice ≡ r.choice → 0 < s.times → AreJoined (front ++ r ∷ []) → AreJoined (front ++ s ∷ [])
-longer [] r s e h j = (h, tt, tt)
-longer (f ∷ front) r s e h j = (j.0, elsewhere_push f.choice front r s e j.1, longer front r s e h j.2)
-
-elsewhere_on : (c : Choice) (front : List Run) (r s : Run) → BeginsElsewhere c (front ++ r ∷ []) → BeginsElsewhere c ((front ++ r ∷ []) ++ s ∷ [])
-elsewhere_on c [] r s h = h
-elsewhere_on c (f ∷ front) r s h = h
-
--- another run behind the last
-further : (front : List Run) (r s : Run) → s.choice ≢ r.choice → 0 < s.times → AreJoined (front ++ r ∷ []) → AreJoined ((front ++ r ∷ []) ++ s ∷ [])
-further [] r s e h j = (j.0, e, (h, tt, tt))
-further (f ∷ front) r s e h j = (j.0, elsewhere_on f.choice front r s j.1, further front r s e h j.2)
-
-module _ (runs : List Run) (last times : ℕ) (r : Run) (is_last : last + 1 ≡ length runs) (r_is : r ≡ get_or runs last r) where
-  front : List Run
-  front = take last runs
-
-  split : runs ≡ take last runs ++ r ∷ []
-  split = split_last runs last r is_last ∙ ap (λ (x : Run). take last runs ++ x ∷ []) (sym r_is)
-
-  pub joined_longer : AreJoined runs → 0 < times → AreJoined (set runs last (record { choice = r.choice; times = r.times + times }))
-  joined_longer j h =
-      let s : Run = record { choice = r.choice; times = r.times + times } in
-      subst AreJoined (sym (split_set runs last s is_last)) (longer (take last runs) r s refl (omega arith) (subst AreJoined split j))
-
-  pub spread_longer : (choice : Choice) → r.choice ≡ choice → spread_runs (set runs last (record { choice = r.choice; times = r.times + times })) ≡ spread_runs runs ++ replicate times choice
-  spread_longer choice same =
-      let s : Run = record { choice = r.choice; times = r.times + times } in
-      ap spread_runs (split_set runs last s is_last)
-      ∙ spread-append (take last runs) (s ∷ [])
-      ∙ ap (λ cs. spread_runs (take last runs) ++ cs) (append-nil (replicate s.times r.choice) ∙ sym (replicate-append-replicate r.times times r.choice))
-      ∙ sym (append_assoc (spread_runs (take last runs)) (replicate r.times r.choice) (replicate times r.choice))
-      ∙ ap (λ cs. (spread_runs (take last runs) ++ cs) ++ replicate times r.choice) (sym (append-nil (replicate r.times r.choice)))
-      ∙ ap (λ cs. cs ++ replicate times r.choice) (sym (spread-append (take last runs) (r ∷ [])) ∙ ap spread_runs (sym split))
-      ∙ ap (λ c. spread_runs runs ++ replicate times c) same
-
-  pub joined_further : (after : List Run) (s : Run) → after ≡ runs ++ s ∷ [] → (r.choice ≡ s.choice → ⊥) → 0 < s.times → AreJoined runs → AreJoined after
-  joined_further after s e other h j =
-      subst AreJoined (ap (λ (rs : List Run). rs ++ s ∷ []) (sym split) ∙ sym e)
-      (further (take last runs) r s (λ same. other (sym same)) h (subst AreJoined split j))
-
-pub joined_first : (runs after : List Run) (s : Run) → after ≡ runs ++ s ∷ [] → length runs ≡ 0 → 0 < s.times → AreJoined after
-joined_first [] after s e none h = subst AreJoined (sym e) (h, tt, tt)
-joined_first (r ∷ runs) after s e none h = absurd (omega (arith, none))
 
 pub spread_further : (runs after : List Run) (s : Run) → after ≡ runs ++ s ∷ [] → spread_runs after ≡ spread_runs runs ++ replicate s.times s.choice
 spread_further runs after s e =
@@ -134,34 +74,3 @@ no_run = record { choice = choices.Run 0; times = 0 }
 
 pub spread_more : (runs : List Run) (i : ℕ) → i < length runs → spread_runs (take (i + 1) runs) ≡ spread_runs (take i runs) ++ replicate (get_or runs i no_run).times (get_or runs i no_run).choice
 spread_more runs i h = spread_further (take i runs) (take (i + 1) runs) (get_or runs i no_run) (take_more runs i no_run h)
-
--- the choices behind those so far
-pub spread_rest : (runs : List Run) (i : ℕ) → i < length runs → spread_runs runs ≡ spread_runs (take i runs) ++ (replicate (get_or runs i no_run).times (get_or runs i no_run).choice ++ spread_runs (drop (i + 1) runs))
-spread_rest runs i h =
-    ap spread_runs (sym (take-append-drop (i + 1) runs)) ∙ spread-append (take (i + 1) runs) (drop (i + 1) runs)
-    ∙ ap (λ cs. cs ++ spread_runs (drop (i + 1) runs)) (spread_more runs i h)
-    ∙ append_assoc (spread_runs (take i runs)) (replicate (get_or runs i no_run).times (get_or runs i no_run).choice) (spread_runs (drop (i + 1) runs))
-
--- ---- the choice at a position
-
-slice_get-inside : (n i : ℕ) (c : Choice) (rest : List Choice) → i < n → slice_get (replicate n c ++ rest) i ≡ Some c
-slice_get-inside zero i c rest h = absurd (omega (arith, h))
-slice_get-inside (suc n) zero c rest h = refl
-slice_get-inside (suc n) (suc i) c rest h = slice_get-inside n i c rest (omega (arith, h))
-
-slice_get-past : (n i : ℕ) (c : Choice) (rest : List Choice) → n ≤ i → slice_get (replicate n c ++ rest) i ≡ slice_get rest (i - n)
-slice_get-past zero i c rest h = let same : i ≡ i - 0 = omega arith in ap (slice_get rest) same
-slice_get-past (suc n) zero c rest h = absurd (omega (arith, h))
-slice_get-past (suc n) (suc i) c rest h = let same : i - n ≡ suc i - suc n = omega arith in slice_get-past n i c rest (omega (arith, h)) ∙ ap (slice_get rest) same
-
-spread_at : (runs : List Run) (i : ℕ) → i < length runs → spread_runs (drop i runs) ≡ replicate (get_or runs i no_run).times (get_or runs i no_run).choice ++ spread_runs (drop (i + 1) runs)
-spread_at runs i h = at_drop_more spread_runs runs i no_run h
-
-pub found_here : (runs : List Run) (i left : ℕ) → i < length runs → left < (get_or runs i no_run).times → slice_get (spread_runs (drop i runs)) left ≡ Some (get_or runs i no_run).choice
-found_here runs i left h l = ap (λ cs. slice_get cs left) (spread_at runs i h) ∙ slice_get-inside (get_or runs i no_run).times left (get_or runs i no_run).choice (spread_runs (drop (i + 1) runs)) l
-
-pub found_later : (runs : List Run) (i left : ℕ) → i < length runs → (get_or runs i no_run).times ≤ left → slice_get (spread_runs (drop (i + 1) runs)) (left - (get_or runs i no_run).times) ≡ slice_get (spread_runs (drop i runs)) left
-found_later runs i left h l = sym (ap (λ cs. slice_get cs left) (spread_at runs i h) ∙ slice_get-past (get_or runs i no_run).times left (get_or runs i no_run).choice (spread_runs (drop (i + 1) runs)) l)
-
-pub found_nowhere : (runs : List Run) (i left : ℕ) → length runs ≤ i → slice_get (spread_runs (drop i runs)) left ≡ None
-found_nowhere runs i left h = ap (λ rs. slice_get (spread_runs rs) left) (drop_all i runs h)

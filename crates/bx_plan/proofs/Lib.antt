@@ -21,3 +21,5 @@ pub mod Rows
 pub mod Paths
 pub mod Children
 pub mod Upward
+pub mod Stretching
+pub mod Loose

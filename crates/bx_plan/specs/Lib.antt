@@ -1,5 +1,6 @@
 pub mod Entry
 pub mod Runs
+pub mod Stretches
 pub mod Reading
 pub mod Parts
 pub mod Made

@@ -15,6 +15,6 @@ pub use lines::name_of;
 pub use numbers::number_of;
 pub use parts::cut;
 pub use plans::{Plan, read_plan};
-pub use schedules::{Run, Schedule};
+pub use schedules::{Part, Run, Schedule};
 pub use trees::Edge;
 pub use trees::edges::edge_to;

@@ -1,12 +1,21 @@
-//! Schedules: choices in a row, kept as runs.
+//! Schedules: choices in a row, kept as stretches of equal ones.
 
-ghost use Rattle.std.specs.Prelude.{◌≡◌, ◌↔◌, ◌+◌, ◌^◌, ◌<◌, ◌++◌, [], length, replicate, slice_get, IsTrue, IfOk, OnOk, OnErr};
-ghost use Rattle.bx_plan.specs.Runs.{spread_runs, AreJoined};
+ghost use Rattle.std.specs.Prelude.{◌≡◌, ◌≢◌, ◌↔◌, ◌+◌, ◌-◌, ◌^◌, ◌<◌, ◌≤◌, ◌++◌, [], drop, length, replicate, slice_get, take, IsTrue, IfOk, OnOk, OnErr};
+ghost use Rattle.std.specs.List.{swap};
+ghost use Rattle.bx_plan.specs.Runs.{spread_runs, AreLoose};
+
+mod part;
+mod stretches;
 
 use bx_share::{Same, same_rows};
 use bx_world::Choice;
+pub use part::Part;
 use std::alloc::{AllocError, Global};
 use std::marker::Model;
+use stretches::{Stretch, chain, cut, exchange, join, made, over_by, put_off, stand_alone};
+
+/// How many choices a schedule may make.
+const MOST: usize = usize::MAX / 2;
 
 /// A choice, and how many times it is made in a row.
 #[derive(Clone, Copy, Debug, PartialEq, Eq)]
@@ -17,30 +26,23 @@ pub struct Run {
     pub times: usize,
 }
 
-impl Same for Run {
-    fn same(&self, other: &Run) -> bool {
-        self.times == other.times && self.choice.same(&other.choice)
-    }
-}
-
-/// The choices that a line of a plan makes, in order: as runs, of which no two neighbours are of the same choice.
+/// Choices in order, kept as stretches of equal ones. So a position is found by halving.
 #[derive(Drop)]
 pub struct Schedule {
-    runs: Vec<Run>,
-    total: usize,
+    stretches: Vec<Stretch>,
 }
 
 impl Model for Schedule {
-    ghost use Rattle.std.specs.Prelude.{◌≡◌, List, length};
+    ghost use Rattle.std.specs.Prelude.{◌<◌, ◌^◌, List, length};
     ghost use Rattle.bx_world.specs.declared.choices.Choice.{Choice};
 
     ghost Value = { List Choice };
 
-    ghost use Rattle.bx_plan.specs.Runs.{spread_runs, AreJoined};
+    ghost use Rattle.bx_plan.specs.Stretches.{choices_from, AreStretches};
 
-    ghost view = { λ s. spread_runs s.runs.items };
+    ghost view = { λ s. choices_from 0 s.stretches.items };
 
-    ghost invariant = { λ s. AreJoined s.runs.items × (s.total ≡ length (spread_runs s.runs.items)) };
+    ghost invariant = { λ s. AreStretches 0 s.stretches.items × (length (choices_from 0 s.stretches.items) < 2 ^ 63) };
 }
 
 impl Schedule {
@@ -49,8 +51,7 @@ impl Schedule {
         ensures { result ≡ [] }
     {
         Schedule {
-            runs: Vec::new(alloc),
-            total: 0,
+            stretches: Vec::new(alloc),
         }
     }
 
@@ -83,44 +84,132 @@ impl Schedule {
         ensures ok { OnOk result (self.new ≡ self.old ++ replicate times choice) }
         ensures err { OnErr result ((self.new ≡ self.old) × (0 < times)) }
     {
+        let count = made(&self.stretches);
         if times == 0 {
             return Ok(());
         }
-        let Some(total) = self.total.checked_add(times) else {
+        if times > MOST - count {
             return Err(AllocError);
-        };
-        join(&mut self.runs, Run { choice, times })?;
-        self.total = total;
+        }
+        let past = count + times;
+        join(&mut self.stretches, Stretch { choice, past })?;
         Ok(())
+    }
+
+    /// Makes these choices more, at the end. It takes memory where there are any.
+    pub fn append(&mut self, part: Part<'_>) -> Result<(), AllocError>
+        ensures ok { OnOk result (self.new ≡ self.old ++ part.entry) }
+        ensures err { OnErr result ((self.new ≡ self.old) × (part.entry ≢ [])) }
+    {
+        let count = self.len();
+        let mut left = part;
+        while let Some(run) = left.next_run() {
+            if let Err(refused) = self.push(run.choice, run.times) {
+                self.truncate(count);
+                return Err(refused);
+            }
+        }
+        Ok(())
+    }
+
+    /// Leaves out all but the first so many choices.
+    pub fn truncate(&mut self, count: usize)
+        ensures { self.new ≡ take count self.old }
+    {
+        cut(&mut self.stretches, count);
+    }
+
+    /// Puts other choices in the place of all but the first so many. It takes memory where there are any.
+    pub fn replace_tail(&mut self, count: usize, tail: Schedule) -> Result<(), AllocError>
+        requires { count ≤ length self.old }
+        ensures ok { OnOk result (self.new ≡ take count self.old ++ tail) }
+        ensures err { OnErr result ((self.new ≡ self.old) × (tail ≢ [])) }
+    {
+        let more = tail.len();
+        let Schedule {
+            stretches: mut behind,
+        } = tail;
+        self.stretches.reserve(behind.len())?;
+        if more > MOST - count {
+            return Err(AllocError);
+        }
+        put_off(&mut behind, count);
+        cut(&mut self.stretches, count);
+        chain(&mut self.stretches, behind);
+        Ok(())
+    }
+
+    /// Exchanges the choice at that position, from 0 on, and the one behind it.
+    ///
+    /// It takes no memory, and the time to find a position, where both stand alone and join no neighbour then. Else it moves what
+    /// stands behind them.
+    pub fn swap(&mut self, position: usize) -> Result<(), AllocError>
+        requires { position + 1 < length self.old }
+        ensures ok { OnOk result (self.new ≡ swap self.old position (position + 1)) }
+        ensures err { OnErr result ((self.new ≡ self.old) × (AreLoose self.old position → ⊥)) }
+    {
+        let at = over_by(&self.stretches, position);
+        if stand_alone(&self.stretches, at) {
+            exchange(&mut self.stretches, at);
+            return Ok(());
+        }
+        let turned = self.turned(position)?;
+        self.replace_tail(position, turned)?;
+        Ok(())
+    }
+
+    /// The choices from that position on, the first two in each other's place.
+    fn turned(&self, position: usize) -> Result<Schedule, AllocError>
+        requires { position + 1 < length self.now }
+        ensures { IfOk result (λ turned. turned ≡ drop position (swap self.now position (position + 1))) }
+    {
+        let mut turned = Schedule::new(*self.stretches.allocator());
+        let behind = position + 1;
+        let rest = position + 2;
+        turned.append(self.part(behind, rest))?;
+        turned.append(self.part(position, behind))?;
+        turned.append(self.part(rest, self.len()))?;
+        Ok(turned)
     }
 
     /// How many choices it makes.
     pub fn len(&self) -> usize
-        ensures { result ≡ length self.now }
+        ensures count { result ≡ length self.now }
+        ensures few { result < 2 ^ 63 }
     {
-        self.total
+        made(&self.stretches)
     }
 
-    /// The choice at a position, from 0; none past the last. It takes time in proportion to the runs before it.
+    /// Whether it makes no choice.
+    pub fn is_empty(&self) -> bool
+        ensures { IsTrue result ↔ (self.now ≡ []) }
+    {
+        self.len() == 0
+    }
+
+    /// The choice at a position, from 0; none past the last. It is found by halving.
     pub fn get(&self, position: usize) -> Option<Choice>
         ensures { result ≡ slice_get self.now position }
     {
-        let mut left = position;
-        for run in self.runs() {
-            if left < run.times {
-                return Some(run.choice);
-            }
-            left -= run.times;
-        }
-        None
+        let stretch = self.stretches.get(over_by(&self.stretches, position))?;
+        Some(stretch.choice)
     }
 
-    /// Its choices as runs in order, of which each makes one and no two neighbours make the same.
-    pub fn runs(&self) -> &[Run]
-        ensures runs { spread_runs result.now ≡ self.now }
-        ensures joined { AreJoined result.now }
+    /// All its choices.
+    pub fn all(&self) -> Part<'_>
+        ensures { result ≡ self.now }
     {
-        &self.runs
+        Part::new(&self.stretches, 0, made(&self.stretches))
+    }
+
+    /// The choices from a position on, from 0, up to the one before another position. They are found by halving.
+    pub fn part(&self, first: usize, past: usize) -> Part<'_>
+        requires order { first ≤ past }
+        requires within { past ≤ length self.now }
+        ensures { result ≡ take (past - first) (drop first self.now) }
+    {
+        let at = over_by(&self.stretches, first);
+        Part::new(&self.stretches[at..], first, past)
     }
 
     /// Its choices one by one. It takes memory where there are any.
@@ -129,47 +218,29 @@ impl Schedule {
         ensures err { OnErr result (0 < length self.now) }
     {
         let mut choices = Vec::new(alloc);
-        for run in self.runs() {
+        let mut left = self.all();
+        while let Some(run) = left.next_run() {
             push_times(&mut choices, run)?;
         }
         Ok(choices)
     }
 
     /// Whether both make the same choices in the same order.
-    #[tactic(auto, using(crate::proofs::Joining::same_runs))]
+    #[tactic(auto, using(crate::proofs::Stretching::same_stretches))]
     pub fn same(&self, other: &Schedule) -> bool
         ensures { IsTrue result ↔ (self.now ≡ other.now) }
     {
-        same_rows(&self.runs, &other.runs)
+        same_rows(&self.stretches, &other.stretches)
     }
 }
 
 /// Adds the choices of a run.
-fn push_times(choices: &mut Vec<Choice>, run: &Run) -> Result<(), AllocError>
-    ensures ok { OnOk result (choices.new.items ≡ choices.old.items ++ replicate run.now.times run.now.choice) }
-    ensures err { OnErr result (0 < run.now.times) }
+fn push_times(choices: &mut Vec<Choice>, run: Run) -> Result<(), AllocError>
+    ensures ok { OnOk result (choices.new.items ≡ choices.old.items ++ replicate run.times run.choice) }
+    ensures err { OnErr result (0 < run.times) }
 {
     for _turn in 0..run.times {
         choices.push(run.choice)?;
     }
-    Ok(())
-}
-
-/// Adds a run: the last one is longer, where it is of the same choice.
-fn join(runs: &mut Vec<Run>, run: Run) -> Result<(), AllocError>
-    requires joined { AreJoined runs.old.items }
-    requires some { 0 < run.times }
-    requires fits { length (spread_runs runs.old.items) + run.times < 2 ^ 64 }
-    ensures joined { OnOk result (AreJoined runs.new.items) }
-    ensures spread { OnOk result (spread_runs runs.new.items ≡ spread_runs runs.old.items ++
-        replicate run.times run.choice) }
-    ensures err { OnErr result (runs.new.items ≡ runs.old.items) }
-{
-    let count = runs.len();
-    if count > 0 && runs[count - 1].choice.same(&run.choice) {
-        runs[count - 1].times += run.times;
-        return Ok(());
-    }
-    runs.push(run)?;
     Ok(())
 }

@@ -2,7 +2,7 @@
 use Rattle.std.proofs.Common.{◌≡◌, ℕ, zero, suc, ◌+◌, ◌-◌, ◌<◌, ◌≤◌, ◌⊎◌, inl, inr, List, [], ◌∷◌, ◌++◌, length, take, drop, true, false, refl, sym, ap, ◌∙◌, arith}
 use Rattle.std.specs.Prelude.{Bool, nat_lt, ◌||◌, if◌then◌else◌, Some, None, is_some, Result, Ok, Err, IfOk}
 use Rattle.std.proofs.lemmas.Bool.{ltb-true, ltb-false}
-use Rattle.std.proofs.lemmas.List.{length-take-le, length-drop, take-append-le, take-append-drop, take-take, drop-take}
+use Rattle.std.proofs.lemmas.List.{length-take-le, take-append-le, take-append-drop, take-take, drop-take}
 use Rattle.bx_load.specs.Image.{Loaded}
 use Rattle.bx_world.specs.declared.choices.Choice.{Choice}
 use Rattle.bx_world.specs.Choosing.{chosen}
@@ -66,12 +66,6 @@ onward image start choices m n found row h is at =
 -- of so many choices no more are applied
 pub bounded : (course : Course) (n : ℕ) → n ≤ length course.choices → (reached n course).applied ≤ course.start.applied + n
 bounded course n h = omega (arith, few_applied course.image (take n course.choices) course.start, length-take-le n course.choices h)
-
-pub rest_long : (choices row : List Choice) (m n : ℕ) → row ≡ choices → m ≤ n → n ≤ length choices → length (take (n - m) (drop m row)) ≡ n - m
-rest_long choices row m n is h within =
-    let long : length row ≡ length choices = ap length is in
-    let rest : n - m ≤ length (drop m row) = omega (arith, length-drop m row) in
-    length-take-le (n - m) (drop m row) rest
 
 -- the next choice, by whether the run has ended, and whether it is enabled
 pub next_is : (image : Loaded) (choice : Choice) (end : Ended) (stays able : Bool) → (is_some end.refused || is_some end.world.trap) ≡ stays → can end.world choice ≡ able

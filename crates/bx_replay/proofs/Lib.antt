@@ -1,4 +1,5 @@
 pub mod Rows
+pub mod Next
 pub mod Pairs
 pub mod Beginnings
 pub mod Stretches

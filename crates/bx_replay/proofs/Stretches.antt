@@ -1,6 +1,6 @@
--- Equal choices at the front of what is left of a row, made at once.
-use Rattle.std.proofs.Common.{◌≡◌, ℕ, ◌+◌, ◌-◌, ◌<◌, ◌≤◌, List, take, drop, replicate, sym, ap, ◌∙◌, arith}
-use Rattle.std.proofs.lemmas.List.{take-append-drop, drop-drop, length-replicate}
+-- Equal choices in a row, made at once.
+use Rattle.std.proofs.Common.{◌≡◌, ℕ, ◌+◌, ◌-◌, ◌<◌, ◌≤◌, List, ◌++◌, replicate, sym, ap, ◌∙◌, arith}
+use Rattle.std.proofs.lemmas.List.{length-replicate}
 use Rattle.bx_load.specs.Image.{Loaded}
 use Rattle.bx_world.specs.declared.choices.Choice.{Choice}
 use Rattle.bx_world.specs.Running.{Ended, advanced, ran}
@@ -21,12 +21,6 @@ few_made image choice times old new is =
     omega (arith, count, few_applied image (replicate times choice) old, length-replicate times choice)
 
 -- what is left behind them leads where all leads that was left
-pub leads_on : (image : Loaded) (choice : Choice) (made times : ℕ) (choices : List Choice) (old end new : Ended) → new ≡ ran image (replicate times choice) end → take times (drop made choices) ≡ replicate times choice
-    → ran image (drop made choices) end ≡ ran image choices old → ran image (drop (made + times) choices) new ≡ ran image choices old
-leads_on image choice made times choices old end new is equal so_far =
-    let rest = drop made choices in
-    ap (λ (cs : List Choice). ran image cs new) (sym (drop-drop times made choices))
-    ∙ ap (ran image (drop times rest)) (is ∙ ap (λ (cs : List Choice). ran image cs end) (sym equal))
-    ∙ sym (ran_on image (take times rest) (drop times rest) end)
-    ∙ ap (λ (cs : List Choice). ran image cs end) (take-append-drop times rest)
-    ∙ so_far
+pub leads_on : (image : Loaded) (choice : Choice) (times : ℕ) (old left : List Choice) (end new : Ended) → new ≡ ran image (replicate times choice) end → old ≡ replicate times choice ++ left → ran image left new ≡ ran image old end
+leads_on image choice times old left end new is front =
+    ap (ran image left) is ∙ sym (ran_on image (replicate times choice) left end) ∙ ap (λ (cs : List Choice). ran image cs end) (sym front)

@@ -5,21 +5,24 @@ ghost use Rattle.bx_world.specs.Enabled.{actor, can};
 ghost use Rattle.bx_world.specs.Independent.{one_is_local, AreIndependent};
 ghost use Rattle.bx_replay.specs.Exchanges.{next_apart, SameProcess};
 
-use crate::runs::{RcEnd, follow};
+use crate::runs::{RcEnd, follow_both};
 use bx_load::Image;
+use bx_plan::Schedule;
 use bx_share::Same;
 use bx_world::{Choice, RcWorld, Shown};
 use std::alloc::{AllocError, Global};
 
-/// The choices at that position and right behind it, where they concern different processes.
-pub(crate) fn apart_at(choices: &[Choice], position: usize) -> Option<(Choice, Choice)>
-    ensures next { result ≡ next_apart (drop position choices.now) }
-    ensures within { IsSome result → position + 2 ≤ length choices.now }
+/// The choices at that position of a schedule and right behind it, where they concern different processes.
+pub fn apart_at(schedule: &Schedule, position: usize) -> Option<(Choice, Choice)>
+    ensures next { result ≡ next_apart (drop position schedule.now) }
+    ensures within { IsSome result → position + 2 ≤ length schedule.now }
 {
-    match choices.get(position..)? {
-        [first, second, ..] => apart(*first, *second),
-        _ => None,
+    if position >= schedule.len() {
+        return None;
     }
+    let first = schedule.get(position)?;
+    let second = schedule.get(position + 1)?;
+    apart(first, second)
 }
 
 /// Both, where they concern different processes.
@@ -103,10 +106,10 @@ pub(crate) fn are_independent(
     if here.refused.is_some() || !may_go_first(image, &here.world, first, second) {
         return Ok(false);
     }
-    let one = follow(alloc, image, here, &[first, second])?;
+    let one = follow_both(alloc, image, here, first, second)?;
     if !both_made(here, &one) {
         return Ok(false);
     }
-    let other = follow(alloc, image, here, &[second, first])?;
+    let other = follow_both(alloc, image, here, second, first)?;
     Ok(agree(here, &one, &other, first, second))
 }

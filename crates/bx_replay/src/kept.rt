@@ -7,7 +7,7 @@ ghost use Rattle.bx_replay.specs.Keeping.{AreKept, IsReached, Parts, Turns};
 use crate::runs::{RcEnd, advance_all, copied};
 use crate::weights::cells;
 use bx_load::Image;
-use bx_world::Choice;
+use bx_plan::Schedule;
 use std::alloc::{AllocError, Global};
 
 /// How many choices lie between one that is kept and the next, at the least.
@@ -107,7 +107,7 @@ pub(crate) fn keep_all(
     alloc: Global,
     image: &Image,
     start: &Kept,
-    choices: &[Choice],
+    choices: &Schedule,
 ) -> Result<Vec<Kept>, AllocError>
     requires { start.now.end.applied + length choices.now < 2 ^ 64 }
     ensures { IfOk result (λ kept. AreKept (record { image = image.now; start = start.now.end; choices = choices.now }) kept.items) }
@@ -118,7 +118,7 @@ pub(crate) fn keep_all(
     while at < choices.len() {
         let room = last_of(start, &kept, kept.len()).room(end.applied);
         let past = at + room.min(choices.len() - at);
-        advance_all(alloc, &mut end, image, &choices[at..past])?;
+        advance_all(alloc, &mut end, image, choices.part(at, past))?;
         if end.applied < start.count() + past as u64 {
             return Ok(kept); // nothing changes any more
         }

@@ -7,6 +7,6 @@ mod runs;
 mod trails;
 mod weights;
 
-pub use independence::apart;
+pub use independence::{apart, apart_at};
 pub use runs::{RcEnd, advance_all, copied, follow, shared};
 pub use trails::Trail;

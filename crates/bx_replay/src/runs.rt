@@ -1,11 +1,12 @@
 //! Runs that go on from where others have come.
 
-ghost use Rattle.std.specs.Prelude.{◌≡◌, ◌≢◌, ◌+◌, ◌<◌, ◌≤◌, ◌^◌, length, replicate, slice_get, take, IfOk, OnOk, Some};
+ghost use Rattle.std.specs.Prelude.{◌≡◌, ◌+◌, ◌<◌, ◌^◌, ◌∷◌, [], length, replicate, IfOk, OnOk};
 ghost use Rattle.bx_world.specs.Running.{ran};
 
 use bx_load::Image;
+use bx_plan::Part;
 use bx_proc::Proc;
-use bx_share::{RcHold, Same};
+use bx_share::RcHold;
 use bx_world::{Choice, Lanes, RcWorld, RunEnd, advance, advance_many};
 use std::alloc::{AllocError, Global};
 
@@ -38,13 +39,44 @@ pub fn follow(
     alloc: Global,
     image: &Image,
     from: &RcEnd,
-    choices: &[Choice],
+    part: Part<'_>,
 ) -> Result<RcEnd, AllocError>
-    requires { from.now.applied + length choices.now < 2 ^ 64 }
-    ensures { IfOk result (λ end. end ≡ ran image.now choices.now from.now) }
+    requires { from.now.applied + length part < 2 ^ 64 }
+    ensures { IfOk result (λ end. end ≡ ran image.now part.entry from.now) }
 {
     let mut end = copied(alloc, from)?;
-    advance_all(alloc, &mut end, image, choices)?;
+    advance_all(alloc, &mut end, image, part)?;
+    Ok(end)
+}
+
+/// Where one choice leads from there. It can only run out of memory.
+pub(crate) fn follow_one(
+    alloc: Global,
+    image: &Image,
+    from: &RcEnd,
+    choice: Choice,
+) -> Result<RcEnd, AllocError>
+    requires { from.now.applied + 1 < 2 ^ 64 }
+    ensures { IfOk result (λ end. end ≡ ran image.now (choice ∷ []) from.now) }
+{
+    let mut end = copied(alloc, from)?;
+    advance_run(alloc, &mut end, image, choice, 1)?;
+    Ok(end)
+}
+
+/// Where two choices lead from there, one behind the other. It can only run out of memory.
+pub(crate) fn follow_both(
+    alloc: Global,
+    image: &Image,
+    from: &RcEnd,
+    first: Choice,
+    second: Choice,
+) -> Result<RcEnd, AllocError>
+    requires { from.now.applied + 2 < 2 ^ 64 }
+    ensures { IfOk result (λ end. end ≡ ran image.now (first ∷ second ∷ []) from.now) }
+{
+    let mut end = follow_one(alloc, image, from, first)?;
+    advance_run(alloc, &mut end, image, second, 1)?;
     Ok(end)
 }
 
@@ -53,33 +85,16 @@ pub fn advance_all(
     alloc: Global,
     end: &mut RcEnd,
     image: &Image,
-    choices: &[Choice],
+    part: Part<'_>,
 ) -> Result<(), AllocError>
-    requires { end.old.applied + length choices.now < 2 ^ 64 }
-    ensures { OnOk result (end.new ≡ ran image.now choices.now end.old) }
+    requires { end.old.applied + length part < 2 ^ 64 }
+    ensures { OnOk result (end.new ≡ ran image.now part.entry end.old) }
 {
-    let mut made = 0;
-    while made < choices.len() {
-        let choice = choices[made];
-        let times = count_in_front(&choices[made..], choice);
-        advance_run(alloc, end, image, choice, times as u64)?;
-        made += times;
+    let mut left = part;
+    while let Some(run) = left.next_run() {
+        advance_run(alloc, end, image, run.choice, run.times as u64)?;
     }
     Ok(())
-}
-
-/// How many choices at the front of a row are this one.
-fn count_in_front(choices: &[Choice], choice: Choice) -> usize
-    ensures within { result ≤ length choices.now }
-    ensures equal { take result choices.now ≡ replicate result choice }
-    ensures longest { slice_get choices.now result ≢ Some choice }
-{
-    for (count, next) in choices.iter().enumerate() {
-        if !next.same(&choice) {
-            return count;
-        }
-    }
-    choices.len()
 }
 
 /// So many equal choices more, one at least.

@@ -7,10 +7,10 @@ ghost use Rattle.bx_replay.specs.Exchanges.{next_apart, Exchanges};
 
 use crate::independence::{apart_at, are_independent};
 use crate::kept::{Kept, keep_all, keep_if_due, last_of, replace, within};
-use crate::runs::{RcEnd, follow};
+use crate::runs::{RcEnd, follow, follow_one};
 use bx_load::Image;
-use bx_share::{Same, same_rows};
-use bx_world::Choice;
+use bx_plan::{Part, Schedule};
+use bx_share::Same;
 use std::alloc::{AllocError, Global};
 use std::marker::Model;
 
@@ -23,7 +23,7 @@ use std::marker::Model;
 pub struct Trail<'a> {
     image: &'a Image,
     start: Kept,
-    choices: Vec<Choice>,
+    choices: Schedule,
     kept: Vec<Kept>,
 }
 
@@ -44,13 +44,12 @@ impl<'a> Model for Trail<'a> {
         (state_code process.the_row.coded tree_code lane.the_row.coded traps.the_row.coded)
         made.the_row.coded };
 
-    ghost view = { λ t. record { image = t.image.now; start = t.start.end; choices = t.choices.items } };
+    ghost view = { λ t. record { image = t.image.now; start = t.start.end; choices = t.choices } };
 
     ghost invariant = { λ t. AreKept (record {
       image = t.image.now;
       start = t.start.end;
-      choices
-          = t.choices.items;
+      choices = t.choices;
     }) t.kept.items };
 }
 
@@ -60,17 +59,17 @@ impl<'a> Trail<'a> {
         alloc: Global,
         image: &'a Image,
         start: RcEnd,
-        choices: Vec<Choice>,
+        schedule: Schedule,
     ) -> Result<Trail<'a>, AllocError>
-        requires { start.applied + length choices.items < 2 ^ 64 }
-        ensures { IfOk result (λ trail. trail ≡ record { image = image.entry.now; start = start; choices = choices.items }) }
+        requires { start.applied + length schedule < 2 ^ 64 }
+        ensures { IfOk result (λ trail. trail ≡ record { image = image.entry.now; start = start; choices = schedule }) }
     {
         let start = Kept::new(alloc, start)?;
-        let kept = keep_all(alloc, image, &start, &choices)?;
+        let kept = keep_all(alloc, image, &start, &schedule)?;
         Ok(Trail {
             image,
             start,
-            choices,
+            choices: schedule,
             kept,
         })
     }
@@ -84,7 +83,7 @@ impl<'a> Trail<'a> {
         Trail {
             image: self.image,
             start: Kept { end, next },
-            choices: Vec::new(alloc),
+            choices: Schedule::new(alloc),
             kept: Vec::new(alloc),
         }
     }
@@ -104,15 +103,15 @@ impl<'a> Trail<'a> {
     }
 
     /// The choices in order.
-    pub fn choices(&self) -> &[Choice]
+    pub fn schedule(&self) -> &Schedule
         ensures { result.now ≡ self.now.choices }
     {
         &self.choices
     }
 
     /// The choices in order.
-    pub fn into_choices(self) -> Vec<Choice>
-        ensures { result.items ≡ self.entry.choices }
+    pub fn into_schedule(self) -> Schedule
+        ensures { result ≡ self.entry.choices }
     {
         let Trail {
             image: _,
@@ -128,14 +127,14 @@ impl<'a> Trail<'a> {
         ensures count { result ≡ length self.now.choices }
         ensures few { result < 2 ^ 63 }
     {
-        self.choices().len()
+        self.schedule().len()
     }
 
     /// Whether both are the same choices over equal code, from equal starts.
     pub fn same(&self, other: &Trail<'_>) -> bool
         ensures { IsTrue result ↔ (self.now ≡ other.now) }
     {
-        same_rows(&self.choices, &other.choices)
+        self.choices.same(&other.choices)
             && self.start.end.same(&other.start.end)
             && self.image.same(other.image)
     }
@@ -150,7 +149,12 @@ impl<'a> Trail<'a> {
         let from = last_of(&self.start, &self.kept, near);
         let made = from.count();
         let first = (made - before) as usize;
-        follow(alloc, self.image, &from.end, &self.choices[first..count])
+        follow(
+            alloc,
+            self.image,
+            &from.end,
+            self.choices.part(first, count),
+        )
     }
 
     /// By how many choices more the next world is kept; one at least.
@@ -163,15 +167,15 @@ impl<'a> Trail<'a> {
     }
 
     /// Puts choices behind the others that were made there and led to this end, each of them applied.
-    pub fn push(&mut self, alloc: Global, made: &[Choice], end: &RcEnd) -> Result<(), AllocError>
-        requires few { self.old.start.applied + length (self.old.choices ++ made.now) < 2 ^ 64 }
-        requires all { end.now.applied ≡ self.old.start.applied + length (self.old.choices ++ made.now) }
-        requires end { end.now ≡ ran self.old.image (self.old.choices ++ made.now) self.old.start }
-        ensures ok { OnOk result (self.new ≡ record self.old { choices = self.old.choices ++ made.now }) }
+    pub fn push(&mut self, alloc: Global, made: Part<'_>, end: &RcEnd) -> Result<(), AllocError>
+        requires few { self.old.start.applied + length (self.old.choices ++ made) < 2 ^ 64 }
+        requires all { end.now.applied ≡ self.old.start.applied + length (self.old.choices ++ made) }
+        requires end { end.now ≡ ran self.old.image (self.old.choices ++ made) self.old.start }
+        ensures ok { OnOk result (self.new ≡ record self.old { choices = self.old.choices ++ made.entry }) }
         ensures err { OnErr result (self.new ≡ self.old) }
     {
         let count = self.choices.len();
-        self.choices.extend_from_slice(made)?;
+        self.choices.append(made)?;
         if let Err(refused) = keep_if_due(alloc, &self.start, &mut self.kept, end) {
             self.choices.truncate(count);
             return Err(refused);
@@ -191,16 +195,14 @@ impl<'a> Trail<'a> {
         let Trail {
             image: _,
             start: _,
-            mut choices,
+            choices,
             mut kept,
         } = tail;
-        self.choices.reserve(choices.len())?;
         self.kept.reserve(kept.len())?;
+        self.choices.replace_tail(count, choices)?;
         // there is room: nothing behind this fails
         let near = within(&self.kept, self.start.count() + count as u64);
         self.kept.truncate(near);
-        self.choices.truncate(count);
-        self.choices.append(&mut choices)?;
         self.kept.append(&mut kept)?;
         Ok(())
     }
@@ -221,9 +223,9 @@ impl<'a> Trail<'a> {
         if !are_independent(alloc, self.image, &here, first, second)? {
             return Ok(false);
         }
-        let between = follow(alloc, self.image, &here, &[second])?;
+        let between = follow_one(alloc, self.image, &here, second)?;
+        self.choices.swap(position)?;
         replace(&mut self.kept, between);
-        self.choices.swap(position, position + 1);
         Ok(true)
     }
 }

@@ -1,35 +1,22 @@
 //! Checked exchanges.
 
-ghost use Rattle.std.specs.Prelude.{◌≡◌, drop, IfOk};
-ghost use Rattle.bx_replay.specs.Exchanges.{next_apart};
+ghost use Rattle.std.specs.Prelude.{IfOk};
 ghost use Rattle.bx_world.specs.World.{started};
 ghost use Rattle.bx_swaps.specs.Exchanges.{IsAnswer, AtFaultAtOnce, ExchangesAll};
 
 use bx_load::Image;
 use bx_plan::Schedule;
-use bx_replay::{Trail, apart};
+use bx_replay::{Trail, apart_at};
 use bx_terms::{AtomId, Fault};
-use bx_world::{Choice, RcWorld, RunEnd};
+use bx_world::{RcWorld, RunEnd};
 use std::alloc::{AllocError, Global};
-
-/// The choices at that position of a schedule and right behind it, where they concern different processes.
-fn apart_in(schedule: &Schedule, position: usize) -> Option<(Choice, Choice)>
-    ensures { result ≡ next_apart (drop position schedule.now) }
-{
-    if position >= schedule.len() {
-        return None;
-    }
-    let first = schedule.get(position)?;
-    let second = schedule.get(position + 1)?;
-    apart(first, second)
-}
 
 /// The first of these positions, where the list alone tells that it is at fault: no two choices of different processes stand there.
 fn refused_at_once(schedule: &Schedule, positions: &[usize]) -> Option<usize>
     ensures { AtFaultAtOnce positions.now schedule.now result }
 {
     let position = *positions.first()?;
-    match apart_in(schedule, position) {
+    match apart_at(schedule, position) {
         Some(_) => None,
         None => Some(position),
     }
@@ -81,10 +68,11 @@ pub fn check_swaps(
         applied: 0,
         refused: None,
     };
-    let choices = schedule.to_choices(alloc)?;
+    let mut choices = Schedule::new(alloc);
+    choices.append(schedule.all())?;
     let mut trail = Trail::of(alloc, image, start, choices)?;
     match exchange_all(alloc, &mut trail, positions)? {
         Some(position) => Err(Fault::NotIndependent { position }),
-        None => Ok(Schedule::from_choices(alloc, &trail.into_choices())?),
+        None => Ok(trail.into_schedule()),
     }
 }

@@ -3,6 +3,7 @@
 use crate::samples::{LOOP, TRAPS, TWO};
 use bx_debug::{Session, Stop};
 use bx_load::Image;
+use bx_plan::{Run, Schedule};
 use bx_terms::{Fault, Place, Trap};
 use bx_world::{Choice, RcWorld};
 use bxemu_testkit::{atom, image};
@@ -121,9 +122,9 @@ fn number_of(done: Result<(), Fault>) -> Result<u8, Fault> {
 }
 
 /// As many runs of process 0.
-fn gone(alloc: Global, session: &mut Session<'_>, count: usize) -> Result<Stop, Fault> {
-    let choices = vec![in alloc; OWN; count]?;
-    session.go(alloc, &choices)
+fn gone(alloc: Global, session: &mut Session<'_>, times: usize) -> Result<Stop, Fault> {
+    let runs = [Run { choice: OWN, times }];
+    session.go(alloc, &Schedule::of(alloc, &runs)?)
 }
 
 /// Does a call, and gives the number of its refusal and why it stopped.
@@ -132,7 +133,10 @@ fn called(alloc: Global, session: &mut Session<'_>, act: Act<'_>) -> Result<(u8,
         Act::Step(choice) => session.step(alloc, choice),
         Act::Back(count) => session.back(alloc, count),
         Act::Forward(count) => session.forward(alloc, count),
-        Act::Go(choices) => return Ok((0, session.go(alloc, choices)?)),
+        Act::Go(choices) => {
+            let schedule = Schedule::from_choices(alloc, choices)?;
+            return Ok((0, session.go(alloc, &schedule)?));
+        }
         Act::GoOwn(count) => return Ok((0, gone(alloc, session, count)?)),
         Act::Set(place) => session.set_break(alloc, item(place)),
         Act::Clear(place) => {

@@ -1,12 +1,13 @@
 //! What the worlds cost that a session keeps: memory at the peak, and the choices that a step back makes again.
 
 use crate::figures::{bytes_each, tally};
-use crate::programs::{HEAD, Program};
+use crate::programs::{HEAD, Program, runs_of};
 use crate::trouble::Trouble;
 use bx_debug::Session;
+use bx_plan::Schedule;
 use bx_replay::{Trail, shared};
 use bx_terms::Fault;
-use bx_world::{Choice, RunEnd};
+use bx_world::RunEnd;
 use std::alloc::Global;
 use std::fs;
 
@@ -29,22 +30,21 @@ pub fn measure(rt: &HostRuntime, choices: u32, growing: &str) -> Result<(), Trou
     for (name, items) in GROWING {
         if name == growing {
             let program = Program::of_parts(rt.alloc(), &[(HEAD, 1), (items, 1)])?;
-            let row = vec![in rt.alloc(); Choice::Run(0); choices as usize]?;
-            return take(rt, &program, row);
+            return take(rt, &program, runs_of(rt.alloc(), choices)?);
         }
     }
     Err(Trouble::Usage)
 }
 
-fn take(rt: &HostRuntime, program: &Program, row: Vec<Choice>) -> Result<(), Trouble> {
-    let bytes = beyond_empty(rt, program, &row)?;
-    bytes_each(rt, "at the peak", bytes, row.len() as u64, "a choice")?;
-    let again = made_again(rt.alloc(), program, row)?;
+fn take(rt: &HostRuntime, program: &Program, runs: Schedule) -> Result<(), Trouble> {
+    let bytes = beyond_empty(rt, program, &runs)?;
+    bytes_each(rt, "at the peak", bytes, runs.len() as u64, "a choice")?;
+    let again = made_again(rt.alloc(), program, runs)?;
     tally(rt, again as u64, "choices are made again by a step back")
 }
 
 /// By how many bytes the peak is higher behind these choices in a session than before them.
-fn beyond_empty(rt: &HostRuntime, program: &Program, row: &[Choice]) -> Result<u64, Trouble> {
+fn beyond_empty(rt: &HostRuntime, program: &Program, runs: &Schedule) -> Result<u64, Trouble> {
     let mut session = Session::new(
         rt.alloc(),
         program.image(),
@@ -52,8 +52,8 @@ fn beyond_empty(rt: &HostRuntime, program: &Program, row: &[Choice]) -> Result<u
         program.start(),
     )?;
     let empty = peak(rt)?;
-    let _ = session.go(rt.alloc(), row)?;
-    if session.at() != row.len() {
+    let _ = session.go(rt.alloc(), runs)?;
+    if session.at() != runs.len() {
         return Err(Trouble::Wrong);
     }
     Ok(peak(rt)?.saturating_sub(empty))
@@ -84,16 +84,16 @@ fn kilobytes(size: &str) -> Result<u64, Trouble> {
 }
 
 /// How many choices lie between the last world that is kept before all but one of them, and that position.
-fn made_again(alloc: Global, program: &Program, row: Vec<Choice>) -> Result<usize, Fault> {
+fn made_again(alloc: Global, program: &Program, runs: Schedule) -> Result<usize, Fault> {
     let start = RunEnd {
         world: program.begin(alloc)?,
         applied: 0,
         refused: None,
     };
-    let last = row.len().saturating_sub(1);
-    let trail = Trail::of(alloc, program.image(), start, row)?;
+    let last = runs.len().saturating_sub(1);
+    let trail = Trail::of(alloc, program.image(), start, runs)?;
     let mut kept: usize = 0;
-    for _choice in trail.choices() {
+    for _choice in 0..trail.len() {
         let next = next_kept(alloc, &trail, kept)?;
         if next > last {
             break;

@@ -3,6 +3,7 @@
 use bx_asm::{Unit, assemble};
 use bx_listing::read_listing;
 use bx_load::{Image, load};
+use bx_plan::{Run, Schedule};
 use bx_replay::RcEnd;
 use bx_terms::{AtomId, Atoms, Fault};
 use bx_world::{Choice, RcWorld, RunEnd, advance};
@@ -84,6 +85,15 @@ impl Program {
     pub fn replay(&self, alloc: Global, row: &[Choice]) -> Result<u64, Fault> {
         Ok(self.lead(alloc, row)?.applied)
     }
+}
+
+/// So many runs of process 0.
+pub fn runs_of(alloc: Global, times: u32) -> Result<Schedule, Fault> {
+    let run = Run {
+        choice: Choice::Run(0),
+        times: times as usize,
+    };
+    Ok(Schedule::of(alloc, &[run])?)
 }
 
 /// The code of a listing.

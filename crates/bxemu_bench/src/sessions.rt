@@ -1,9 +1,10 @@
 //! What sessions cost: choices beside the same in a world alone, and steps back at two depths.
 
 use crate::figures::{Rounds, Watch, figure_beyond, figure_of};
-use crate::programs::{HEAD, Program};
+use crate::programs::{HEAD, Program, runs_of};
 use crate::trouble::Trouble;
 use bx_debug::Session;
+use bx_plan::Schedule;
 use bx_terms::Fault;
 use bx_world::Choice;
 use std::alloc::Global;
@@ -15,58 +16,51 @@ const ROUNDS: u32 = 60;
 const STEPS: u32 = 200;
 
 /// The depth that a step back is compared at: as many choices are made again from 100,000.
-const SHALLOW: [Choice; 160] = [Choice::Run(0); 160];
+const SHALLOW: u32 = 160;
 
 /// Makes so many choices in a session, and steps back and forward at two depths. In the first round
 /// a session's memory is new, and in the others it was in use before.
 pub fn measure(rt: &HostRuntime, choices: u32) -> Result<(), Trouble> {
     let parts = [(HEAD, 1), ("{label,3}. {jump,{f,3}}.", 1)];
     let program = Program::of_parts(rt.alloc(), &parts)?;
-    let row = row_of(rt.alloc(), choices)?;
-    take(rt, &program, &row)
-}
-
-fn row_of(alloc: Global, choices: u32) -> Result<Vec<Choice>, Fault> {
-    Ok(vec![in alloc; Choice::Run(0); choices as usize]?)
-}
-
-fn take(rt: &HostRuntime, program: &Program, row: &[Choice]) -> Result<(), Trouble> {
-    go(rt, program, row, "go beyond the same alone, first", 1)?;
-    go(rt, program, row, "go beyond the same alone", ROUNDS)?;
-    back(rt, program, row)
+    let runs = runs_of(rt.alloc(), choices)?;
+    go(rt, &program, &runs, "go beyond the same alone, first", 1)?;
+    go(rt, &program, &runs, "go beyond the same alone", ROUNDS)?;
+    back(rt, &program, &runs)
 }
 
 /// What choices cost in a session beyond what they cost alone.
 fn go(
     rt: &HostRuntime,
     program: &Program,
-    row: &[Choice],
+    runs: &Schedule,
     name: &str,
     rounds: u32,
 ) -> Result<(), Trouble> {
+    let row = runs.to_choices(rt.alloc())?;
     let mut with = Rounds::new(rt.alloc());
     let mut without = Rounds::new(rt.alloc());
     for _ in 0..rounds {
-        with.push(gone(rt, program, row)?)?;
-        without.push(alone(rt, program, row)?)?;
+        with.push(gone(rt, program, runs)?)?;
+        without.push(alone(rt, program, &row)?)?;
     }
     let parts = row.len() as u64 / 64;
     figure_beyond(rt, name, parts, "for 64 choices", &mut with, &mut without)
 }
 
 /// The nanoseconds of these choices in a session.
-fn gone(rt: &HostRuntime, program: &Program, row: &[Choice]) -> Result<Option<u128>, Fault> {
+fn gone(rt: &HostRuntime, program: &Program, runs: &Schedule) -> Result<Option<u128>, Fault> {
     let mut session = opened(rt.alloc(), program)?;
-    go_timed(rt, &mut session, row)
+    go_timed(rt, &mut session, runs)
 }
 
 fn go_timed(
     rt: &HostRuntime,
     session: &mut Session<'_>,
-    row: &[Choice],
+    runs: &Schedule,
 ) -> Result<Option<u128>, Fault> {
     let watch = Watch::start(rt);
-    let _ = session.go(rt.alloc(), row)?;
+    let _ = session.go(rt.alloc(), runs)?;
     Ok(watch.nanos(rt))
 }
 
@@ -83,15 +77,16 @@ fn opened(alloc: Global, program: &Program) -> Result<Session<'_>, Fault> {
 }
 
 /// A session in which these choices were made.
-fn behind<'a>(alloc: Global, program: &'a Program, row: &[Choice]) -> Result<Session<'a>, Fault> {
+fn behind<'a>(alloc: Global, program: &'a Program, runs: &Schedule) -> Result<Session<'a>, Fault> {
     let mut session = opened(alloc, program)?;
-    let _ = session.go(alloc, row)?;
+    let _ = session.go(alloc, runs)?;
     Ok(session)
 }
 
-fn back(rt: &HostRuntime, program: &Program, row: &[Choice]) -> Result<(), Trouble> {
-    let mut shallow = behind(rt.alloc(), program, &SHALLOW)?;
-    let mut deep = behind(rt.alloc(), program, row)?;
+fn back(rt: &HostRuntime, program: &Program, runs: &Schedule) -> Result<(), Trouble> {
+    let few = runs_of(rt.alloc(), SHALLOW)?;
+    let mut shallow = behind(rt.alloc(), program, &few)?;
+    let mut deep = behind(rt.alloc(), program, runs)?;
     in_turn(rt, &mut shallow, &mut deep)
 }
 

@@ -35,7 +35,7 @@ pub fn measure(rt: &HostRuntime, positions: u32) -> Result<(), Trouble> {
     let program = Program::of(rt.alloc(), LISTING.as_bytes(), "f")?;
     let row = walk(rt.alloc(), &program)?;
     let given = Schedule::from_choices(rt.alloc(), &row)?;
-    let (positions, wanted) = draw(rt.alloc(), &program, row, positions as usize)?;
+    let (positions, wanted) = draw(rt.alloc(), &program, &row, positions as usize)?;
     let made = exchanged(rt.alloc(), &program, &given, &positions)?;
     if !is_right(rt.alloc(), &program, &given, &made, &wanted)? {
         return Err(Trouble::Wrong);
@@ -69,15 +69,16 @@ fn any_enabled(alloc: Global, rng: &mut Pcg32, world: &RcWorld) -> Result<Option
 fn draw(
     alloc: Global,
     program: &Program,
-    row: Vec<Choice>,
+    row: &[Choice],
     count: usize,
-) -> Result<(Vec<usize>, Vec<Choice>), Fault> {
+) -> Result<(Vec<usize>, Schedule), Fault> {
     let start = RunEnd {
         world: program.begin(alloc)?,
         applied: 0,
         refused: None,
     };
-    let mut trail = Trail::of(alloc, program.image(), start, row)?;
+    let schedule = Schedule::from_choices(alloc, row)?;
+    let mut trail = Trail::of(alloc, program.image(), start, schedule)?;
     let mut rng = Pcg32::new(2, 11);
     let mut positions = Vec::new(alloc);
     for _draw in 0..u32::MAX {
@@ -89,7 +90,7 @@ fn draw(
             positions.push(at)?;
         }
     }
-    Ok((positions, trail.into_choices()))
+    Ok((positions, trail.into_schedule()))
 }
 
 /// The schedule with these exchanges made.
@@ -129,11 +130,11 @@ fn is_right(
     program: &Program,
     given: &Schedule,
     made: &Schedule,
-    wanted: &[Choice],
+    wanted: &Schedule,
 ) -> Result<bool, Fault> {
     let one = program.lead(alloc, &given.to_choices(alloc)?)?;
-    let other = program.lead(alloc, wanted)?;
-    Ok(made.same(&Schedule::from_choices(alloc, wanted)?) && one.same(&other))
+    let other = program.lead(alloc, &wanted.to_choices(alloc)?)?;
+    Ok(made.same(wanted) && one.same(&other))
 }
 
 /// What the exchanges cost beyond the run of the schedule, and what a choice of it costs.

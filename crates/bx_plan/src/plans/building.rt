@@ -84,7 +84,7 @@ impl<'a> Builder<'a> {
         ensures err { OnErr result (HasRoom self.old self.new) }
         ensures names { self.new.names ≡ self.old.names }
     {
-        let Some(end) = self.tree.walk(schedule.runs())? else {
+        let Some(end) = self.tree.walk(schedule.all())? else {
             return Ok(false);
         };
         let name = Name::new(self.alloc, name)?;

@@ -4,13 +4,12 @@ ghost use Rattle.std.specs.Prelude.{◌≡◌, ◌+◌, ◌-◌, ◌<◌, ◌≤
 ghost use Rattle.bx_plan.specs.Nodes.{has_node};
 ghost use Rattle.bx_plan.specs.Trees.{path};
 ghost use Rattle.bx_plan.specs.Edges.{tree_by, steps_of, edge_at, IsGrown, IsOn, IsPlace, IsNext, NotNext};
-ghost use Rattle.bx_plan.specs.Runs.{spread_runs};
 ghost use Rattle.bx_plan.specs.Walks.{Leads, Walks};
 
 use super::edges::node_count;
 use super::growth::key;
 use super::{Growing, MOST_NODES, Place};
-use crate::schedules::Run;
+use crate::schedules::{Part, Run};
 use bx_world::Choice;
 use std::alloc::AllocError;
 
@@ -71,17 +70,17 @@ impl Growing {
     }
 
     /// As far along a run as there are nodes: the place, and how many times its choice is still to be made.
-    fn follow(&self, from: Place, run: &Run) -> (Place, usize)
+    fn follow(&self, from: Place, run: Run) -> (Place, usize)
         requires grown { IsGrown self.now }
         requires place { IsPlace self.now.edges.items from.node from.behind }
         requires within { from.node < length (tree_by self.now.edges.items).paths }
-        ensures left { result.1 ≤ run.now.times }
+        ensures left { result.1 ≤ run.times }
         ensures leads { Leads (tree_by self.now.edges.items) (tree_by self.now.edges.items)
             (path (tree_by self.now.edges.items) from.node)
-            (replicate (run.now.times - result.1) run.now.choice) (Some result.0.node) }
+            (replicate (run.times - result.1) run.choice) (Some result.0.node) }
         ensures place { IsPlace self.now.edges.items result.0.node result.0.behind }
         ensures new { 0 < result.1 → has_node (tree_by self.now.edges.items).paths
-            (path (tree_by self.now.edges.items) result.0.node ++ run.now.choice ∷ []) ≡ false }
+            (path (tree_by self.now.edges.items) result.0.node ++ run.choice ∷ []) ≡ false }
     {
         let mut place = from;
         let mut left = run.times;
@@ -97,13 +96,13 @@ impl Growing {
     }
 
     /// The place to which a run leads, made as far as it is not there; none where that would be nodes too many.
-    fn step(&mut self, from: Place, run: &Run) -> Result<Option<Place>, AllocError>
+    fn step(&mut self, from: Place, run: Run) -> Result<Option<Place>, AllocError>
         requires grown { IsGrown self.old }
         requires place { IsPlace self.old.edges.items from.node from.behind }
         requires within { from.node < length (tree_by self.old.edges.items).paths }
         ensures leads { IfOk result (λ to. Leads (tree_by self.old.edges.items)
             (tree_by self.new.edges.items) (path (tree_by self.old.edges.items) from.node)
-            (replicate run.now.times run.now.choice) (option_map (λ place. place.node) to)) }
+            (replicate run.times run.choice) (option_map (λ place. place.node) to)) }
         ensures grown { IfOk result (λ to. IfSome to (λ place. IsGrown self.new ×
             IsPlace self.new.edges.items place.node place.behind)) }
         ensures err { OnErr result (length (tree_by self.new.edges.items).paths ≤ 1000000) }
@@ -123,16 +122,16 @@ impl Growing {
         }))
     }
 
-    /// The node to which the runs lead from the root, made as far as it is not there; none where that would be nodes too many.
-    pub(crate) fn walk(&mut self, runs: &[Run]) -> Result<Option<usize>, AllocError>
+    /// The node to which the choices lead from the root, made as far as it is not there; none where that would be nodes too many.
+    pub(crate) fn walk(&mut self, choices: Part<'_>) -> Result<Option<usize>, AllocError>
         requires { IsGrown self.old }
-        ensures ok { IfOk result (Walks (tree_by self.old.edges.items) (tree_by self.new.edges.items)
-            (spread_runs runs.now)) }
+        ensures ok { IfOk result (Walks (tree_by self.old.edges.items) (tree_by self.new.edges.items) choices.entry) }
         ensures grown { IfOk result (λ to. IfSome to (λ node. IsGrown self.new)) }
         ensures err { OnErr result (length (tree_by self.new.edges.items).paths ≤ 1000000) }
     {
         let mut at = Place { node: 0, behind: 0 };
-        for run in runs {
+        let mut left = choices;
+        while let Some(run) = left.next_run() {
             match self.step(at, run)? {
                 Some(place) => at = place,
                 None => return Ok(None),

@@ -1,9 +1,11 @@
-use Rattle.std.proofs.Common.{None}
-use Rattle.bx_world.specs.World.{State}
-use Rattle.bx_debug.specs.Leading.{Leads}
+use Rattle.std.proofs.Common.{length}
+use Rattle.bx_debug.proofs.Stretches.{Far}
 use Rattle.bx_debug.proofs.walks.stretch.Given as goal
 
--- all choices so far were applied
-abbrev pub invariant-loop-at : goal.invariant-loop-at
-invariant-loop-at l =
-    (from : State) → Leads l.image l.places l.choices from l.first l.fn.world None → Leads l.image l.places l.choices from l.at l.world None
+-- all choices so far were applied, and these are left
+abbrev pub invariant-loop-run : goal.invariant-loop-run
+invariant-loop-run l = Far l.image l.places l.fn.choices l.fn.world l.made l.world l.left
+
+-- the choices that are left
+abbrev pub decreases-loop-run : goal.decreases-loop-run
+decreases-loop-run l = length l.left

@@ -1,15 +1,13 @@
-use Rattle.std.proofs.Common.{◌≡◌, ◌+◌, ◌-◌, ◌≤◌, drop, length}
+use Rattle.std.proofs.Common.{◌≡◌, ◌+◌, ◌≤◌, length}
 use Rattle.bx_world.specs.Running.{ran}
 use Rattle.bx_replay.proofs.runs.advance_all.Given as goal
 
 -- what is left leads where all of them lead
-abbrev pub invariant-loop-made : goal.invariant-loop-made
-invariant-loop-made l = record {
-  within : l.made ≤ length l.choices;
-  leads : ran l.image (drop l.made l.choices) l.end ≡ ran l.image l.choices l.fn.end;
-  few : l.end.applied ≤ l.fn.end.applied + l.made;
+abbrev pub invariant-loop-run : goal.invariant-loop-run
+invariant-loop-run l = record {
+  leads : ran l.image l.left l.end ≡ ran l.image l.fn.part l.fn.end;
+  few : l.end.applied + length l.left ≤ l.fn.end.applied + length l.fn.part;
 }
 
--- the choices that are left
-abbrev pub decreases-loop-made : goal.decreases-loop-made
-decreases-loop-made l = length l.choices - l.made
+abbrev pub decreases-loop-run : goal.decreases-loop-run
+decreases-loop-run l = length l.left

@@ -11,10 +11,3 @@ returns-in_err-position c =
     let at : AtFaultAtOnce c.args.positions.now c.args.schedule.now None = c.in_default.ensures in
     let err : c.from_residual-in_err-position.result ≡ Err Memory = search rules in
     wanting c.args.image.now _ c.in_ok-start.field-0 c.args.positions.now c.args.schedule.now c.from_residual-in_err-position.result is at err
-
-pub returns-in_err-from_choices-in-None : goal.returns-in_err-from_choices-in-None
-returns-in_err-from_choices-in-None c =
-    let is : started c.args.image.now c.args.module c.args.function ≡ Ok c.in_ok-start.field-0 = search rules in
-    let at : AtFaultAtOnce c.args.positions.now c.args.schedule.now None = c.in_default.ensures in
-    let err : c.from_residual-in_err-from_choices-in-None.result ≡ Err Memory = search rules in
-    wanting c.args.image.now _ c.in_ok-start.field-0 c.args.positions.now c.args.schedule.now c.from_residual-in_err-from_choices-in-None.result is at err

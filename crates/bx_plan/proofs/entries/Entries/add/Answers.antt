@@ -1,6 +1,5 @@
 use Rattle.std.proofs.Common.{◌++◌, List, sym, ap, ◌∙◌, replicate, arith}
 use Rattle.bx_world.specs.declared.choices.Choice.{Choice}
-use Rattle.bx_plan.specs.Reading.{spread}
 use Rattle.bx_plan.proofs.Counts.{count-push, spread-push}
 use Rattle.bx_plan.proofs.entries.Entries.add.Goals as goal
 

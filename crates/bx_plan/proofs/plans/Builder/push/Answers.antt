@@ -19,7 +19,7 @@ returns-in_default-clause-ok c =
     let schedule : Named = (c.args.name.now, c.args.schedule.now) in
     let walked : Walks old new schedule.1 None =
     subst (Walks old new schedule.1) c.in_default.is
-    (subst (λ (cs : List Choice). Walks old new cs c.in_ok-end.field-0) c.runs.ensures.runs c.in_ok-end.ensures.ok) in
+    (subst (λ (cs : List Choice). Walks old new cs c.in_ok-end.field-0) c.all.ensures c.in_ok-end.ensures.ok) in
     full lines old new c.requires.planned schedule walked
 
 pub returns-clause-ok : goal.returns-clause-ok
@@ -33,7 +33,7 @@ returns-clause-ok c =
     let line : NamedEnd = record { name = c.in_ok-name.name; end = end } in
     let walked : Walks old new schedule.1 (Some end) =
     subst (Walks old new schedule.1) c.in-Some.is
-    (subst (λ (cs : List Choice). Walks old new cs c.in_ok-end.field-0) c.runs.ensures.runs c.in_ok-end.ensures.ok) in
+    (subst (λ (cs : List Choice). Walks old new cs c.in_ok-end.field-0) c.all.ensures c.in_ok-end.ensures.ok) in
     let rows : schedules (record { lines = lines_view c.push.new.self.items; tree = new }) ≡ so_far c.args.self.now ++ schedule ∷ [] =
     rows_push lines old new c.requires.planned schedule end walked items c.push.new.self.items line refl c.in_ok-push.ensures.items c.in_ok-name.ensures refl in (
       rows,

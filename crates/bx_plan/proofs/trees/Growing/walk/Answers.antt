@@ -1,20 +1,19 @@
-use Rattle.std.proofs.Common.{◌≡◌, ◌+◌, List, [], ◌++◌, get_or, take, drop, replicate, Some, None, Option, option_map, subst, sym, refl, ◌∙◌, append_assoc, arith}
-use Rattle.bx_world.specs.declared.choices.Choice.{Choice}
+use Rattle.std.proofs.Common.{◌≡◌, ◌++◌, List, [], replicate, Some, None, Option, option_map, subst, sym, ap, refl, ◌∙◌, append_assoc, arith}
 use Rattle.std.specs.Prelude.{IfSome}
+use Rattle.bx_world.specs.declared.choices.Choice.{Choice}
 use Rattle.bx_plan.specs.declared.trees.Place.{Place}
 use Rattle.bx_plan.specs.Edges.{tree_by, IsGrown, IsPlace}
+use Rattle.bx_plan.specs.Runs.{NextRun}
 use Rattle.bx_plan.specs.Trees.{path}
-use Rattle.bx_plan.specs.Runs.{spread_runs}
 use Rattle.bx_plan.specs.Walks.{Leads}
 use Rattle.bx_plan.proofs.Children.{first_place}
-use Rattle.bx_plan.proofs.Joining.{spread_more, spread_rest, no_run}
 use Rattle.bx_plan.proofs.Paths.{leads_on, leads_full}
 use Rattle.bx_plan.proofs.trees.Growing.walk.Goals as goal
 
 pub loop-run-init : goal.loop-run-init
 loop-run-init c =
     let few = c.requires.few in record {
-      walks = (refl, omega (arith, few.tree.count, few.few), omega (arith, few.tree.count), few.tree.root);
+      walks = ([], refl, (refl, omega (arith, few.tree.count, few.few), omega (arith, few.tree.count), few.tree.root));
       grown = c.requires;
       place = first_place c.args.self.now.edges.items few.rows;
     }
@@ -25,15 +24,15 @@ returns-in-None-clause-ok c =
     let at = c.loop-run in
     let now = tree_by at.self.edges.items in
     let new = tree_by c.step.new.self.edges.items in
-    let run = get_or c.args.runs.now at.run-index no_run in
-    let done = spread_runs (take at.run-index c.args.runs.now) in
+    let run = c.in-Some.run' in
+    let next = subst (NextRun at.left c.next_run.new.self) c.in-Some.is c.next_run.ensures in
+    let done = at.invariant.walks.0 in
     let more = replicate run.times run.choice in
     let full : Leads now new (path now at.at.node) more None =
     subst (λ (o : Option Place). Leads now new (path now at.at.node) more (option_map (λ (p : Place). p.node) o)) c.in-None.is c.in_ok-place.ensures.leads in
-    let so_far : Leads old new [] (done ++ more) None = leads_on old now new [] done more at.at.node None at.invariant.walks full in
-    let all = leads_full old new [] (done ++ more) (spread_runs (drop (at.run-index + 1) c.args.runs.now)) so_far in
-    let choices : (done ++ more) ++ spread_runs (drop (at.run-index + 1) c.args.runs.now) ≡ spread_runs c.args.runs.now =
-    append_assoc done more (spread_runs (drop (at.run-index + 1) c.args.runs.now)) ∙ sym (spread_rest c.args.runs.now at.run-index c.loop-run-test.true) in
+    let so_far : Leads old new [] (done ++ more) None = leads_on old now new [] done more at.at.node None at.invariant.walks.2 full in
+    let all = leads_full old new [] (done ++ more) c.next_run.new.self so_far in
+    let choices : (done ++ more) ++ c.next_run.new.self ≡ c.args.choices = append_assoc done more c.next_run.new.self ∙ ap (λ cs. done ++ cs) (sym next.1) ∙ at.invariant.walks.1 in
     subst (λ (cs : List Choice). Leads old new [] cs None) choices all
 
 pub loop-run-preserved : goal.loop-run-preserved
@@ -42,16 +41,17 @@ loop-run-preserved c =
     let at = c.loop-run in
     let now = tree_by at.self.edges.items in
     let new = tree_by c.step.new.self.edges.items in
-    let run = get_or c.args.runs.now at.run-index no_run in
-    let done = spread_runs (take at.run-index c.args.runs.now) in
+    let run = c.in-Some.run' in
+    let next = subst (NextRun at.left c.next_run.new.self) c.in-Some.is c.next_run.ensures in
+    let done = at.invariant.walks.0 in
     let more = replicate run.times run.choice in
-    let to = c.in-Some.place.node in
+    let to = c.in-Some-2.place.node in
     let step : Leads now new (path now at.at.node) more (Some to) =
-    subst (λ (o : Option Place). Leads now new (path now at.at.node) more (option_map (λ (p : Place). p.node) o)) c.in-Some.is c.in_ok-place.ensures.leads in
-    let walks : Leads old new [] (done ++ more) (Some to) = leads_on old now new [] done more at.at.node (Some to) at.invariant.walks step in
-    let kept = subst (λ (o : Option Place). IfSome o (λ (p : Place). IsGrown c.step.new.self × IsPlace c.step.new.self.edges.items p.node p.behind)) c.in-Some.is c.in_ok-place.ensures.grown in
+    subst (λ (o : Option Place). Leads now new (path now at.at.node) more (option_map (λ (p : Place). p.node) o)) c.in-Some-2.is c.in_ok-place.ensures.leads in
+    let walks : Leads old new [] (done ++ more) (Some to) = leads_on old now new [] done more at.at.node (Some to) at.invariant.walks.2 step in
+    let kept = subst (λ (o : Option Place). IfSome o (λ (p : Place). IsGrown c.step.new.self × IsPlace c.step.new.self.edges.items p.node p.behind)) c.in-Some-2.is c.in_ok-place.ensures.grown in
     record {
-      walks = subst (λ (cs : List Choice). Leads old new [] cs (Some to)) (sym (spread_more c.args.runs.now at.run-index c.loop-run-test.true)) walks;
+      walks = (done ++ more, append_assoc done more c.next_run.new.self ∙ ap (λ cs. done ++ cs) (sym next.1) ∙ at.invariant.walks.1, walks);
       grown = kept.0;
       place = kept.1;
     }

@@ -1,5 +1,7 @@
 use Rattle.std.proofs.Common.{◌≡◌, ◌+◌, ◌-◌, ◌<◌, refl, sym, ap, subst, ◌∙◌, arith}
 use Rattle.std.specs.Prelude.{List, slice_index_or}
+use Rattle.bx_world.specs.declared.choices.Choice.{Choice}
+use Rattle.bx_world.specs.Running.{ran}
 use Rattle.bx_replay.specs.Courses.{reached}
 use Rattle.bx_replay.specs.Keeping.{Parts}
 use Rattle.bx_replay.specs.declared.kept.Kept.{Kept}
@@ -11,7 +13,7 @@ pub returns : goal.returns
 returns c =
     let image = c.self.inside.image.now in
     let start = c.self.inside.start in
-    let choices = c.self.inside.choices.items in
+    let choices = c.self.inside.choices in
     let kept = c.self.inside.kept.items in
     let count = c.args.count in
     let near = c.within-near.result in
@@ -23,5 +25,5 @@ returns c =
     let ahead = there.0.ahead in
     let few = there.1 in
     let first : c.count-made.result - c.count-before.result ≡ count_of found - start.end.applied = λ i. c.count-made.ensures i - c.count-before.ensures i in
-    let on = onward image start.end choices (c.count-made.result - c.count-before.result) count found.end c.deref-3.result.now (omega (arith, first)) c.deref-3.ensures.value (there.0.is ∙ ap (λ n. reached n (course image start.end choices)) (sym first)) in
-    if_ok_at c.follow.result _ (reached count c.args.self.now) (on ∙ ap (reached count) c.self.view_is) c.follow.ensures
+    let on = onward image start.end choices (c.count-made.result - c.count-before.result) count found.end choices (omega (arith, first)) refl (there.0.is ∙ ap (λ n. reached n (course image start.end choices)) (sym first)) in
+    if_ok_at c.follow.result _ (reached count c.args.self.now) (ap (λ (cs : List Choice). ran image cs found.end) c.part.ensures ∙ on ∙ ap (reached count) c.self.view_is) c.follow.ensures

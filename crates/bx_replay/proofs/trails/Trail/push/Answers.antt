@@ -12,11 +12,11 @@ pub invariant_of-self-in_default : goal.invariant_of-self-in_default
 invariant_of-self-in_default c =
     let image = c.self.inside.image.now in
     let start = c.self.inside.start.end in
-    let choices = c.self.inside.choices.items in
-    let made = c.args.made.now in
+    let choices = c.self.inside.choices in
+    let made = c.args.made in
     let end = c.args.end.now in
     let few : start.applied + length (choices ++ made) < 2 ^ 64 = subst (λ (s : Course). s.start.applied + length (s.choices ++ made) < 2 ^ 64) (sym c.self.view_is) c.requires.few in
     let all : end.applied ≡ start.applied + length (choices ++ made) = subst (λ (s : Course). end.applied ≡ s.start.applied + length (s.choices ++ made)) (sym c.self.view_is) c.requires.all in
     let is : end ≡ ran image (choices ++ made) start = subst (λ (s : Course). end ≡ ran s.image (s.choices ++ made) s.start) (sym c.self.view_is) c.requires.end in
-    subst (λ (cs : List Choice). AreKept (course image start cs) c.keep_if_due.new.kept.items) (sym c.in_ok-extend_from_slice.ensures.items)
+    subst (λ (cs : List Choice). AreKept (course image start cs) c.keep_if_due.new.kept.items) (sym c.in_ok-append.ensures.ok)
     (c.keep_if_due.ensures.kept (course image start (choices ++ made)) refl (longer image start choices made c.self.inside.kept.items c.self.invariant few) (all_reached image start end (choices ++ made) all is))

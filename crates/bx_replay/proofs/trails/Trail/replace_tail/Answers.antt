@@ -14,10 +14,10 @@ pub invariant_of-self-2 : goal.invariant_of-self-2
 invariant_of-self-2 c =
     let image = c.self.inside.image.now in
     let start = c.self.inside.start.end in
-    let choices = c.self.inside.choices.items in
+    let choices = c.self.inside.choices in
     let kept = c.self.inside.kept.items in
     let there = c.tail.inside.start.end in
-    let more = c.tail.inside.choices.items in
+    let more = c.tail.inside.choices in
     let tail = c.tail.inside.kept.items in
     let count = c.args.count in
     let near = c.within-near.result in
@@ -26,12 +26,10 @@ invariant_of-self-2 c =
     let is : there ≡ ran image (take count choices) start = ap (λ (s : Course). s.start) c.tail.view_is ∙ c.requires.start ∙ sym (ap (reached count) c.self.view_is) in
     let all : there.applied ≡ start.applied + count = ap (λ (s : Course). s.start.applied) c.tail.view_is ∙ c.requires.all ∙ sym (ap (λ (s : Course). s.start.applied + count) c.self.view_is) in
     let here : Parts c.deref.result.now (start.applied + count) near = subst (λ n. Parts c.deref.result.now (n + count) near) c.count.ensures c.within-near.ensures in
-    let parts : Parts kept (start.applied + count) near = subst (λ (ks : List Kept). Parts ks (start.applied + count) near) (c.deref.ensures.value ∙ c.in_ok-reserve-2.ensures.items) here in
+    let parts : Parts kept (start.applied + count) near = subst (λ (ks : List Kept). Parts ks (start.applied + count) near) (c.deref.ensures.value ∙ c.in_ok-reserve.ensures.items) here in
     let behind : AreKept (course image there more) tail = subst (λ (i : Loaded). AreKept (course i there more) tail) code c.tail.invariant in
-    let choices_are : c.append.new.self.items ≡ take count choices ++ more =
-    c.in_ok-append.ensures.items ∙ ap (λ (cs : List Choice). cs ++ more) (c.truncate-2.ensures.items ∙ ap (take count) c.in_ok-reserve.ensures.items) in
-    let cut : c.truncate.new.self.items ≡ take near kept = c.truncate.ensures.items ∙ ap (take near) c.in_ok-reserve-2.ensures.items in
-    let kept_are : c.append-2.new.self.items ≡ (if is_ok c.append-2.result then take near kept ++ tail else take near kept) =
-    c.append-2.ensures.items ∙ ap (λ (ks : List Kept). if is_ok c.append-2.result then ks ++ tail else ks) cut in
-    subst (λ (cs : List Choice). AreKept (course image start cs) c.append-2.new.self.items) (sym choices_are)
-    (joined_or_less image start there choices more count within is all kept tail c.append-2.new.self.items near (is_ok c.append-2.result) c.self.invariant parts behind kept_are)
+    let cut : c.truncate.new.self.items ≡ take near kept = c.truncate.ensures.items ∙ ap (take near) c.in_ok-reserve.ensures.items in
+    let kept_are : c.append.new.self.items ≡ (if is_ok c.append.result then take near kept ++ tail else take near kept) =
+    c.append.ensures.items ∙ ap (λ (ks : List Kept). if is_ok c.append.result then ks ++ tail else ks) cut in
+    subst (λ (cs : List Choice). AreKept (course image start cs) c.append.new.self.items) (sym c.in_ok-replace_tail.ensures.ok)
+    (joined_or_less image start there choices more count within is all kept tail c.append.new.self.items near (is_ok c.append.result) c.self.invariant parts behind kept_are)
