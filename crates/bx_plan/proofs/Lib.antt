@@ -23,3 +23,4 @@ pub mod Children
 pub mod Upward
 pub mod Stretching
 pub mod Loose
+pub mod Between

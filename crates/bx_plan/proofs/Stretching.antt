@@ -5,7 +5,7 @@ use Rattle.std.specs.Prelude.{MatchBool, IsTrue, OnErr, Result, Ok, Err}
 use Rattle.std.specs.List.Sorted.{IsNonDecreasingBy, IsPartitionPoint}
 use Rattle.std.proofs.lemmas.Bool.{cases_eq, cases_lt, leb-true, leb-false}
 use Rattle.std.proofs.lemmas.List.{append-nil, take_all, take_more, take_more_set, take-append-drop, take-take, length-set, length-replicate, length-take-le, length-drop, replicate-append-replicate, get_or_default, get_or-drop, get_or-take}
-use Rattle.std.proofs.Math.Seq.{drop-nil, drop-append_seam, take-append_seam, take-nil}
+use Rattle.std.proofs.Math.Seq.{drop-nil, take-nil}
 use Rattle.std.proofs.lemmas.List.Edits.{swap_is}
 use Rattle.std.proofs.lemmas.List.Sorted.{IsNonDecreasingBy-from_all_adjacent}
 use Rattle.bx_world.specs.declared.choices.Choice.{Choice}
@@ -272,35 +272,31 @@ joined_further ss s off j some =
 
 -- ---- chained
 
-abbrev pub Chained : List Stretch → List Stretch → List Stretch → Type 0
-Chained ss behind after = AreStretches 0 after × (choices_from 0 after ≡ choices_from 0 ss ++ choices_from (length (choices_from 0 ss)) behind)
+abbrev pub Chained : ℕ → List Stretch → List Stretch → List Stretch → Type 0
+Chained m ss behind after = AreStretches m after × (choices_from m after ≡ choices_from m ss ++ choices_from (end_of m ss) behind)
 
 pub last_is : (ss ys : List Stretch) → Meet ss ys → 0 < length ss
 last_is [] ys h = absurd h
 last_is (s ∷ ss) ys h = omega arith
 
-pub chain_on : (ss behind rest after : List Stretch) → AreStretches 0 ss → AreStretches (length (choices_from 0 ss)) behind → Meet ss behind → rest ≡ take (length ss - 1) ss → after ≡ rest ++ behind → Chained ss behind after
-chain_on ss [] rest after j k h e f = absurd (meet_none ss h)
-chain_on ss (y ∷ ys) rest after j k h e f =
+pub chain_on : (m : ℕ) (ss behind rest after : List Stretch) → AreStretches m ss → AreStretches (end_of m ss) behind → Meet ss behind → rest ≡ take (length ss - 1) ss → after ≡ rest ++ behind → Chained m ss behind after
+chain_on m ss [] rest after j k h e f = absurd (meet_none ss h)
+chain_on m ss (y ∷ ys) rest after j k h e f =
     let some = last_is ss (y ∷ ys) h in
     let last = length ss - 1 in
     let place : last + 1 ≡ length ss = omega (arith, some) in
     let r = get_or ss last no_stretch in
     let r_is : r ≡ get_or ss last r = get_or_default ss last no_stretch r (omega (arith, place)) in
     let split : ss ≡ take last ss ++ r ∷ [] = split_last ss last no_stretch place in
-    let end : r.past ≡ length (choices_from 0 ss) = omega (arith, end_last 0 ss last no_stretch place, count_end 0 ss j) in
-    let all = absorbed 0 (take last ss) r y ys (meet_last ss y ys last r place r_is h) (subst (AreStretches 0) split j) (subst (λ n. AreStretches n (y ∷ ys)) (sym end) k) in
+    let end : r.past ≡ end_of m ss = end_last m ss last no_stretch place in
+    let all = absorbed m (take last ss) r y ys (meet_last ss y ys last r place r_is h) (subst (AreStretches m) split j) (subst (λ n. AreStretches n (y ∷ ys)) (sym end) k) in
     let is : after ≡ take last ss ++ y ∷ ys = f ∙ ap (λ (xs : List Stretch). xs ++ y ∷ ys) e in (
-      subst (AreStretches 0) (sym is) all.0,
-      ap (choices_from 0) is ∙ all.1 ∙ ap (λ (xs : List Stretch). choices_from 0 xs ++ choices_from r.past (y ∷ ys)) (sym split) ∙ ap (λ n. choices_from 0 ss ++ choices_from n (y ∷ ys)) end,
+      subst (AreStretches m) (sym is) all.0,
+      ap (choices_from m) is ∙ all.1 ∙ ap (λ (xs : List Stretch). choices_from m xs ++ choices_from r.past (y ∷ ys)) (sym split) ∙ ap (λ n. choices_from m ss ++ choices_from n (y ∷ ys)) end,
     )
 
-pub chain_off : (ss behind after : List Stretch) → AreStretches 0 ss → AreStretches (length (choices_from 0 ss)) behind → (Meet ss behind → ⊥) → after ≡ ss ++ behind → Chained ss behind after
-chain_off ss behind after j k off f =
-    let end : end_of 0 ss ≡ length (choices_from 0 ss) = omega (arith, count_end 0 ss j) in (
-      subst (AreStretches 0) (sym f) (chained 0 ss behind j (subst (λ n. AreStretches n behind) (sym end) k) off),
-      ap (choices_from 0) f ∙ choices_append 0 ss behind ∙ ap (λ n. choices_from 0 ss ++ choices_from n behind) end,
-    )
+pub chain_off : (m : ℕ) (ss behind after : List Stretch) → AreStretches m ss → AreStretches (end_of m ss) behind → (Meet ss behind → ⊥) → after ≡ ss ++ behind → Chained m ss behind after
+chain_off m ss behind after j k off f = (subst (AreStretches m) (sym f) (chained m ss behind j k off), ap (choices_from m) f ∙ choices_append m ss behind)
 
 -- ---- cut off
 
@@ -517,7 +513,7 @@ set_turned i (x ∷ []) a b d h e f = absurd (omega (arith, h))
 set_turned zero (x ∷ y ∷ ss) a b d h e f = ap (λ (s : Stretch). (record { choice = b.choice; past = s.past }) ∷ (record { choice = s.choice; past = b.past }) ∷ ss) e ∙ ap (λ (s : Stretch). (record { choice = s.choice; past = x.past }) ∷ (record { choice = x.choice; past = s.past }) ∷ ss) f
 set_turned (suc i) (x ∷ y ∷ ss) a b d h e f = ap (λ (ys : List Stretch). x ∷ ys) (set_turned i (y ∷ ss) a b d (omega (arith, h)) e f)
 
-swap_there : (front : List Choice) (p q : ℕ) (a b : Choice) (more : List Choice) → p ≡ length front → q ≡ suc p → swap (front ++ a ∷ b ∷ more) p q ≡ front ++ b ∷ a ∷ more
+pub swap_there : (front : List Choice) (p q : ℕ) (a b : Choice) (more : List Choice) → p ≡ length front → q ≡ suc p → swap (front ++ a ∷ b ∷ more) p q ≡ front ++ b ∷ a ∷ more
 swap_there [] p q a b more e f = ap (λ i. swap (a ∷ b ∷ more) i q) e ∙ ap (λ i. swap (a ∷ b ∷ more) 0 i) (f ∙ ap suc e)
 swap_there (c ∷ front) zero q a b more e f = absurd (omega (arith, e))
 swap_there (c ∷ front) (suc p) zero a b more e f = absurd (omega (arith, f))
@@ -547,28 +543,7 @@ swap_from cs p a b more e h =
     let next : p + 1 ≡ suc p = omega arith in
     ap (λ xs. swap xs p (p + 1)) whole ∙ swap_there (take p cs) p (p + 1) a b more long next
 
-pub turned_rest : (cs : List Choice) (p : ℕ) (one two all : List Choice) → p + 1 < length cs → one ≡ [] ++ take (p + 2 - (p + 1)) (drop (p + 1) cs) → two ≡ one ++ take (p + 1 - p) (drop p cs) → all ≡ two ++ take (length cs - (p + 2)) (drop (p + 2) cs)
-    → all ≡ drop p (swap cs p (p + 1))
-turned_rest cs p one two all h e f g =
-    let at = drop_two cs p h in
-    let rest = drop (p + 2) cs in
-    let once : p + 2 - (p + 1) ≡ 1 = omega arith in
-    let again : p + 1 - p ≡ 1 = omega arith in
-    let one_is : one ≡ at.1 ∷ [] = e ∙ ap (λ n. take n (drop (p + 1) cs)) once ∙ ap (take 1) at.3 in
-    let two_is : two ≡ at.1 ∷ at.0 ∷ [] = f ∙ ap (λ n. one ++ take n (drop p cs)) again ∙ ap (λ xs. one ++ take 1 xs) at.2 ∙ ap (λ xs. xs ++ at.0 ∷ []) one_is in
-    let long : p ≡ length (take p cs) = sym (length-take-le p cs (omega (arith, h))) in
-    g ∙ ap (λ xs. two ++ xs) (rest_of (p + 2) cs) ∙ ap (λ xs. xs ++ rest) two_is
-    ∙ sym (ap (drop p) (swap_from cs p at.0 at.1 rest at.2 h) ∙ ap (λ i. drop i (take p cs ++ at.1 ∷ at.0 ∷ rest)) long ∙ drop-append_seam (take p cs) (at.1 ∷ at.0 ∷ rest))
-
-pub turned_all : (cs turned all : List Choice) (p : ℕ) → p + 1 < length cs → turned ≡ drop p (swap cs p (p + 1)) → all ≡ take p cs ++ turned → all ≡ swap cs p (p + 1)
-turned_all cs turned all p h e f =
-    let at = drop_two cs p h in
-    let swapped = swap_from cs p at.0 at.1 (drop (p + 2) cs) at.2 h in
-    let long : p ≡ length (take p cs) = sym (length-take-le p cs (omega (arith, h))) in
-    let front : take p cs ≡ take p (swap cs p (p + 1)) = sym (ap (take p) swapped ∙ ap (λ i. take i (take p cs ++ at.1 ∷ at.0 ∷ drop (p + 2) cs)) long ∙ take-append_seam (take p cs) (at.1 ∷ at.0 ∷ drop (p + 2) cs)) in
-    f ∙ ap (λ xs. xs ++ turned) front ∙ ap (λ xs. take p (swap cs p (p + 1)) ++ xs) e ∙ take-append-drop p (swap cs p (p + 1))
-
-meet_turned : (xs : List Stretch) (y z : Stretch) (ys zs : List Stretch) → z.choice ≡ y.choice → Meet xs (z ∷ zs) → Meet xs (y ∷ ys)
+pub meet_turned : (xs : List Stretch) (y z : Stretch) (ys zs : List Stretch) → z.choice ≡ y.choice → Meet xs (z ∷ zs) → Meet xs (y ∷ ys)
 meet_turned [] y z ys zs e h = h
 meet_turned (x ∷ []) y z ys zs e h = h ∙ e
 meet_turned (x ∷ w ∷ xs) y z ys zs e h = meet_turned (w ∷ xs) y z ys zs e h

@@ -13,6 +13,10 @@ runs_from made (stretch ∷ stretches) = record { choice = stretch.choice; times
 abbrev pub choices_from : ℕ → List Stretch → List Choice
 choices_from made stretches = spread_runs (runs_from made stretches)
 
+-- how many choices have been made before the stretch at i
+abbrev pub made_before : ℕ → List Stretch → ℕ
+made_before i stretches = length (choices_from 0 (take i stretches))
+
 -- each makes a choice, and no two neighbours are of the same
 abbrev pub AreStretches : ℕ → List Stretch → Type 0
 AreStretches made stretches = AreJoined (runs_from made stretches)
@@ -39,7 +43,7 @@ Meet (first ∷ second ∷ more) behind = Meet (second ∷ more) behind
 -- two stretches that make one choice each, and are not of the choice that stands before both or behind both
 pub record StandAlone (stretches : List Stretch) (at : ℕ) : Type 0 where
   pub there : at + 1 < length stretches
-  pub single : (d : Stretch) → (slice_index_or stretches (at + 1) d).past ≡ length (choices_from 0 (take at stretches)) + 2
+  pub single : (d : Stretch) → (slice_index_or stretches (at + 1) d).past ≡ made_before at stretches + 2
   pub before : Meet (take at stretches) (drop (at + 1) stretches) → ⊥
   pub behind : Meet (take 1 (drop at stretches)) (drop (at + 2) stretches) → ⊥
 

@@ -1,8 +1,9 @@
 //! Schedules: choices in a row, kept as stretches of equal ones.
 
-ghost use Rattle.std.specs.Prelude.{◌≡◌, ◌≢◌, ◌↔◌, ◌+◌, ◌-◌, ◌^◌, ◌<◌, ◌≤◌, ◌++◌, [], drop, length, replicate, slice_get, take, IsTrue, IfOk, OnOk, OnErr};
+ghost use Rattle.std.specs.Prelude.{◌≡◌, ◌≢◌, ◌↔◌, ◌+◌, ◌-◌, ◌^◌, ◌<◌, ◌≤◌, ◌++◌, [], ◌∷◌, drop, length, replicate, slice_get, take, IsTrue, IfOk, OnOk, OnErr};
 ghost use Rattle.std.specs.List.{swap};
 ghost use Rattle.bx_plan.specs.Runs.{spread_runs, AreLoose};
+ghost use Rattle.bx_plan.specs.Stretches.{choices_from, AreStretches};
 
 mod part;
 mod stretches;
@@ -12,7 +13,9 @@ use bx_world::Choice;
 pub use part::Part;
 use std::alloc::{AllocError, Global};
 use std::marker::Model;
-use stretches::{Stretch, chain, cut, exchange, join, made, over_by, put_off, stand_alone};
+use stretches::{
+    Stretch, chain, cut, exchange, join, made, over_by, put_between, put_off, stand_alone,
+};
 
 /// How many choices a schedule may make.
 const MOST: usize = usize::MAX / 2;
@@ -141,8 +144,8 @@ impl Schedule {
 
     /// Exchanges the choice at that position, from 0 on, and the one behind it.
     ///
-    /// It takes no memory, and the time to find a position, where both stand alone and join no neighbour then. Else it moves what
-    /// stands behind them.
+    /// It takes no memory where both stand alone and join no neighbour then. Else at most two stretches more stand there, or two less,
+    /// and those behind them are moved on.
     pub fn swap(&mut self, position: usize) -> Result<(), AllocError>
         requires { position + 1 < length self.old }
         ensures ok { OnOk result (self.new ≡ swap self.old position (position + 1)) }
@@ -153,23 +156,15 @@ impl Schedule {
             exchange(&mut self.stretches, at);
             return Ok(());
         }
-        let turned = self.turned(position)?;
-        self.replace_tail(position, turned)?;
+        let first = self.stretches[at];
+        if position + 1 < first.past {
+            return Ok(()); // both are of one stretch
+        }
+        let before = made(&self.stretches[..at]);
+        let second = self.stretches[at + 1];
+        let others = turned(*self.stretches.allocator(), before, first, second)?;
+        put_between(&mut self.stretches, at, others)?;
         Ok(())
-    }
-
-    /// The choices from that position on, the first two in each other's place.
-    fn turned(&self, position: usize) -> Result<Schedule, AllocError>
-        requires { position + 1 < length self.now }
-        ensures { IfOk result (λ turned. turned ≡ drop position (swap self.now position (position + 1))) }
-    {
-        let mut turned = Schedule::new(*self.stretches.allocator());
-        let behind = position + 1;
-        let rest = position + 2;
-        turned.append(self.part(behind, rest))?;
-        turned.append(self.part(position, behind))?;
-        turned.append(self.part(rest, self.len()))?;
-        Ok(turned)
     }
 
     /// How many choices it makes.
@@ -243,4 +238,29 @@ fn push_times(choices: &mut Vec<Choice>, run: Run) -> Result<(), AllocError>
         choices.push(run.choice)?;
     }
     Ok(())
+}
+
+/// The choices of two stretches behind so many others, the last one of the first and the first one of the second in each other's place.
+fn turned(
+    alloc: Global,
+    before: usize,
+    first: Stretch,
+    second: Stretch,
+) -> Result<Vec<Stretch>, AllocError>
+    requires first { before < first.past }
+    requires second { first.past < second.past }
+    requires few { second.past < 2 ^ 63 }
+    ensures joined { IfOk result (λ stretches. AreStretches before stretches.items) }
+    ensures choices { IfOk result (λ stretches. choices_from before stretches.items ≡
+        replicate (first.past - before - 1) first.choice ++ second.choice ∷ first.choice ∷
+        replicate (second.past - first.past - 1) second.choice) }
+{
+    let mut turned = Schedule::new(alloc);
+    turned.push(first.choice, first.past - before - 1)?;
+    turned.push(second.choice, 1)?;
+    turned.push(first.choice, 1)?;
+    turned.push(second.choice, second.past - first.past - 1)?;
+    let Schedule { mut stretches } = turned;
+    put_off(&mut stretches, before);
+    Ok(stretches)
 }

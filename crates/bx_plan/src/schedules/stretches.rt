@@ -1,8 +1,8 @@
 //! Stretches of equal choices in a row.
 
-ghost use Rattle.std.specs.Prelude.{◌≡◌, ℕ, ◌+◌, ◌^◌, ◌<◌, ◌≤◌, ◌↔◌, ◌++◌, length, replicate, take, IsTrue, MatchBool, OnOk, OnErr};
+ghost use Rattle.std.specs.Prelude.{◌≡◌, ℕ, ◌+◌, ◌^◌, ◌<◌, ◌≤◌, ◌↔◌, ◌++◌, drop, length, replicate, take, IsTrue, MatchBool, OnOk, OnErr};
 ghost use Rattle.std.specs.Vec.{vec_capacity};
-ghost use Rattle.bx_plan.specs.Stretches.{choices_from, exchanged_at, runs_from, AreStretches, Meet, IsOverBy, StandAlone};
+ghost use Rattle.bx_plan.specs.Stretches.{choices_from, exchanged_at, made_before, runs_from, AreStretches, Meet, IsOverBy, StandAlone};
 
 use bx_share::Same;
 use bx_world::Choice;
@@ -148,4 +148,38 @@ pub(super) fn exchange(stretches: &mut Vec<Stretch>, at: usize)
     let choice = stretches[at].choice;
     stretches[at].choice = stretches[at + 1].choice;
     stretches[at + 1].choice = choice;
+}
+
+/// Puts others in the place of the stretch of that number and of the one behind it, as many choices as these make. Where a neighbour is
+/// of the same choice, it and the one next to it are one.
+pub(super) fn put_between(
+    stretches: &mut Vec<Stretch>,
+    at: usize,
+    others: Vec<Stretch>,
+) -> Result<(), AllocError>
+    requires joined { AreStretches 0 stretches.old.items }
+    requires within { at + 1 < length stretches.old.items }
+    requires others { AreStretches (made_before at stretches.old.items) others.items }
+    requires as_many { made_before at stretches.old.items +
+        length (choices_from (made_before at stretches.old.items) others.items) ≡
+        made_before (at + 2) stretches.old.items }
+    ensures joined { OnOk result (AreStretches 0 stretches.new.items) }
+    ensures choices { OnOk result (choices_from 0 stretches.new.items ≡
+        choices_from 0 (take at stretches.old.items) ++
+        (choices_from (made_before at stretches.old.items) others.items ++
+        choices_from (made_before (at + 2) stretches.old.items) (drop (at + 2) stretches.old.items))) }
+    ensures err { OnErr result (stretches.new.items ≡ stretches.old.items) }
+{
+    let past = at + 2;
+    let first = if meet(&stretches[..at], &others) {
+        at - 1
+    } else {
+        at
+    };
+    let mut middle = others;
+    if meet(&middle, &stretches[past..]) {
+        middle.pop();
+    }
+    stretches.splice(first..past, middle)?;
+    Ok(())
 }
