@@ -7,12 +7,14 @@ ghost use Rattle.bx_plan.specs.Plans.{plan_of, TakesMemory};
 ghost use Rattle.bx_plan.specs.Reading.{parts_of};
 
 mod building;
+mod keys;
 mod readers;
 mod sameness;
 
 use crate::parts::Parts;
 use crate::trees::{Edge, Growing};
 use bx_terms::{Fault, Name};
+use keys::NameKey;
 use std::alloc::{AllocError, Global};
 use std::collections::BTreeSet;
 use std::marker::Model;
@@ -77,7 +79,7 @@ struct Builder<'a> {
     alloc: Global,
     lines: Vec<NamedEnd>,
     tree: Growing,
-    names: BTreeSet<&'a str>,
+    names: BTreeSet<NameKey<'a>>,
 }
 
 /// Reads a plan: UTF-8 lines, each ended by a line feed, which the last may lack.

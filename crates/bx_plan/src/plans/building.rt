@@ -10,6 +10,7 @@ ghost use Rattle.bx_plan.specs.Planned.{schedules, IsPlanned};
 ghost use Rattle.bx_plan.specs.Plans.{with_read, with_schedule, choices_of, TakesFirst};
 ghost use Rattle.bx_plan.specs.Reading.{line_of, spread};
 
+use super::keys::NameKey;
 use super::{Builder, NamedEnd, Plan};
 use crate::entries::MOST_CHOICES;
 use crate::lines::{Heading, Line, line_of};
@@ -54,13 +55,14 @@ impl<'a> Builder<'a> {
             (with_schedule number (so_far self.old) (heading.entry.name.now, spread entries)) }
     {
         let Heading { name, entries } = heading;
+        let key = NameKey::of(name);
         if entries.count > MOST_CHOICES {
-            if self.names.contains(name) {
+            if self.names.contains(&key) {
                 return Err(Fault::NameTwice { line: number });
             }
             return Err(Fault::TooLong { line: number });
         }
-        let Ok(is_new) = self.names.insert(name) else {
+        let Ok(is_new) = self.names.insert(key) else {
             return Err(Fault::Memory);
         };
         if !is_new {
