@@ -1,11 +1,14 @@
 -- A list of choices in a world: how many were applied, and the one that was refused. Nothing more happens after a trap, nor after the
 -- first choice that is not enabled.
-use Rattle.std.specs.Prelude.{◌≡◌, ◌<◌, ◌≤◌, IsTrue, ℕ, ◌+◌, List, [], ◌∷◌, replicate, Option, Some, None, Result, Ok, Err, is_some, ◌||◌, if◌then◌else◌, refl}
+use Rattle.std.specs.Prelude.{◌≡◌, ◌<◌, ◌≤◌, IsTrue, ℕ, ◌+◌, List, [], ◌∷◌, replicate, Option, Some, None, Result, Ok, Err, IsOk, IsErr, is_some, ◌||◌, if◌then◌else◌, refl}
+use Rattle.std.specs.declared.alloc.AllocError.{AllocError}
 use Rattle.std.specs.Coded.{Coded, code_by, coded×, coded_ℕ, coded_option}
 use Rattle.bx_terms.specs.declared.faults.Fault.{Fault}
-use Rattle.bx_terms.specs.declared.faults.Fault.TheVariants.{Memory, NotEnabled}
+use Rattle.bx_terms.specs.declared.faults.Fault.TheVariants as faults
 use Rattle.bx_load.specs.Image.{Loaded}
 use Rattle.bx_world.specs.declared.choices.Choice.{Choice}
+use Rattle.bx_world.specs.declared.turns.Tried.{Tried}
+use Rattle.bx_world.specs.declared.turns.Tried.TheVariants.{NotEnabled, Memory}
 use Rattle.bx_world.specs.World.{State}
 use Rattle.bx_world.specs.Enabled.{can}
 use Rattle.bx_world.specs.Choosing.{chosen}
@@ -54,18 +57,16 @@ Lacks image choice times old new = (n : ℕ) × (n < times) × (new ≡ ran imag
 -- many equal choices: all of them, or those before memory runs out
 abbrev pub DoesMany : Loaded → Choice → ℕ → Ended → Ended → Result (Unit {0}) Fault → Type 0
 DoesMany image choice times old new (Ok done) = new ≡ ran image (replicate times choice) old
-DoesMany image choice times old new (Err Memory) = Lacks image choice times old new
+DoesMany image choice times old new (Err faults.Memory) = Lacks image choice times old new
 DoesMany image choice times old new (Err fault) = ⊥
 
 -- some of them, and how many
-abbrev pub DoesSome : Loaded → Choice → ℕ → Ended → Ended → Result ℕ Fault → Type 0
+abbrev pub DoesSome : Loaded → Choice → ℕ → Ended → Ended → Result ℕ AllocError → Type 0
 DoesSome image choice times old new (Ok n) = (0 < n) × (n ≤ times) × (new ≡ ran image (replicate n choice) old)
-DoesSome image choice times old new (Err Memory) = Lacks image choice times old new
-DoesSome image choice times old new (Err fault) = ⊥
+DoesSome image choice times old new (Err failed) = Lacks image choice times old new
 
 -- what a choice that was tried leaves: it is counted, or kept where it was not enabled
-abbrev pub Notes : Choice → Result (Unit {0}) Fault → Ended → Ended → Result (Unit {0}) Fault → Type 0
-Notes choice (Ok done) old new answer = (answer ≡ Ok tt) × (new ≡ record old { applied = old.applied + 1 })
-Notes choice (Err NotEnabled) old new answer = (answer ≡ Ok tt) × (new ≡ record old { refused = Some choice })
-Notes choice (Err Memory) old new answer = (answer ≡ Err Memory) × (new ≡ old)
-Notes choice (Err fault) old new answer = (answer ≡ Ok tt) × (new ≡ old)
+abbrev pub Notes : Choice → Tried → Ended → Ended → Result (Unit {0}) AllocError → Type 0
+Notes choice NotEnabled old new answer = IsOk answer × (new ≡ record old { refused = Some choice })
+Notes choice Memory old new answer = IsErr answer × (new ≡ old)
+Notes choice came old new answer = IsOk answer × (new ≡ record old { applied = old.applied + 1 })

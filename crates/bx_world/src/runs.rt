@@ -6,13 +6,13 @@ ghost use Rattle.bx_world.specs.Running.{advanced, AdvanceTakes, DoesMany, DoesS
 
 use crate::choices::Choice;
 use crate::lanes::Lanes;
-use crate::turns::Batch;
+use crate::turns::{Batch, Tried};
 use crate::world::World;
 use bx_load::Image;
 use bx_proc::Proc;
 use bx_share::Hold;
 use bx_terms::Fault;
-use std::alloc::Global;
+use std::alloc::{AllocError, Global};
 use std::marker::Model;
 
 /// Where a list of choices has led: the world, how many of the choices were applied, and the one that was refused, where one was.
@@ -97,7 +97,7 @@ pub fn advance_many<P: Hold<Proc>, C: Hold<Lanes>>(
     while left > 0 {
         match advance_some(alloc, end, image, choice, left) {
             Ok(made) => left -= made,
-            Err(fault) => return Err(fault),
+            Err(_) => return Err(Fault::Memory),
         }
     }
     Ok(())
@@ -111,7 +111,7 @@ fn advance_some<P: Hold<Proc>, C: Hold<Lanes>>(
     image: &Image,
     choice: Choice,
     times: u64,
-) -> Result<u64, Fault>
+) -> Result<u64, AllocError>
     requires some { 0 < times }
     requires few { end.old.applied + times ≤ u64.MAX }
     ensures { DoesSome image.now choice times end.old end.new result }
@@ -121,13 +121,11 @@ fn advance_some<P: Hold<Proc>, C: Hold<Lanes>>(
     }
     let Batch { ran, last } = end.world.apply_some(alloc, image, choice, times);
     end.applied += ran;
-    let Some(last) = last else {
+    let Some(tried) = last else {
         return Ok(ran);
     };
-    match note(end, choice, last) {
-        Ok(()) => Ok(ran + 1),
-        Err(fault) => Err(fault),
-    }
+    note(end, choice, tried)?;
+    Ok(ran + 1)
 }
 
 /// Counts a choice that was applied, and keeps one that was not enabled.
@@ -135,16 +133,15 @@ fn advance_some<P: Hold<Proc>, C: Hold<Lanes>>(
 fn note<P: Hold<Proc>, C: Hold<Lanes>>(
     end: &mut RunEnd<P, C>,
     choice: Choice,
-    done: Result<(), Fault>,
-) -> Result<(), Fault>
+    tried: Tried,
+) -> Result<(), AllocError>
     requires { end.old.applied < u64.MAX }
-    ensures { Notes choice done end.old end.new result }
+    ensures { Notes choice tried end.old end.new result }
 {
-    match done {
-        Ok(()) => end.applied += 1,
-        Err(Fault::NotEnabled) => end.refused = Some(choice),
-        Err(Fault::Memory) => return Err(Fault::Memory),
-        Err(_) => {} // the world has trapped: nothing changes any more
+    match tried {
+        Tried::Done | Tried::Trapped(_) => end.applied += 1,
+        Tried::NotEnabled => end.refused = Some(choice),
+        Tried::Memory => return Err(AllocError),
     }
     Ok(())
 }

@@ -1,10 +1,9 @@
 //! The life of one pid, as it is kept.
 
-ghost use Rattle.std.specs.Prelude.{◌≡◌, ◌↔◌, ◌<◌, Some, IsTrue, IfOk};
+ghost use Rattle.std.specs.Prelude.{◌≡◌, ◌↔◌, Some, IsTrue, IfOk};
 ghost use Rattle.bx_terms.specs.Outcomes.{Does};
 ghost use Rattle.bx_terms.specs.Tree.{Tree};
 ghost use Rattle.bx_world.specs.Acting.{life_acted, exited_acted, MayLack};
-ghost use Rattle.bx_world.specs.Batches.{Fits, LifeRunsOn, life_after, turn_after};
 ghost use Rattle.bx_world.specs.Enabled.{may_run, may_expire};
 ghost use Rattle.bx_world.specs.Lives.{life};
 ghost use Rattle.bx_world.specs.Seen.{life_of, status_of, place_of};
@@ -12,11 +11,10 @@ ghost use Rattle.bx_world.specs.World.{Gone};
 
 use crate::actors::Actor;
 use crate::acts::Act;
-use crate::bursts::run_on;
 use crate::delivering::receive_gone;
 use crate::lanes::Lanes;
 use crate::shown::Shown;
-use crate::turns::{Batch, Turn};
+use crate::turns::Turn;
 use bx_proc::{Proc, Status};
 use bx_share::{Hold, Same};
 use bx_terms::{Fault, Place, Term};
@@ -53,52 +51,6 @@ impl<P: Hold<Proc>> Slot<P> {
                 Ok(Turn::Ran)
             }
             turn => Ok(turn),
-        }
-    }
-
-    /// Runs the process of this pid, at most so many times. Where it ends, its reason takes its place.
-    #[inline(always)]
-    pub(crate) fn run<C: Hold<Lanes>>(
-        &mut self,
-        by: Actor<'_>,
-        lanes: &mut C,
-        times: u64,
-    ) -> Batch<Turn>
-        requires { 0 < times }
-        ensures fits { Fits times result.ran result.last }
-        ensures done { LifeRunsOn by.entry.image.now by.entry.pid
-            (life P.shown self.old, C.shown lanes.old) (life P.shown self.new, C.shown lanes.new)
-            result.ran result.last }
-    {
-        let Slot::Live(holder) = self else {
-            return Batch {
-                ran: 0,
-                last: Some(Err(Fault::NotEnabled)),
-            };
-        };
-        let Batch { ran, last } = run_on(by, holder, lanes, times);
-        let Some(last) = last else {
-            return Batch { ran, last: None };
-        };
-        let last = self.stay(last);
-        Batch {
-            ran,
-            last: Some(last),
-        }
-    }
-
-    /// What was done to a process; where it has ended, its reason takes its place.
-    #[inline(always)]
-    fn stay(&mut self, done: Result<Turn, Fault>) -> Result<Turn, Fault>
-        ensures life { life P.shown self.new ≡ life_after (life P.shown self.old) done }
-        ensures turn { result ≡ turn_after done }
-    {
-        match done {
-            Ok(Turn::Ended(reason)) => {
-                *self = Slot::Gone(reason);
-                Ok(Turn::Ran)
-            }
-            done => done,
         }
     }
 }

@@ -1,4 +1,7 @@
-//! What a choice was at one process.
+//! What a choice was at one process, and what came of it.
+
+ghost use Rattle.std.specs.Prelude.{◌≡◌, Some};
+ghost use Rattle.bx_world.specs.Batches.{tried_of, answer_of};
 
 use crate::requests::Birth;
 use bx_terms::{Fault, Term, Trap};
@@ -15,11 +18,62 @@ pub enum Turn {
     Bears(Birth),
 }
 
+/// What came of a choice that was tried, in few enough bytes to lie in a register.
+#[derive(Clone, Copy, Debug)]
+pub enum Tried {
+    Done,
+    /// It had no meaning: the world has trapped.
+    Trapped(Trap),
+    NotEnabled,
+    /// Memory ran out, and nothing has changed.
+    Memory,
+}
+
+impl Tried {
+    /// What a turn comes to, once its process and the others have changed by it.
+    pub(crate) fn of(done: Result<Turn, Fault>) -> Tried
+        ensures { result ≡ tried_of done }
+    {
+        match done {
+            Ok(Turn::Trapped(kind)) => Tried::Trapped(kind),
+            Ok(_) => Tried::Done,
+            Err(Fault::Memory) => Tried::Memory,
+            Err(_) => Tried::NotEnabled,
+        }
+    }
+
+    /// What is answered of a choice in a world.
+    #[inline(always)]
+    pub(crate) fn answer(self) -> Result<(), Fault>
+        ensures { result ≡ answer_of self }
+    {
+        match self {
+            Tried::Done | Tried::Trapped(_) => Ok(()),
+            Tried::NotEnabled => Err(Fault::NotEnabled),
+            Tried::Memory => Err(Fault::Memory),
+        }
+    }
+}
+
 /// How far equal choices went.
-#[derive(Debug, Drop)]
-pub struct Batch<A> {
+#[derive(Clone, Copy, Debug)]
+pub struct Batch {
     /// How many runs are done that concern their process alone.
     pub ran: u64,
-    /// What the choice behind them was, where one more was tried.
-    pub last: Option<Result<A, Fault>>,
+    /// What came of the choice behind them, where one more was tried.
+    pub last: Option<Tried>,
+}
+
+impl Batch {
+    /// None ran alone, and one was tried.
+    #[inline(always)]
+    pub(crate) fn one(tried: Tried) -> Batch
+        ensures ran { result.ran ≡ 0 }
+        ensures last { result.last ≡ Some tried }
+    {
+        Batch {
+            ran: 0,
+            last: Some(tried),
+        }
+    }
 }

@@ -6,7 +6,7 @@ ghost use Rattle.bx_load.specs.Image.{export};
 ghost use Rattle.bx_world.specs.World.{started};
 ghost use Rattle.bx_world.specs.Enabled.{enabled, open_choices, can};
 ghost use Rattle.bx_world.specs.Choosing.{applied};
-ghost use Rattle.bx_world.specs.Batches.{Fits, WorldActs, WorldRunsOn, state_after, told_after};
+ghost use Rattle.bx_world.specs.Batches.{Fits, WorldActs, WorldRunsOn, state_after};
 ghost use Rattle.bx_world.specs.declared.choices.Choice.TheVariants as choices;
 ghost use Rattle.bx_world.specs.Seen.{life_of, seen, standing_of, place_in};
 
@@ -18,7 +18,7 @@ use crate::lanes::Lanes;
 use crate::outcomes::{Outcome, Standing};
 use crate::procs::Procs;
 use crate::shown::Shown;
-use crate::turns::{Batch, Turn};
+use crate::turns::{Batch, Tried};
 use bx_load::Image;
 use bx_proc::Proc;
 use bx_share::{ArcHold, Hold, RcHold, Same};
@@ -136,8 +136,11 @@ impl<P: Hold<Proc>, C: Hold<Lanes>> World<P, C> {
         ensures { Does (IsTrue (can self.old choice)) self.old self.new result
             (applied image.now choice self.old) }
     {
+        if self.trap.is_some() {
+            return Err(Fault::Halted);
+        }
         match self.apply_some(alloc, image, choice, 1).last {
-            Some(done) => done,
+            Some(tried) => tried.answer(),
             None => Ok(()),
         }
     }
@@ -151,73 +154,56 @@ impl<P: Hold<Proc>, C: Hold<Lanes>> World<P, C> {
         image: &Image,
         choice: Choice,
         times: u64,
-    ) -> Batch<()>
-        requires { 0 < times }
+    ) -> Batch
+        requires going { self.old.trap ≡ None }
+        requires some { 0 < times }
         ensures fits { Fits times result.ran result.last }
         ensures done { WorldRunsOn image.now choice self.old self.new result.ran result.last }
     {
-        if self.trap.is_some() {
-            return Batch {
-                ran: 0,
-                last: Some(Err(Fault::Halted)),
-            };
-        }
         match choice {
             Choice::Run(pid) => self.run(Actor { alloc, image, pid }, times),
-            Choice::Deliver(from, pid) => Batch {
-                ran: 0,
-                last: Some(self.act(Actor { alloc, image, pid }, Act::Hear(from))),
-            },
-            Choice::Expire(pid) => Batch {
-                ran: 0,
-                last: Some(self.act(Actor { alloc, image, pid }, Act::Expire)),
-            },
+            Choice::Deliver(from, pid) => {
+                Batch::one(self.act(Actor { alloc, image, pid }, Act::Hear(from)))
+            }
+            Choice::Expire(pid) => Batch::one(self.act(Actor { alloc, image, pid }, Act::Expire)),
         }
     }
 
     /// Runs a process, at most so many times.
     #[inline(always)]
-    fn run(&mut self, by: Actor<'_>, times: u64) -> Batch<()>
+    fn run(&mut self, by: Actor<'_>, times: u64) -> Batch
         requires going { self.old.trap ≡ None }
         requires some { 0 < times }
         ensures fits { Fits times result.ran result.last }
         ensures done { WorldRunsOn by.entry.image.now (choices.Run by.entry.pid) self.old self.new
             result.ran result.last }
     {
-        let Batch { ran, last } = self.procs.run(by, &mut self.lanes, times);
-        let Some(last) = last else {
-            return Batch { ran, last: None };
+        let batch = self.procs.run(by, &mut self.lanes, times);
+        let Some(tried) = batch.last else {
+            return batch;
         };
-        let last = self.stop_if_trapped(by.pid, last);
-        Batch {
-            ran,
-            last: Some(last),
-        }
+        self.stop_if_trapped(by.pid, tried);
+        batch
     }
 
     /// Has a process do what it is to do, where it can do it.
     #[inline(never)]
-    fn act(&mut self, by: Actor<'_>, act: Act) -> Result<(), Fault>
+    fn act(&mut self, by: Actor<'_>, act: Act) -> Tried
         requires { self.old.trap ≡ None }
         ensures { WorldActs by.entry.image.now by.entry.pid act self.old self.new result }
     {
-        let done = self.procs.act(by, &mut self.lanes, act);
-        self.stop_if_trapped(by.pid, done)
+        let tried = Tried::of(self.procs.act(by, &mut self.lanes, act));
+        self.stop_if_trapped(by.pid, tried);
+        tried
     }
 
     /// After a trap no choice is enabled any more.
     #[inline(always)]
-    fn stop_if_trapped(&mut self, pid: u32, done: Result<Turn, Fault>) -> Result<(), Fault>
-        ensures world { self.new ≡ state_after pid self.old done }
-        ensures told { result ≡ told_after done }
+    fn stop_if_trapped(&mut self, pid: u32, tried: Tried)
+        ensures { self.new ≡ state_after pid self.old tried }
     {
-        match done {
-            Ok(Turn::Trapped(kind)) => {
-                self.trap = Some((kind, pid));
-                Ok(())
-            }
-            Ok(_) => Ok(()),
-            Err(refused) => Err(refused),
+        if let Tried::Trapped(kind) = tried {
+            self.trap = Some((kind, pid));
         }
     }
 

@@ -1,5 +1,5 @@
 use Rattle.std.proofs.Common.{◌-◌, arith}
-use Rattle.bx_world.proofs.Many.{few_made, more_made, many_lack}
+use Rattle.bx_world.proofs.Many.{few_made, more_made, lacks_later}
 use Rattle.bx_world.proofs.runs.advance_many.Goals as goal
 
 pub advance_some-requires-clause-few : goal.advance_some-requires-clause-few
@@ -15,4 +15,4 @@ loop-left-preserved g c = (
 
 pub returns-in-Err : goal.returns-in-Err
 returns-in-Err g c =
-    many_lack c.args.image.now c.args.choice c.args.times c.loop-left.left c.in-Err.fault c.args.end.now c.loop-left.end c.advance_some.new.end c.loop-left.invariant.0 c.loop-left.invariant.1 c.in-Err.ensures
+    lacks_later c.args.image.now c.args.choice c.args.times c.loop-left.left c.args.end.now c.loop-left.end c.advance_some.new.end c.loop-left.invariant.0 c.loop-left.invariant.1 c.in-Err.ensures

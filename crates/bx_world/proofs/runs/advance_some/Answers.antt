@@ -1,8 +1,8 @@
 use Rattle.std.proofs.Common.{◌≡◌, ◌<◌, ◌+◌, false, None, Some, Ok, Err, refl, sym, ap, subst, ◌∙◌, arith}
-use Rattle.std.specs.Prelude.{Option, Result, Bool, is_some, ◌||◌}
-use Rattle.bx_terms.specs.declared.faults.Fault.{Fault}
+use Rattle.std.specs.Prelude.{Option, Bool, is_some, ◌||◌}
+use Rattle.bx_world.specs.declared.turns.Tried.{Tried}
 use Rattle.bx_world.specs.Batches.{Fits, WorldRunsOn}
-use Rattle.bx_world.specs.Running.{Ended, DoesSome}
+use Rattle.bx_world.specs.Running.{Ended, DoesSome, Lacks}
 use Rattle.bx_world.proofs.Many.{some_ended, none_tried, noted_ok, noted_err}
 use Rattle.bx_world.proofs.runs.advance_some.Goals as goal
 
@@ -20,43 +20,43 @@ returns-in_default g c =
     let old : Ended = record { world = c.end.inside.world; applied = c.end.inside.applied; refused = c.end.inside.refused } in
     let new = c.apply_some-ran.new.self in
     let ran = c.apply_some-ran.result.ran in
-    let going : old.refused ≡ None = ap (λ (e : Ended). e.refused) c.end.view_is ∙ fresh c.args.end.now.refused (is_some c.args.end.now.world.trap) (sym c.is_over.ensures ∙ c.if-is_over.false) in
+    let free : old.refused ≡ None = ap (λ (e : Ended). e.refused) c.end.view_is ∙ fresh c.args.end.now.refused (is_some c.args.end.now.world.trap) (sym c.is_over.ensures ∙ c.if-is_over.false) in
     subst (λ (e : Ended). DoesSome image choice c.args.times e (record old { world = new; applied = old.applied + ran }) (Ok ran)) c.end.view_is
-    (none_tried image choice c.args.times ran old new going
-    (subst (λ (o : Option (Result (Unit {0}) Fault)). Fits c.args.times ran o) c.in_default.is c.apply_some-ran.ensures.fits)
-    (subst (λ (o : Option (Result (Unit {0}) Fault)). WorldRunsOn image choice old.world new ran o) c.in_default.is c.apply_some-ran.ensures.done))
+    (none_tried image choice c.args.times ran old new free
+    (subst (λ (o : Option Tried). Fits c.args.times ran o) c.in_default.is c.apply_some-ran.ensures.fits)
+    (subst (λ (o : Option Tried). WorldRunsOn image choice old.world new ran o) c.in_default.is c.apply_some-ran.ensures.done))
 
 pub note-requires : goal.note-requires
 note-requires g c =
     let ran = c.apply_some-ran.result.ran in
-    let few : ran < c.args.times = subst (λ (o : Option (Result (Unit {0}) Fault)). Fits c.args.times ran o) c.in-Some.is c.apply_some-ran.ensures.fits in
+    let few : ran < c.args.times = subst (λ (o : Option Tried). Fits c.args.times ran o) c.in-Some.is c.apply_some-ran.ensures.fits in
     let same : c.end.inside.applied ≡ c.args.end.now.applied = ap (λ (e : Ended). e.applied) c.end.view_is in
     omega (arith, few, same, c.requires.few)
 
-pub returns-in-Ok : goal.returns-in-Ok
-returns-in-Ok g c =
+pub returns : goal.returns
+returns g c =
     let image = c.args.image.now in
     let choice = c.args.choice in
     let old : Ended = record { world = c.end.inside.world; applied = c.end.inside.applied; refused = c.end.inside.refused } in
     let new = c.apply_some-ran.new.self in
     let ran = c.apply_some-ran.result.ran in
     let last = c.note.new.end in
-    let going : old.refused ≡ None = ap (λ (e : Ended). e.refused) c.end.view_is ∙ fresh c.args.end.now.refused (is_some c.args.end.now.world.trap) (sym c.is_over.ensures ∙ c.if-is_over.false) in
-    let few : ran < c.args.times = subst (λ (o : Option (Result (Unit {0}) Fault)). Fits c.args.times ran o) c.in-Some.is c.apply_some-ran.ensures.fits in
+    let free : old.refused ≡ None = ap (λ (e : Ended). e.refused) c.end.view_is ∙ fresh c.args.end.now.refused (is_some c.args.end.now.world.trap) (sym c.is_over.ensures ∙ c.if-is_over.false) in
+    let few : ran < c.args.times = subst (λ (o : Option Tried). Fits c.args.times ran o) c.in-Some.is c.apply_some-ran.ensures.fits in
     subst (λ (e : Ended). DoesSome image choice c.args.times e last (Ok (ran + 1))) c.end.view_is
-    (noted_ok image choice c.args.times ran old new last c.in-Some.last going few
-    (subst (λ (o : Option (Result (Unit {0}) Fault)). WorldRunsOn image choice old.world new ran o) c.in-Some.is c.apply_some-ran.ensures.done) c.in-Ok.ensures)
+    (noted_ok image choice c.args.times ran old new last c.in-Some.tried tt free few
+    (subst (λ (o : Option Tried). WorldRunsOn image choice old.world new ran o) c.in-Some.is c.apply_some-ran.ensures.done) c.in_ok-note.ensures)
 
-pub returns-in-Err : goal.returns-in-Err
-returns-in-Err g c =
+pub returns-in_err-note : goal.returns-in_err-note
+returns-in_err-note g c =
     let image = c.args.image.now in
     let choice = c.args.choice in
     let old : Ended = record { world = c.end.inside.world; applied = c.end.inside.applied; refused = c.end.inside.refused } in
     let new = c.apply_some-ran.new.self in
     let ran = c.apply_some-ran.result.ran in
     let last = c.note.new.end in
-    let going : old.refused ≡ None = ap (λ (e : Ended). e.refused) c.end.view_is ∙ fresh c.args.end.now.refused (is_some c.args.end.now.world.trap) (sym c.is_over.ensures ∙ c.if-is_over.false) in
-    let few : ran < c.args.times = subst (λ (o : Option (Result (Unit {0}) Fault)). Fits c.args.times ran o) c.in-Some.is c.apply_some-ran.ensures.fits in
-    subst (λ (e : Ended). DoesSome image choice c.args.times e last (Err c.in-Err.fault)) c.end.view_is
-    (noted_err image choice c.args.times ran old new last c.in-Some.last c.in-Err.fault going few
-    (subst (λ (o : Option (Result (Unit {0}) Fault)). WorldRunsOn image choice old.world new ran o) c.in-Some.is c.apply_some-ran.ensures.done) c.in-Err.ensures)
+    let free : old.refused ≡ None = ap (λ (e : Ended). e.refused) c.end.view_is ∙ fresh c.args.end.now.refused (is_some c.args.end.now.world.trap) (sym c.is_over.ensures ∙ c.if-is_over.false) in
+    let few : ran < c.args.times = subst (λ (o : Option Tried). Fits c.args.times ran o) c.in-Some.is c.apply_some-ran.ensures.fits in
+    subst (λ (e : Ended). Lacks image choice c.args.times e last) c.end.view_is
+    (noted_err image choice c.args.times ran old new last c.in-Some.tried c.in_err-note.field-0 free few
+    (subst (λ (o : Option Tried). WorldRunsOn image choice old.world new ran o) c.in-Some.is c.apply_some-ran.ensures.done) c.in_err-note.ensures)

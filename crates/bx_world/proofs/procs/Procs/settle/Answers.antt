@@ -1,0 +1,37 @@
+use Rattle.std.proofs.Common.{◌≡◌, Ok, map, sym, ap, subst, ◌∙◌}
+use Rattle.std.specs.Prelude.{List, Result}
+use Rattle.std.proofs.Math.ListN.{set}
+use Rattle.std.proofs.lemmas.List.{map-set}
+use Rattle.bx_terms.specs.declared.faults.Fault.{Fault}
+use Rattle.bx_world.specs.declared.lanes.Lanes.{Lanes}
+use Rattle.bx_world.specs.declared.slots.Slot.TheVariants as slots
+use Rattle.bx_world.specs.declared.turns.Turn.{Turn}
+use Rattle.bx_world.specs.declared.turns.Tried.{Tried}
+use Rattle.bx_world.specs.Batches.{RunsOnce, RunsWhole, lives_after, turn_after}
+use Rattle.bx_world.specs.Lives.{life}
+use Rattle.bx_world.specs.World.{Life, Gone}
+use Rattle.bx_world.proofs.Batches.{an_end, a_child}
+use Rattle.bx_world.proofs.procs.Procs.settle.Goals as goal
+
+pub returns-in-Ok-Ended : goal.returns-in-Ok-Ended
+returns-in-Ok-Ended g c = λ before asked.
+    let image = c.args.by.image.now in
+    let pid = c.args.by.pid in
+    let seen = life g.P.Hold.shown in
+    let old = c.args.self.now in
+    let all = c.self.inside.slots.items in
+    let l = g.C.Hold.shown c.args.lanes.now in
+    let reason = c.in-Ok-Ended.reason in
+    an_end image pid before old (map seen (set all pid (slots.Gone reason))) l reason (map-set seen all pid (slots.Gone reason) ∙ ap (λ (xs : List Life). set xs pid (Gone reason)) c.self.view_is)
+    (subst (λ (r : Result Turn Fault). RunsOnce image pid before (lives_after pid old r, l) (turn_after r)) (c.in-Ok-Ended.is ∙ ap Ok c.in-Ok-Ended.field-0-is) asked)
+
+pub returns-in-Ok-Bears : goal.returns-in-Ok-Bears
+returns-in-Ok-Bears g c = λ before asked.
+    let image = c.args.by.image.now in
+    let pid = c.args.by.pid in
+    let old = c.args.self.now in
+    let l = g.C.Hold.shown c.args.lanes.now in
+    let new : List Life × Lanes = (c.bear.new.self, g.C.Hold.shown c.bear.new.lanes) in
+    subst (λ (t : Tried). RunsWhole image pid before new t) (sym c.of.ensures)
+    (a_child image pid before (old, l) new c.in-Ok-Bears.birth c.bear.result c.bear.ensures
+    (subst (λ (r : Result Turn Fault). RunsOnce image pid before (lives_after pid old r, l) (turn_after r)) (c.in-Ok-Bears.is ∙ ap Ok c.in-Ok-Bears.field-0-is) asked))
