@@ -124,8 +124,10 @@ fn advance_some<P: Hold<Proc>, C: Hold<Lanes>>(
     let Some(tried) = last else {
         return Ok(ran);
     };
-    note(end, choice, tried)?;
-    Ok(ran + 1)
+    match note(end, choice, tried) {
+        Ok(()) => Ok(ran + 1),
+        Err(failed) => Err(failed),
+    }
 }
 
 /// Counts a choice that was applied, and keeps one that was not enabled.

@@ -33,8 +33,8 @@ note-requires g c =
     let same : c.end.inside.applied ≡ c.args.end.now.applied = ap (λ (e : Ended). e.applied) c.end.view_is in
     omega (arith, few, same, c.requires.few)
 
-pub returns : goal.returns
-returns g c =
+pub returns-in-Ok : goal.returns-in-Ok
+returns-in-Ok g c =
     let image = c.args.image.now in
     let choice = c.args.choice in
     let old : Ended = record { world = c.end.inside.world; applied = c.end.inside.applied; refused = c.end.inside.refused } in
@@ -45,10 +45,10 @@ returns g c =
     let few : ran < c.args.times = subst (λ (o : Option Tried). Fits c.args.times ran o) c.in-Some.is c.apply_some-ran.ensures.fits in
     subst (λ (e : Ended). DoesSome image choice c.args.times e last (Ok (ran + 1))) c.end.view_is
     (noted_ok image choice c.args.times ran old new last c.in-Some.tried tt free few
-    (subst (λ (o : Option Tried). WorldRunsOn image choice old.world new ran o) c.in-Some.is c.apply_some-ran.ensures.done) c.in_ok-note.ensures)
+    (subst (λ (o : Option Tried). WorldRunsOn image choice old.world new ran o) c.in-Some.is c.apply_some-ran.ensures.done) c.in-Ok.ensures)
 
-pub returns-in_err-note : goal.returns-in_err-note
-returns-in_err-note g c =
+pub returns-in-Err : goal.returns-in-Err
+returns-in-Err g c =
     let image = c.args.image.now in
     let choice = c.args.choice in
     let old : Ended = record { world = c.end.inside.world; applied = c.end.inside.applied; refused = c.end.inside.refused } in
@@ -58,5 +58,5 @@ returns-in_err-note g c =
     let free : old.refused ≡ None = ap (λ (e : Ended). e.refused) c.end.view_is ∙ fresh c.args.end.now.refused (is_some c.args.end.now.world.trap) (sym c.is_over.ensures ∙ c.if-is_over.false) in
     let few : ran < c.args.times = subst (λ (o : Option Tried). Fits c.args.times ran o) c.in-Some.is c.apply_some-ran.ensures.fits in
     subst (λ (e : Ended). Lacks image choice c.args.times e last) c.end.view_is
-    (noted_err image choice c.args.times ran old new last c.in-Some.tried c.in_err-note.field-0 free few
-    (subst (λ (o : Option Tried). WorldRunsOn image choice old.world new ran o) c.in-Some.is c.apply_some-ran.ensures.done) c.in_err-note.ensures)
+    (noted_err image choice c.args.times ran old new last c.in-Some.tried c.in-Err.failed free few
+    (subst (λ (o : Option Tried). WorldRunsOn image choice old.world new ran o) c.in-Some.is c.apply_some-ran.ensures.done) c.in-Err.ensures)
