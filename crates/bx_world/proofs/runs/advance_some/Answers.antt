@@ -1,4 +1,4 @@
-use Rattle.std.proofs.Common.{◌≡◌, ◌<◌, ◌+◌, false, None, Some, Ok, Err, refl, sym, ap, subst, ◌∙◌, arith}
+use Rattle.std.proofs.Common.{◌≡◌, ◌<◌, ◌+◌, false, None, Some, Ok, refl, sym, ap, subst, ◌∙◌, arith}
 use Rattle.std.specs.Prelude.{Option, Bool, is_some, ◌||◌}
 use Rattle.bx_world.specs.declared.turns.Tried.{Tried}
 use Rattle.bx_world.specs.Batches.{Fits, WorldRunsOn}

@@ -1,4 +1,4 @@
-use Rattle.std.proofs.Common.{◌≡◌, Ok, map, sym, ap, subst, ◌∙◌}
+use Rattle.std.proofs.Common.{Ok, map, sym, ap, subst, ◌∙◌}
 use Rattle.std.specs.Prelude.{List, Result}
 use Rattle.std.proofs.Math.ListN.{set}
 use Rattle.std.proofs.lemmas.List.{map-set}
