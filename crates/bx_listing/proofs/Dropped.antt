@@ -1,5 +1,5 @@
 -- Forms that are dropped: what is read behind them is what is read with them.
-use Rattle.std.proofs.Common.{◌≡◌, ℕ, ◌<◌, Bool, true, false, List, [], ◌∷◌, ◌++◌, length, inr, Option, Some, None, codes, Result, Ok, Err, refl, sym, ap, subst, ◌∙◌, arith}
+use Rattle.std.proofs.Common.{◌≡◌, ℕ, ◌<◌, Bool, true, false, List, [], ◌∷◌, ◌++◌, length, inr, Option, Some, None, codes, Result, Ok, refl, sym, ap, subst, ◌∙◌, arith}
 use Rattle.std.specs.Prelude.{nat_lt, if◌then◌else◌}
 use Rattle.std.proofs.lemmas.Bool.Decides.{nat_tests}
 use Rattle.bx_terms.specs.Outcomes.{Gives, ◌>>=◌}
@@ -7,7 +7,7 @@ use Rattle.bx_terms.specs.declared.faults.Fault.{Fault}
 use Rattle.bx_text.specs.declared.node.Span.{Span}
 use Rattle.bx_text.specs.Place.{Place}
 use Rattle.bx_text.specs.Tree.{Tree, atom, tuple, nil, cons}
-use Rattle.bx_text.specs.Forms.{form_at, takes_memory}
+use Rattle.bx_text.specs.Forms.{takes_memory}
 use Rattle.bx_text.proofs.Outcomes.{gives_same}
 use Rattle.bx_text.specs.Pairs.{IsPairForm}
 use Rattle.bx_listing.specs.Reading.{Table, Outcome, read, refused, and_then, give}
@@ -23,8 +23,8 @@ use Rattle.bx_listing.specs.Forms.{Forms, form, moved, next_form, forms, forms_o
 use Rattle.bx_listing.specs.Shape.{shape}
 use Rattle.bx_listing.specs.HeadForms.{is_attributes}
 use Rattle.bx_listing.specs.Wanting.{IsForm, ReadsForms}
-use Rattle.bx_listing.specs.Listing.{taken, taken_at, behind_attributes, behind_labels, behind_head, and_so, with_item, with_optional, with_form_item, with_form, part_of, part, functions}
-use Rattle.bx_listing.specs.Locations.{Location, located}
+use Rattle.bx_listing.specs.Listing.{taken, taken_at, behind_attributes, behind_labels, behind_head, and_so, with_optional, with_form, part_of, part, functions}
+use Rattle.bx_listing.specs.Locations.{located}
 use Rattle.bx_listing.specs.Dropped.{IsDropped, MakeSame}
 use Rattle.bx_listing.proofs.Forms.{forms_next}
 use Rattle.bx_listing.proofs.FormMemory.{taken_form}

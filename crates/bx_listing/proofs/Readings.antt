@@ -126,3 +126,12 @@ result_read see old new answer said x next e h = answers_same see old new answer
 pub answers_given : {X A B : Type 0} (view : X → A) (make : A → B) (old new : Table) (answer : Result X Fault) (reading : Reading A) → Answers view old new answer reading → Answers (λ x. make (view x)) old new answer (reading >>= λ a. give (make a))
 answers_given view make old new (Ok x) reading h = ap (λ o. and_then o (λ a. give (make a))) h
 answers_given view make old new (Err fault) reading h = refused_first old new fault reading (λ a. give (make a)) h
+
+pub reads_given : {X A B : Type 0} (takes : Type 0) (view : X → A) (make : A → B) (old new : Table) (answer : Result X Fault) (reading : Reading A) → Reads takes view old new answer reading → Reads takes (λ x. make (view x)) old new answer (reading >>= λ a. give (make a))
+reads_given takes view make old new (Ok x) reading h = ap (λ o. and_then o (λ a. give (make a))) h
+reads_given takes view make old new (Err fault) reading h = refuses_first takes old new fault reading (λ a. give (make a)) h
+
+-- three readings in a row
+pub and_then_assoc : {A B C : Type 0} (first : Outcome A) (next : A → Reading B) (last : B → Reading C) → and_then first (λ x. next x >>= last) ≡ and_then (and_then first next) last
+and_then_assoc (read texts x) next last = refl
+and_then_assoc (refused texts fault) next last = refl

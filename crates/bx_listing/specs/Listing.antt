@@ -87,6 +87,9 @@ behind_attributes last f = if is_attributes (shape f.tree) then and_so (taken la
 abbrev pub behind_head : ℕ → Forms → Result Forms Fault
 behind_head last rest = and_so (taken last rest) (behind_attributes last)
 
+abbrev pub functions_behind : ℕ → Forms → Reading (List ListedFunction)
+functions_behind last rest = from_result (behind_head last rest) >>= functions []
+
 abbrev pub listed : AtomId → List Export → Forms → Reading ListedModule
 listed name exports rest = functions [] rest >>= λ fs. give (record { name = name; exports = exports; functions = fs })
 

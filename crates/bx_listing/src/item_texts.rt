@@ -1,6 +1,6 @@
 //! The text of items, each a line of a listing.
 
-ghost use Rattle.std.specs.Prelude.{◌≡◌, ◌++◌, IfOk, OnOk, string_bytes, codes, length, take, drop};
+ghost use Rattle.std.specs.Prelude.{◌≡◌, ◌++◌, ◌-◌, IfOk, OnOk, string_bytes, codes, length, drop};
 ghost use Rattle.bx_ops.specs.Opcodes.{opcode};
 ghost use Rattle.bx_ops.specs.Table.{slots as table_slots, way as table_way};
 ghost use Rattle.bx_terms.specs.AtomText.{printed_atom};
@@ -12,22 +12,21 @@ use crate::operand_texts::{before, behind, push_added, push_list, push_operand};
 use bx_ops::{Op, Slot, Sort, Way, name, slots, way};
 use bx_terms::{Atoms, push_atom};
 use std::alloc::{AllocError, Global};
+use std::ops::Range;
 
-/// Adds a list's members in a tuple of a word, which `opening` begins, where the operands begin with a list.
+/// Adds a list of operands in a tuple of a word, which `opening` begins.
 fn push_members(
     alloc: Global,
     out: &mut String,
     atoms: &Atoms,
     opening: &str,
-    count: usize,
     members: &[Operand],
 ) -> Result<(), AllocError>
     ensures { OnOk result (string_bytes out.new
-        ≡ string_bytes out.old ++ (opening.now ++ list_text atoms.now (take count members.now)
-        ++ codes "}")) }
+        ≡ string_bytes out.old ++ (opening.now ++ list_text atoms.now members.now ++ codes "}")) }
 {
     out.push_str(opening)?;
-    push_list(alloc, out, atoms, before(members, count))?;
+    push_list(alloc, out, atoms, members)?;
     out.push_str("}")
 }
 
@@ -58,11 +57,11 @@ fn push_slot(
     match (slot, operands) {
         (Slot::One(Sort::Mark), _) => out.push_str(",[]"),
         (Slot::One(_), [operand, ..]) => push_next(alloc, out, atoms, operand),
-        (Slot::Many(_) | Slot::Pairs(_, _), [Operand::List(count), members @ ..]) => {
-            push_members(alloc, out, atoms, ",{list,", *count, members)
+        (Slot::Many(_) | Slot::Pairs(_, _), [Operand::List(count), rest @ ..]) => {
+            push_members(alloc, out, atoms, ",{list,", before(rest, *count))
         }
-        (Slot::Heap, [Operand::List(count), members @ ..]) => {
-            push_members(alloc, out, atoms, ",{alloc,", *count, members)
+        (Slot::Heap, [Operand::List(count), rest @ ..]) => {
+            push_members(alloc, out, atoms, ",{alloc,", before(rest, *count))
         }
         (Slot::Heap, [operand, ..]) => push_next(alloc, out, atoms, operand),
         (Slot::NoLabel, _) => out.push_str(",{f,0}"),
@@ -112,22 +111,22 @@ fn push_slots(
     Ok(())
 }
 
-/// Adds operands of which those from one place to another stand in a list.
+/// Adds operands of which those at the places `list` stand in a list.
 fn push_grouped(
     alloc: Global,
     out: &mut String,
     atoms: &Atoms,
-    from: usize,
-    to: usize,
     operands: &[Operand],
+    list: Range<usize>,
 ) -> Result<(), AllocError>
     ensures { OnOk result (string_bytes out.new
-        ≡ string_bytes out.old ++ grouped_text atoms.now from to operands.now) }
+        ≡ string_bytes out.old ++ grouped_text atoms.now list.start list.end operands.now) }
 {
-    push_added(alloc, out, atoms, before(operands, from))?;
+    let members = behind(before(operands, list.end), list.start);
+    push_added(alloc, out, atoms, before(operands, list.start))?;
     out.push_str(",")?;
-    push_list(alloc, out, atoms, behind(before(operands, to), from))?;
-    push_added(alloc, out, atoms, behind(operands, to))
+    push_list(alloc, out, atoms, members)?;
+    push_added(alloc, out, atoms, behind(operands, list.end))
 }
 
 /// Adds an instruction that is written as a tuple of its name and its operands.
@@ -162,28 +161,8 @@ fn push_test(
 {
     out.push_str("{test,")?;
     push_atom(alloc, out, name(op))?;
-    push_grouped(alloc, out, atoms, 1, operands.len(), operands)?;
+    push_grouped(alloc, out, atoms, operands, 1..operands.len())?;
     out.push_str("}")
-}
-
-/// Adds an instruction between two texts, its operands from `from` to `to` in a list.
-fn push_between(
-    alloc: Global,
-    out: &mut String,
-    atoms: &Atoms,
-    opening: &str,
-    from: usize,
-    to: usize,
-    operands: &[Operand],
-    closing: &str,
-) -> Result<(), AllocError>
-    ensures { OnOk result (string_bytes out.new
-        ≡ string_bytes out.old ++ (opening.now ++ grouped_text atoms.now from to operands.now
-        ++ closing.now)) }
-{
-    out.push_str(opening)?;
-    push_grouped(alloc, out, atoms, from, to, operands)?;
-    out.push_str(closing)
 }
 
 /// Adds a BIF without arguments, which has no label.
@@ -219,9 +198,45 @@ fn push_bif(
         [bif, to] => push_plain_bif(alloc, out, atoms, bif, to),
         _ => {
             let last = operands.len().saturating_sub(1);
-            push_between(alloc, out, atoms, "{bif", 2, last, operands, "}")
+            out.push_str("{bif")?;
+            push_grouped(alloc, out, atoms, operands, 2..last)?;
+            out.push_str("}")
         }
     }
+}
+
+/// Adds a BIF that may collect garbage: its name, its label, how many registers live, a list of its arguments, and its
+/// register.
+fn push_gc_bif(
+    alloc: Global,
+    out: &mut String,
+    atoms: &Atoms,
+    operands: &[Operand],
+) -> Result<(), AllocError>
+    ensures { OnOk result (string_bytes out.new
+        ≡ string_bytes out.old ++ (codes "{gc_bif"
+        ++ grouped_text atoms.now 3 (length operands.now - 1) operands.now ++ codes "}")) }
+{
+    let last = operands.len().saturating_sub(1);
+    out.push_str("{gc_bif")?;
+    push_grouped(alloc, out, atoms, operands, 3..last)?;
+    out.push_str("}")
+}
+
+/// Adds `raise`: a list of its operands, between a label and a register that are always the same.
+fn push_raise(
+    alloc: Global,
+    out: &mut String,
+    atoms: &Atoms,
+    operands: &[Operand],
+) -> Result<(), AllocError>
+    ensures { OnOk result (string_bytes out.new
+        ≡ string_bytes out.old ++ (codes "{raise,{f,0}"
+        ++ grouped_text atoms.now 0 (length operands.now) operands.now ++ codes ",{x,0}}")) }
+{
+    out.push_str("{raise,{f,0}")?;
+    push_grouped(alloc, out, atoms, operands, 0..operands.len())?;
+    out.push_str(",{x,0}}")
 }
 
 /// Adds an instruction in the way in which its opcode is written.
@@ -236,24 +251,13 @@ fn push_way(
         ≡ string_bytes out.old
         ++ way_text atoms.now (table_way op) (printed_atom (opcode op).name) (table_slots op) operands.now) }
 {
-    let count = operands.len();
-    let last = count.saturating_sub(1);
     match way(op) {
         Way::Bare => push_atom(alloc, out, name(op)),
         Way::Plain => push_plain(alloc, out, atoms, op, operands),
         Way::Test => push_test(alloc, out, atoms, op, operands),
         Way::Bif => push_bif(alloc, out, atoms, operands),
-        Way::GcBif => push_between(alloc, out, atoms, "{gc_bif", 3, last, operands, "}"),
-        Way::Raise => push_between(
-            alloc,
-            out,
-            atoms,
-            "{raise,{f,0}",
-            0,
-            count,
-            operands,
-            ",{x,0}}",
-        ),
+        Way::GcBif => push_gc_bif(alloc, out, atoms, operands),
+        Way::Raise => push_raise(alloc, out, atoms, operands),
     }
 }
 

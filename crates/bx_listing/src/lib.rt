@@ -2,6 +2,7 @@
 #![tactic(auto)]
 
 mod code_form;
+mod form_reader;
 mod head_forms;
 mod item_texts;
 mod items;

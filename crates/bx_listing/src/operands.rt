@@ -6,6 +6,7 @@ ghost use Rattle.bx_listing.specs.Operands.{untyped, register, only_y, label, at
 ghost use Rattle.bx_listing.specs.Shape.{word};
 ghost use Rattle.bx_listing.specs.Reading.{Table, named, Answers};
 
+use crate::form_reader::FormReader;
 use crate::items::{Amount, Import, Operand};
 use crate::literals::literal;
 use crate::shapes::{Shape, number, shape_of, word};
@@ -27,6 +28,197 @@ pub(crate) fn name_atom(
     match atoms.name(alloc, text) {
         Ok(atom) => Ok(atom),
         Err(fault) => Err(fault.at_line(line)),
+    }
+}
+
+/// The refusal of what is outside the subset, by its name.
+pub(crate) fn unsupported(alloc: Global, line: usize, name: &str) -> Result<Fault, AllocError>
+    ensures { IfOk result (λ fault. fault ≡ Unsupported line name.now) }
+{
+    let name = Name::new(alloc, name)?;
+    Ok(Fault::Unsupported { line, name })
+}
+
+impl FormReader {
+    /// An atom that stands alone.
+    fn atom_word(self, atoms: &mut Atoms, node: &Node) -> Result<AtomId, Fault>
+        ensures { Answers (λ atom. atom) atoms.old atoms.new result (atom_word self.line node.now) }
+    {
+        match word(node) {
+            Some(text) => name_atom(self.alloc, atoms, self.line, text),
+            None => Err(self.bad_operand()),
+        }
+    }
+
+    /// The atom of `{atom,A}`.
+    fn atom_operand(self, atoms: &mut Atoms, node: &Node) -> Result<Operand, Fault>
+        ensures { Answers (λ atom. atom) atoms.old atoms.new result
+            (atom_operand self.line node.now) }
+    {
+        let Shape::Tagged(word, [operand]) = shape_of(node) else {
+            return Err(self.bad_operand());
+        };
+        match operand_word(word) {
+            OperandWord::Atom => self.atom_source(atoms, operand),
+            _ => Err(self.bad_operand()),
+        }
+    }
+
+    /// A register, or a value that stands in the instruction.
+    fn source(self, atoms: &mut Atoms, node: &Node) -> Result<Operand, Fault>
+        ensures { Answers (λ source. source) atoms.old atoms.new result
+            (source self.line node.now) }
+    {
+        match shape_of(node) {
+            Shape::Bare(word) => match operand_word(word) {
+                OperandWord::Nil => Ok(Operand::Nil),
+                _ => Err(self.bad_operand()),
+            },
+            Shape::Tagged(word, parts) => self.tagged_source(
+                atoms,
+                node,
+                operand_word(word),
+                parts,
+            ),
+            Shape::Other => Err(self.bad_operand()),
+        }
+    }
+
+    /// The source that `node` is, a tuple of that word and those parts.
+    fn tagged_source(
+        self,
+        atoms: &mut Atoms,
+        node: &Node,
+        word: OperandWord,
+        parts: &[Node],
+    ) -> Result<Operand, Fault>
+        ensures { Answers (λ source. source) atoms.old atoms.new result
+            (source_of self.line node.now word parts.now) }
+    {
+        match (word, parts) {
+            (OperandWord::Integer, [integer]) => self.integer_source(integer),
+            (OperandWord::Atom, [atom]) => self.atom_source(atoms, atom),
+            (OperandWord::Literal, [term]) => self.literal_source(atoms, term),
+            (OperandWord::Float, [_]) => Err(unsupported(self.alloc, self.line, "float")?),
+            _ => register(node).ok_or(self.bad_operand()),
+        }
+    }
+
+    /// An atom or an integer.
+    fn value(self, atoms: &mut Atoms, node: &Node) -> Result<Operand, Fault>
+        ensures { Answers (λ value. value) atoms.old atoms.new result (value self.line node.now) }
+    {
+        let Shape::Tagged(word, [operand]) = shape_of(node) else {
+            return Err(self.bad_operand());
+        };
+        match operand_word(word) {
+            OperandWord::Integer => self.integer_source(operand),
+            OperandWord::Atom => self.atom_source(atoms, operand),
+            OperandWord::Float => Err(unsupported(self.alloc, self.line, "float")?),
+            _ => Err(self.bad_operand()),
+        }
+    }
+
+    /// The integer of `{integer,I}`.
+    fn integer_source(self, node: &Node) -> Result<Operand, Fault>
+        ensures { (texts : Table) → Answers (λ source. source) texts texts result
+            (integer_source self.line node.now) }
+    {
+        match node.view() {
+            View::Integer(value) => Ok(Operand::Integer(value)),
+            View::Large(_) => Err(Fault::LiteralRange { line: self.line }),
+            _ => Err(self.bad_operand()),
+        }
+    }
+
+    /// The atom of `{atom,A}`.
+    #[tactic(auto, using(crate::proofs::Readings::refused_first))]
+    fn atom_source(self, atoms: &mut Atoms, node: &Node) -> Result<Operand, Fault>
+        ensures { Answers (λ source. source) atoms.old atoms.new result
+            (atom_source self.line node.now) }
+    {
+        let atom = self.atom_word(atoms, node)?;
+        Ok(Operand::Atom(atom))
+    }
+
+    /// The term of `{literal,T}`.
+    #[tactic(auto, using(crate::proofs::Readings::refused_first))]
+    fn literal_source(self, atoms: &mut Atoms, node: &Node) -> Result<Operand, Fault>
+        ensures { Answers (λ source. source) atoms.old atoms.new result
+            (literal_source self.line node.now) }
+    {
+        match literal(self.alloc, atoms, self.line, node)? {
+            Some(term) => Ok(Operand::Literal(term)),
+            None => Err(Fault::LiteralRange { line: self.line }),
+        }
+    }
+
+    /// The function of `{extfunc,M,F,A}`.
+    fn callee(self, atoms: &mut Atoms, node: &Node) -> Result<Operand, Fault>
+        ensures { Answers (λ callee. callee) atoms.old atoms.new result
+            (callee self.line node.now) }
+    {
+        let Shape::Tagged(word, [module, function, count]) = shape_of(node) else {
+            return Err(self.bad_operand());
+        };
+        match operand_word(word) {
+            OperandWord::External => self.external(atoms, module, function, count),
+            _ => Err(self.bad_operand()),
+        }
+    }
+
+    #[tactic(auto, using(crate::proofs::Readings::refused_first, crate::proofs::Readings::refused_after))]
+    fn external(
+        self,
+        atoms: &mut Atoms,
+        module: &Node,
+        function: &Node,
+        count: &Node,
+    ) -> Result<Operand, Fault>
+        ensures { Answers (λ callee. callee) atoms.old atoms.new result
+            (external self.line «module».now function.now count.now) }
+    {
+        let module = self.atom_word(atoms, module)?;
+        let function = self.atom_word(atoms, function)?;
+        match number(count) {
+            Some(arity) => Ok(Operand::Import(Import {
+                module,
+                function,
+                arity,
+            })),
+            None => Err(self.bad_operand()),
+        }
+    }
+
+    /// `{KIND,N}`, which a tuple of two is whose first is an atom.
+    #[tactic(auto, using(crate::proofs::Readings::refused_first))]
+    fn amount(self, atoms: &mut Atoms, node: &Node) -> Result<Operand, Fault>
+        ensures { Answers (λ amount. amount) atoms.old atoms.new result
+            (amount self.line node.now) }
+    {
+        let Shape::Tagged(kind, [count]) = shape_of(node) else {
+            return Err(self.bad_operand());
+        };
+        let kind = name_atom(self.alloc, atoms, self.line, kind)?;
+        match number(count) {
+            Some(count) => Ok(Operand::Amount(Amount { kind, count })),
+            None => Err(self.bad_operand()),
+        }
+    }
+
+    /// An operand of a sort.
+    pub(crate) fn simple(self, atoms: &mut Atoms, sort: Sort, node: &Node) -> Result<Operand, Fault>
+        ensures { Answers (λ operand. operand) atoms.old atoms.new result
+            (simple self.line sort node.now) }
+    {
+        match sort {
+            Sort::Source => self.source(atoms, node),
+            Sort::Value => self.value(atoms, node),
+            Sort::Atom => self.atom_operand(atoms, node),
+            Sort::Callee => self.callee(atoms, node),
+            Sort::Amount => self.amount(atoms, node),
+            _ => plain(sort, node).ok_or(self.bad_operand()),
+        }
     }
 }
 
@@ -80,194 +272,6 @@ pub(crate) fn label(node: &Node) -> Option<u32>
     }
 }
 
-/// An atom that stands alone.
-fn atom_word(alloc: Global, atoms: &mut Atoms, line: usize, node: &Node) -> Result<AtomId, Fault>
-    ensures { Answers (λ atom. atom) atoms.old atoms.new result (atom_word line node.now) }
-{
-    match word(node) {
-        Some(text) => name_atom(alloc, atoms, line, text),
-        None => Err(Fault::BadOperand { line }),
-    }
-}
-
-/// The atom of `{atom,A}`.
-fn atom_operand(
-    alloc: Global,
-    atoms: &mut Atoms,
-    line: usize,
-    node: &Node,
-) -> Result<Operand, Fault>
-    ensures { Answers (λ atom. atom) atoms.old atoms.new result
-        (atom_operand line node.now) }
-{
-    let Shape::Tagged(word, [operand]) = shape_of(node) else {
-        return Err(Fault::BadOperand { line });
-    };
-    match operand_word(word) {
-        OperandWord::Atom => atom_source(alloc, atoms, line, operand),
-        _ => Err(Fault::BadOperand { line }),
-    }
-}
-
-/// A register, or a value that stands in the instruction.
-fn source(alloc: Global, atoms: &mut Atoms, line: usize, node: &Node) -> Result<Operand, Fault>
-    ensures { Answers (λ source. source) atoms.old atoms.new result
-        (source line node.now) }
-{
-    match shape_of(node) {
-        Shape::Bare(word) => match operand_word(word) {
-            OperandWord::Nil => Ok(Operand::Nil),
-            _ => Err(Fault::BadOperand { line }),
-        },
-        Shape::Tagged(word, parts) => tagged_source(
-            alloc,
-            atoms,
-            line,
-            node,
-            operand_word(word),
-            parts,
-        ),
-        Shape::Other => Err(Fault::BadOperand { line }),
-    }
-}
-
-// The source that `node` is, a tuple of that word and those parts.
-fn tagged_source(
-    alloc: Global,
-    atoms: &mut Atoms,
-    line: usize,
-    node: &Node,
-    word: OperandWord,
-    parts: &[Node],
-) -> Result<Operand, Fault>
-    ensures { Answers (λ source. source) atoms.old atoms.new result
-        (source_of line node.now word parts.now) }
-{
-    match (word, parts) {
-        (OperandWord::Integer, [integer]) => integer_source(line, integer),
-        (OperandWord::Atom, [atom]) => atom_source(alloc, atoms, line, atom),
-        (OperandWord::Literal, [term]) => literal_source(alloc, atoms, line, term),
-        (OperandWord::Float, [_]) => Err(unsupported(alloc, line, "float")?),
-        _ => register(node).ok_or(Fault::BadOperand { line }),
-    }
-}
-
-/// An atom or an integer.
-fn value(alloc: Global, atoms: &mut Atoms, line: usize, node: &Node) -> Result<Operand, Fault>
-    ensures { Answers (λ value. value) atoms.old atoms.new result (value line node.now) }
-{
-    let Shape::Tagged(word, [operand]) = shape_of(node) else {
-        return Err(Fault::BadOperand { line });
-    };
-    match operand_word(word) {
-        OperandWord::Integer => integer_source(line, operand),
-        OperandWord::Atom => atom_source(alloc, atoms, line, operand),
-        OperandWord::Float => Err(unsupported(alloc, line, "float")?),
-        _ => Err(Fault::BadOperand { line }),
-    }
-}
-
-// The integer of `{integer,I}`.
-fn integer_source(line: usize, node: &Node) -> Result<Operand, Fault>
-    ensures { (texts : Table) → Answers (λ source. source) texts texts result
-        (integer_source line node.now) }
-{
-    match node.view() {
-        View::Integer(value) => Ok(Operand::Integer(value)),
-        View::Large(_) => Err(Fault::LiteralRange { line }),
-        _ => Err(Fault::BadOperand { line }),
-    }
-}
-
-// The atom of `{atom,A}`.
-#[tactic(auto, using(crate::proofs::Readings::refused_first))]
-fn atom_source(alloc: Global, atoms: &mut Atoms, line: usize, node: &Node) -> Result<Operand, Fault>
-    ensures { Answers (λ source. source) atoms.old atoms.new result
-        (atom_source line node.now) }
-{
-    let atom = atom_word(alloc, atoms, line, node)?;
-    Ok(Operand::Atom(atom))
-}
-
-// The term of `{literal,T}`.
-#[tactic(auto, using(crate::proofs::Readings::refused_first))]
-fn literal_source(
-    alloc: Global,
-    atoms: &mut Atoms,
-    line: usize,
-    node: &Node,
-) -> Result<Operand, Fault>
-    ensures { Answers (λ source. source) atoms.old atoms.new result
-        (literal_source line node.now) }
-{
-    match literal(alloc, atoms, line, node)? {
-        Some(term) => Ok(Operand::Literal(term)),
-        None => Err(Fault::LiteralRange { line }),
-    }
-}
-
-/// The refusal of what is outside the subset, by its name.
-pub(crate) fn unsupported(alloc: Global, line: usize, name: &str) -> Result<Fault, AllocError>
-    ensures { IfOk result (λ fault. fault ≡ Unsupported line name.now) }
-{
-    let name = Name::new(alloc, name)?;
-    Ok(Fault::Unsupported { line, name })
-}
-
-/// The function of `{extfunc,M,F,A}`.
-fn callee(alloc: Global, atoms: &mut Atoms, line: usize, node: &Node) -> Result<Operand, Fault>
-    ensures { Answers (λ callee. callee) atoms.old atoms.new result
-        (callee line node.now) }
-{
-    let Shape::Tagged(word, [module, function, count]) = shape_of(node) else {
-        return Err(Fault::BadOperand { line });
-    };
-    match operand_word(word) {
-        OperandWord::External => external(alloc, atoms, line, module, function, count),
-        _ => Err(Fault::BadOperand { line }),
-    }
-}
-
-#[tactic(auto, using(crate::proofs::Readings::refused_first, crate::proofs::Readings::refused_after))]
-fn external(
-    alloc: Global,
-    atoms: &mut Atoms,
-    line: usize,
-    module: &Node,
-    function: &Node,
-    count: &Node,
-) -> Result<Operand, Fault>
-    ensures { Answers (λ callee. callee) atoms.old atoms.new result
-        (external line module.now function.now count.now) }
-{
-    let module = atom_word(alloc, atoms, line, module)?;
-    let function = atom_word(alloc, atoms, line, function)?;
-    match number(count) {
-        Some(arity) => Ok(Operand::Import(Import {
-            module,
-            function,
-            arity,
-        })),
-        None => Err(Fault::BadOperand { line }),
-    }
-}
-
-/// `{KIND,N}`, which a tuple of two is whose first is an atom.
-#[tactic(auto, using(crate::proofs::Readings::refused_first))]
-fn amount(alloc: Global, atoms: &mut Atoms, line: usize, node: &Node) -> Result<Operand, Fault>
-    ensures { Answers (λ amount. amount) atoms.old atoms.new result
-        (amount line node.now) }
-{
-    let Shape::Tagged(kind, [count]) = shape_of(node) else {
-        return Err(Fault::BadOperand { line });
-    };
-    let kind = name_atom(alloc, atoms, line, kind)?;
-    match number(count) {
-        Some(count) => Ok(Operand::Amount(Amount { kind, count })),
-        None => Err(Fault::BadOperand { line }),
-    }
-}
-
 fn fail_label(node: &Node) -> Option<Operand>
     ensures { result ≡ option_map fail_label (label node.now) }
 {
@@ -301,26 +305,5 @@ fn plain(sort: Sort, node: &Node) -> Option<Operand>
         Sort::Bif2 => bif(2, node),
         Sort::Mark => Some(Operand::Nil),
         Sort::Source | Sort::Value | Sort::Atom | Sort::Callee | Sort::Amount => None,
-    }
-}
-
-/// An operand of a sort.
-pub(crate) fn simple(
-    alloc: Global,
-    atoms: &mut Atoms,
-    line: usize,
-    sort: Sort,
-    node: &Node,
-) -> Result<Operand, Fault>
-    ensures { Answers (λ operand. operand) atoms.old atoms.new result
-        (simple line sort node.now) }
-{
-    match sort {
-        Sort::Source => source(alloc, atoms, line, node),
-        Sort::Value => value(alloc, atoms, line, node),
-        Sort::Atom => atom_operand(alloc, atoms, line, node),
-        Sort::Callee => callee(alloc, atoms, line, node),
-        Sort::Amount => amount(alloc, atoms, line, node),
-        _ => plain(sort, node).ok_or(Fault::BadOperand { line }),
     }
 }

@@ -6,102 +6,99 @@ ghost use Rattle.bx_listing.specs.ItemForms.{read_as, item};
 ghost use Rattle.bx_listing.specs.Seen.{seen};
 ghost use Rattle.bx_listing.specs.Reading.{Answers};
 
+use crate::form_reader::FormReader;
 use crate::head_forms::function_form;
 use crate::items::Operand;
 use crate::listing::Function;
-use crate::rows::read_item;
 use crate::shapes::Shape;
 use crate::words::{FormWord, form_word};
 use bx_ops::Op;
 use bx_terms::{Atoms, Fault};
 use bx_text::Node;
-use std::alloc::{AllocError, Global};
+use std::alloc::AllocError;
 
-/// Reads a form behind the head: the beginning of a function, or an item of the last one.
-pub(crate) fn part(
-    alloc: Global,
-    atoms: &mut Atoms,
-    functions: &mut Vec<Function>,
-    operands: &mut Vec<Operand>,
-    line: usize,
-    form: Shape,
-) -> Result<(), Fault>
-    ensures { Answers (λ done. functions.new.items) atoms.old atoms.new result
-        (part line functions.old.items (seen form.entry)) }
-{
-    match form {
-        Shape::Tagged(text, parts) => match form_word(text) {
-            FormWord::Function => begin_function(alloc, atoms, functions, line, parts),
-            _ => add_form(alloc, atoms, functions, operands, line, form),
-        },
-        _ => add_form(alloc, atoms, functions, operands, line, form),
+impl FormReader {
+    /// Reads a form behind the head: the beginning of a function, or an item of the last one.
+    pub(crate) fn part(
+        self,
+        atoms: &mut Atoms,
+        functions: &mut Vec<Function>,
+        operands: &mut Vec<Operand>,
+        form: Shape,
+    ) -> Result<(), Fault>
+        ensures { Answers (λ done. functions.new.items) atoms.old atoms.new result
+            (part self.line functions.old.items (seen form.entry)) }
+    {
+        match form {
+            Shape::Tagged(text, parts) => match form_word(text) {
+                FormWord::Function => self.begin_function(atoms, functions, parts),
+                _ => self.add_form(atoms, functions, operands, form),
+            },
+            _ => self.add_form(atoms, functions, operands, form),
+        }
     }
-}
 
-#[tactic(auto, using(crate::proofs::Readings::refused_first, crate::proofs::Readings::refused_stored))]
-fn begin_function(
-    alloc: Global,
-    atoms: &mut Atoms,
-    functions: &mut Vec<Function>,
-    line: usize,
-    parts: &[Node],
-) -> Result<(), Fault>
-    ensures { Answers (λ done. functions.new.items) atoms.old atoms.new result
-        (begun_function line functions.old.items parts.now) }
-{
-    let function = function_form(alloc, atoms, line, parts)?;
-    functions.push(function)?;
-    Ok(())
-}
-
-// There are no items before the first function.
-fn add_form(
-    alloc: Global,
-    atoms: &mut Atoms,
-    functions: &mut Vec<Function>,
-    operands: &mut Vec<Operand>,
-    line: usize,
-    form: Shape,
-) -> Result<(), Fault>
-    ensures { Answers (λ done. functions.new.items) atoms.old atoms.new result
-        (with_form line functions.old.items (seen form.entry)) }
-{
-    if functions.is_empty() {
-        return Err(Fault::BadForm { line });
+    #[tactic(auto, using(crate::proofs::Readings::refused_first, crate::proofs::Readings::refused_stored))]
+    fn begin_function(
+        self,
+        atoms: &mut Atoms,
+        functions: &mut Vec<Function>,
+        parts: &[Node],
+    ) -> Result<(), Fault>
+        ensures { Answers (λ done. functions.new.items) atoms.old atoms.new result
+            (begun_function self.line functions.old.items parts.now) }
+    {
+        let function = function_form(self.alloc, atoms, self.line, parts)?;
+        functions.push(function)?;
+        Ok(())
     }
-    add_form_item(alloc, atoms, functions, operands, line, form)
-}
 
-#[tactic(auto, using(crate::proofs::Readings::refused_first, crate::proofs::Readings::refused_stored))]
-fn add_form_item(
-    alloc: Global,
-    atoms: &mut Atoms,
-    functions: &mut Vec<Function>,
-    operands: &mut Vec<Operand>,
-    line: usize,
-    form: Shape,
-) -> Result<(), Fault>
-    ensures { Answers (λ done. functions.new.items) atoms.old atoms.new result
-        (with_form_item line functions.old.items (seen form.entry)) }
-{
-    let op = item(alloc, atoms, operands, line, form)?;
-    add_item(functions, operands, line, op)?;
-    Ok(())
-}
+    // There are no items before the first function.
+    fn add_form(
+        self,
+        atoms: &mut Atoms,
+        functions: &mut Vec<Function>,
+        operands: &mut Vec<Operand>,
+        form: Shape,
+    ) -> Result<(), Fault>
+        ensures { Answers (λ done. functions.new.items) atoms.old atoms.new result
+            (with_form self.line functions.old.items (seen form.entry)) }
+    {
+        if functions.is_empty() {
+            return Err(Fault::BadForm { line: self.line });
+        }
+        self.add_form_item(atoms, functions, operands, form)
+    }
 
-/// Reads an item: its opcode, with its operands in place of those that are there; `None` for an annotation.
-fn item(
-    alloc: Global,
-    atoms: &mut Atoms,
-    operands: &mut Vec<Operand>,
-    line: usize,
-    form: Shape,
-) -> Result<Option<Op>, Fault>
-    ensures { Answers (λ op. read_as (op, operands.new.items)) atoms.old atoms.new result
-        (item line (seen form.entry)) }
-{
-    operands.clear();
-    read_item(alloc, atoms, line, operands, form)
+    #[tactic(auto, using(crate::proofs::Readings::refused_first, crate::proofs::Readings::refused_stored))]
+    fn add_form_item(
+        self,
+        atoms: &mut Atoms,
+        functions: &mut Vec<Function>,
+        operands: &mut Vec<Operand>,
+        form: Shape,
+    ) -> Result<(), Fault>
+        ensures { Answers (λ done. functions.new.items) atoms.old atoms.new result
+            (with_form_item self.line functions.old.items (seen form.entry)) }
+    {
+        let op = self.item(atoms, operands, form)?;
+        add_item(functions, operands, self.line, op)?;
+        Ok(())
+    }
+
+    /// Reads an item: its opcode, with its operands in place of those that are there; `None` for an annotation.
+    fn item(
+        self,
+        atoms: &mut Atoms,
+        operands: &mut Vec<Operand>,
+        form: Shape,
+    ) -> Result<Option<Op>, Fault>
+        ensures { Answers (λ op. read_as (op, operands.new.items)) atoms.old atoms.new result
+            (item self.line (seen form.entry)) }
+    {
+        operands.clear();
+        self.read_item(atoms, operands, form)
+    }
 }
 
 /// Adds an item to the last function.

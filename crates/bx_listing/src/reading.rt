@@ -10,17 +10,15 @@ ghost use Rattle.bx_listing.specs.Forms.{next_form, forms, last_line};
 ghost use Rattle.bx_listing.specs.Dropped.{dropped, IsDropped, MakeSame};
 ghost use Rattle.bx_listing.specs.Listing as listings;
 ghost use Rattle.bx_listing.specs.Locations.{located, located_behind, located_exports, locations, passed};
-ghost use Rattle.bx_listing.specs.HeadForms.{exports_form};
 ghost use Rattle.bx_listing.specs.Wanting.{ReadsForms};
-ghost use Rattle.bx_listing.specs.Reading.{Reads, Takes, Answers, named};
+ghost use Rattle.bx_listing.specs.Reading.{Reads, Answers};
 
-use crate::code_form::Export;
+use crate::form_reader::FormReader;
 use crate::head_forms::{exports_form, is_attributes, is_labels, module_name};
 use crate::items::Operand;
 use crate::listing::{Function, Listing};
 use crate::locations::Locations;
 use crate::operands::name_atom;
-use crate::parts::part;
 use crate::shapes::shape_of;
 use bx_terms::{AtomId, Atoms, Fault};
 use bx_text::{Node, Reader};
@@ -165,7 +163,8 @@ fn take_form(
         (listings.part (span_of form.now).line functions.old.items (shape form.now)) }
 {
     let line = form.span().line;
-    part(alloc, atoms, functions, operands, line, shape_of(form))
+    let reader = FormReader { alloc, line };
+    reader.part(atoms, functions, operands, shape_of(form))
 }
 
 fn place_form(alloc: Global, locations: &mut Locations, form: Node) -> Result<(), AllocError>
@@ -213,31 +212,14 @@ pub fn read_located(
 {
     let (form, behind) = head_form(alloc, text, Reader::at(text, 0))?;
     let line = form.span().line;
-    match module_name(shape_of(&form)) {
-        Some(name) => named_listing(alloc, atoms, text, line, name, behind),
-        None => Err(Fault::BadForm { line }),
-    }
-}
-
-fn named_listing(
-    alloc: Global,
-    atoms: &mut Atoms,
-    text: &[u8],
-    line: usize,
-    module: &str,
-    behind: Reader,
-) -> Result<(Listing, Locations), Fault>
-    ensures read { Reads (Takes (named line «module».now) atoms.old ⊎ ReadsForms (place behind.entry))
-        (λ r. r.0) atoms.old atoms.new result
-        (listings.named_listing (last_line text.now) line (forms (place behind.entry))
-        «module».now) }
-    ensures located { IfOk result (λ r. r.1.items ≡ located_exports (last_line text.now)
-        (forms (place behind.entry))) }
-{
+    let Some(module) = module_name(shape_of(&form)) else {
+        return Err(Fault::BadForm { line });
+    };
     let name = name_atom(alloc, atoms, line, module)?;
     behind_name(alloc, atoms, text, name, behind)
 }
 
+/// The listing of that name, of which the exports come next.
 fn behind_name(
     alloc: Global,
     atoms: &mut Atoms,
@@ -251,57 +233,23 @@ fn behind_name(
         (forms (place behind.entry))) }
 {
     let (form, behind) = head_form(alloc, text, behind)?;
-    exported(alloc, atoms, text, name, form, behind)
-}
-
-fn exported(
-    alloc: Global,
-    atoms: &mut Atoms,
-    text: &[u8],
-    name: AtomId,
-    form: Node,
-    behind: Reader,
-) -> Result<(Listing, Locations), Fault>
-    ensures read { Reads (Takes (exports_form (span_of form.entry).line (shape form.entry)) atoms.old
-        ⊎ ReadsForms (place behind.entry)) (λ r. r.0) atoms.old atoms.new result (listings.exported
-        (last_line text.now) name (listings.taken_at form.entry (place behind.entry))) }
-    ensures located { IfOk result (λ r. r.1.items ≡ located_behind
-        (listings.behind_head (last_line text.now) (forms (place behind.entry)))) }
-{
     let exports = exports_form(alloc, atoms, form.span().line, shape_of(&form))?;
-    behind_exports(alloc, atoms, text, name, exports, behind)
+    let (functions, locations) = functions_behind(alloc, atoms, text, behind)?;
+    Ok((Listing::new(name, exports, functions), locations))
 }
 
-fn behind_exports(
+/// The functions behind the rest of the head, and where their items stand in their sources.
+fn functions_behind(
     alloc: Global,
     atoms: &mut Atoms,
     text: &[u8],
-    name: AtomId,
-    exports: Vec<Export>,
     behind: Reader,
-) -> Result<(Listing, Locations), Fault>
-    ensures read { Reads (ReadsForms (place behind.entry)) (λ r. r.0) atoms.old atoms.new result
-        (listings.behind_exports (last_line text.now) name (forms (place behind.entry))
-        exports.items) }
+) -> Result<(Vec<Function>, Locations), Fault>
+    ensures read { Reads (ReadsForms (place behind.entry)) (λ r. r.0.items) atoms.old atoms.new
+        result (listings.functions_behind (last_line text.now) (forms (place behind.entry))) }
     ensures located { IfOk result (λ r. r.1.items ≡ located_behind
         (listings.behind_head (last_line text.now) (forms (place behind.entry)))) }
 {
     let behind = behind_head(alloc, text, behind)?;
-    listed(alloc, atoms, name, exports, behind)
-}
-
-#[tactic(auto, using(crate::proofs::Readings::refuses_first))]
-fn listed(
-    alloc: Global,
-    atoms: &mut Atoms,
-    name: AtomId,
-    exports: Vec<Export>,
-    behind: Reader,
-) -> Result<(Listing, Locations), Fault>
-    ensures read { Reads (ReadsForms (place behind.entry)) (λ r. r.0) atoms.old atoms.new result
-        (listings.listed name exports.items (forms (place behind.entry))) }
-    ensures located { IfOk result (λ r. r.1.items ≡ located None (forms (place behind.entry))) }
-{
-    let (functions, locations) = functions(alloc, atoms, behind)?;
-    Ok((Listing::new(name, exports, functions), locations))
+    functions(alloc, atoms, behind)
 }

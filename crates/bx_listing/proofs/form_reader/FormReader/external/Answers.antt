@@ -4,10 +4,10 @@ use Rattle.bx_listing.specs.Reading.{◌>>=◌, give}
 use Rattle.bx_listing.specs.Shape.{number}
 use Rattle.bx_listing.specs.Operands.{operand, atom_word}
 use Rattle.bx_listing.proofs.Readings.{refused_first}
-use Rattle.bx_listing.proofs.operands.external.Goals as goal
+use Rattle.bx_listing.proofs.form_reader.FormReader.external.Goals as goal
 
 pub returns-in_err-module : goal.returns-in_err-module
 returns-in_err-module c =
     let p = err_from_is_err_and c.from_residual.result c.from_residual.ensures.1 in
-    let line = c.args.line in
+    let line = c.args.self.line in
     rw (p.1, p.2) (refused_first _ _ _ (atom_word line c.args.«module».now) (λ owner. atom_word line c.args.function.now >>= λ function. operand line (number c.args.count.now) >>= λ count. give (operands.Import (record { «module» = owner; function = function; arity = count }))) c.in_err-module.ensures)

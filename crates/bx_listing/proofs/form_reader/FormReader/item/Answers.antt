@@ -1,0 +1,9 @@
+use Rattle.std.proofs.Common.{[]}
+use Rattle.bx_listing.specs.Seen.{seen}
+use Rattle.bx_listing.specs.Rows.{item_row}
+use Rattle.bx_listing.specs.ItemForms.{read_as}
+use Rattle.bx_listing.proofs.Readings.{answers_given}
+use Rattle.bx_listing.proofs.form_reader.FormReader.item.Goals as goal
+
+pub returns : goal.returns
+returns c = answers_given (λ op. (op, c.read_item.new.operands.items)) read_as _ _ _ (item_row c.args.self.line [] (seen c.args.form)) (rw c.clear.ensures.items at c.read_item.ensures)

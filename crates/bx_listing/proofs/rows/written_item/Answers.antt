@@ -1,8 +1,0 @@
-use Rattle.bx_listing.specs.Formed.{formed}
-use Rattle.bx_listing.specs.Ways.{tuple_form}
-use Rattle.bx_listing.specs.Rows.{formed_item}
-use Rattle.bx_listing.proofs.FormRefusals.{form_refused}
-use Rattle.bx_listing.proofs.rows.written_item.Goals as goal
-
-pub returns-in-Err : goal.returns-in-Err
-returns-in-Err c = form_refused formed _ _ (tuple_form c.args.line c.args.text.now c.args.word c.args.parts.now) (formed_item c.args.line c.args.operands.now.items) c.in-Err.ensures
