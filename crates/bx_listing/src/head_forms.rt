@@ -7,13 +7,83 @@ ghost use Rattle.bx_listing.specs.Seen.{seen};
 ghost use Rattle.bx_listing.specs.Reading.{Answers};
 
 use crate::code_form::Export;
+use crate::form_reader::FormReader;
 use crate::listing::Function;
-use crate::operands::name_atom;
 use crate::shapes::{Shape, list_elements, number, shape_of, word};
 use crate::words::{FormWord, form_word};
 use bx_terms::{Atoms, Fault};
 use bx_text::{Elements, Node};
-use std::alloc::Global;
+
+impl FormReader {
+    /// The exported functions, of `{exports,[{F,A},..]}`.
+    pub(crate) fn exports_form(self, atoms: &mut Atoms, form: Shape) -> Result<Vec<Export>, Fault>
+        ensures { Answers (λ exports. exports.items) atoms.old atoms.new result
+            (exports_form self.line (seen form.entry)) }
+    {
+        let Shape::Tagged(text, [list]) = form else {
+            return Err(self.bad_form());
+        };
+        match (form_word(text), list_elements(list)) {
+            (FormWord::Exports, Some(list)) => self.offers(atoms, list),
+            _ => Err(self.bad_form()),
+        }
+    }
+
+    fn offers(self, atoms: &mut Atoms, list: Elements) -> Result<Vec<Export>, Fault>
+        ensures { Answers (λ exports. exports.items) atoms.old atoms.new result
+            (offers self.line (elements_seen list.entry)) }
+    {
+        if are_offers(list) {
+            self.named_offers(atoms, list)
+        } else {
+            Err(self.bad_form())
+        }
+    }
+
+    fn named_offers(self, atoms: &mut Atoms, list: Elements) -> Result<Vec<Export>, Fault>
+        ensures { Answers (λ exports. exports.items) atoms.old atoms.new result
+            (named_offers self.line (elements_seen list.entry)) }
+    {
+        let mut exports = Vec::new(self.alloc);
+        for i in 0..list.len() {
+            match self.named_offer(atoms, list.at(i).node()) {
+                Ok(export) => exports.push(export)?,
+                Err(fault) => return Err(fault),
+            }
+        }
+        Ok(exports)
+    }
+
+    fn named_offer(self, atoms: &mut Atoms, node: &Node) -> Result<Export, Fault>
+        ensures { Answers (λ export. export) atoms.old atoms.new result
+            (named_offer self.line node.now) }
+    {
+        match offer(node) {
+            Some((name, arity)) => {
+                let function = self.name_atom(atoms, name)?;
+                Ok(Export { function, arity })
+            }
+            None => Err(self.bad_form()),
+        }
+    }
+
+    /// The function that begins with `{function,F,A,Entry}`, of which these are the parts.
+    pub(crate) fn function_form(self, atoms: &mut Atoms, parts: &[Node]) -> Result<Function, Fault>
+        ensures { Answers (λ function. function) atoms.old atoms.new result
+            (function_form self.line parts.now) }
+    {
+        let [name, arity, entry] = parts else {
+            return Err(self.bad_form());
+        };
+        match (word(name), number(arity), number(entry)) {
+            (Some(name), Some(arity), Some(entry)) => {
+                let name = self.name_atom(atoms, name)?;
+                Ok(Function::new(self.alloc, name, arity, entry))
+            }
+            _ => Err(self.bad_form()),
+        }
+    }
+}
 
 /// The module's name, of `{module,M}`.
 pub(crate) fn module_name<'v>(form: Shape<'v, '_>) -> Option<&'v str>
@@ -28,41 +98,6 @@ pub(crate) fn module_name<'v>(form: Shape<'v, '_>) -> Option<&'v str>
     }
 }
 
-/// The exported functions, of `{exports,[{F,A},..]}`.
-pub(crate) fn exports_form(
-    alloc: Global,
-    atoms: &mut Atoms,
-    line: usize,
-    form: Shape,
-) -> Result<Vec<Export>, Fault>
-    ensures { Answers (λ exports. exports.items) atoms.old atoms.new result
-        (exports_form line (seen form.entry)) }
-{
-    let Shape::Tagged(text, [list]) = form else {
-        return Err(Fault::BadForm { line });
-    };
-    match (form_word(text), list_elements(list)) {
-        (FormWord::Exports, Some(list)) => offers(alloc, atoms, line, list),
-        _ => Err(Fault::BadForm { line }),
-    }
-}
-
-fn offers(
-    alloc: Global,
-    atoms: &mut Atoms,
-    line: usize,
-    list: Elements,
-) -> Result<Vec<Export>, Fault>
-    ensures { Answers (λ exports. exports.items) atoms.old atoms.new result
-        (offers line (elements_seen list.entry)) }
-{
-    if are_offers(list) {
-        named_offers(alloc, atoms, line, list)
-    } else {
-        Err(Fault::BadForm { line })
-    }
-}
-
 /// Whether all of them are `{F,A}`.
 fn are_offers(list: Elements) -> bool
     ensures { result ≡ are_offers (elements_seen list.entry) }
@@ -73,38 +108,6 @@ fn are_offers(list: Elements) -> bool
         }
     }
     true
-}
-
-fn named_offers(
-    alloc: Global,
-    atoms: &mut Atoms,
-    line: usize,
-    list: Elements,
-) -> Result<Vec<Export>, Fault>
-    ensures { Answers (λ exports. exports.items) atoms.old atoms.new result
-        (named_offers line (elements_seen list.entry)) }
-{
-    let mut exports = Vec::new(alloc);
-    for i in 0..list.len() {
-        match named_offer(alloc, atoms, line, list.at(i).node()) {
-            Ok(export) => exports.push(export)?,
-            Err(fault) => return Err(fault),
-        }
-    }
-    Ok(exports)
-}
-
-fn named_offer(alloc: Global, atoms: &mut Atoms, line: usize, node: &Node) -> Result<Export, Fault>
-    ensures { Answers (λ export. export) atoms.old atoms.new result
-        (named_offer line node.now) }
-{
-    match offer(node) {
-        Some((name, arity)) => {
-            let function = name_atom(alloc, atoms, line, name)?;
-            Ok(Export { function, arity })
-        }
-        None => Err(Fault::BadForm { line }),
-    }
 }
 
 /// The name and the arity of `{F,A}`.
@@ -136,27 +139,5 @@ pub(crate) fn is_labels(form: Shape) -> bool
             matches!(form_word(text), FormWord::Labels) && number(count).is_some()
         }
         _ => false,
-    }
-}
-
-/// The function that begins with `{function,F,A,Entry}`, of which these are the parts.
-pub(crate) fn function_form(
-    alloc: Global,
-    atoms: &mut Atoms,
-    line: usize,
-    parts: &[Node],
-) -> Result<Function, Fault>
-    ensures { Answers (λ function. function) atoms.old atoms.new result
-        (function_form line parts.now) }
-{
-    let [name, arity, entry] = parts else {
-        return Err(Fault::BadForm { line });
-    };
-    match (word(name), number(arity), number(entry)) {
-        (Some(name), Some(arity), Some(entry)) => {
-            let name = name_atom(alloc, atoms, line, name)?;
-            Ok(Function::new(alloc, name, arity, entry))
-        }
-        _ => Err(Fault::BadForm { line }),
     }
 }

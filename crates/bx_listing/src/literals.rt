@@ -7,7 +7,7 @@ ghost use Rattle.bx_listing.specs.Literals.{sort_name, kept_cons, kept_before, k
 ghost use Rattle.bx_listing.specs.LiteralRows.{row_of, with_last};
 ghost use Rattle.bx_listing.specs.Reading.{Answers};
 
-use crate::operands::{name_atom, unsupported};
+use crate::form_reader::FormReader;
 use bx_terms::{Atoms, Fault, Term, TermRefusal};
 use bx_text::{Elements, Node, Sort, View};
 use std::alloc::{AllocError, Global};
@@ -19,36 +19,65 @@ struct Row {
     tail: Option<Term>,
 }
 
-/// The term of a literal, or `None` where it is higher than terms may be.
-///
-/// All of it is read even then, so that the first fault in it is found, and its atoms are numbered.
-#[cycle(literal)]
-pub(crate) fn literal(
-    alloc: Global,
-    atoms: &mut Atoms,
-    line: usize,
-    node: &Node,
-) -> Result<Option<Term>, Fault>
-    ensures read { Answers (λ term. term) atoms.old atoms.new result
-        (literal line node.now) }
-    ensures node { IsNode node.now }
-{
-    match node.view() {
-        View::Integer(value) => Ok(Some(Term::int(value))),
-        View::Large(_) => Err(Fault::LiteralRange { line }),
-        View::Atom(text) => {
-            let atom = name_atom(alloc, atoms, line, text)?;
-            Ok(Some(Term::atom(atom)))
+impl FormReader {
+    /// The term of a literal, or `None` where it is higher than terms may be.
+    ///
+    /// All of it is read even then, so that the first fault in it is found, and its atoms are numbered.
+    #[cycle(literal)]
+    pub(crate) fn literal(self, atoms: &mut Atoms, node: &Node) -> Result<Option<Term>, Fault>
+        ensures read { Answers (λ term. term) atoms.old atoms.new result
+            (literal self.line node.now) }
+        ensures node { IsNode node.now }
+    {
+        match node.view() {
+            View::Integer(value) => Ok(Some(Term::int(value))),
+            View::Large(_) => Err(Fault::LiteralRange { line: self.line }),
+            View::Atom(text) => {
+                let atom = self.name_atom(atoms, text)?;
+                Ok(Some(Term::atom(atom)))
+            }
+            View::Tuple(elements) => {
+                let row = self.literal_row(atoms, Elements::Nodes(elements), None)?;
+                Ok(tuple(self.alloc, row.elements)?)
+            }
+            View::List(elements, tail) => {
+                let row = self.literal_row(atoms, elements, tail)?;
+                Ok(list(self.alloc, row)?)
+            }
+            View::Other(sort, _) => Err(self.unsupported(sort_name(sort))?),
         }
-        View::Tuple(elements) => {
-            let row = literal_row(alloc, atoms, line, Elements::Nodes(elements), None)?;
-            Ok(tuple(alloc, row.elements)?)
+    }
+
+    #[cycle(literal)]
+    fn literal_row(
+        self,
+        atoms: &mut Atoms,
+        elements: Elements,
+        tail: Option<&Node>,
+    ) -> Result<Row, Fault>
+        ensures { Answers row_of atoms.old atoms.new result
+            (parts self.line (chain (elements_seen elements.entry) (tail_seen tail.entry))).row }
+    {
+        let mut kept = Some(Vec::new(self.alloc));
+        for i in 0..elements.len() {
+            match self.literal(atoms, elements.at(i).node()) {
+                Ok(term) => kept = with_last(kept, term)?,
+                Err(fault) => return Err(fault),
+            }
         }
-        View::List(elements, tail) => {
-            let row = literal_row(alloc, atoms, line, elements, tail)?;
-            Ok(list(alloc, row)?)
+        match tail {
+            Some(node) => match self.literal(atoms, node) {
+                Ok(tail) => Ok(Row {
+                    elements: kept,
+                    tail,
+                }),
+                Err(fault) => Err(fault),
+            },
+            None => Ok(Row {
+                elements: kept,
+                tail: Some(Term::nil()),
+            }),
         }
-        View::Other(sort, _) => Err(unsupported(alloc, line, sort_name(sort))?),
     }
 }
 
@@ -61,39 +90,6 @@ fn sort_name(sort: Sort) -> &'static str
         Sort::Map => "map",
         Sort::Binary => "binary",
         Sort::Fun => "fun",
-    }
-}
-
-#[cycle(literal)]
-fn literal_row(
-    alloc: Global,
-    atoms: &mut Atoms,
-    line: usize,
-    elements: Elements,
-    tail: Option<&Node>,
-) -> Result<Row, Fault>
-    ensures { Answers row_of atoms.old atoms.new result
-        (parts line (chain (elements_seen elements.entry) (tail_seen tail.entry))).row }
-{
-    let mut kept = Some(Vec::new(alloc));
-    for i in 0..elements.len() {
-        match literal(alloc, atoms, line, elements.at(i).node()) {
-            Ok(term) => kept = with_last(kept, term)?,
-            Err(fault) => return Err(fault),
-        }
-    }
-    match tail {
-        Some(node) => match literal(alloc, atoms, line, node) {
-            Ok(tail) => Ok(Row {
-                elements: kept,
-                tail,
-            }),
-            Err(fault) => Err(fault),
-        },
-        None => Ok(Row {
-            elements: kept,
-            tail: Some(Term::nil()),
-        }),
     }
 }
 

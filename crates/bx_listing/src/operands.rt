@@ -1,43 +1,17 @@
 //! The operands of instructions, by their sorts.
 
-ghost use Rattle.std.specs.Prelude.{◌≡◌, IfOk, option_map};
-ghost use Rattle.bx_terms.specs.declared.faults.Fault.TheVariants.{Unsupported};
+ghost use Rattle.std.specs.Prelude.{◌≡◌, option_map};
 ghost use Rattle.bx_listing.specs.Operands.{untyped, register, only_y, label, atom_word, atom_operand, integer_source, atom_source, literal_source, source_of, source, value, external, callee, amount, fail_label, bif_named, plain, simple};
 ghost use Rattle.bx_listing.specs.Shape.{word};
-ghost use Rattle.bx_listing.specs.Reading.{Table, named, Answers};
+ghost use Rattle.bx_listing.specs.Reading.{Table, Answers};
 
 use crate::form_reader::FormReader;
 use crate::items::{Amount, Import, Operand};
-use crate::literals::literal;
 use crate::shapes::{Shape, number, shape_of, word};
 use crate::words::{OperandWord, operand_word};
 use bx_ops::{Sort, bif_by_name};
-use bx_terms::{AtomId, Atoms, Fault, Name};
+use bx_terms::{AtomId, Atoms, Fault};
 use bx_text::{Node, View};
-use std::alloc::{AllocError, Global};
-
-/// Numbers the atom of this text, which stands in a form of that line.
-pub(crate) fn name_atom(
-    alloc: Global,
-    atoms: &mut Atoms,
-    line: usize,
-    text: &str,
-) -> Result<AtomId, Fault>
-    ensures { Answers (λ atom. atom) atoms.old atoms.new result (named line text.now) }
-{
-    match atoms.name(alloc, text) {
-        Ok(atom) => Ok(atom),
-        Err(fault) => Err(fault.at_line(line)),
-    }
-}
-
-/// The refusal of what is outside the subset, by its name.
-pub(crate) fn unsupported(alloc: Global, line: usize, name: &str) -> Result<Fault, AllocError>
-    ensures { IfOk result (λ fault. fault ≡ Unsupported line name.now) }
-{
-    let name = Name::new(alloc, name)?;
-    Ok(Fault::Unsupported { line, name })
-}
 
 impl FormReader {
     /// An atom that stands alone.
@@ -45,7 +19,7 @@ impl FormReader {
         ensures { Answers (λ atom. atom) atoms.old atoms.new result (atom_word self.line node.now) }
     {
         match word(node) {
-            Some(text) => name_atom(self.alloc, atoms, self.line, text),
+            Some(text) => self.name_atom(atoms, text),
             None => Err(self.bad_operand()),
         }
     }
@@ -99,7 +73,7 @@ impl FormReader {
             (OperandWord::Integer, [integer]) => self.integer_source(integer),
             (OperandWord::Atom, [atom]) => self.atom_source(atoms, atom),
             (OperandWord::Literal, [term]) => self.literal_source(atoms, term),
-            (OperandWord::Float, [_]) => Err(unsupported(self.alloc, self.line, "float")?),
+            (OperandWord::Float, [_]) => Err(self.unsupported("float")?),
             _ => register(node).ok_or(self.bad_operand()),
         }
     }
@@ -114,7 +88,7 @@ impl FormReader {
         match operand_word(word) {
             OperandWord::Integer => self.integer_source(operand),
             OperandWord::Atom => self.atom_source(atoms, operand),
-            OperandWord::Float => Err(unsupported(self.alloc, self.line, "float")?),
+            OperandWord::Float => Err(self.unsupported("float")?),
             _ => Err(self.bad_operand()),
         }
     }
@@ -147,7 +121,7 @@ impl FormReader {
         ensures { Answers (λ source. source) atoms.old atoms.new result
             (literal_source self.line node.now) }
     {
-        match literal(self.alloc, atoms, self.line, node)? {
+        match self.literal(atoms, node)? {
             Some(term) => Ok(Operand::Literal(term)),
             None => Err(Fault::LiteralRange { line: self.line }),
         }
@@ -199,7 +173,7 @@ impl FormReader {
         let Shape::Tagged(kind, [count]) = shape_of(node) else {
             return Err(self.bad_operand());
         };
-        let kind = name_atom(self.alloc, atoms, self.line, kind)?;
+        let kind = self.name_atom(atoms, kind)?;
         match number(count) {
             Some(count) => Ok(Operand::Amount(Amount { kind, count })),
             None => Err(self.bad_operand()),
@@ -222,7 +196,7 @@ impl FormReader {
     }
 }
 
-// The R of `{tr,R,T}`, however often it is wrapped so.
+/// The R of `{tr,R,T}`, however often it is wrapped so.
 fn untyped<'v, 'a>(node: &'v Node<'a>) -> &'v Node<'a>
     ensures { result.now ≡ untyped node.now }
 {

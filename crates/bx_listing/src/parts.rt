@@ -7,7 +7,6 @@ ghost use Rattle.bx_listing.specs.Seen.{seen};
 ghost use Rattle.bx_listing.specs.Reading.{Answers};
 
 use crate::form_reader::FormReader;
-use crate::head_forms::function_form;
 use crate::items::Operand;
 use crate::listing::Function;
 use crate::shapes::Shape;
@@ -48,7 +47,7 @@ impl FormReader {
         ensures { Answers (λ done. functions.new.items) atoms.old atoms.new result
             (begun_function self.line functions.old.items parts.now) }
     {
-        let function = function_form(self.alloc, atoms, self.line, parts)?;
+        let function = self.function_form(atoms, parts)?;
         functions.push(function)?;
         Ok(())
     }
@@ -65,7 +64,7 @@ impl FormReader {
             (with_form self.line functions.old.items (seen form.entry)) }
     {
         if functions.is_empty() {
-            return Err(Fault::BadForm { line: self.line });
+            return Err(self.bad_form());
         }
         self.add_form_item(atoms, functions, operands, form)
     }

@@ -14,11 +14,10 @@ ghost use Rattle.bx_listing.specs.Wanting.{ReadsForms};
 ghost use Rattle.bx_listing.specs.Reading.{Reads, Answers};
 
 use crate::form_reader::FormReader;
-use crate::head_forms::{exports_form, is_attributes, is_labels, module_name};
+use crate::head_forms::{is_attributes, is_labels, module_name};
 use crate::items::Operand;
 use crate::listing::{Function, Listing};
 use crate::locations::Locations;
-use crate::operands::name_atom;
 use crate::shapes::shape_of;
 use bx_terms::{AtomId, Atoms, Fault};
 use bx_text::{Node, Reader};
@@ -162,8 +161,7 @@ fn take_form(
     ensures { Answers (λ done. functions.new.items) atoms.old atoms.new result
         (listings.part (span_of form.now).line functions.old.items (shape form.now)) }
 {
-    let line = form.span().line;
-    let reader = FormReader { alloc, line };
+    let reader = FormReader::new(alloc, form);
     reader.part(atoms, functions, operands, shape_of(form))
 }
 
@@ -211,11 +209,11 @@ pub fn read_located(
         (λ r. r.1.items ≡ locations (last_line text.now) (forms (place_in text.now 0))) }
 {
     let (form, behind) = head_form(alloc, text, Reader::at(text, 0))?;
-    let line = form.span().line;
+    let reader = FormReader::new(alloc, &form);
     let Some(module) = module_name(shape_of(&form)) else {
-        return Err(Fault::BadForm { line });
+        return Err(reader.bad_form());
     };
-    let name = name_atom(alloc, atoms, line, module)?;
+    let name = reader.name_atom(atoms, module)?;
     behind_name(alloc, atoms, text, name, behind)
 }
 
@@ -233,7 +231,8 @@ fn behind_name(
         (forms (place behind.entry))) }
 {
     let (form, behind) = head_form(alloc, text, behind)?;
-    let exports = exports_form(alloc, atoms, form.span().line, shape_of(&form))?;
+    let reader = FormReader::new(alloc, &form);
+    let exports = reader.exports_form(atoms, shape_of(&form))?;
     let (functions, locations) = functions_behind(alloc, atoms, text, behind)?;
     Ok((Listing::new(name, exports, functions), locations))
 }

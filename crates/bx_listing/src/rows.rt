@@ -264,7 +264,7 @@ impl FormReader {
                 parts,
             ),
             Shape::Bare(text) => self.bare_item(atoms, operands, text),
-            Shape::Other => Err(Fault::BadForm { line: self.line }),
+            Shape::Other => Err(self.bad_form()),
         }
     }
 }

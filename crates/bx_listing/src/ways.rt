@@ -9,7 +9,6 @@ ghost use Rattle.bx_listing.specs.Formed.{formed, terms};
 ghost use Rattle.bx_listing.specs.Wanting.{FormGives};
 
 use crate::form_reader::FormReader;
-use crate::operands::unsupported;
 use crate::shapes::{list_elements, word};
 use crate::words::FormWord;
 use bx_ops::{Op, Way, bif_by_name, op_named, slots, way};
@@ -81,7 +80,7 @@ impl FormReader {
         ensures { FormGives formed result (named_form self.line text.now parts.now) }
     {
         let Some(op) = op_named(text) else {
-            return Err(unsupported(self.alloc, self.line, text)?);
+            return Err(self.unsupported(text)?);
         };
         match way(op) {
             Way::Plain => {
@@ -93,7 +92,7 @@ impl FormReader {
                 self.counted(Form { op, arguments })
             }
             Way::Bare => Err(self.bad_operand()),
-            _ => Err(unsupported(self.alloc, self.line, text)?),
+            _ => Err(self.unsupported(text)?),
         }
     }
 
@@ -103,12 +102,12 @@ impl FormReader {
             (bare_op self.line text.now (with_name text.now)) }
     {
         let Some(op) = op_named(text) else {
-            return Err(unsupported(self.alloc, self.line, text)?);
+            return Err(self.unsupported(text)?);
         };
         match way(op) {
             Way::Bare => Ok(op),
             Way::Plain => Err(self.bad_operand()),
-            _ => Err(unsupported(self.alloc, self.line, text)?),
+            _ => Err(self.unsupported(text)?),
         }
     }
 
@@ -121,8 +120,8 @@ impl FormReader {
             | FormWord::Exports
             | FormWord::Attributes
             | FormWord::Labels
-            | FormWord::Function => Err(Fault::BadForm { line: self.line }),
-            FormWord::Annotation => Err(unsupported(self.alloc, self.line, text)?),
+            | FormWord::Function => Err(self.bad_form()),
+            FormWord::Annotation => Err(self.unsupported(text)?),
             FormWord::Named => self.bare_op(text),
             _ => Err(self.bad_operand()),
         }
@@ -156,11 +155,11 @@ impl FormReader {
             return Err(self.bad_operand());
         };
         let Some(op) = op_named(text) else {
-            return Err(unsupported(self.alloc, self.line, text)?);
+            return Err(self.unsupported(text)?);
         };
         match way(op) {
             Way::Test => self.test_row(op, rest),
-            _ => Err(unsupported(self.alloc, self.line, text)?),
+            _ => Err(self.unsupported(text)?),
         }
     }
 
@@ -193,7 +192,7 @@ impl FormReader {
         let count = arguments.list.len();
         if bif_by_name(text, count).is_none() {
             let called = format!(in self.alloc; "{text}/{count}")?;
-            return Err(unsupported(self.alloc, self.line, called.as_str())?);
+            return Err(self.unsupported(called.as_str())?);
         }
         self.bif_row(op, arguments)
     }
@@ -287,8 +286,8 @@ impl FormReader {
             | FormWord::Exports
             | FormWord::Attributes
             | FormWord::Labels
-            | FormWord::Function => Err(Fault::BadForm { line: self.line }),
-            FormWord::Annotation => Err(unsupported(self.alloc, self.line, text)?),
+            | FormWord::Function => Err(self.bad_form()),
+            FormWord::Annotation => Err(self.unsupported(text)?),
             FormWord::Test => self.test_form(parts),
             FormWord::Bif => self.bif_form(parts),
             FormWord::GcBif => self.gc_bif_form(parts),

@@ -37,7 +37,7 @@ returns-in_err-name-clause-read c =
     let takes : Type 0 = takes_memory start ⊎ listings.IsNamed (forms start) in
     let name = named form.line text in
     rw (p.1, p.2) (reads_same {X = ListedModule} takes (λ x. x) _ _ (Err _) (listings.named_listing last form.line form.rest text) (listings.listing last (forms start)) (listing-named last (forms start) form text _ taken is)
-    (refuses_first takes _ _ _ name (listings.behind_name last form.rest) (refuses_wider (Takes name c.args.atoms.now) takes _ _ _ name (λ h. inr (is_named last (forms start) form text taken is)) (rw c.span-line.ensures at c.in_err-name.ensures))))
+    (refuses_first takes _ _ _ name (listings.behind_name last form.rest) (refuses_wider (Takes name c.args.atoms.now) takes _ _ _ name (λ h. inr (is_named last (forms start) form text taken is)) (rw c.new-reader.ensures at c.in_err-name.ensures))))
 
 pub returns-clause-read : goal.returns-clause-read
 returns-clause-read c =
@@ -49,7 +49,7 @@ returns-clause-read c =
     let is : Some text ≡ module_name (shape c.in_ok-form.form) = rw c.shape_of.ensures at c.in-Some.ensures in
     let takes : Type 0 = takes_memory start ⊎ listings.IsNamed (forms start) in
     reads_same takes _ _ _ _ (listings.named_listing last form.line form.rest text) (listings.listing last (forms start)) (listing-named last (forms start) form text _ taken is)
-    (reads_after takes _ _ _ _ _ (named form.line text) _ (listings.behind_name last form.rest) (rw c.span-line.ensures at c.in_ok-name.ensures)
+    (reads_after takes _ _ _ _ _ (named form.line text) _ (listings.behind_name last form.rest) (rw c.new-reader.ensures at c.in_ok-name.ensures)
     (reads_wider _ takes _ _ _ _ _ (λ h. inr (is_named last (forms start) form text taken is)) c.behind_name.ensures.read))
 
 pub returns-clause-located : goal.returns-clause-located

@@ -3,7 +3,7 @@ use Rattle.bx_text.specs.Tree.{chain, nodes}
 use Rattle.bx_text.specs.View.{tail_seen, elements_seen}
 use Rattle.bx_listing.specs.Reading.{Begins, Takes}
 use Rattle.bx_listing.proofs.LiteralRows.{row, resumed}
-use Rattle.bx_listing.proofs.literals.+literal.Given as goal
+use Rattle.bx_listing.proofs.form_reader.FormReader.+literal.Given as goal
 
 abbrev pub decreases-literal : goal.decreases-literal
 decreases-literal l = 2 * nodes l.node.now
@@ -13,7 +13,7 @@ decreases-literal_row l = 1 + 2 * nodes (chain (elements_seen l.elements) (tail_
 
 abbrev pub invariant-literal_row-loop-i : goal.invariant-literal_row-loop-i
 invariant-literal_row-loop-i l = record {
-  so_far : resumed (option_map (λ ts. ts.items) l.kept) ((row l.line (drop l.i (elements_seen l.elements)) (tail_seen l.tail)).run l.atoms) ≡ (row l.line (elements_seen l.elements) (tail_seen l.tail)).run l.fn.atoms;
-  wants : Takes (row l.line (drop l.i (elements_seen l.elements)) (tail_seen l.tail)) l.atoms → Takes (row l.line (elements_seen l.elements) (tail_seen l.tail)) l.fn.atoms;
+  so_far : resumed (option_map (λ ts. ts.items) l.kept) ((row l.self.line (drop l.i (elements_seen l.elements)) (tail_seen l.tail)).run l.atoms) ≡ (row l.self.line (elements_seen l.elements) (tail_seen l.tail)).run l.fn.atoms;
+  wants : Takes (row l.self.line (drop l.i (elements_seen l.elements)) (tail_seen l.tail)) l.atoms → Takes (row l.self.line (elements_seen l.elements) (tail_seen l.tail)) l.fn.atoms;
   grown : Begins l.fn.atoms l.atoms;
 }
