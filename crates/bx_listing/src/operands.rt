@@ -1,7 +1,7 @@
 //! The operands of instructions, by their sorts.
 
 ghost use Rattle.std.specs.Prelude.{◌≡◌, option_map};
-ghost use Rattle.bx_listing.specs.Operands.{untyped, register, only_y, label, atom_word, atom_operand, integer_source, atom_source, literal_source, source_of, source, value, external, callee, amount, fail_label, bif_named, plain, simple};
+ghost use Rattle.bx_listing.specs.Operands.{untyped, register, only_y, label, atom_word, atom_operand, integer_source, atom_source, literal_source, source, value, external, callee, amount, fail_label, bif_named, plain, simple};
 ghost use Rattle.bx_listing.specs.Shape.{word};
 ghost use Rattle.bx_listing.specs.Reading.{Table, Answers};
 
@@ -48,33 +48,14 @@ impl FormReader {
                 OperandWord::Nil => Ok(Operand::Nil),
                 _ => Err(self.bad_operand()),
             },
-            Shape::Tagged(word, parts) => self.tagged_source(
-                atoms,
-                node,
-                operand_word(word),
-                parts,
-            ),
+            Shape::Tagged(word, parts) => match (operand_word(word), parts) {
+                (OperandWord::Integer, [integer]) => self.integer_source(integer),
+                (OperandWord::Atom, [atom]) => self.atom_source(atoms, atom),
+                (OperandWord::Literal, [term]) => self.literal_source(atoms, term),
+                (OperandWord::Float, [_]) => Err(self.unsupported("float")?),
+                _ => register(node).ok_or(self.bad_operand()),
+            },
             Shape::Other => Err(self.bad_operand()),
-        }
-    }
-
-    /// The source that `node` is, a tuple of that word and those parts.
-    fn tagged_source(
-        self,
-        atoms: &mut Atoms,
-        node: &Node,
-        word: OperandWord,
-        parts: &[Node],
-    ) -> Result<Operand, Fault>
-        ensures { Answers (λ source. source) atoms.old atoms.new result
-            (source_of self.line node.now word parts.now) }
-    {
-        match (word, parts) {
-            (OperandWord::Integer, [integer]) => self.integer_source(integer),
-            (OperandWord::Atom, [atom]) => self.atom_source(atoms, atom),
-            (OperandWord::Literal, [term]) => self.literal_source(atoms, term),
-            (OperandWord::Float, [_]) => Err(self.unsupported("float")?),
-            _ => register(node).ok_or(self.bad_operand()),
         }
     }
 

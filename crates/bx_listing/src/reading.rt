@@ -1,6 +1,6 @@
 //! Listings, read form by form.
 
-ghost use Rattle.std.specs.Prelude.{◌≡◌, ◌≤◌, ◌<◌, ◌⊎◌, [], None, length, option_map, IfOk, IfSome, IsSome, OnOk};
+ghost use Rattle.std.specs.Prelude.{◌≡◌, ◌≤◌, ◌<◌, ◌⊎◌, [], None, length, option_map, IfOk, IfSome, OnOk};
 ghost use Rattle.bx_terms.specs.Outcomes.{Gives};
 ghost use Rattle.bx_text.specs.Place.{place, place_in};
 ghost use Rattle.bx_text.specs.Forms.{takes_memory};

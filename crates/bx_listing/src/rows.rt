@@ -5,7 +5,7 @@ ghost use Rattle.bx_text.specs.View.{elements_seen};
 ghost use Rattle.bx_listing.specs.Seen.{seen};
 ghost use Rattle.bx_listing.specs.Formed.{formed, terms};
 ghost use Rattle.bx_listing.specs.Operands.{label, register};
-ghost use Rattle.bx_listing.specs.Rows.{members, listed, is_even, is_label, is_x, list_of, pairs_of, slot, row, agrees, amounts, heap, formed_item, written_item, tuple_item, bare_item, item_row};
+ghost use Rattle.bx_listing.specs.Rows.{members, listed, is_even, is_label, is_x, list_of, slot, row, agrees, amounts, heap, formed_item, written_item, tuple_item, bare_item, item_row};
 ghost use Rattle.bx_listing.specs.Reading.{Answers};
 
 use crate::form_reader::FormReader;
@@ -97,23 +97,14 @@ impl FormReader {
                 None => Err(self.bad_operand()),
             },
             Slot::Pairs(first, second) => match listed(node) {
-                Some(nodes) => self.pairs_of(atoms, operands, first, second, nodes),
-                None => Err(self.bad_operand()),
+                Some(nodes) if is_even(nodes) => {
+                    self.list_of(atoms, operands, first, second, nodes)
+                }
+                _ => Err(self.bad_operand()),
             },
-            Slot::NoLabel => {
-                if is_no_label(node) {
-                    Ok(())
-                } else {
-                    Err(self.bad_operand())
-                }
-            }
-            Slot::ToX0 => {
-                if is_x0(node) {
-                    Ok(())
-                } else {
-                    Err(self.bad_operand())
-                }
-            }
+            Slot::NoLabel if is_no_label(node) => Ok(()),
+            Slot::ToX0 if is_x0(node) => Ok(()),
+            Slot::NoLabel | Slot::ToX0 => Err(self.bad_operand()),
             Slot::Heap => self.heap(atoms, operands, node),
         }
     }
@@ -126,24 +117,6 @@ impl FormReader {
         match amounts(node) {
             Some(nodes) => self.list_of(atoms, operands, Sort::Amount, Sort::Amount, nodes),
             None => self.one(atoms, operands, Sort::Number, node),
-        }
-    }
-
-    fn pairs_of(
-        self,
-        atoms: &mut Atoms,
-        operands: &mut Vec<Operand>,
-        first: Sort,
-        second: Sort,
-        nodes: Elements,
-    ) -> Result<(), Fault>
-        ensures { Answers (λ done. operands.new.items) atoms.old atoms.new result
-            (pairs_of self.line operands.old.items first second (elements_seen nodes.entry)) }
-    {
-        if is_even(nodes) {
-            self.list_of(atoms, operands, first, second, nodes)
-        } else {
-            Err(self.bad_operand())
         }
     }
 

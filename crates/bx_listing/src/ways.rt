@@ -178,6 +178,7 @@ impl FormReader {
         }
     }
 
+    /// The BIF of this name, which there must be with so many arguments.
     fn bif_found<'v, 'a>(
         self,
         text: &str,
