@@ -19,9 +19,9 @@ use std::thread::{Threads, join};
 use std::time::{Clock, Duration};
 
 /// What the paths of the two chains weigh that are to meet: the one that ends with a run of process 0, and of process 1.
-const FIRST: u64 = 1;
+pub const FIRST: u64 = 1;
 
-const SECOND: u64 = 1000;
+pub const SECOND: u64 = 1000;
 
 /// A gate that lets so many leases through alone, each after a tenth of a second, in which other workers come and wait. It
 /// holds the next lease until another has come, and its piece until one of another path has; each for at most 10,000 sleeps
@@ -143,7 +143,7 @@ fn worked_by_two<R: Threads + Wait + Clock + Sync>(
 }
 
 /// The same; of a second campaign where one waited too long in the first, since the other may have lacked memory.
-fn met<R: Threads + Wait + Clock + Sync>(
+pub fn met<R: Threads + Wait + Clock + Sync>(
     rt: &R,
     alloc: Global,
     image: &Image,

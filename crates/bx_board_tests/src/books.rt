@@ -211,12 +211,16 @@ fn is_next(alloc: Global, book: &mut Book<'_>, choices: &[Choice]) -> Result<boo
     let Some(lease) = book.lease(alloc, 0)? else {
         return Ok(false);
     };
-    let leased = lease.path(alloc)?.to_choices(alloc)?.as_slice() == choices;
+    let path = lease.path(alloc)?;
+    let path = path.to_choices(alloc)?;
+    let leased = path.as_slice() == choices;
     let piece = match work(alloc, lease) {
         Ok(piece) => piece,
         Err((fault, _lease)) => return Err(fault),
     };
-    let worked = piece.path(alloc)?.to_choices(alloc)?.as_slice() == choices;
+    let path = piece.path(alloc)?;
+    let path = path.to_choices(alloc)?;
+    let worked = path.as_slice() == choices;
     match book.submit(0, piece) {
         Ok(()) => Ok(leased && worked),
         Err((fault, _piece)) => Err(fault),

@@ -15,7 +15,7 @@ fn reader(more: usize, piece: usize) -> FailingReader<'static> {
     }
 }
 
-/// Why a reader's bytes are not had; want of memory is handed on.
+/// Why a reader's bytes are not had; out of memory is handed on.
 fn refusal(alloc: Global, reader: &mut FailingReader<'_>) -> Result<Option<Unread>, Fault> {
     match read_input(alloc, reader) {
         Ok(_) => Ok(None),

@@ -10,6 +10,8 @@ mod campaigns;
 #[cfg(test)]
 mod engines;
 #[cfg(test)]
+mod heights;
+#[cfg(test)]
 mod inputs;
 #[cfg(test)]
 mod lines;

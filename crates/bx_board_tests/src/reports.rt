@@ -87,7 +87,8 @@ fn scheduled(alloc: Global, number: u32) -> Result<Scheduled, AllocError> {
 fn is_alone(alloc: Global, number: u32) -> Result<bool, AllocError> {
     let one = scheduled(alloc, number)?;
     for other in 0..COUNT {
-        if one.same(&scheduled(alloc, other)?) != (other == number) {
+        let another = scheduled(alloc, other)?;
+        if one.same(&another) != (other == number) {
             return Ok(false);
         }
     }
@@ -173,7 +174,8 @@ fn texts_of_processes_and_output(rt: HostRuntime) -> Result<(), Fail> {
 
 #[test]
 fn schedules_in_order(rt: HostRuntime) -> Result<(), Fail> {
-    assert!(rt; text_of(rt.alloc(), &[])?.as_str() == "");
+    let text = text_of(rt.alloc(), &[])?;
+    assert!(rt; text.is_empty());
     let text = text_of(rt.alloc(), &[1, 5])?;
     assert!(rt;
         text.as_str()

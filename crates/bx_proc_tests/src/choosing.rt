@@ -75,7 +75,8 @@ fn leads_to(alloc: Global, term: &str, instruction: &str, label: u8) -> Result<b
     )?;
     let number = format!(in alloc; "{label}")?;
     let report = report_of(alloc, items.as_str(), 5)?;
-    Ok(report.as_str() == ended(alloc, 5, number.as_str())?.as_str())
+    let want = ended(alloc, 5, number.as_str())?;
+    Ok(report.as_str() == want.as_str())
 }
 
 /// Whether a test of x0, of which these are the operands behind it, goes on where it is to hold, and else to its label.

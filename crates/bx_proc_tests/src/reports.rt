@@ -35,7 +35,9 @@ fn trapped(alloc: Global, runs: u32, trap: &str) -> Result<String, AllocError> {
 /// How many rows of items, runs and a reason, from the first on, end the process so.
 pub fn right_ends(alloc: Global, rows: &[(&str, u32, &str)]) -> Result<usize, Fail> {
     for (number, (items, runs, reason)) in rows.iter().enumerate() {
-        if report_of(alloc, items, *runs)?.as_str() != ended(alloc, *runs, reason)?.as_str() {
+        let report = report_of(alloc, items, *runs)?;
+        let want = ended(alloc, *runs, reason)?;
+        if report.as_str() != want.as_str() {
             return Ok(number);
         }
     }
@@ -44,7 +46,9 @@ pub fn right_ends(alloc: Global, rows: &[(&str, u32, &str)]) -> Result<usize, Fa
 
 /// Whether the last of so many runs of these items is that trap.
 pub fn is_trapped(alloc: Global, items: &str, runs: u32, trap: &str) -> Result<bool, Fail> {
-    Ok(report_of(alloc, items, runs)?.as_str() == trapped(alloc, runs, trap)?.as_str())
+    let report = report_of(alloc, items, runs)?;
+    let want = trapped(alloc, runs, trap)?;
+    Ok(report.as_str() == want.as_str())
 }
 
 /// How many rows of items, runs and a trap, from the first on, are so.

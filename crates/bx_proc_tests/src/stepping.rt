@@ -99,7 +99,8 @@ fn told(alloc: Global, image: &Image, effect: &Effect) -> Result<String, AllocEr
             let mut asked = format!(in alloc; "asks for {native:?}")?;
             for argument in arguments.as_slice() {
                 asked.push_str(" ")?;
-                asked.push_str(print(alloc, image.atoms(), argument)?.as_str())?;
+                let argument = print(alloc, image.atoms(), argument)?;
+                asked.push_str(argument.as_str())?;
             }
             Ok(asked)
         }
@@ -126,7 +127,8 @@ fn right_turns(alloc: Global, items: &str, turns: &[(Turn, &str)]) -> Result<usi
         let before = process.copy(alloc)?;
         let effect = turned(alloc, &image, &mut process, *turn)?;
         let stayed = !matches!(effect, Effect::Trap(_)) || process.same(&before);
-        if !stayed || told(alloc, &image, &effect)?.as_str() != *wanted {
+        let told = told(alloc, &image, &effect)?;
+        if !stayed || told.as_str() != *wanted {
             return Ok(number);
         }
     }

@@ -13,7 +13,9 @@ fn report_of_x0(alloc: Global, items: &str, runs: u32) -> Result<String, Fail> {
 /// How many rows of items, runs and a value, from the first on, leave that value in x0.
 fn right_values(alloc: Global, rows: &[(&str, u32, &str)]) -> Result<usize, Fail> {
     for (number, (items, runs, value)) in rows.iter().enumerate() {
-        if report_of_x0(alloc, items, *runs)?.as_str() != ended(alloc, *runs, value)?.as_str() {
+        let report = report_of_x0(alloc, items, *runs)?;
+        let want = ended(alloc, *runs, value)?;
+        if report.as_str() != want.as_str() {
             return Ok(number);
         }
     }
@@ -117,7 +119,9 @@ fn report_of_bif(alloc: Global, name: &str, arguments: &str) -> Result<String, F
 /// How many rows of a name, arguments and a value, from the first on, are what that guard BIF gives.
 fn right_bifs(alloc: Global, rows: &[(&str, &str, &str)]) -> Result<usize, Fail> {
     for (number, (name, arguments, value)) in rows.iter().enumerate() {
-        if report_of_bif(alloc, name, arguments)?.as_str() != ended(alloc, 2, value)?.as_str() {
+        let report = report_of_bif(alloc, name, arguments)?;
+        let want = ended(alloc, 2, value)?;
+        if report.as_str() != want.as_str() {
             return Ok(number);
         }
     }

@@ -22,10 +22,10 @@ fn apart_of(alloc: Global, term: &Term, room: usize) -> Option<(bool, usize)> {
 #[test]
 fn a_term_apart_takes_room_for_each_cell_and_element(rt: HostRuntime) -> Result<(), Fail> {
     let term = sample(rt.alloc())?;
-    assert!(rt; apart_of(rt.alloc(), &term, 5) == Some((true, 2)));
-    assert!(rt; apart_of(rt.alloc(), &term, 3) == Some((true, 0)));
-    assert!(rt; apart_of(rt.alloc(), &term, 2).is_none());
-    assert!(rt; apart_of(rt.alloc(), &Term::pid(4), 0) == Some((true, 0)));
+    for (room, want) in [(5, Some((true, 2))), (3, Some((true, 0))), (2, None)] {
+        assert_eq!(rt; apart_of(rt.alloc(), &term, room), want);
+    }
+    assert_eq!(rt; apart_of(rt.alloc(), &Term::pid(4), 0), Some((true, 0)));
     Ok(())
 }
 
@@ -41,18 +41,28 @@ fn long(alloc: Global, levels: u32) -> Result<Term, AllocError> {
 #[test]
 fn a_term_as_high_as_may_be_is_made_apart(rt: HostRuntime) -> Result<(), Fail> {
     let term = long(rt.alloc(), MAX_HEIGHT)?;
-    assert!(rt; apart_of(rt.alloc(), &term, 10_000) == Some((true, 0)));
-    assert!(rt; apart_of(rt.alloc(), &term, 9_999).is_none());
+    for (room, want) in [(10_000, Some((true, 0))), (9_999, None)] {
+        assert_eq!(rt; apart_of(rt.alloc(), &term, room), want);
+    }
     Ok(())
 }
 
-/// Whether a mailbox of the sample, passed over, and another is the same after it was made apart with so much room, and what the
-/// answer and the room left are.
-fn unshared(alloc: Global, room: usize) -> Result<(bool, bool, usize), AllocError> {
+/// A mailbox of the sample, passed over, and another.
+fn passed(alloc: Global) -> Result<Mailbox, AllocError> {
     let mut mailbox = Mailbox::new(alloc);
-    mailbox.add(sample(alloc)?).map_err(|_| AllocError)?;
-    mailbox.add(sample(alloc)?).map_err(|_| AllocError)?;
+    for _ in 0..2 {
+        let message = sample(alloc)?;
+        if mailbox.add(message).is_err() {
+            return Err(AllocError);
+        }
+    }
     mailbox.pass();
+    Ok(mailbox)
+}
+
+/// Whether that mailbox is the same after it was made apart with so much room, what the answer is, and the room left.
+fn unshared(alloc: Global, room: usize) -> Result<(bool, bool, usize), AllocError> {
+    let mut mailbox = passed(alloc)?;
     let before = mailbox.copy(alloc)?;
     let mut room = room;
     let is_done = mailbox.unshare(alloc, &mut room).is_ok();

@@ -150,7 +150,8 @@ fn named(alloc: Global, names: &[&str]) -> Result<Atoms, Fault> {
 /// Whether two tables with these names are the same.
 fn are_same(alloc: Global, one: &[&str], other: &[&str]) -> Result<bool, Fault> {
     let one = named(alloc, one)?;
-    Ok(one.same(&named(alloc, other)?))
+    let other = named(alloc, other)?;
+    Ok(one.same(&other))
 }
 
 static TABLES: [(&[&str], &[&str], bool); 4] = [

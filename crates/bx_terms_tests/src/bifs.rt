@@ -389,12 +389,15 @@ fn push_call(
 fn is_of_two(alloc: Global, name: &str, m: i64, n: i64, want: &str) -> Result<bool, Fault> {
     let atoms = table(alloc)?;
     let arguments = [Term::int(m), Term::int(n)];
-    Ok(answer(alloc, &atoms, name, &arguments)?.as_str() == want)
+    let told = answer(alloc, &atoms, name, &arguments)?;
+    Ok(told.as_str() == want)
 }
 
 fn is_of_one(alloc: Global, name: &str, n: i64, want: &str) -> Result<bool, Fault> {
     let atoms = table(alloc)?;
-    Ok(answer(alloc, &atoms, name, &[Term::int(n)])?.as_str() == want)
+    let arguments = [Term::int(n)];
+    let told = answer(alloc, &atoms, name, &arguments)?;
+    Ok(told.as_str() == want)
 }
 
 #[test]
@@ -605,7 +608,8 @@ fn integers(alloc: Global, count: i64) -> Result<Vec<Term>, AllocError> {
 fn is_undefined(alloc: Global, name: &str, count: i64) -> Result<bool, Fault> {
     let atoms = table(alloc)?;
     let arguments = integers(alloc, count)?;
-    Ok(answer(alloc, &atoms, name, &arguments)?.as_str() == "undef")
+    let told = answer(alloc, &atoms, name, &arguments)?;
+    Ok(told.as_str() == "undef")
 }
 
 #[test]

@@ -190,11 +190,13 @@ fn are_in_order(links: &Links) -> bool {
 }
 
 fn is_copied(alloc: Global, links: &Links) -> Result<bool, AllocError> {
-    Ok(links.same(&links.copy(alloc)?))
+    let copy = links.copy(alloc)?;
+    Ok(links.same(&copy))
 }
 
 fn is_but(alloc: Global, links: &Links) -> Result<bool, AllocError> {
-    Ok(links.but(alloc, 5)?.as_slice() == [2, 9].as_slice())
+    let left = links.but(alloc, 5)?;
+    Ok(left.as_slice() == [2, 9].as_slice())
 }
 
 fn is_removed(links: &mut Links) -> bool {

@@ -41,7 +41,8 @@ fn printed(alloc: Global, text: &str) -> Result<String, Fault> {
 #[test]
 fn terms_are_printed_without_spaces(rt: HostRuntime) -> Result<(), Fail> {
     for (text, wanted) in &PRINTED {
-        assert!(rt; printed(rt.alloc(), text)?.as_str() == *wanted, "{text}");
+        let printed = printed(rt.alloc(), text)?;
+        assert_eq!(rt; printed.as_str(), *wanted);
     }
     Ok(())
 }

@@ -400,7 +400,8 @@ static ATOMS: [(&[u8], usize, &str); 25] = [
 ];
 
 fn is_first(alloc: Global, text: &[u8], wanted: &str) -> Result<bool, Fault> {
-    Ok(first(alloc, text)?.as_str() == wanted)
+    let first = first(alloc, text)?;
+    Ok(first.as_str() == wanted)
 }
 
 /// How many rows of a text and its first form, from the first on, are so.
@@ -529,7 +530,8 @@ fn three_forms(alloc: Global) -> Result<String, Fault> {
 }
 
 fn are_three_forms(alloc: Global, wanted: &str) -> Result<bool, Fault> {
-    Ok(three_forms(alloc)?.as_str() == wanted)
+    let forms = three_forms(alloc)?;
+    Ok(forms.as_str() == wanted)
 }
 
 fn is_none_behind(alloc: Global) -> Result<bool, Fault> {
@@ -539,7 +541,10 @@ fn is_none_behind(alloc: Global) -> Result<bool, Fault> {
 /// Whether a text whose second form is refused is refused on its third line.
 fn is_refused_behind(alloc: Global) -> Result<bool, Fault> {
     match next_term(alloc, b"a.\n\n )", 2) {
-        Err(fault) => Ok(refusal(alloc, fault)?.as_str() == "R4 3"),
+        Err(fault) => {
+            let refused = refusal(alloc, fault)?;
+            Ok(refused.as_str() == "R4 3")
+        }
         Ok(_) => Ok(false),
     }
 }
@@ -647,7 +652,8 @@ fn atom(alloc: Global, text: &[u8], at: usize) -> Result<String, Fault> {
 }
 
 fn is_atom(alloc: Global, text: &[u8], at: usize, wanted: &str) -> Result<bool, Fault> {
-    Ok(atom(alloc, text, at)?.as_str() == wanted)
+    let atom = atom(alloc, text, at)?;
+    Ok(atom.as_str() == wanted)
 }
 
 #[test]

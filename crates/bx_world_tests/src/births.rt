@@ -76,7 +76,8 @@ const ROWS: [(&str, &str, &str); 11] = [
 /// How many rows from the first on report what is wanted.
 fn right_rows(alloc: Global, rows: &[(&str, &str, &str)]) -> Result<usize, Fault> {
     for (number, (items, choices, want)) in rows.iter().enumerate() {
-        if report_of(alloc, items, "return.", choices)?.as_str() != *want {
+        let report = report_of(alloc, items, "return.", choices)?;
+        if report.as_str() != *want {
             return Ok(number);
         }
     }

@@ -240,7 +240,8 @@ fn text_of<P: Hold<Proc>, C: Hold<Lanes>>(
 /// How many rows, from the first on, come to what they say.
 fn right_rows<P: Hold<Proc>, C: Hold<Lanes>>(alloc: Global) -> Result<usize, Fault> {
     for (number, (items, choices, want)) in RUNS.iter().enumerate() {
-        if text_of::<P, C>(alloc, items, choices)?.as_str() != *want {
+        let text = text_of::<P, C>(alloc, items, choices)?;
+        if text.as_str() != *want {
             return Ok(number);
         }
     }

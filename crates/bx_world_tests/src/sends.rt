@@ -180,7 +180,8 @@ const TO_ONESELF: [(&str, &str, &str, &str); 8] = [
 fn right_rows(alloc: Global, rows: &[(&str, &str, &str, &str)]) -> Result<usize, Fault> {
     for (number, (rest, child, choices, want)) in rows.iter().enumerate() {
         let parent = spawning(alloc, "spawn", rest)?;
-        if report_of(alloc, parent.as_str(), child, choices)?.as_str() != *want {
+        let report = report_of(alloc, parent.as_str(), child, choices)?;
+        if report.as_str() != *want {
             return Ok(number);
         }
     }

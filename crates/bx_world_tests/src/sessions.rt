@@ -1,4 +1,7 @@
 //! Sessions: what stands behind their contracts, that calls succeed where there is memory, and worlds against runs from the start.
+//!
+//! A run of these tests in which one growth is refused shows besides that the session is as it was then, and that the call made again
+//! answers as its row says.
 
 use crate::samples::{LOOP, TRAPS, TWO};
 use bx_debug::{Session, Stop};
@@ -113,7 +116,7 @@ fn item(item: u32) -> Place {
     Place { module: 0, item }
 }
 
-/// The number of a refusal; 0 for none, and want of memory is handed on.
+/// The number of a refusal; 0 for none, and out of memory is handed on.
 fn number_of(done: Result<(), Fault>) -> Result<u8, Fault> {
     match done {
         Ok(()) => Ok(0),
@@ -124,7 +127,8 @@ fn number_of(done: Result<(), Fault>) -> Result<u8, Fault> {
 /// As many runs of process 0.
 fn gone(alloc: Global, session: &mut Session<'_>, times: usize) -> Result<Stop, Fault> {
     let runs = [Run { choice: OWN, times }];
-    session.go(alloc, &Schedule::of(alloc, &runs)?)
+    let schedule = Schedule::of(alloc, &runs)?;
+    session.go(alloc, &schedule)
 }
 
 /// Does a call, and gives the number of its refusal and why it stopped.
@@ -156,6 +160,25 @@ fn is_run(alloc: Global, image: &Image, world: &RcWorld, count: usize) -> Result
     Ok(world.same(&other))
 }
 
+/// Does a call, once more where memory ran out; and whether the session stood then as before.
+fn called_again(
+    alloc: Global,
+    image: &Image,
+    session: &mut Session<'_>,
+    act: Act<'_>,
+) -> Result<((u8, Stop), bool), Fault> {
+    let (at, len) = (session.at(), session.len());
+    match called(alloc, session, act) {
+        Ok(answer) => Ok((answer, true)),
+        Err(Fault::Memory) => {
+            let stayed = is_run(alloc, image, session.world(), at)?;
+            let stayed = stayed && session.at() == at && session.len() == len;
+            Ok((called(alloc, session, act)?, stayed))
+        }
+        Err(fault) => Err(fault),
+    }
+}
+
 /// Whether a row's call answers so, and the session shows the world of its choices behind it.
 fn is_right(
     alloc: Global,
@@ -164,13 +187,10 @@ fn is_right(
     row: &Row<'_>,
 ) -> Result<bool, Fault> {
     let (act, number, stop, at, len) = *row;
-    let answer = called(alloc, session, act)?;
-    Ok(
-        answer == (number, stop)
-            && session.at() == at
-            && session.len() == len
-            && is_run(alloc, image, session.world(), at)?,
-    )
+    let (answer, stayed) = called_again(alloc, image, session, act)?;
+    let shown = is_run(alloc, image, session.world(), at)?;
+    let stands = session.at() == at && session.len() == len;
+    Ok(answer == (number, stop) && stayed && stands && shown)
 }
 
 /// How many rows, from the first on, are right.

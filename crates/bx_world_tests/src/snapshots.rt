@@ -109,7 +109,8 @@ fn talks<P: Hold<Proc>, C: Hold<Lanes>>(
 ) -> Result<bool, Fault> {
     let (choices, mut kept, world) = talk::<P, C>(alloc, image, stride)?;
     let apart = are_apart(alloc, image, &choices, kept.as_mut_slice(), room)?;
-    let same = world.same(&run(alloc, image, &choices)?);
+    let other = run(alloc, image, &choices)?;
+    let same = world.same(&other);
     let outcome = world.outcome(alloc)?;
     let text = outcome_text(alloc, image.atoms(), 7, None, &outcome)?;
     Ok(apart && same && text.as_str().strip_prefix("applied 7") == Some(TALKED))

@@ -194,9 +194,11 @@ fn is_right(alloc: Global, row: &Row) -> Result<bool, Fault> {
     let (m, f) = (atom(&image, "m"), atom(&image, start));
     match (check_swaps(alloc, &image, m, f, &given, positions), want) {
         (Err(Fault::Memory), _) => Err(Fault::Memory),
-        (Ok(made), Want::Made(entries)) => Ok(
-            made.same(&schedule(alloc, entries)?) && lead_alike(alloc, &image, &given, &made)?,
-        ),
+        (Ok(made), Want::Made(entries)) => {
+            let wanted = schedule(alloc, entries)?;
+            let alike = lead_alike(alloc, &image, &given, &made)?;
+            Ok(alike && made.same(&wanted))
+        }
         (Err(Fault::NotIndependent { position }), Want::NotAt(wanted)) => Ok(position == wanted),
         (Err(Fault::NoEntry), Want::NoEntry) => Ok(true),
         _ => Ok(false),

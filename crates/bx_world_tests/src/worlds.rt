@@ -260,7 +260,12 @@ fn worlds_for_any_thread(rt: HostRuntime) -> Result<(), Fail> {
 
 #[test]
 fn texts_of_choices(rt: HostRuntime) -> Result<(), Fail> {
-    assert!(rt; choice_text(rt.alloc(), Choice::Run(1023))?.as_str() == "r1023");
-    assert!(rt; choice_text(rt.alloc(), Choice::Deliver(12, 0))?.as_str() == "d12>0");
+    for (choice, want) in [
+        (Choice::Run(1023), "r1023"),
+        (Choice::Deliver(12, 0), "d12>0"),
+    ] {
+        let text = choice_text(rt.alloc(), choice)?;
+        assert_eq!(rt; text.as_str(), want);
+    }
     Ok(())
 }
