@@ -276,6 +276,7 @@ module _ (plan : Planned) (all : Chained) (is : AreSoFar plan all) where
       owned = omega (arith, are.some);
       rows = more_kids ∙ ap (λ n. n + 1) is.rows ∙ sym more_heads;
       root = old_first 0 is.some ∙ is.root;
+      top = old_above 0 is.some ∙ is.top;
       begins = begins_more;
       rises = rises_more;
       inside = inside_more;

@@ -80,6 +80,7 @@ pub record AreSoFar (plan : Planned) (all : Chained) : Type 0 where
   pub owned : 0 < all.nodes
   pub rows : length all.kids ≡ length all.heads
   pub root : first all 0 ≡ 0
+  pub top : above all 0 ≡ 0
   pub begins : (c : ℕ) → 0 < c → c < length all.heads → Begins plan all c
   pub rises : (c : ℕ) → c + 1 < length all.heads → first all c < first all (c + 1)
   pub inside : (c node : ℕ) → c < length all.heads → first all c < node → node ≤ last all c → goes_on plan node ≡ true
