@@ -118,17 +118,30 @@ fn turned(alloc: Global, image: &Image, process: &mut Proc, turn: Turn) -> Resul
     }
 }
 
-/// How many of these turns, from the first on, are as they should be: a trap leaves the process as it was.
+/// Whether a turn is as it should be: a trap leaves the process as it was.
+fn is_right(
+    alloc: Global,
+    image: &Image,
+    process: &mut Proc,
+    turn: Turn,
+    wanted: &str,
+) -> Result<bool, Fault> {
+    let before = process.copy(alloc)?;
+    let effect = turned(alloc, image, process, turn)?;
+    if matches!(effect, Effect::Trap(_)) && !process.same(&before) {
+        return Ok(false);
+    }
+    let told = told(alloc, image, &effect)?;
+    Ok(told.as_str() == wanted)
+}
+
+/// How many of these turns, from the first on, are as they should be.
 fn right_turns(alloc: Global, items: &str, turns: &[(Turn, &str)]) -> Result<usize, Fault> {
     let image = image_of_items(alloc, items)?;
     let place = image.entry(atom(&image, "m"), atom(&image, "f"), 0);
     let mut process = Proc::new(alloc, place, &[])?;
     for (number, (turn, wanted)) in turns.iter().enumerate() {
-        let before = process.copy(alloc)?;
-        let effect = turned(alloc, &image, &mut process, *turn)?;
-        let stayed = !matches!(effect, Effect::Trap(_)) || process.same(&before);
-        let told = told(alloc, &image, &effect)?;
-        if !stayed || told.as_str() != *wanted {
+        if !is_right(alloc, &image, &mut process, *turn, wanted)? {
             return Ok(number);
         }
     }
