@@ -1,5 +1,7 @@
 //! From listings to programs that run.
 
+ghost use Rattle.std.specs.Prelude.{◌≡◌, IfOk};
+
 use crate::trouble::Trouble;
 use bx_asm::{Unit, assemble};
 use bx_listing::read_listing;
@@ -84,7 +86,9 @@ impl Program {
     }
 
     /// Where no choice has led yet.
-    pub fn end(&self, alloc: Global) -> Result<RcEnd, Fault> {
+    pub fn end(&self, alloc: Global) -> Result<RcEnd, Fault>
+        ensures { IfOk result (λ end. end.applied ≡ 0) }
+    {
         Ok(RunEnd {
             world: self.begin(alloc)?,
             applied: 0,
