@@ -1,18 +1,17 @@
-//! What choices cost among many processes: a message that goes round a ring, and sends over many
-//! channels.
+//! Messages among many processes: one that goes round a ring, and sends over many channels. Equal
+//! choices in a row are made at once, as `run` makes them.
 
-use crate::figures::{Rounds, Watch, figure_beyond, figure_of};
-use crate::scenes::{Scene, Step};
+use crate::programs::Program;
 use crate::trouble::Trouble;
-use bx_terms::Fault;
-use bx_world::Choice::Deliver;
-use std::alloc::Global;
+use bx_plan::Schedule;
+use bx_world::Choice::{Deliver, Run};
+use std::alloc::{AllocError, Global};
 
 /// How many processes stand in the ring.
 const RING: u32 = 1000;
 
 /// How many choices a process of the ring makes for each message.
-const STEPS: u32 = 8;
+const STEPS: usize = 8;
 
 /// A module `m` whose `h/1` hands each message to the process that it was given, and the beginning
 /// of `f/0`.
@@ -39,14 +38,14 @@ const SENDERS: u32 = 1024;
 /// To how many processes each of them sends in turn, itself among them where it is one.
 const CHANNELS: u32 = 101;
 
-/// How many choices a process makes for each of these, its send left out.
-const BESIDE: u32 = 4;
+/// How many choices a process makes to send to one of these.
+const SEND: usize = 5;
 
 /// How many choices a process makes to take a message.
-const TAKE: u32 = 3;
+const TAKE: usize = 3;
 
-/// A module `m` whose `h/0` takes a list of processes, and for ever takes all its messages and goes
-/// through the list, up to where it may send to each.
+/// A module `m` whose `h/0` takes a list of processes, and for ever takes all its messages and sends to
+/// each of the list; and the beginning of `f/0`.
 const SENDERS_HEAD: &str = "{module,m}.\n{exports,[{f,0},{h,0}]}.\n{attributes,[]}.\n{labels,11}.\n\
     {function,h,0,5}.\n{label,4}.\n{func_info,{atom,m},{atom,h},0}.\n{label,5}.\n\
     {loop_rec,{f,7},{x,0}}.\n\
@@ -54,10 +53,8 @@ const SENDERS_HEAD: &str = "{module,m}.\n{exports,[{f,0},{h,0}]}.\n{attributes,[
     {label,6}.\n{loop_rec,{f,10},{x,0}}.\nremove_message.\n{jump,{f,6}}.\n\
     {label,10}.\n{move,{x,4},{x,3}}.\n{label,3}.\n\
     {test,is_nonempty_list,{f,6},[{x,3}]}.\n{get_list,{x,3},{x,0},{x,3}}.\n\
-    {move,{atom,a},{x,1}}.\n";
-
-/// The rest of it, and the beginning of `f/0`.
-const SENDERS_REST: &str = "{jump,{f,3}}.\n{label,7}.\n{wait,{f,5}}.\n\
+    {move,{atom,a},{x,1}}.\nsend.\n{jump,{f,3}}.\n\
+    {label,7}.\n{wait,{f,5}}.\n\
     {function,f,0,2}.\n{label,1}.\n{func_info,{atom,m},{atom,f},0}.\n{label,2}.\n\
     {move,nil,{x,5}}.\n{move,nil,{x,6}}.\n";
 
@@ -75,159 +72,129 @@ const SENDERS_END: &str =
     "{label,8}.\n{test,is_nonempty_list,{f,9},[{x,5}]}.\n{get_list,{x,5},{x,0},{x,5}}.\n\
     {move,{x,6},{x,1}}.\nsend.\n{jump,{f,8}}.\n{label,9}.\n{move,{x,6},{x,4}}.\n{jump,{f,6}}.\n";
 
-/// All wait, but for the process to which the message was just delivered.
-const RING_STEPS: [Step; 3] = [
-    Step::Runs {
-        from: 0,
-        past: 1,
-        times: 1 + 5 * (RING - 1) + 7,
-    },
-    Step::Runs {
-        from: 1,
-        past: RING,
-        times: 3,
-    },
-    Step::Deliveries {
-        from: 0,
-        to: RING - 1,
-        past: RING,
-    },
-];
+/// Many processes, and choices that are made again and again among them.
+#[derive(Drop)]
+struct Crowd {
+    program: Program,
+    /// What leads to where the first lap begins.
+    before: Schedule,
+    /// What leads back to such a place.
+    lap: Schedule,
+    /// How many sends a lap has.
+    sends: u32,
+}
 
-/// Each has the list, no message, and the first of the list before it.
-const SENDERS_STEPS: [Step; 3] = [
-    Step::Runs {
-        from: 0,
-        past: 1,
-        times: 2 + 10 * (SENDERS - 1) + CHANNELS + 5,
-    },
-    Step::Deliveries {
-        from: 0,
-        to: 1,
-        past: SENDERS,
-    },
-    Step::Runs {
-        from: 1,
-        past: SENDERS,
-        times: 5,
-    },
-];
+impl Crowd {
+    /// Goes so many laps.
+    fn go(&self, rt: &HostRuntime, laps: u32) -> Result<(), Trouble> {
+        let mut end = self.program.end(rt.alloc())?;
+        self.program.go_on(rt.alloc(), &mut end, &self.before)?;
+        for _ in 0..laps {
+            self.program.go_on(rt.alloc(), &mut end, &self.lap)?;
+        }
+        let choices = self.lap.len();
+        eprintln!(rt;
+            "{laps} laps of {choices} choices, {} of them sends",
+            self.sends
+        )?;
+        Ok(())
+    }
+}
 
 /// So many rounds of a message in a ring of 1,000 processes.
 pub fn ring(rt: &HostRuntime, rounds: u32) -> Result<(), Trouble> {
     let parts = [(RING_HEAD, 1), (LINK, RING - 1), (RING_END, 1)];
-    let mut ring = Scene::led(rt.alloc(), &parts, &RING_STEPS)?;
-    go_rounds(rt, &mut ring, rounds)
+    let ring = Crowd {
+        program: Program::of_parts(rt.alloc(), &parts)?,
+        before: ring_born(rt.alloc())?,
+        lap: round(rt.alloc())?,
+        sends: RING,
+    };
+    ring.go(rt, rounds)
 }
 
-fn go_rounds(rt: &HostRuntime, ring: &mut Scene, rounds: u32) -> Result<(), Trouble> {
-    let mut took = Rounds::new(rt.alloc());
-    for _ in 0..rounds {
-        took.push(round_timed(rt, ring)?)?;
-    }
-    figure_of(
-        rt,
-        "a ring of 1000 processes",
-        u64::from(RING * (STEPS + 1)),
-        "a choice",
-        &mut took,
-    )
-}
-
-fn round_timed(rt: &HostRuntime, ring: &mut Scene) -> Result<Option<u128>, Fault> {
-    let watch = Watch::start(rt);
-    go_round(rt.alloc(), ring)?;
-    Ok(watch.nanos(rt))
+/// All wait, but for the process to which the message was just delivered.
+fn ring_born(alloc: Global) -> Result<Schedule, AllocError> {
+    let mut born = Schedule::new(alloc);
+    born.push(Run(0), 1 + 5 * (RING as usize - 1) + 7)?;
+    run_each(&mut born, 1, RING, 3)?;
+    born.push(Deliver(0, RING - 1), 1)?;
+    Ok(born)
 }
 
 /// The message goes once round the ring.
-fn go_round(alloc: Global, ring: &mut Scene) -> Result<(), Fault> {
-    for back in 1..=RING {
-        let pid = RING - back;
+fn round(alloc: Global) -> Result<Schedule, AllocError> {
+    let mut round = Schedule::new(alloc);
+    for pid in (0..RING).rev() {
         let next = if pid > 0 { pid - 1 } else { RING - 1 };
-        ring.run(alloc, pid, STEPS)?;
-        ring.apply(alloc, Deliver(pid, next))?;
+        round.push(Run(pid), STEPS)?;
+        round.push(Deliver(pid, next), 1)?;
     }
-    Ok(())
+    Ok(round)
 }
 
-/// So many turns of 1,024 processes, in each of which every process sends to 101 in a row, and then
-/// all that it sent is delivered, in turn with as many without sends.
+/// So many turns of 1,024 processes, in each of which every process sends to 101 in a row, all that was sent is delivered,
+/// and all messages are taken.
 pub fn senders(rt: &HostRuntime, turns: u32) -> Result<(), Trouble> {
-    let mut sending = crowd(rt.alloc(), true)?;
-    let mut plain = crowd(rt.alloc(), false)?;
-    in_turn(rt, turns, &mut sending, &mut plain)
-}
-
-fn crowd(alloc: Global, sends: bool) -> Result<Scene, Fault> {
     let parts = [
         (SENDERS_HEAD, 1),
-        ("send.\n", u32::from(sends)),
-        (SENDERS_REST, 1),
         (BORN_LISTED, CHANNELS),
         (BORN, SENDERS - 1 - CHANNELS),
         (SENDERS_END, 1),
     ];
-    Scene::led(alloc, &parts, &SENDERS_STEPS)
+    let senders = Crowd {
+        program: Program::of_parts(rt.alloc(), &parts)?,
+        before: senders_born(rt.alloc())?,
+        lap: turn(rt.alloc())?,
+        sends: SENDERS * CHANNELS,
+    };
+    senders.go(rt, turns)
 }
 
-/// Behind a first turn, in which channels and mailboxes get room.
-fn in_turn(
-    rt: &HostRuntime,
-    turns: u32,
-    sending: &mut Scene,
-    plain: &mut Scene,
-) -> Result<(), Trouble> {
-    let _ = turn(rt, sending, true)?;
-    let mut with = Rounds::new(rt.alloc());
-    let mut without = Rounds::new(rt.alloc());
-    for _ in 0..turns {
-        with.push(turn(rt, sending, true)?)?;
-        without.push(turn(rt, plain, false)?)?;
+/// Each has the list, no message, and the first of the list before it; and a turn, in which channels and mailboxes get
+/// room.
+fn senders_born(alloc: Global) -> Result<Schedule, AllocError> {
+    let mut born = Schedule::new(alloc);
+    born.push(
+        Run(0),
+        2 + 10 * (SENDERS as usize - 1) + CHANNELS as usize + 5,
+    )?;
+    for pid in 1..SENDERS {
+        born.push(Deliver(0, pid), 1)?;
     }
-    figure_beyond(
-        rt,
-        "1024 senders with 100 channels each",
-        u64::from(SENDERS * CHANNELS),
-        "a send and its delivery",
-        &mut with,
-        &mut without,
-    )
+    run_each(&mut born, 1, SENDERS, 5)?;
+    let first = turn(alloc)?;
+    born.append(first.all())?;
+    Ok(born)
 }
 
-/// How many nanoseconds a turn took. Then its messages are taken.
-fn turn(rt: &HostRuntime, crowd: &mut Scene, sends: bool) -> Result<Option<u128>, Fault> {
-    let watch = Watch::start(rt);
-    if sends {
-        crowd.run_each(rt.alloc(), 0, SENDERS, (BESIDE + 1) * CHANNELS)?;
-        deliver_all(rt.alloc(), crowd)?;
-    } else {
-        crowd.run_each(rt.alloc(), 0, SENDERS, BESIDE * CHANNELS)?;
-    }
-    let took = watch.nanos(rt);
-    crowd.run_each(rt.alloc(), 0, SENDERS, 1)?;
-    if sends {
-        crowd.run_each(rt.alloc(), 1, CHANNELS + 1, TAKE * SENDERS)?;
-    }
-    crowd.run_each(rt.alloc(), 0, SENDERS, 2)?;
-    Ok(took)
-}
-
-/// What each process sent is delivered.
-fn deliver_all(alloc: Global, crowd: &mut Scene) -> Result<(), Fault> {
+/// Each sends, all is delivered, and each takes its messages.
+fn turn(alloc: Global) -> Result<Schedule, AllocError> {
+    let mut turn = Schedule::new(alloc);
+    run_each(&mut turn, 0, SENDERS, SEND * CHANNELS as usize)?;
     for pid in 0..SENDERS {
-        deliver_from(alloc, crowd, pid)?;
+        deliver_from(&mut turn, pid)?;
+    }
+    run_each(&mut turn, 0, SENDERS, 1)?;
+    run_each(&mut turn, 1, CHANNELS + 1, TAKE * SENDERS as usize)?;
+    run_each(&mut turn, 0, SENDERS, 2)?;
+    Ok(turn)
+}
+
+/// What a process sent to others is delivered, in the order in which it was sent.
+fn deliver_from(turn: &mut Schedule, pid: u32) -> Result<(), AllocError> {
+    for to in (1..=CHANNELS).rev() {
+        if to != pid {
+            turn.push(Deliver(pid, to), 1)?;
+        }
     }
     Ok(())
 }
 
-/// What a process sent to others is delivered, in the order in which it was sent.
-fn deliver_from(alloc: Global, crowd: &mut Scene, pid: u32) -> Result<(), Fault> {
-    for sent in 0..CHANNELS {
-        let to = CHANNELS - sent;
-        if to != pid {
-            crowd.apply(alloc, Deliver(pid, to))?;
-        }
+/// So many runs of each process from the first one on.
+fn run_each(schedule: &mut Schedule, from: u32, past: u32, times: usize) -> Result<(), AllocError> {
+    for pid in from..past {
+        schedule.push(Run(pid), times)?;
     }
     Ok(())
 }

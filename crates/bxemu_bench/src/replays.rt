@@ -1,98 +1,74 @@
-//! How fast choices are made.
+//! Choices made one by one.
 
-use crate::figures::{Watch, figure};
-use crate::programs::{HEAD, Program};
+use crate::programs::Program;
 use crate::trouble::Trouble;
 use bx_terms::Fault;
-use bx_world::{Choice, RcWorld};
+use bx_world::{Choice, RcWorld, advance};
 use std::alloc::Global;
 
-/// The most choices of a schedule; where more are asked for, they are made again from the start.
-const MOST: u32 = 1_000_000;
+/// The most choices of a row, however many are asked for: they are made again from the start.
+const MOST: usize = 100_000;
 
-/// Loops of a process alone.
+/// Loops of a process alone, by what each moves before its jump.
 const LOOPS: [(&str, &str); 4] = [
     (
-        "move of an integer and jump",
+        "integer",
         "{label,3}. {move,{integer,1},{x,0}}. {jump,{f,3}}.",
     ),
     (
-        "move of a register and jump",
+        "register",
         "{move,nil,{x,1}}. {label,3}. {move,{x,1},{x,0}}. {jump,{f,3}}.",
     ),
     (
-        "move of a tuple and jump",
+        "tuple",
         "{label,3}. {move,{literal,{a,b}},{x,0}}. {jump,{f,3}}.",
     ),
-    ("jump", "{label,3}. {jump,{f,3}}."),
+    ("nothing", "{label,3}. {jump,{f,3}}."),
 ];
 
-/// Makes so many choices of each of a few loops.
+/// Makes so many choices of each loop.
 pub fn loops(rt: &HostRuntime, rounds: u32) -> Result<(), Trouble> {
-    for (name, items) in LOOPS {
-        of_loop(rt, rounds, name, items)?;
+    for (name, _) in LOOPS {
+        one_loop(rt, rounds, name)?;
     }
     Ok(())
 }
 
-fn of_loop(rt: &HostRuntime, rounds: u32, name: &str, items: &str) -> Result<(), Trouble> {
-    let program = Program::of_parts(rt.alloc(), &[(HEAD, 1), (items, 1)])?;
+/// Makes so many choices of the loop of that name.
+pub fn one_loop(rt: &HostRuntime, rounds: u32, name: &str) -> Result<(), Trouble> {
+    let program = Program::named(rt.alloc(), &LOOPS, name)?;
     replay(rt, name, &program, rounds)
 }
 
 /// Makes so many choices of the program of a listing, which begins with its `main/0`.
-pub fn program(rt: &HostRuntime, rounds: u32, file: &str, text: &[u8]) -> Result<(), Trouble> {
+pub fn program(rt: &HostRuntime, choices: u32, file: &str, text: &[u8]) -> Result<(), Trouble> {
     let program = Program::of(rt.alloc(), text, "main")?;
-    replay(rt, file, &program, rounds)
+    replay(rt, file, &program, choices)
 }
 
-/// Makes so many choices of a program, and tells what one took.
-fn replay(rt: &HostRuntime, name: &str, program: &Program, rounds: u32) -> Result<(), Trouble> {
-    let row = schedule(rt.alloc(), program, rounds.min(MOST))?;
-    let watch = Watch::start(rt);
-    let applied = again(rt.alloc(), program, &row, rounds)?;
-    figure(rt, name, applied, "a choice", watch.nanos(rt))
+/// Makes so many choices of a program, and tells how many they were.
+fn replay(rt: &HostRuntime, name: &str, program: &Program, choices: u32) -> Result<(), Trouble> {
+    let row = row_of(rt.alloc(), program)?;
+    let made = again(rt.alloc(), program, &row, choices as usize)?;
+    eprintln!(rt; "{name}: {made} choices")?;
+    Ok(())
 }
 
-/// Makes the choices of a row from the start, so often that they are at most so many: how many they
-/// were.
-fn again(alloc: Global, program: &Program, row: &[Choice], most: u32) -> Result<u64, Fault> {
-    let times = (most as usize).checked_div(row.len()).unwrap_or(0);
-    let mut applied: u64 = 0;
-    for _ in 0..times {
-        applied = applied.saturating_add(program.replay(alloc, row)?);
-    }
-    Ok(applied)
-}
-
-/// At most so many choices of a schedule: the last choice again while it is enabled, else the first
+/// At most so many choices of a program: the last choice again while it is enabled, else the first
 /// that is.
-fn schedule(alloc: Global, program: &Program, most: u32) -> Result<Vec<Choice>, Fault> {
+fn row_of(alloc: Global, program: &Program) -> Result<Vec<Choice>, Fault> {
     let mut world = program.begin(alloc)?;
     let mut row = Vec::new(alloc);
     let mut last = Choice::Run(0);
-    for _ in 0..most {
-        match go_on(alloc, program, &mut world, last)? {
+    for _ in 0..MOST {
+        match next(alloc, &world, last)? {
             Some(choice) => last = choice,
             None => break,
         }
+        world.apply(alloc, program.image(), last)?;
         row.push(last)?;
     }
     Ok(row)
-}
-
-/// Makes the next choice, where one is enabled.
-fn go_on(
-    alloc: Global,
-    program: &Program,
-    world: &mut RcWorld,
-    last: Choice,
-) -> Result<Option<Choice>, Fault> {
-    let Some(choice) = next(alloc, world, last)? else {
-        return Ok(None);
-    };
-    world.apply(alloc, program.image(), choice)?;
-    Ok(Some(choice))
 }
 
 fn next(alloc: Global, world: &RcWorld, last: Choice) -> Result<Option<Choice>, Fault> {
@@ -100,4 +76,31 @@ fn next(alloc: Global, world: &RcWorld, last: Choice) -> Result<Option<Choice>, 
         return Ok(Some(last));
     }
     Ok(world.enabled(alloc)?.first().copied())
+}
+
+/// Makes the choices of a row, from the start again behind the last, until they are so many.
+fn again(alloc: Global, program: &Program, row: &[Choice], count: usize) -> Result<u64, Fault> {
+    let times = count.checked_div(row.len()).unwrap_or(0);
+    let rest = count.checked_rem(row.len()).unwrap_or(0);
+    let mut made: u64 = 0;
+    for _ in 0..times {
+        made = made.saturating_add(from_start(alloc, program, row, row.len())?);
+    }
+    Ok(made.saturating_add(from_start(alloc, program, row, rest)?))
+}
+
+/// Makes the first so many choices of a row from the start: how many were applied.
+fn from_start(
+    alloc: Global,
+    program: &Program,
+    row: &[Choice],
+    count: usize,
+) -> Result<u64, Fault> {
+    let mut end = program.end(alloc)?;
+    for choice in row.iter().take(count) {
+        if end.applied < u64::MAX {
+            advance(alloc, &mut end, program.image(), *choice)?;
+        }
+    }
+    Ok(end.applied)
 }

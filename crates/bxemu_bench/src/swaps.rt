@@ -1,22 +1,18 @@
-//! What exchanges cost of choices that are independent, in a long schedule of a few small processes.
+//! Exchanges of choices that are independent, in a long schedule of a few small processes.
 
-use crate::figures::{Rounds, Watch, figure_beyond, figure_of};
 use crate::programs::Program;
 use crate::trouble::Trouble;
 use bx_plan::Schedule;
 use bx_replay::Trail;
 use bx_swaps::check_swaps;
 use bx_terms::Fault;
-use bx_world::{Choice, RcWorld, RunEnd};
+use bx_world::{Choice, RcWorld};
 use rand_core::Rng;
 use rand_pcg::Pcg32;
 use std::alloc::Global;
 
 /// How many choices the schedule makes.
 const CHOICES: u32 = 100_000;
-
-/// How often each measure is taken, in turn with what it is compared with.
-const ROUNDS: u32 = 5;
 
 /// Processes 1 and 2 loop, each by itself; 0 and 3 hand a message to each other.
 const LISTING: &str = "{module,m}. {exports,[{f,0},{g,0},{h,1}]}. {attributes,[]}. {labels,10}.
@@ -33,29 +29,27 @@ const LISTING: &str = "{module,m}. {exports,[{f,0},{g,0},{h,1}]}. {attributes,[]
 /// Exchanges choices at so many positions, drawn among those where the two are independent.
 pub fn measure(rt: &HostRuntime, positions: u32) -> Result<(), Trouble> {
     let program = Program::of(rt.alloc(), LISTING.as_bytes(), "f")?;
-    let row = walk(rt.alloc(), &program)?;
-    let given = Schedule::from_choices(rt.alloc(), &row)?;
-    let (positions, wanted) = draw(rt.alloc(), &program, &row, positions as usize)?;
+    let given = walk(rt.alloc(), &program)?;
+    let positions = draw(rt.alloc(), &program, &given, positions as usize)?;
     let made = exchanged(rt.alloc(), &program, &given, &positions)?;
-    if !is_right(rt.alloc(), &program, &given, &made, &wanted)? {
-        return Err(Trouble::Wrong);
-    }
-    in_turn(rt, &program, &given, &positions)
+    let (count, choices) = (positions.len(), made.len());
+    eprintln!(rt; "{count} positions exchanged in {choices} choices")?;
+    Ok(())
 }
 
 /// A schedule, drawn at each choice among those that are enabled.
-fn walk(alloc: Global, program: &Program) -> Result<Vec<Choice>, Fault> {
+fn walk(alloc: Global, program: &Program) -> Result<Schedule, Fault> {
     let mut rng = Pcg32::new(1, 11);
     let mut world = program.begin(alloc)?;
-    let mut row = Vec::new(alloc);
+    let mut schedule = Schedule::new(alloc);
     for _turn in 0..CHOICES {
         let Some(choice) = any_enabled(alloc, &mut rng, &world)? else {
             break;
         };
         world.apply(alloc, program.image(), choice)?;
-        row.push(choice)?;
+        schedule.push(choice, 1)?;
     }
-    Ok(row)
+    Ok(schedule)
 }
 
 fn any_enabled(alloc: Global, rng: &mut Pcg32, world: &RcWorld) -> Result<Option<Choice>, Fault> {
@@ -64,21 +58,16 @@ fn any_enabled(alloc: Global, rng: &mut Pcg32, world: &RcWorld) -> Result<Option
     Ok(open.get(at).copied())
 }
 
-/// So many positions, each drawn where the two choices are independent behind the exchanges before it, and the choices with all
-/// exchanges made.
+/// So many positions, each drawn where the two choices are independent behind the exchanges before it.
 fn draw(
     alloc: Global,
     program: &Program,
-    row: &[Choice],
+    given: &Schedule,
     count: usize,
-) -> Result<(Vec<usize>, Schedule), Fault> {
-    let start = RunEnd {
-        world: program.begin(alloc)?,
-        applied: 0,
-        refused: None,
-    };
-    let schedule = Schedule::from_choices(alloc, row)?;
-    let mut trail = Trail::of(alloc, program.image(), start, schedule)?;
+) -> Result<Vec<usize>, Fault> {
+    let mut schedule = Schedule::new(alloc);
+    schedule.append(given.all())?;
+    let mut trail = Trail::of(alloc, program.image(), program.end(alloc)?, schedule)?;
     let mut rng = Pcg32::new(2, 11);
     let mut positions = Vec::new(alloc);
     for _draw in 0..u32::MAX {
@@ -90,10 +79,10 @@ fn draw(
             positions.push(at)?;
         }
     }
-    Ok((positions, trail.into_schedule()))
+    Ok(positions)
 }
 
-/// The schedule with these exchanges made.
+/// The schedule with these exchanges made. It is not inlined, so that callgrind counts it apart from the drawing.
 #[inline(never)]
 fn exchanged(
     alloc: Global,
@@ -101,73 +90,6 @@ fn exchanged(
     given: &Schedule,
     positions: &[usize],
 ) -> Result<Schedule, Fault> {
-    check_swaps(
-        alloc,
-        program.image(),
-        program.module(),
-        program.start(),
-        given,
-        positions,
-    )
-}
-
-/// The schedule with no exchange made.
-#[inline(never)]
-fn unexchanged(alloc: Global, program: &Program, given: &Schedule) -> Result<Schedule, Fault> {
-    check_swaps(
-        alloc,
-        program.image(),
-        program.module(),
-        program.start(),
-        given,
-        &[],
-    )
-}
-
-/// Whether the schedule that was made is the wanted one, and a plain run of it leads where one of the given schedule leads.
-fn is_right(
-    alloc: Global,
-    program: &Program,
-    given: &Schedule,
-    made: &Schedule,
-    wanted: &Schedule,
-) -> Result<bool, Fault> {
-    let one = program.lead(alloc, &given.to_choices(alloc)?)?;
-    let other = program.lead(alloc, &wanted.to_choices(alloc)?)?;
-    Ok(made.same(wanted) && one.same(&other))
-}
-
-/// What the exchanges cost beyond the run of the schedule, and what a choice of it costs.
-fn in_turn(
-    rt: &HostRuntime,
-    program: &Program,
-    given: &Schedule,
-    positions: &[usize],
-) -> Result<(), Trouble> {
-    let mut with = Rounds::new(rt.alloc());
-    let mut without = Rounds::new(rt.alloc());
-    for _round in 0..ROUNDS {
-        let watch = Watch::start(rt);
-        let _ = exchanged(rt.alloc(), program, given, positions)?;
-        with.push(watch.nanos(rt))?;
-        let watch = Watch::start(rt);
-        let _ = unexchanged(rt.alloc(), program, given)?;
-        without.push(watch.nanos(rt))?;
-    }
-    let count = positions.len() as u64;
-    figure_beyond(
-        rt,
-        "exchanges beyond the run",
-        count,
-        "a position",
-        &mut with,
-        &mut without,
-    )?;
-    figure_of(
-        rt,
-        "the run alone",
-        u64::from(CHOICES),
-        "a choice",
-        &mut without,
-    )
+    let (module, start) = (program.module(), program.start());
+    check_swaps(alloc, program.image(), module, start, given, positions)
 }

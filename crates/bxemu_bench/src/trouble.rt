@@ -2,6 +2,7 @@
 
 use bx_terms::Fault;
 use std::alloc::{AllocError, AllocFailed};
+use std::num::ParseIntError;
 use std::{fmt, io};
 
 /// Why a measure was not taken.
@@ -9,22 +10,19 @@ use std::{fmt, io};
 pub enum Trouble {
     /// The arguments ask for no measure.
     Usage,
-    /// Memory ran out.
-    Memory,
-    /// The clock, the arguments or standard error failed.
+    /// The arguments, a file or standard error failed.
     Machine,
     /// A call did what it must not do.
     Wrong,
-    /// The measured call refused what it should take.
+    /// The measured call refused what it should take, or memory ran out.
     Refused(Fault),
 }
 
 impl fmt::Display for Trouble {
     fn fmt<W: fmt::Write>(&self, f: &mut fmt::Formatter<W>) -> fmt::Result {
         match self {
-            Trouble::Usage => f.write_str("a measure, a number and, for some, a file"),
-            Trouble::Memory => f.write_str("memory"),
-            Trouble::Machine => f.write_str("clock, arguments or standard error"),
+            Trouble::Usage => f.write_str("a measure, a number and, for some, a name"),
+            Trouble::Machine => f.write_str("arguments, a file or standard error"),
             Trouble::Wrong => f.write_str("a call did what it must not do"),
             Trouble::Refused(fault) => write!(f, "{fault}"),
         }
@@ -33,13 +31,19 @@ impl fmt::Display for Trouble {
 
 impl From<AllocError> for Trouble {
     fn from(_: AllocError) -> Trouble {
-        Trouble::Memory
+        Trouble::Refused(Fault::Memory)
     }
 }
 
 impl<T: Drop> From<AllocFailed<T>> for Trouble {
     fn from(_: AllocFailed<T>) -> Trouble {
-        Trouble::Memory
+        Trouble::Refused(Fault::Memory)
+    }
+}
+
+impl From<ParseIntError> for Trouble {
+    fn from(_: ParseIntError) -> Trouble {
+        Trouble::Usage
     }
 }
 

@@ -1,6 +1,5 @@
 //! Choices at random, enabled and not, in worlds of generated listings.
 
-use crate::figures::tally;
 use crate::generated::listing;
 use crate::programs::Program;
 use crate::trouble::Trouble;
@@ -14,7 +13,7 @@ use std::alloc::Global;
 const LONGEST: u32 = 200;
 
 /// What became of choices.
-#[derive(Clone, Copy, Drop)]
+#[derive(Clone, Copy, Default, Drop)]
 struct Tally {
     applied: u64,
     refused: u64,
@@ -26,28 +25,18 @@ struct Tally {
 /// Makes so many choices, each listing's until its world is quiet or has trapped. A choice that is
 /// refused must be one that is not enabled, and must leave the world the same as a snapshot before it.
 pub fn measure(rt: &HostRuntime, rounds: u32) -> Result<(), Trouble> {
-    let mut seen = Tally {
-        applied: 0,
-        refused: 0,
-        trapped: 0,
-        worlds: 0,
-        unread: 0,
-    };
+    let mut seen = Tally::default();
     for number in 0..rounds {
         if seen.applied.saturating_add(seen.refused) >= u64::from(rounds) {
             break;
         }
         walk(rt.alloc(), number, &mut seen)?;
     }
-    told(rt, seen)
-}
-
-fn told(rt: &HostRuntime, seen: Tally) -> Result<(), Trouble> {
-    tally(rt, seen.worlds, "worlds")?;
-    tally(rt, seen.trapped, "of them trapped")?;
-    tally(rt, seen.applied, "choices applied")?;
-    tally(rt, seen.refused, "choices refused, each compared")?;
-    tally(rt, seen.unread, "listings refused")
+    eprintln!(rt;
+        "{} choices applied, {} refused and compared; {} worlds, {} of them trapped; {} listings refused",
+        seen.applied, seen.refused, seen.worlds, seen.trapped, seen.unread
+    )?;
+    Ok(())
 }
 
 /// Makes choices in the world of the listing of that number.
