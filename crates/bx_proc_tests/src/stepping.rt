@@ -107,14 +107,19 @@ fn told(alloc: Global, image: &Image, effect: &Effect) -> Result<String, AllocEr
     }
 }
 
-fn turned(alloc: Global, image: &Image, process: &mut Proc, turn: Turn) -> Result<Effect, Fault> {
+/// The answer that a turn gives; none where it is a step.
+fn answer_of(turn: Turn) -> Option<Answer> {
     match turn {
-        Step => process.step(alloc, PID, image),
-        Value(value) => process.answer(alloc, image, &Answer::Value(Term::int(value))),
-        Exit(value) => {
-            let fault = Answer::Fault(Class::Exit, Term::int(value));
-            process.answer(alloc, image, &fault)
-        }
+        Step => None,
+        Value(value) => Some(Answer::Value(Term::int(value))),
+        Exit(value) => Some(Answer::Fault(Class::Exit, Term::int(value))),
+    }
+}
+
+fn turned(alloc: Global, image: &Image, process: &mut Proc, turn: Turn) -> Result<Effect, Fault> {
+    match answer_of(turn) {
+        Some(answer) => process.answer(alloc, image, &answer),
+        None => process.step(alloc, PID, image),
     }
 }
 
