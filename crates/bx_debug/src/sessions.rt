@@ -105,7 +105,6 @@ impl<'a> Session<'a> {
         ensures at { result ≡ self.now.at }
         ensures within { result ≤ length self.now.choices }
     {
-        let _ = &self.trail;
         self.at
     }
 
