@@ -7,7 +7,7 @@ ghost use Rattle.bx_debugger.specs.Opening.{session_at, session_of};
 ghost use Rattle.bx_debugger.specs.Talks.{Debugs, IsEarly};
 
 use crate::prompts::{NoPrompt, Prompt};
-use crate::talks::{Talk, answer_all};
+use crate::talks::Talk;
 use bx_debug::Session;
 use bx_engine::{Failure, Start, located_image_of, start_of};
 use bx_load::Image;
@@ -72,7 +72,7 @@ pub fn prompted_debug_text<R: Read, C: Read, W: Write, P: Prompt>(
         Err(fault) => return Err(Failure::Refused(fault, None)),
     };
     let talk = Talk::new(alloc, session, &sources);
-    answer_all(alloc, file, talk, commands, writer, prompt)
+    talk.answer_all(alloc, file, commands, writer, prompt)
 }
 
 /// A session at the start that was named; `NoEntry` where the module does not export that function of no arguments.

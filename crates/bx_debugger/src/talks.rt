@@ -66,33 +66,6 @@ impl<'a> Model for Talk<'a> {
     ghost invariant = { λ t. t.number + t.left ≤ 16777217 };
 }
 
-/// Answers the lines that a reader gives, each before the next is asked for, up to one that quits or to the reader's end.
-///
-/// `file` is the reader's number in a failure. The reader is asked at most `MOST_ASKS` times, and then counts as one that failed.
-pub(crate) fn answer_all<C: Read, W: Write, P: Prompt>(
-    alloc: Global,
-    file: usize,
-    talk: Talk<'_>,
-    commands: &mut C,
-    writer: &mut W,
-    prompt: &P,
-) -> Result<(), Failure>
-    ensures { Talks file talk.entry (W.contents writer.old) (W.contents writer.new)
-        (C.remaining commands.old) (C.remaining commands.new) result }
-{
-    let mut talk = talk;
-    let mut chunk = [0; PIECE];
-    for _ in 0..MOST_ASKS {
-        prompt.ask(talk.session.at(), talk.session.len());
-        match talk.turn(alloc, file, commands, &mut chunk, writer) {
-            Ok(Next::More) => {}
-            Ok(Next::Over) => return Ok(()),
-            Err(failure) => return Err(failure),
-        }
-    }
-    Err(Failure::Read(file))
-}
-
 impl<'a> Talk<'a> {
     /// Nothing was read yet.
     pub(crate) fn new(alloc: Global, session: Session<'a>, sources: &'a Sources) -> Talk<'a>
@@ -105,6 +78,33 @@ impl<'a> Talk<'a> {
             line: Vec::new(alloc),
             left: INPUT_LIMIT,
         }
+    }
+
+    /// Answers the lines that a reader gives, each before the next is asked for, up to one that quits or to the reader's end.
+    ///
+    /// `file` is the reader's number in a failure. The reader is asked at most `MOST_ASKS` times, and then counts as one that failed.
+    pub(crate) fn answer_all<C: Read, W: Write, P: Prompt>(
+        self,
+        alloc: Global,
+        file: usize,
+        commands: &mut C,
+        writer: &mut W,
+        prompt: &P,
+    ) -> Result<(), Failure>
+        ensures { Talks file self.entry (W.contents writer.old) (W.contents writer.new)
+            (C.remaining commands.old) (C.remaining commands.new) result }
+    {
+        let mut talk = self;
+        let mut chunk = [0; PIECE];
+        for _ in 0..MOST_ASKS {
+            prompt.ask(talk.session.at(), talk.session.len());
+            match talk.turn(alloc, file, commands, &mut chunk, writer) {
+                Ok(Next::More) => {}
+                Ok(Next::Over) => return Ok(()),
+                Err(failure) => return Err(failure),
+            }
+        }
+        Err(Failure::Read(file))
     }
 
     /// Asks a reader once, and answers each line that what it gave ends.
