@@ -11,4 +11,4 @@ pub mod Marks
 pub mod Unit
 pub mod Drafts
 pub mod Limits
-pub mod Wanting
+pub mod Taking

@@ -3,7 +3,7 @@
 ghost use Rattle.std.specs.Prelude.{◌≡◌, None};
 ghost use Rattle.bx_terms.specs.Outcomes.{Gives};
 ghost use Rattle.bx_asm.specs.Limits.{assembled};
-ghost use Rattle.bx_asm.specs.Wanting.{TakesMemory};
+ghost use Rattle.bx_asm.specs.Taking.{TakesMemory};
 
 use crate::limits::{
     entry_faults, imports_of, is_within, labels_of, register_faults, target_faults,

@@ -1,8 +1,8 @@
 //! Numbered code: a listing as opcode numbers with operands, and the tables that the operands name.
 #![tactic(auto)]
 
-mod apart;
 mod assembling;
+mod deep_copies;
 mod instruction;
 mod limits;
 mod lookup;

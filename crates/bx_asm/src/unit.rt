@@ -6,7 +6,7 @@ ghost use Rattle.bx_asm.specs.Drafts.{Grows, all_items, head_of, at_number};
 ghost use Rattle.bx_asm.specs.Limits.{first, register_fault, register_faults, count};
 ghost use Rattle.bx_asm.specs.Numbered.{item_of};
 
-use crate::apart::copy_items;
+use crate::deep_copies::copy_items;
 use crate::lookup::{Lookup, Named};
 use crate::numbered::Numbered;
 use crate::numbering::Draft;
@@ -98,12 +98,12 @@ impl Unit {
         })
     }
 
-    /// The same code, whose literals share nothing with this unit's: a copy of a literal of the one counts nothing that a copy
-    /// of the other's does.
+    /// A deep copy: the same code, whose literals share nothing with this unit's. A copy of a literal of the one counts nothing
+    /// that a copy of the other's does.
     ///
     /// It may hold as many exports, functions, items, operands, imports, literals, and list cells and elements of these, as there
     /// is room, which it takes. Past that it answers as where memory runs out.
-    pub fn apart(&self, alloc: Global, room: &mut usize) -> Result<Unit, AllocError>
+    pub fn deep_copy(&self, alloc: Global, room: &mut usize) -> Result<Unit, AllocError>
         ensures { IfOk result (λ u. u ≡ self.now) }
     {
         take_room(room, self.exports.len())?;
@@ -111,7 +111,7 @@ impl Unit {
         take_room(room, self.heads.len())?;
         let heads = Vec::from_slice(alloc, &self.heads)?;
         let items = copy_items(alloc, room, &self.items)?;
-        let named = self.named.apart(alloc, room)?;
+        let named = self.named.deep_copy(alloc, room)?;
         Ok(Unit {
             name: self.name,
             exports,

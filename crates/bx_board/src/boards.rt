@@ -276,5 +276,5 @@ impl<'a, J: Campaign> Board<'a, J> {
 fn own_code(alloc: Global, code: &Image) -> Option<Image>
     ensures { IfSome result (λ own. own ≡ code.now) }
 {
-    code.apart(alloc, MOST_COPIED).ok()
+    code.deep_copy(alloc, MOST_COPIED).ok()
 }

@@ -17,7 +17,7 @@ use std::marker::Model;
 /// is a small part of its work.
 const CHOICES_A_COPY: usize = 8;
 
-/// How many workers run a campaign's chains. What one of several runs is made apart, so that none waits for a count of another's;
+/// How many workers run a campaign's chains. What one of several runs is a deep copy, so that none waits for a count of another's;
 /// one alone shares it all.
 #[derive(Clone, Copy)]
 pub(crate) enum Crew {

@@ -97,7 +97,7 @@ fn texts_and_their_outcomes(rt: HostRuntime) -> Result<(), Fail> {
 }
 
 #[test]
-fn the_tree_shares_beginnings(rt: HostRuntime) -> Result<(), Fail> {
+fn the_tree_shares_prefixes(rt: HostRuntime) -> Result<(), Fail> {
     let plan = read_plan(
         rt.alloc(),
         b"a: r0 r1\nb: r0 d0>1\nc: r0 r1 r1\nd:\ne: r0 r1",

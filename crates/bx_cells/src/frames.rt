@@ -5,7 +5,7 @@ ghost use Rattle.bx_cells.specs.StackRow.{frames_of, Fits, index_of, Catches};
 ghost use Rattle.bx_cells.specs.Stack.{unwound, lowest_tag};
 ghost use Rattle.bx_cells.specs.TopFrame.{y_cell, with_y, empty_frame, top_of, top_cells, trimmed};
 
-use crate::apart::cells_apart;
+use crate::deep_copies::deep_copy_cells;
 use crate::values::Value;
 use bx_share::{Same, same_rows};
 use bx_terms::{Place, Trap, take_room};
@@ -213,13 +213,13 @@ impl Frames {
         Ok(Frames { cells, heads })
     }
 
-    /// An equal stack, whose terms share nothing counted with those of this one. It takes one of the room for each frame and for
-    /// each register, and what their terms take, and is out of memory past it.
-    pub fn apart(&self, alloc: Global, room: &mut usize) -> Result<Frames, AllocError>
+    /// A deep copy. It takes one of the room for each frame and for each register, and what their terms take, and is out of
+    /// memory past it.
+    pub fn deep_copy(&self, alloc: Global, room: &mut usize) -> Result<Frames, AllocError>
         ensures { IfOk result (λ f. f ≡ self.now) }
     {
         take_room(room, self.heads.len())?;
-        let cells = cells_apart(alloc, room, &self.cells)?;
+        let cells = deep_copy_cells(alloc, room, &self.cells)?;
         let heads = cloned_heads(&self.heads)?;
         Ok(Frames { cells, heads })
     }

@@ -1,7 +1,7 @@
 //! What a process holds: values, x registers, stack frames, links.
 #![tactic(auto)]
 
-mod apart;
+mod deep_copies;
 mod frames;
 pub mod laws;
 mod links;

@@ -5,7 +5,7 @@ ghost use Rattle.std.specs.FinMap as map;
 ghost use Rattle.bx_cells.specs.Indexed.{cell_at, indexed, listed};
 ghost use Rattle.bx_cells.specs.Held.{IsFlat, all_held, holding};
 
-use crate::apart::cells_apart;
+use crate::deep_copies::deep_copy_cells;
 use crate::values::Value;
 use bx_share::same_held;
 use bx_terms::Term;
@@ -161,12 +161,11 @@ impl Registers {
         Ok(Registers { cells })
     }
 
-    /// Equal registers, whose terms share nothing counted with these. It takes one of the room for each register, and what their
-    /// terms take, and is out of memory past it.
-    pub fn apart(&self, alloc: Global, room: &mut usize) -> Result<Registers, AllocError>
+    /// A deep copy. It takes one of the room for each register, and what their terms take, and is out of memory past it.
+    pub fn deep_copy(&self, alloc: Global, room: &mut usize) -> Result<Registers, AllocError>
         ensures { IfOk result (λ r. r ≡ self.now) }
     {
-        let cells = cells_apart(alloc, room, &self.cells)?;
+        let cells = deep_copy_cells(alloc, room, &self.cells)?;
         Ok(Registers { cells })
     }
 

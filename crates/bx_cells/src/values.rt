@@ -34,13 +34,12 @@ impl Value {
         })
     }
 
-    /// An equal value that shares nothing counted with this one. It takes the room that its term takes, and is out of memory
-    /// past it.
-    pub fn apart(&self, alloc: Global, room: &mut usize) -> Result<Value, AllocError>
+    /// A deep copy. It takes the room that its term takes, and is out of memory past it.
+    pub fn deep_copy(&self, alloc: Global, room: &mut usize) -> Result<Value, AllocError>
         ensures { IfOk result (λ v. v ≡ self.now) }
     {
         Ok(match self {
-            Value::Term(term) => Value::Term(term.apart(alloc, room)?),
+            Value::Term(term) => Value::Term(term.deep_copy(alloc, room)?),
             Value::Tag(place) => Value::Tag(*place),
             Value::Trace(class) => Value::Trace(*class),
         })

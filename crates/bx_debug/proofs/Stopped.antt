@@ -37,10 +37,10 @@ walked_cases image places choice more w P refused stops on = go (stop_before cho
   go (Some stop) is = subst P (sym (walked_before image places choice more w stop is)) (refused stop is)
   go None is = went (stop_behind places choice (chosen image choice w)) refl is
 
-pub walked_beginning : (image : Loaded) (places : PlaceSet) (choices : List Choice) (w : State) → (rest : List Choice) × (choices ≡ (walked image places choices w).0 ++ rest)
-walked_beginning image places [] w = ([], refl)
-walked_beginning image places (choice ∷ more) w =
-    let further = walked_beginning image places more (chosen image choice w) in
+pub walked_prefix : (image : Loaded) (places : PlaceSet) (choices : List Choice) (w : State) → (rest : List Choice) × (choices ≡ (walked image places choices w).0 ++ rest)
+walked_prefix image places [] w = ([], refl)
+walked_prefix image places (choice ∷ more) w =
+    let further = walked_prefix image places more (chosen image choice w) in
     walked_cases image places choice more w (λ walk. (rest : List Choice) × (choice ∷ more ≡ walk.0 ++ rest))
     (λ stop is. (choice ∷ more, refl))
     (λ stop free is. (more, refl))

@@ -5,7 +5,7 @@ use Rattle.std.proofs.lemmas.List.{drop-append-le, drop-drop, drop_at, length-dr
 use Rattle.bx_load.specs.Image.{Loaded}
 use Rattle.bx_world.specs.declared.choices.Choice.{Choice}
 use Rattle.bx_world.specs.World.{State}
-use Rattle.bx_replay.proofs.Beginnings.{in_two}
+use Rattle.bx_replay.proofs.Prefixes.{in_two}
 use Rattle.bx_debug.specs.Going.{resumed, unless_stopped, walked}
 use Rattle.bx_debug.specs.Leading.{led, all_enabled, Leads, Reaches}
 use Rattle.bx_debug.specs.Places.{PlaceSet}
@@ -13,7 +13,7 @@ use Rattle.bx_debug.specs.declared.stops.Stop.{Stop}
 use Rattle.bx_debug.proofs.Leads.{led-append, enabled_both}
 use Rattle.bx_debug.proofs.Walking.{leads_none}
 
--- a beginning, and what is taken of the rest
+-- a prefix, and what is taken of the rest
 pub take_both : {A : Type 0} (m n : ℕ) (xs : List A) → take (m + n) xs ≡ take m xs ++ take n (drop m xs)
 take_both m n xs = let rest : m + n - m ≡ n = omega arith in sym (in_two m (m + n) xs (omega arith)) ∙ ap (λ k. take m xs ++ take k (drop m xs)) rest
 

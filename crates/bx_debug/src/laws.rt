@@ -32,8 +32,8 @@ pub fn forward_undoes_back()
 {}
 
 /// What is applied is a prefix of the choices, each of which was enabled.
-pub fn a_beginning_is_applied()
-    ensures beginning { (image : Loaded) (places : PlaceSet) (choices : List Choice) (w : State)
+pub fn a_prefix_is_applied()
+    ensures prefix { (image : Loaded) (places : PlaceSet) (choices : List Choice) (w : State)
         → (rest : List Choice) × (choices ≡ (walked image places choices w).0 ++ rest) }
     ensures enabled { (image : Loaded) (places : PlaceSet) (choices : List Choice) (w : State)
         → all_enabled image (walked image places choices w).0 w ≡ true }

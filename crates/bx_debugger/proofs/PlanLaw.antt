@@ -9,7 +9,7 @@ use Rattle.bx_terms.specs.Outcomes.{◌>>=◌}
 use Rattle.bx_terms.specs.declared.faults.Fault.TheVariants.{TooLong}
 use Rattle.bx_plan.specs.Entry.{Entry}
 use Rattle.bx_plan.specs.Grammar.{AreEntries, HasPids, IsEntry, IsName, IsNameByte, IsOnce, IsRepeated, spelling}
-use Rattle.bx_plan.specs.Nodes.{beginnings, choice_eq, has_node, node_count, with_node, with_nodes}
+use Rattle.bx_plan.specs.Nodes.{prefixes, choice_eq, has_node, node_count, with_node, with_nodes}
 use Rattle.bx_plan.specs.Plans.{plan_of, with_lines, with_read, with_schedule, is_too_long}
 use Rattle.bx_plan.specs.Reading.{count_of, line_of, parts_of, spread}
 use Rattle.bx_plan.proofs.Headings.{line_again}
@@ -123,13 +123,13 @@ with_nodes_length nodes [] = omega arith
 with_nodes_length nodes (path ∷ paths) =
     let one = with_node_length nodes path in let more = with_nodes_length (with_node nodes path) paths in omega (arith, one, more)
 
-beginnings_length : (front cs : List Choice) → length (beginnings front cs) ≡ length cs
-beginnings_length front [] = refl
-beginnings_length front (c ∷ cs) = ap suc (beginnings_length (front ++ c ∷ []) cs)
+prefixes_length : (front cs : List Choice) → length (prefixes front cs) ≡ length cs
+prefixes_length front [] = refl
+prefixes_length front (c ∷ cs) = ap suc (prefixes_length (front ++ c ∷ []) cs)
 
 few_nodes : (cs : List Choice) → node_count (cs ∷ []) ≤ length cs
 few_nodes cs =
-    let grown = with_nodes_length ([] ∷ []) (beginnings [] cs) in let e = beginnings_length [] cs in omega (arith, grown, e)
+    let grown = with_nodes_length ([] ∷ []) (prefixes [] cs) in let e = prefixes_length [] cs in omega (arith, grown, e)
 
 not_long : (name : List ℕ) (cs : List Choice) → length cs ≤ 100000 → is_too_long [] (name, cs) ≡ false
 not_long name cs few =

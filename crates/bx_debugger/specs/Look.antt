@@ -8,7 +8,7 @@ use Rattle.bx_cells.specs.declared.values.Value.{Value}
 use Rattle.bx_mail.specs.Mail.{Mail}
 use Rattle.bx_proc.specs.Process.{Process}
 use Rattle.bx_proc.specs.declared.parts.Pending.{Pending}
-use Rattle.bx_world.specs.World.{Life, Live, Gone}
+use Rattle.bx_world.specs.World.{Life, Live, Exited}
 use Rattle.bx_debugger.specs.Program.{Program, located_text}
 use Rattle.bx_debugger.specs.Words.{class_words, place_words, term_lines, value_words}
 use Rattle.bx_debugger.specs.Where.{life_line}
@@ -71,7 +71,7 @@ held_lines program process = own_lines program process ++ other_lines program.im
 -- one that has ended holds nothing
 abbrev pub life_holds : Program → Life → List ℕ
 life_holds program (Live process) = held_lines program process
-life_holds program (Gone reason) = []
+life_holds program (Exited reason) = []
 
 abbrev pub look_answer : Program → ℕ → Life → List ℕ
 look_answer program p life = codes "process " ++ life_line program p life ++ life_holds program life ++ codes "end\n"

@@ -99,7 +99,7 @@ Breaks old new h bytes answer = ⊥
 abbrev pub Broken : Option (List ℕ) → Option (List ℕ) → Hearing → List ℕ → Result Next Failure → Type 0
 Broken old new h bytes answer = (read : List ℕ) × (past : List ℕ) × (bytes ≡ read ++ past) × Breaks old new h read answer
 
--- these bytes were heard, or a beginning of them
+-- these bytes were heard, or a prefix of them
 abbrev pub Feeds : Option (List ℕ) → Option (List ℕ) → Hearing → Hearing → List ℕ → Result Next Failure → Type 0
 Feeds old new h after bytes (Ok More) = Follows old new h after bytes
 Feeds old new h after bytes answer = Broken old new h bytes answer

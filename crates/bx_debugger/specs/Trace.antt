@@ -12,7 +12,7 @@ use Rattle.bx_world.specs.declared.choices.Choice.TheVariants.{Run, Deliver, Exp
 use Rattle.bx_world.specs.Choosing.{applied}
 use Rattle.bx_world.specs.Seen.{place_in}
 use Rattle.bx_world.specs.Texts.{spelling}
-use Rattle.bx_world.specs.World.{Life, Live, Gone, State}
+use Rattle.bx_world.specs.World.{Life, Live, Exited, State}
 use Rattle.bx_debug.specs.Leading.{led}
 use Rattle.bx_debug.specs.Sessions.{History, behind}
 use Rattle.bx_debugger.specs.Program.{Program}
@@ -22,7 +22,7 @@ use Rattle.bx_debugger.specs.Words.{here_words, place_words}
 -- where a process goes on when its wait is over
 abbrev pub expires_of : Life → Option Place
 expires_of (Live process) = process.expires
-expires_of (Gone reason) = None
+expires_of (Exited reason) = None
 
 abbrev pub expires_in : ℕ → State → Option Place
 expires_in p w = slice_get w.processes p >>= expires_of

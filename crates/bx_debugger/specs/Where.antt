@@ -4,7 +4,7 @@ use Rattle.bx_terms.specs.Printed.{printed, printed_pid}
 use Rattle.bx_terms.specs.declared.places.Place.{Place}
 use Rattle.bx_proc.specs.declared.parts.Status.{Status}
 use Rattle.bx_proc.specs.declared.parts.Status.TheVariants.{Ready, Waiting, Ended}
-use Rattle.bx_world.specs.World.{Life, Live, Gone}
+use Rattle.bx_world.specs.World.{Life, Live, Exited}
 use Rattle.bx_debugger.specs.Program.{Program}
 use Rattle.bx_debugger.specs.Words.{here_words}
 
@@ -16,7 +16,7 @@ status_words program place (Ended reason) = codes "ended " ++ printed program.im
 
 abbrev pub life_words : Program → Life → List ℕ
 life_words program (Live process) = status_words program process.place process.status
-life_words program (Gone reason) = codes "ended " ++ printed program.image.atoms reason
+life_words program (Exited reason) = codes "ended " ++ printed program.image.atoms reason
 
 -- `<0.0.0> ready race:9 race.erl:6 ITEM`
 abbrev pub life_line : Program → ℕ → Life → List ℕ

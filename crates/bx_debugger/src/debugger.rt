@@ -38,41 +38,50 @@ pub fn debug_text<R: Read, C: Read, W: Write>(
     ensures unread { IfErr result (λ failure. IsEarly (length listings.old) failure
         → Keeps (C.remaining commands.old) (C.remaining commands.new)) }
 {
-    prompted_debug_text(alloc, listings, start, commands, writer, &NoPrompt)
+    let silent = Prompted { prompt: &NoPrompt };
+    silent.debug_text(alloc, listings, start, commands, writer)
 }
 
-/// The same with a prompt, which is called before the commands are asked for more.
-pub fn prompted_debug_text<R: Read, C: Read, W: Write, P: Prompt>(
-    alloc: Global,
-    listings: &mut [R],
-    start: &str,
-    commands: &mut C,
-    writer: &mut W,
-    prompt: &P,
-) -> Result<(), Failure>
-    ensures talked { (given : List (List ℕ)) → map R.remaining listings.old ≡ map (λ text. Some text) given
-        → Debugs start.now given (session_of start.now given) (W.contents writer.old) (W.contents writer.new)
-        (C.remaining commands.old) (C.remaining commands.new) result }
-    ensures unwritten { IfErr result (λ failure. IsEarly (length listings.old) failure
-        → Keeps (W.contents writer.old) (W.contents writer.new)) }
-    ensures unread { IfErr result (λ failure. IsEarly (length listings.old) failure
-        → Keeps (C.remaining commands.old) (C.remaining commands.new)) }
-{
-    let start = match start_of(alloc, start) {
-        Ok(start) => start,
-        Err(failure) => return Err(failure),
-    };
-    let file = listings.len();
-    let (image, sources) = match located_image_of(alloc, listings) {
-        Ok(program) => program,
-        Err(failure) => return Err(failure),
-    };
-    let session = match session_at(alloc, &image, &start) {
-        Ok(session) => session,
-        Err(fault) => return Err(Failure::Refused(fault, None)),
-    };
-    let talk = Talk::new(alloc, session, &sources);
-    talk.answer_all(alloc, file, commands, writer, prompt)
+/// A debugger that prompts for commands.
+#[derive(Clone, Copy)]
+pub struct Prompted<'a, P: Prompt> {
+    pub prompt: &'a P,
+}
+
+impl<'a, P: Prompt> Prompted<'a, P> {
+    /// Does what `debug_text` does, and calls its prompt before the commands are asked for more.
+    pub fn debug_text<R: Read, C: Read, W: Write>(
+        &self,
+        alloc: Global,
+        listings: &mut [R],
+        start: &str,
+        commands: &mut C,
+        writer: &mut W,
+    ) -> Result<(), Failure>
+        ensures talked { (given : List (List ℕ)) → map R.remaining listings.old ≡ map (λ text. Some text) given
+            → Debugs start.now given (session_of start.now given) (W.contents writer.old) (W.contents writer.new)
+            (C.remaining commands.old) (C.remaining commands.new) result }
+        ensures unwritten { IfErr result (λ failure. IsEarly (length listings.old) failure
+            → Keeps (W.contents writer.old) (W.contents writer.new)) }
+        ensures unread { IfErr result (λ failure. IsEarly (length listings.old) failure
+            → Keeps (C.remaining commands.old) (C.remaining commands.new)) }
+    {
+        let start = match start_of(alloc, start) {
+            Ok(start) => start,
+            Err(failure) => return Err(failure),
+        };
+        let file = listings.len();
+        let (image, sources) = match located_image_of(alloc, listings) {
+            Ok(program) => program,
+            Err(failure) => return Err(failure),
+        };
+        let session = match session_at(alloc, &image, &start) {
+            Ok(session) => session,
+            Err(fault) => return Err(Failure::Refused(fault, None)),
+        };
+        let talk = Talk::new(alloc, session, &sources);
+        talk.answer_all(alloc, file, commands, writer, self.prompt)
+    }
 }
 
 /// A session at the start that was named; `NoEntry` where the module does not export that function of no arguments.

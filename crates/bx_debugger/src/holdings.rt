@@ -243,7 +243,7 @@ fn push_holdings(
 {
     match shown {
         Shown::Live(process) => push_held(alloc, out, program, *process),
-        Shown::Gone(_) => Ok(()),
+        Shown::Exited(_) => Ok(()),
     }
 }
 

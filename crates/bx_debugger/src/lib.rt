@@ -17,6 +17,6 @@ mod talks;
 mod traces;
 mod words;
 
-pub use debugger::{debug_text, prompted_debug_text};
+pub use debugger::{Prompted, debug_text};
 pub use help::SESSION_HELP;
 pub use prompts::{NoPrompt, Prompt};

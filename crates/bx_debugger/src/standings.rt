@@ -47,7 +47,7 @@ fn push_life(
 {
     match shown {
         Shown::Live(process) => push_status(alloc, out, program, process.place(), process.status()),
-        Shown::Gone(reason) => {
+        Shown::Exited(reason) => {
             out.push_str("ended ")?;
             push_term(alloc, out, program.image().atoms(), *reason)
         }

@@ -21,7 +21,7 @@ fn expires_in(pid: u32, world: &RcWorld) -> Option<Place>
 {
     match world.process(pid)? {
         Shown::Live(process) => process.expiry(),
-        Shown::Gone(_) => None,
+        Shown::Exited(_) => None,
     }
 }
 

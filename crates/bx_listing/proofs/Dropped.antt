@@ -22,7 +22,7 @@ use Rattle.bx_listing.specs.ListedCode.{ListedFunction}
 use Rattle.bx_listing.specs.Forms.{Forms, form, moved, next_form, forms, forms_on}
 use Rattle.bx_listing.specs.Shape.{shape}
 use Rattle.bx_listing.specs.HeadForms.{is_attributes}
-use Rattle.bx_listing.specs.Wanting.{IsForm, ReadsForms}
+use Rattle.bx_listing.specs.Taking.{IsForm, ReadsForms}
 use Rattle.bx_listing.specs.Listing.{taken, taken_at, behind_attributes, behind_labels, behind_head, and_so, with_optional, with_form, part_of, part, functions}
 use Rattle.bx_listing.specs.Locations.{located}
 use Rattle.bx_listing.specs.Dropped.{IsDropped, MakeSame}

@@ -9,7 +9,7 @@ use Rattle.bx_text.specs.Forms.{takes_memory}
 use Rattle.bx_listing.specs.Reading.{Table, Reading, Refuses, Reads}
 use Rattle.bx_listing.specs.Forms.{Forms, ends, broken, form, next_form, forms, forms_on}
 use Rattle.bx_listing.specs.Listing.{Taken, taken, behind_head}
-use Rattle.bx_listing.specs.Wanting.{IsForm, ReadsForms}
+use Rattle.bx_listing.specs.Taking.{IsForm, ReadsForms}
 use Rattle.bx_listing.proofs.Forms.{forms_next}
 
 pub taken_form : (last : ℕ) (fs : Forms) (f : Taken) → taken last fs ≡ Ok f → IsForm fs

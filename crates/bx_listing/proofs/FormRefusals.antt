@@ -6,7 +6,7 @@ use Rattle.bx_text.specs.Tree.{Tree}
 use Rattle.bx_ops.specs.declared.opcode.Op.{Op}
 use Rattle.bx_listing.specs.Reading.{Table, Begins-refl, Reading, ◌>>=◌, from_result, Takes, Refused}
 use Rattle.bx_listing.specs.Ways.{Formed}
-use Rattle.bx_listing.specs.Wanting.{KeepsName, FormGives}
+use Rattle.bx_listing.specs.Taking.{KeepsName, FormGives}
 use Rattle.bx_listing.proofs.Readings.{takes_first}
 
 -- a name that is kept takes memory

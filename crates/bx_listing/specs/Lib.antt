@@ -26,4 +26,4 @@ pub mod Refused
 pub mod Dropped
 pub mod Fits
 pub mod Writing
-pub mod Wanting
+pub mod Taking

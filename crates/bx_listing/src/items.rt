@@ -4,7 +4,7 @@
 
 ghost use Rattle.std.specs.Prelude.{◌≡◌, ◌↔◌, IsTrue, MatchResult};
 ghost use Rattle.bx_listing.specs.Items.{seen_item};
-ghost use Rattle.bx_listing.specs.Wanting.{SharesTerm};
+ghost use Rattle.bx_listing.specs.Taking.{SharesTerm};
 
 use bx_ops::{Bif, Op};
 use bx_share::{Same, same_rows};

@@ -3,7 +3,7 @@
 ghost use Rattle.std.specs.Prelude.{◌≡◌, ◌<◌, ◌↔◌, ◌++◌, ◌∷◌, [], Ok, IfOk, OnOk, OnErr, IsTrue, length, map, slice_get, option_map};
 ghost use Rattle.bx_listing.specs.Items.{seen_item};
 ghost use Rattle.bx_listing.specs.Code.{function_code_of, items_of, code};
-ghost use Rattle.bx_listing.specs.Wanting.{CopiesParts};
+ghost use Rattle.bx_listing.specs.Taking.{CopiesParts};
 ghost use Rattle.bx_listing.specs.Stored.{operands_in};
 ghost use Rattle.bx_terms.specs.Outcomes.{Gives};
 

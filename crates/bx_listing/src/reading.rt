@@ -10,7 +10,7 @@ ghost use Rattle.bx_listing.specs.Forms.{next_form, forms, last_line};
 ghost use Rattle.bx_listing.specs.Dropped.{dropped, IsDropped, MakeSame};
 ghost use Rattle.bx_listing.specs.Listing as listings;
 ghost use Rattle.bx_listing.specs.Locations.{located, located_behind, located_exports, locations, passed};
-ghost use Rattle.bx_listing.specs.Wanting.{ReadsForms};
+ghost use Rattle.bx_listing.specs.Taking.{ReadsForms};
 ghost use Rattle.bx_listing.specs.Reading.{Reads, Answers};
 
 use crate::form_reader::FormReader;

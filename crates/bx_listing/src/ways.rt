@@ -6,7 +6,7 @@ ghost use Rattle.bx_ops.specs.GuardBifs.{guard_bif_with};
 ghost use Rattle.bx_listing.specs.Ways.{counted, named_form, bare_op, bare_form, test_form, test_row, bif_form, is_raise, bif_found, bif_row, bif_op, gc_bif_op, gc_bif_form, raise_form, tuple_form};
 ghost use Rattle.bx_text.specs.View.{elements_seen};
 ghost use Rattle.bx_listing.specs.Formed.{formed, terms};
-ghost use Rattle.bx_listing.specs.Wanting.{FormGives};
+ghost use Rattle.bx_listing.specs.Taking.{FormGives};
 
 use crate::form_reader::FormReader;
 use crate::shapes::{list_elements, word};

@@ -83,16 +83,16 @@ fn modules_of_an_image(rt: HostRuntime) -> Result<(), Fail> {
 }
 
 /// Whether the image of the two modules is the same as a deep copy, where there is so much room beside that for the atoms.
-fn is_same_apart(alloc: Global, room: usize) -> Result<bool, Fault> {
+fn is_same_deep_copy(alloc: Global, room: usize) -> Result<bool, Fault> {
     let image = image(alloc, &[EMPTY, TWO])?;
     let room = image.atoms().len().saturating_add(room);
-    Ok(image.apart(alloc, room)?.same(&image))
+    Ok(image.deep_copy(alloc, room)?.same(&image))
 }
 
 // The two have ten items with 15 operands, one literal with one list cell, three exports, two functions and an import.
 #[test]
-fn an_image_apart(rt: HostRuntime) -> Result<(), Fail> {
-    assert!(rt; is_same_apart(rt.alloc(), 33)?);
-    assert!(rt; is_same_apart(rt.alloc(), 32) == Err(Fault::Memory));
+fn a_deep_copy_of_an_image(rt: HostRuntime) -> Result<(), Fail> {
+    assert!(rt; is_same_deep_copy(rt.alloc(), 33)?);
+    assert!(rt; is_same_deep_copy(rt.alloc(), 32) == Err(Fault::Memory));
     Ok(())
 }

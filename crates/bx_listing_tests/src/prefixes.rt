@@ -34,7 +34,7 @@ fn is_as_wanted(alloc: Global, end: usize) -> Result<bool, Fault> {
 }
 
 #[test]
-fn beginnings_of_a_listing(rt: HostRuntime) -> Result<(), Fail> {
+fn prefixes_of_a_listing(rt: HostRuntime) -> Result<(), Fail> {
     for end in 0..LISTING.len() + 1 {
         assert!(rt; is_as_wanted(rt.alloc(), end)?, "{end}");
     }

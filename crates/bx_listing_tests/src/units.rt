@@ -200,19 +200,19 @@ fn sameness_of_units(rt: HostRuntime) -> Result<(), Fail> {
 }
 
 /// Whether the unit of these items is the same as a deep copy, where there is so much room.
-fn is_same_apart(alloc: Global, items: &str, room: usize) -> Result<bool, Fault> {
+fn is_same_deep_copy(alloc: Global, items: &str, room: usize) -> Result<bool, Fault> {
     let (_, unit) = of_items(alloc, items)?;
     let mut room = room;
-    Ok(unit.apart(alloc, &mut room)?.same(&unit))
+    Ok(unit.deep_copy(alloc, &mut room)?.same(&unit))
 }
 
 // With the three before them, five items with seven operands, a literal with one list cell, an export and a function: 16 in all.
 const SMALL: &str = "{move,{literal,[a|b]},{x,0}}. return.";
 
 #[test]
-fn a_unit_apart(rt: HostRuntime) -> Result<(), Fail> {
-    assert!(rt; is_same_apart(rt.alloc(), FORMS, 1000)?);
-    assert!(rt; is_same_apart(rt.alloc(), SMALL, 16)?);
-    assert!(rt; is_same_apart(rt.alloc(), SMALL, 15) == Err(Fault::Memory));
+fn a_deep_copy_of_a_unit(rt: HostRuntime) -> Result<(), Fail> {
+    assert!(rt; is_same_deep_copy(rt.alloc(), FORMS, 1000)?);
+    assert!(rt; is_same_deep_copy(rt.alloc(), SMALL, 16)?);
+    assert!(rt; is_same_deep_copy(rt.alloc(), SMALL, 15) == Err(Fault::Memory));
     Ok(())
 }

@@ -1,10 +1,10 @@
 //! Loaded code: the modules of a program, the addresses in them, and where calls and jumps lead.
 #![tactic(auto)]
 
-mod apart;
 mod behind;
 mod by_name;
 mod callees;
+mod deep_copies;
 mod exports;
 mod heads;
 mod image;

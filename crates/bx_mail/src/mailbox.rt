@@ -165,8 +165,7 @@ impl Mailbox {
         })
     }
 
-    /// Makes the mailbox apart from those that its messages came from and went to: no message shares anything counted, for which
-    /// threads would wait for each other. Where room or memory run out, some still do. The mailbox is the same in each case.
+    /// Puts a deep copy of each message in its place: none shares anything counted, for which threads would wait for each other. Where room or memory run out, some still do. The mailbox is the same in each case.
     pub fn unshare(&mut self, alloc: Global, room: &mut usize) -> Result<(), AllocError>
         ensures { self.new ≡ self.old }
     {

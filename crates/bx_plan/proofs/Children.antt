@@ -18,7 +18,7 @@ use Rattle.bx_plan.specs.declared.trees.Key.{Key}
 use Rattle.bx_plan.specs.Nodes.{has_node}
 use Rattle.bx_plan.specs.Trees.{Tree, IsTree, path, parent, choice, tree_of}
 use Rattle.bx_plan.specs.Edges.{row, edge_steps, steps_of, tree_by, edge_at, no_edge, key, key_cmp, AreEdges, AreFew, GoesElsewhere, IsIndexed, IsOn, IsPlace, LeadsBehind, IsNext, NotNext, Notes}
-use Rattle.bx_plan.specs.Nodes.{with_nodes, beginnings}
+use Rattle.bx_plan.specs.Nodes.{with_nodes, prefixes}
 use Rattle.bx_plan.specs.Walks.{Leads}
 use Rattle.bx_plan.proofs.Paths.{Grows, grows_row, leads_on}
 use Rattle.bx_plan.proofs.Members.{has_at, stands_at, StandsAt, same_ends, no_last}
@@ -412,7 +412,7 @@ grown_by edges after at c times are within new some few rows steps = record {
   paths : length (tree_by after).paths ≡ length (steps_of after) + 1
   paths = (subst (λ s. IsTree (tree_of s)) (sym steps) grows.tree).count
 
-  nodes : (tree_by after).paths ≡ with_nodes (tree_by edges).paths (beginnings (path (tree_by edges) at) (replicate times c))
+  nodes : (tree_by after).paths ≡ with_nodes (tree_by edges).paths (prefixes (path (tree_by edges) at) (replicate times c))
   nodes = ap (λ s. (tree_of s).paths) steps ∙ grows.nodes
 
   way : path (tree_by after) (length (steps_of edges) + times) ≡ path (tree_by edges) at ++ replicate times c

@@ -5,9 +5,9 @@ use Rattle.std.proofs.Math.Seq.{get_or-append_seam}
 use Rattle.std.proofs.lemmas.Bool.{both_ways, false_from_ne_true, cases_eq}
 use Rattle.std.proofs.lemmas.List.{append-nil, length_push}
 use Rattle.bx_world.specs.declared.choices.Choice.{Choice}
-use Rattle.bx_plan.specs.Nodes.{has_node, with_node, with_nodes, beginnings, with_schedule_nodes, nodes_from, nodes_of, EndsThere, HasChildNext}
+use Rattle.bx_plan.specs.Nodes.{has_node, with_node, with_nodes, prefixes, with_schedule_nodes, nodes_from, nodes_of, EndsThere, HasChildNext}
 use Rattle.bx_plan.proofs.Members.{same_ends, no_last}
-use Rattle.bx_plan.proofs.Beginnings.{Has, has_append, has_append_left, has_append_right, has_one, has_first, stay}
+use Rattle.bx_plan.proofs.Prefixes.{Has, has_append, has_append_left, has_append_right, has_one, has_first, stay}
 
 -- with each node all its prefixes are there
 abbrev Closed : List (List Choice) → Type 0
@@ -100,10 +100,10 @@ module _ (done : List Choice → Type 0) (nodes : List (List Choice)) (front : L
     one true e = found e
     one false e = made e
 
-walked : (done : List Choice → Type 0) (nodes : List (List Choice)) (front choices : List Choice) → Walks done nodes front → Walks done (with_nodes nodes (beginnings front choices)) (front ++ choices)
+walked : (done : List Choice → Type 0) (nodes : List (List Choice)) (front choices : List Choice) → Walks done nodes front → Walks done (with_nodes nodes (prefixes front choices)) (front ++ choices)
 walked done nodes front [] walks = subst (λ p. Walks done nodes p) (sym (append-nil front)) walks
 walked done nodes front (c ∷ choices) walks =
-    subst (λ p. Walks done (with_nodes (with_node nodes (front ++ c ∷ [])) (beginnings (front ++ c ∷ []) choices)) p) (append_assoc front (c ∷ []) choices)
+    subst (λ p. Walks done (with_nodes (with_node nodes (front ++ c ∷ [])) (prefixes (front ++ c ∷ []) choices)) p) (append_assoc front (c ∷ []) choices)
     (walked done (with_node nodes (front ++ c ∷ [])) (front ++ c ∷ []) choices (walked_one done nodes front c walks))
 
 -- where a walk is over, its schedule ends there
@@ -128,7 +128,7 @@ after_all done nodes [] rests = weaker done (λ path. done path ⊎ EndsThere []
 after_all done nodes (schedule ∷ schedules) rests =
     weaker (λ path. (done path ⊎ (path ≡ schedule)) ⊎ EndsThere schedules path) (λ path. done path ⊎ EndsThere (schedule ∷ schedules) path) (nodes_from (with_schedule_nodes nodes schedule) schedules) regroup
     (after_all (λ path. done path ⊎ (path ≡ schedule)) (with_schedule_nodes nodes schedule) schedules
-    (over done (with_schedule_nodes nodes schedule) schedule (stay nodes (beginnings [] schedule) [] rests.root) (walked done nodes [] schedule (begins_again done nodes rests))))
+    (over done (with_schedule_nodes nodes schedule) schedule (stay nodes (prefixes [] schedule) [] rests.root) (walked done nodes [] schedule (begins_again done nodes rests))))
   where
     regroup : (path : List Choice) → (done path ⊎ (path ≡ schedule)) ⊎ EndsThere schedules path → done path ⊎ EndsThere (schedule ∷ schedules) path
     regroup path (inl (inl ends)) = inl ends
@@ -150,7 +150,7 @@ followers_law (schedule ∷ schedules) node some within = one (all.each node wit
   all : Rests (λ path. (⊥ ⊎ (path ≡ schedule)) ⊎ EndsThere schedules path) (nodes_of (schedule ∷ schedules))
   all =
       after_all (λ path. ⊥ ⊎ (path ≡ schedule)) (with_schedule_nodes ([] ∷ []) schedule) schedules
-      (over (λ path. ⊥) (with_schedule_nodes ([] ∷ []) schedule) schedule (stay ([] ∷ []) (beginnings [] schedule) [] (has_first [] [])) (walked (λ path. ⊥) ([] ∷ []) [] schedule first_walk))
+      (over (λ path. ⊥) (with_schedule_nodes ([] ∷ []) schedule) schedule (stay ([] ∷ []) (prefixes [] schedule) [] (has_first [] [])) (walked (λ path. ⊥) ([] ∷ []) [] schedule first_walk))
 
   one : ((⊥ ⊎ (get_or (nodes_of (schedule ∷ schedules)) node [] ≡ schedule)) ⊎ EndsThere schedules (get_or (nodes_of (schedule ∷ schedules)) node [])) ⊎ HasChildNext (nodes_of (schedule ∷ schedules)) node
       → EndsThere (schedule ∷ schedules) (get_or (nodes_of (schedule ∷ schedules)) node []) ⊎ HasChildNext (nodes_of (schedule ∷ schedules)) node

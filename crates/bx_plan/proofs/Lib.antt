@@ -13,7 +13,7 @@ pub mod Rooted
 pub mod Walking
 pub mod Looking
 pub mod Pushing
-pub mod Beginnings
+pub mod Prefixes
 pub mod SamePlans
 pub mod Followers
 pub mod Joining

@@ -5,7 +5,7 @@ use Rattle.std.proofs.lemmas.List.{append-nil, replicate-append-replicate}
 use Rattle.bx_world.specs.declared.choices.Choice.{Choice}
 use Rattle.bx_plan.specs.declared.trees.Edge.{Edge}
 use Rattle.bx_plan.specs.Edges.{row, steps_of, tree_by, edge_at, AreFew, IsOn}
-use Rattle.bx_plan.specs.Nodes.{has_node, with_node, with_nodes, beginnings}
+use Rattle.bx_plan.specs.Nodes.{has_node, with_node, with_nodes, prefixes}
 use Rattle.bx_plan.specs.Trees.{Tree, IsTree, path, parent, choice, grown, tree_of}
 use Rattle.bx_plan.specs.Walks.{Reaches, Leads}
 use Rattle.bx_plan.proofs.Members.{has_at, stands_at, StandsAt, same_ends, no_last}
@@ -19,30 +19,30 @@ with_nodes-append : (nodes xs ys : List (List Choice)) → with_nodes nodes (xs 
 with_nodes-append nodes [] ys = refl
 with_nodes-append nodes (x ∷ xs) ys = with_nodes-append (with_node nodes x) xs ys
 
-beginnings-append : (front cs ds : List Choice) → beginnings front (cs ++ ds) ≡ beginnings front cs ++ beginnings (front ++ cs) ds
-beginnings-append front [] ds = ap (λ f. beginnings f ds) (sym (append-nil front))
-beginnings-append front (c ∷ cs) ds =
+prefixes-append : (front cs ds : List Choice) → prefixes front (cs ++ ds) ≡ prefixes front cs ++ prefixes (front ++ cs) ds
+prefixes-append front [] ds = ap (λ f. prefixes f ds) (sym (append-nil front))
+prefixes-append front (c ∷ cs) ds =
     ap (λ rest. (front ++ c ∷ []) ∷ rest)
-    (beginnings-append (front ++ c ∷ []) cs ds ∙ ap (λ f. beginnings (front ++ c ∷ []) cs ++ beginnings f ds) (append_assoc front (c ∷ []) cs))
+    (prefixes-append (front ++ c ∷ []) cs ds ∙ ap (λ f. prefixes (front ++ c ∷ []) cs ++ prefixes f ds) (append_assoc front (c ∷ []) cs))
 
-walked_both : (nodes : List (List Choice)) (front cs ds : List Choice) → with_nodes nodes (beginnings front (cs ++ ds)) ≡ with_nodes (with_nodes nodes (beginnings front cs)) (beginnings (front ++ cs) ds)
-walked_both nodes front cs ds = ap (with_nodes nodes) (beginnings-append front cs ds) ∙ with_nodes-append nodes (beginnings front cs) (beginnings (front ++ cs) ds)
+walked_both : (nodes : List (List Choice)) (front cs ds : List Choice) → with_nodes nodes (prefixes front (cs ++ ds)) ≡ with_nodes (with_nodes nodes (prefixes front cs)) (prefixes (front ++ cs) ds)
+walked_both nodes front cs ds = ap (with_nodes nodes) (prefixes-append front cs ds) ∙ with_nodes-append nodes (prefixes front cs) (prefixes (front ++ cs) ds)
 
 -- from one tree to a second, and on to a third
 pub leads_on : (one two three : Tree) (from cs ds : List Choice) (mid : ℕ) (to : Option ℕ) → Leads one two from cs (Some mid) → Leads two three (path two mid) ds to → Leads one three from (cs ++ ds) to
 leads_on one two three from cs ds mid to first second =
-    let nodes : with_nodes two.paths (beginnings (path two mid) ds) ≡ with_nodes one.paths (beginnings from (cs ++ ds)) =
-    ap (λ n. with_nodes n (beginnings (path two mid) ds)) first.0
-    ∙ ap (λ p. with_nodes (with_nodes one.paths (beginnings from cs)) (beginnings p ds)) first.3
+    let nodes : with_nodes two.paths (prefixes (path two mid) ds) ≡ with_nodes one.paths (prefixes from (cs ++ ds)) =
+    ap (λ n. with_nodes n (prefixes (path two mid) ds)) first.0
+    ∙ ap (λ p. with_nodes (with_nodes one.paths (prefixes from cs)) (prefixes p ds)) first.3
     ∙ sym (walked_both one.paths from cs ds) in
     let way : path two mid ++ ds ≡ from ++ (cs ++ ds) = ap (λ p. p ++ ds) first.3 ∙ append_assoc from cs ds in
     subst (λ (n : List (List Choice)). Reaches three n (from ++ (cs ++ ds)) to) nodes
-    (subst (λ (p : List Choice). Reaches three (with_nodes two.paths (beginnings (path two mid) ds)) p to) way second)
+    (subst (λ (p : List Choice). Reaches three (with_nodes two.paths (prefixes (path two mid) ds)) p to) way second)
 
--- where a beginning is too much, all is
+-- where a prefix is too much, all is
 pub leads_full : (old new : Tree) (from cs ds : List Choice) → Leads old new from cs None → Leads old new from (cs ++ ds) None
 leads_full old new from cs ds full =
-    omega (arith, full, ap length (walked_both old.paths from cs ds), with_nodes_more (with_nodes old.paths (beginnings from cs)) (beginnings (from ++ cs) ds))
+    omega (arith, full, ap length (walked_both old.paths from cs ds), with_nodes_more (with_nodes old.paths (prefixes from cs)) (prefixes (from ++ cs) ds))
 
 -- no choice leads nowhere else
 pub leads_nowhere : (tree : Tree) (at : ℕ) → length tree.paths ≤ 1000001 → at < length tree.paths → Leads tree tree (path tree at) [] (Some at)
@@ -107,7 +107,7 @@ childless tree is last c end = false_from_ne_true _ (λ h. one (stands_at tree.p
 -- so many nodes more, the first from a node without that child
 pub record Grows (steps : List (ℕ × Choice)) (at : ℕ) (c : Choice) (n : ℕ) : Type 0 where
   pub tree : IsTree (tree_of (steps ++ row at (length steps + 1) c n))
-  pub nodes : (tree_of (steps ++ row at (length steps + 1) c n)).paths ≡ with_nodes (tree_of steps).paths (beginnings (path (tree_of steps) at) (replicate n c))
+  pub nodes : (tree_of (steps ++ row at (length steps + 1) c n)).paths ≡ with_nodes (tree_of steps).paths (prefixes (path (tree_of steps) at) (replicate n c))
   pub way : path (tree_of (steps ++ row at (length steps + 1) c n)) (row_end at (length steps + 1) n) ≡ path (tree_of steps) at ++ replicate n c
   pub within : row_end at (length steps + 1) n < length (tree_of (steps ++ row at (length steps + 1) c n)).paths
 
@@ -133,10 +133,10 @@ grows_row (suc n) steps at c is within new =
     let rest_is : (steps ++ (at, c) ∷ []) ++ row next (length (steps ++ (at, c) ∷ []) + 1) c n ≡ steps ++ row at next c (suc n) =
     ap (λ k. (steps ++ (at, c) ∷ []) ++ row next (k + 1) c n) longer ∙ append_assoc steps ((at, c) ∷ []) (row next (next + 1) c n) in
     let end_is : row_end next (length (steps ++ (at, c) ∷ []) + 1) n ≡ row_end at next (suc n) = ap (λ k. row_end next (k + 1) n) longer in
-    let nodes_is : with_nodes (tree_of (steps ++ (at, c) ∷ [])).paths (beginnings (path (tree_of (steps ++ (at, c) ∷ [])) next) (replicate n c)) ≡ with_nodes tree.paths (beginnings (path tree at) (replicate (suc n) c)) =
-    ap (λ p. with_nodes (tree_of (steps ++ (at, c) ∷ [])).paths (beginnings p (replicate n c))) path_is
-    ∙ ap (λ (t : Tree). with_nodes t.paths (beginnings (path tree at ++ c ∷ []) (replicate n c))) first
-    ∙ ap (λ nodes. with_nodes nodes (beginnings (path tree at ++ c ∷ []) (replicate n c))) (sym (with_node_new tree.paths (path tree at ++ c ∷ []) new)) in
+    let nodes_is : with_nodes (tree_of (steps ++ (at, c) ∷ [])).paths (prefixes (path (tree_of (steps ++ (at, c) ∷ [])) next) (replicate n c)) ≡ with_nodes tree.paths (prefixes (path tree at) (replicate (suc n) c)) =
+    ap (λ p. with_nodes (tree_of (steps ++ (at, c) ∷ [])).paths (prefixes p (replicate n c))) path_is
+    ∙ ap (λ (t : Tree). with_nodes t.paths (prefixes (path tree at ++ c ∷ []) (replicate n c))) first
+    ∙ ap (λ nodes. with_nodes nodes (prefixes (path tree at ++ c ∷ []) (replicate n c))) (sym (with_node_new tree.paths (path tree at ++ c ∷ []) new)) in
     record {
       tree = subst (λ s. IsTree (tree_of s)) rest_is more.tree;
       nodes = ap (λ s. (tree_of s).paths) (sym rest_is) ∙ more.nodes ∙ nodes_is;

@@ -5,7 +5,7 @@ use Rattle.std.proofs.lemmas.List.{map-append}
 use Rattle.std.proofs.Math.ListN.{get_or-append}
 use Rattle.bx_world.specs.declared.choices.Choice.{Choice}
 use Rattle.bx_plan.specs.declared.plans.NamedEnd.{NamedEnd}
-use Rattle.bx_plan.specs.Nodes.{with_schedule_nodes, nodes_from, nodes_of, beginnings, node_count}
+use Rattle.bx_plan.specs.Nodes.{with_schedule_nodes, nodes_from, nodes_of, prefixes, node_count}
 use Rattle.bx_plan.specs.Planned.{IsPlanned, schedule_at, schedules}
 use Rattle.bx_plan.specs.Plans.{Named, choices_of}
 use Rattle.bx_plan.specs.Trees.{Tree, path}
@@ -46,14 +46,14 @@ module _ (lines : List (List ℕ × ℕ)) (old new : Tree) (is : IsPlanned (reco
   module _ (end : ℕ) (walked : Walks old new schedule.1 (Some end)) where
     rows_after : schedules (record { lines = lines ++ (schedule.0, end) ∷ []; tree = new }) ≡ schedules (record { lines = lines; tree = old }) ++ schedule ∷ []
     rows_after =
-        let grown = with_nodes_extends old.paths (beginnings [] schedule.1) in
+        let grown = with_nodes_extends old.paths (prefixes [] schedule.1) in
         map-append (schedule_at new) lines ((schedule.0, end) ∷ [])
         ∙ ap (λ rows. rows ++ (schedule.0, path new end) ∷ []) (kept old new grown.0 (walked.0 ∙ grown.1) lines is.within)
         ∙ ap (λ cs. schedules (record { lines = lines; tree = old }) ++ (schedule.0, cs) ∷ []) walked.3
 
     planned_after : IsPlanned (record { lines = lines ++ (schedule.0, end) ∷ []; tree = new })
     planned_after = record {
-      within = within-push (length new.paths) lines (schedule.0, end) (still_within (length old.paths) (length new.paths) lines (let grown = with_nodes_extends old.paths (beginnings [] schedule.1) in omega (arith, ap length (walked.0 ∙ grown.1), length-append old.paths grown.0)) is.within) walked.2;
+      within = within-push (length new.paths) lines (schedule.0, end) (still_within (length old.paths) (length new.paths) lines (let grown = with_nodes_extends old.paths (prefixes [] schedule.1) in omega (arith, ap length (walked.0 ∙ grown.1), length-append old.paths grown.0)) is.within) walked.2;
       nodes = walked.0 ∙ sym nodes_after ∙ ap (λ rows. nodes_of (choices_of rows)) (sym rows_after);
     }
 

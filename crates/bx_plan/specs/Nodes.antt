@@ -28,13 +28,13 @@ with_nodes nodes [] = nodes
 with_nodes nodes (path ∷ paths) = with_nodes (with_node nodes path) paths
 
 -- what the choices make of a prefix, one choice more each time
-abbrev pub beginnings : List Choice → List Choice → List (List Choice)
-beginnings front [] = []
-beginnings front (choice ∷ choices) = (front ++ choice ∷ []) ∷ beginnings (front ++ choice ∷ []) choices
+abbrev pub prefixes : List Choice → List Choice → List (List Choice)
+prefixes front [] = []
+prefixes front (choice ∷ choices) = (front ++ choice ∷ []) ∷ prefixes (front ++ choice ∷ []) choices
 
 -- the nodes with those of one schedule more
 abbrev pub with_schedule_nodes : List (List Choice) → List Choice → List (List Choice)
-with_schedule_nodes nodes schedule = with_nodes nodes (beginnings [] schedule)
+with_schedule_nodes nodes schedule = with_nodes nodes (prefixes [] schedule)
 
 -- the root, which is the empty prefix, and then the nodes of each schedule
 abbrev pub nodes_from : List (List Choice) → List (List Choice) → List (List Choice)
@@ -51,9 +51,9 @@ node_count schedules = length (nodes_of schedules) - 1
 -- ---- what the nodes are, said separately from how they are numbered
 
 -- some schedule begins so
-abbrev pub IsBeginning : List (List Choice) → List Choice → Type 0
-IsBeginning [] path = ⊥
-IsBeginning (schedule ∷ schedules) path = ((rest : List Choice) × (schedule ≡ path ++ rest)) ⊎ IsBeginning schedules path
+abbrev pub IsPrefix : List (List Choice) → List Choice → Type 0
+IsPrefix [] path = ⊥
+IsPrefix (schedule ∷ schedules) path = ((rest : List Choice) × (schedule ≡ path ++ rest)) ⊎ IsPrefix schedules path
 
 -- a node has this path
 abbrev pub HasNode : List (List Choice) → List Choice → Type 0
@@ -63,7 +63,7 @@ HasNode nodes path = (node : ℕ) × (node < length nodes) × (slice_index_or no
 -- two nodes are the same prefix
 pub record AreNodes (schedules nodes : List (List Choice)) : Type 0 where
   pub root : slice_index_or nodes 0 [] ≡ []
-  pub members : (path : List Choice) → HasNode nodes path ↔ ((path ≡ []) ⊎ IsBeginning schedules path)
+  pub members : (path : List Choice) → HasNode nodes path ↔ ((path ≡ []) ⊎ IsPrefix schedules path)
   pub distinct : (i j : ℕ) → i < length nodes → j < length nodes → slice_index_or nodes i [] ≡ slice_index_or nodes j [] → i ≡ j
 
 -- some schedule ends there

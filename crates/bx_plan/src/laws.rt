@@ -51,7 +51,7 @@ pub fn the_first_line_at_fault_is_named()
 {}
 
 /// The nodes of a plan's tree are the prefixes of its schedules, each once.
-pub fn nodes_are_the_distinct_beginnings()
+pub fn nodes_are_the_distinct_prefixes()
     ensures { (schedules : List (List Choice)) → AreNodes schedules (nodes_of schedules) }
 {}
 

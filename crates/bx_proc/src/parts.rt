@@ -32,11 +32,11 @@ impl Pending {
         })
     }
 
-    /// An equal fault that shares nothing counted with this one. It takes the room that its value takes.
-    pub(crate) fn apart(&self, alloc: Global, room: &mut usize) -> Result<Pending, AllocError>
+    /// A deep copy. It takes the room that its value takes.
+    pub(crate) fn deep_copy(&self, alloc: Global, room: &mut usize) -> Result<Pending, AllocError>
         ensures { IfOk result (λ f. f ≡ self.now) }
     {
-        let value = self.value.apart(alloc, room)?;
+        let value = self.value.deep_copy(alloc, room)?;
         Ok(Pending {
             class: self.class,
             value,
@@ -77,14 +77,14 @@ impl Status {
         })
     }
 
-    /// An equal status that shares nothing counted with this one. It takes the room that its reason takes.
-    pub(crate) fn apart(&self, alloc: Global, room: &mut usize) -> Result<Status, AllocError>
+    /// A deep copy. It takes the room that its reason takes.
+    pub(crate) fn deep_copy(&self, alloc: Global, room: &mut usize) -> Result<Status, AllocError>
         ensures { IfOk result (λ s. s ≡ self.now) }
     {
         Ok(match self {
             Status::Ready => Status::Ready,
             Status::Waiting => Status::Waiting,
-            Status::Ended(reason) => Status::Ended(reason.apart(alloc, room)?),
+            Status::Ended(reason) => Status::Ended(reason.deep_copy(alloc, room)?),
         })
     }
 

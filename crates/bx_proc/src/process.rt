@@ -2,7 +2,7 @@
 
 ghost use Rattle.std.specs.Prelude.{◌≡◌, ◌↔◌, ◌≢◌, [], IfOk, IsTrue, Ok, option_map};
 ghost use Rattle.bx_terms.specs.Outcomes.{Gives};
-ghost use Rattle.bx_proc.specs.Process.{born, can_run, StandsAs};
+ghost use Rattle.bx_proc.specs.Process.{new_process, can_run, StandsAs};
 
 use crate::parts::{Pending, Status};
 use bx_bifs::Native;
@@ -71,7 +71,7 @@ impl Proc {
     /// A process that stands at `place`, the entry of its function, with its arguments in x0 on; without an address its
     /// function is not there, which it finds at its first run. Memory is taken only where there are arguments.
     pub fn new(alloc: Global, place: Option<Place>, arguments: &[Term]) -> Result<Proc, Fault>
-        ensures { Gives (arguments.now ≢ []) (λ p. p) result (Ok (born place arguments.now)) }
+        ensures { Gives (arguments.now ≢ []) (λ p. p) result (Ok (new_process place arguments.now)) }
     {
         let x = Registers::holding(alloc, arguments)?;
         Ok(Proc {
@@ -105,13 +105,13 @@ impl Proc {
         self.place
     }
 
-    /// An equal process that shares nothing counted with this one. It takes one of the room for each register, frame, message and
-    /// link, and what their terms take, and is out of memory past it.
-    pub fn apart(&self, alloc: Global, room: &mut usize) -> Result<Proc, AllocError>
+    /// A deep copy. It takes one of the room for each register, frame, message and link, and what their terms take, and is out of
+    /// memory past it.
+    pub fn deep_copy(&self, alloc: Global, room: &mut usize) -> Result<Proc, AllocError>
         ensures { IfOk result (λ p. p ≡ self.now) }
     {
         let fault = match &self.fault {
-            Some(fault) => Some(fault.apart(alloc, room)?),
+            Some(fault) => Some(fault.deep_copy(alloc, room)?),
             None => None,
         };
         take_room(room, self.links.as_slice().len())?;
@@ -119,15 +119,15 @@ impl Proc {
         let mut mailbox = self.mailbox.copy(alloc)?;
         mailbox.unshare(alloc, room)?;
         Ok(Proc {
-            x: self.x.apart(alloc, room)?,
+            x: self.x.deep_copy(alloc, room)?,
             cp: self.cp,
-            frames: self.frames.apart(alloc, room)?,
+            frames: self.frames.deep_copy(alloc, room)?,
             place: self.place,
             fault,
             mailbox,
             links: self.links.copy(alloc)?,
             trap_exit: self.trap_exit,
-            status: self.status.apart(alloc, room)?,
+            status: self.status.deep_copy(alloc, room)?,
             expires: self.expires,
             asked: self.asked,
         })

@@ -8,7 +8,7 @@ use Rattle.bx_world.specs.Running.{Ended, ran}
 use Rattle.bx_replay.specs.Courses.{Course, reached}
 use Rattle.bx_replay.specs.Keeping.{IsReached, AreKept, Parts}
 use Rattle.bx_replay.specs.declared.kept.Kept.{Kept}
-use Rattle.bx_replay.proofs.Beginnings.{below, bounded, course, onward, reached_longer, reached_before, reached_behind}
+use Rattle.bx_replay.proofs.Prefixes.{below, bounded, course, onward, reached_longer, reached_before, reached_behind}
 
 -- by how many choices
 abbrev pub count_of : Kept → ℕ
@@ -55,7 +55,7 @@ one_more c kept new are is past last =
       ];
     }
 
--- the last of what is kept is the longest beginning
+-- the last of what is kept is the longest prefix
 pub last_is : (c : Course) (kept : List Kept) (start found : Kept) → AreKept c kept → c.start ≡ start.end → (length kept ≡ 0 → found ≡ start)
     → (0 < length kept → found ≡ slice_index_or kept (length kept - 1) found)
     → (c.start.applied ≤ count_of found) × ((k : ℕ) (d : Kept) → k < length kept → count_of (slice_index_or kept k d) ≤ count_of found)

@@ -1,7 +1,7 @@
 pub mod Rows
 pub mod Next
 pub mod Pairs
-pub mod Beginnings
+pub mod Prefixes
 pub mod Stretches
 pub mod Keeps
 pub mod Turning

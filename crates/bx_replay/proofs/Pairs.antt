@@ -11,7 +11,7 @@ use Rattle.bx_world.specs.Choosing.{chosen}
 use Rattle.bx_world.specs.Running.{Ended, advanced, ran}
 use Rattle.bx_world.specs.Independent.{runs_local, one_is_local, AreIndependent, IsLocal}
 use Rattle.bx_world.proofs.Orders.{either_way, same_world}
-use Rattle.bx_world.proofs.Newborns.{left_alike, second_left_alike}
+use Rattle.bx_world.proofs.Children.{left_alike, second_left_alike}
 use Rattle.bx_replay.specs.Exchanges.{SameProcess}
 
 -- what is enabled is so in a world that has not trapped

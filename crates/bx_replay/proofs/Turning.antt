@@ -15,7 +15,7 @@ use Rattle.bx_replay.specs.Courses.{Course, reached}
 use Rattle.bx_replay.specs.Exchanges.{exchanged_at, next_apart, NextIndependent, MayExchange, with_exchange}
 use Rattle.bx_replay.specs.Keeping.{IsReached, AreKept, Parts, Turns}
 use Rattle.bx_replay.specs.declared.kept.Kept.{Kept}
-use Rattle.bx_replay.proofs.Beginnings.{all_made, below, next_is}
+use Rattle.bx_replay.proofs.Prefixes.{all_made, below, next_is}
 use Rattle.bx_replay.proofs.Keeps.{count_of, no_later}
 use Rattle.bx_replay.proofs.Rows.{swapped}
 use Rattle.bx_replay.proofs.Pairs.{same_end, untrapped}
@@ -53,13 +53,13 @@ module _ (i : ℕ) (c : Course) (a : Around i c) where
   new : exchanged_at i c.choices ≡ take i c.choices ++ a.second ∷ a.first ∷ a.more
   new = swapped i (i + 1) c.choices a.first a.second a.more (add-one i) a.rest
 
-  -- beginnings that end before both
+  -- prefixes that end before both
   sooner : (n : ℕ) → n ≤ i → take n (exchanged_at i c.choices) ≡ take n c.choices
   sooner n h =
       ap (take n) new ∙ take-append-le n (take i c.choices) (a.second ∷ a.first ∷ a.more) (omega (arith, short))
       ∙ sym (take-append-le n (take i c.choices) (a.first ∷ a.second ∷ a.more) (omega (arith, short))) ∙ ap (take n) (sym old)
 
-  -- the beginning that ends between them
+  -- the prefix that ends between them
   pub halfway : reached (i + 1) (with_exchange i c) ≡ ran c.image (a.second ∷ []) (reached i c)
   halfway =
       ap (λ (zs : List Choice). ran c.image (take (i + 1) zs) c.start) new
@@ -75,7 +75,7 @@ module _ (i : ℕ) (c : Course) (a : Around i c) where
       ∙ ap (λ (zs : List Choice). ran c.image zs c.start) (take-append-add (take i c.choices) (first ∷ second ∷ more) (suc (suc n)))
       ∙ ran_on c.image (take i c.choices) (take (suc (suc n)) (first ∷ second ∷ more)) c.start
 
-  -- beginnings that end behind both
+  -- prefixes that end behind both
   later : (n : ℕ) → i + 2 ≤ n → reached n (with_exchange i c) ≡ reached n c
   later n h =
       let far : n ≡ i + suc (suc (n - (i + 2))) = omega arith in
@@ -85,7 +85,7 @@ module _ (i : ℕ) (c : Course) (a : Around i c) where
       ∙ sym (pair_then a.first a.second a.more (n - (i + 2)) c.choices old)
       ∙ ap (λ m. ran c.image (take m c.choices) c.start) (sym far)
 
-  -- where a beginning leads that does not end between the two
+  -- where a prefix leads that does not end between the two
   pub leads : (n : ℕ) → n ≢ i + 1 → reached n (with_exchange i c) ≡ reached n c
   leads n apart = elim (below n (i + 1)) [
     | inl lower ↦ ap (λ (zs : List Choice). ran c.image zs c.start) (sooner n (omega arith))

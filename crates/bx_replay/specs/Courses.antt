@@ -1,4 +1,4 @@
--- Choices in a row, from where a run has come, and where each beginning of them leads.
+-- Choices in a row, from where a run has come, and where each prefix of them leads.
 use Rattle.std.specs.Prelude.{ℕ, List, take, refl}
 use Rattle.std.specs.Coded.{Coded, code_by, coded×, coded_list}
 use Rattle.bx_load.specs.Image.{Loaded}

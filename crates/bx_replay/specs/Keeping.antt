@@ -1,16 +1,16 @@
--- What a trail keeps beside its choices: where some beginnings of them lead, each longer than the one before.
+-- What a trail keeps beside its choices: where some prefixes of them lead, each longer than the one before.
 use Rattle.std.specs.Prelude.{◌≡◌, ◌≢◌, ℕ, ◌+◌, ◌-◌, ◌^◌, ◌<◌, ◌≤◌, List, length, slice_index_or}
 use Rattle.bx_world.specs.Running.{Ended}
 use Rattle.bx_replay.specs.Courses.{Course, reached}
 use Rattle.bx_replay.specs.declared.kept.Kept.{Kept}
 
--- where a beginning leads of which each choice was applied
+-- where a prefix leads of which each choice was applied
 pub record IsReached (course : Course) (end : Ended) : Type 0 where
   pub ahead : course.start.applied ≤ end.applied
   pub within : end.applied ≤ course.start.applied + length course.choices
   pub is : end ≡ reached (end.applied - course.start.applied) course
 
--- each is where a beginning leads, of one choice at least, and of more than the one before
+-- each is where a prefix leads, of one choice at least, and of more than the one before
 pub record AreKept (course : Course) (kept : List Kept) : Type 0 where
   pub few : course.start.applied + length course.choices < 2 ^ 64
   pub ends : (k : ℕ) (d : Kept) → k < length kept → IsReached course (slice_index_or kept k d).end
@@ -23,7 +23,7 @@ pub record Parts (kept : List Kept) (applied n : ℕ) : Type 0 where
   pub last : (d : Kept) → 0 < n → (slice_index_or kept (n - 1) d).end.applied ≤ applied
   pub next : (d : Kept) → n < length kept → applied < (slice_index_or kept n d).end.applied
 
--- the beginning that leads to this end is another one; all others lead where they led
+-- the prefix that leads to this end is another one; all others lead where they led
 pub record Turns (old new : Course) (end : Ended) : Type 0 where
   pub begins : new.start ≡ old.start
   pub count : length new.choices ≡ length old.choices

@@ -69,7 +69,7 @@ fn same_process(one: &RcWorld, other: &RcWorld, pid: u32) -> bool
 {
     match (one.process(pid), other.process(pid)) {
         (Some(Shown::Live(one)), Some(Shown::Live(other))) => one.same(other),
-        (Some(Shown::Gone(one)), Some(Shown::Gone(other))) => one.same(other),
+        (Some(Shown::Exited(one)), Some(Shown::Exited(other))) => one.same(other),
         (None, None) => true,
         _ => false,
     }

@@ -13,7 +13,7 @@ use std::alloc::{AllocError, Global};
 /// How many choices lie between one that is kept and the next, at the least.
 const LEAST: u64 = 64;
 
-/// Where a beginning leads of which each choice was applied.
+/// Where a prefix leads of which each choice was applied.
 #[derive(Drop)]
 pub(crate) struct Kept {
     pub(crate) end: RcEnd,

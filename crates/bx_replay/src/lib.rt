@@ -1,4 +1,4 @@
-//! Choices in a row, with worlds that are kept on the way: where each beginning leads, and exchanges of choices that are independent.
+//! Choices in a row, with worlds that are kept on the way: where each prefix leads, and exchanges of choices that are independent.
 #![tactic(auto)]
 
 mod independence;

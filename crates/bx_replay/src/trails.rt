@@ -16,7 +16,7 @@ use std::marker::Model;
 
 /// Choices in a row, from where a run has come, over some code.
 ///
-/// On the way it keeps some of the worlds that they lead to, so that few choices are made again to find where a beginning leads: the
+/// On the way it keeps some of the worlds that they lead to, so that few choices are made again to find where a prefix leads: the
 /// next one once as many choices have passed as the last one had cells, and 64 at the least. Where memory runs out, a call has
 /// changed nothing.
 #[derive(Drop)]
@@ -209,7 +209,7 @@ impl<'a> Trail<'a> {
 
     /// Exchanges the choice at that position, from 0 on, and the one behind it, where they are independent there; whether they are.
     ///
-    /// That leaves where each longer beginning leads as it was, so of what is kept only what lies between the two is replaced. Memory
+    /// That leaves where each longer prefix leads as it was, so of what is kept only what lies between the two is replaced. Memory
     /// is taken only where two choices of different processes stand there.
     pub fn exchange(&mut self, alloc: Global, position: usize) -> Result<bool, AllocError>
         ensures done { IfOk result (Exchanges position self.old self.new) }

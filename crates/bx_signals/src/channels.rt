@@ -87,8 +87,7 @@ impl Channels {
         Ok(Channels { rows })
     }
 
-    /// Makes the channels apart from those that their signals came from and went to: no signal shares anything counted, for which
-    /// threads would wait for each other. Where room or memory run out, some still do. The channels are the same in each case.
+    /// Puts a deep copy of each signal in its place: none shares anything counted, for which threads would wait for each other. Where room or memory run out, some still do. The channels are the same in each case.
     pub fn unshare(&mut self, alloc: Global, room: &mut usize) -> Result<(), AllocError>
         ensures { self.new ≡ self.old }
     {

@@ -3,9 +3,9 @@
 //! `Trap::Unsupported` is raised nowhere: reading refuses what is not run. It stays for an instruction that is read before it is run.
 #![tactic(auto)]
 
-mod apart;
 mod atom_table;
 mod atom_text;
+mod deep_copies;
 mod faults;
 pub mod fixed;
 mod kinds;
@@ -15,9 +15,9 @@ mod places;
 mod printing;
 mod terms;
 
-pub use apart::{take_room, terms_apart};
 pub use atom_table::{AtomId, Atoms};
 pub use atom_text::push_atom;
+pub use deep_copies::{deep_copy_terms, take_room};
 pub use faults::{Fault, Name};
 pub use kinds::{Class, Trap};
 pub use ordering::order;

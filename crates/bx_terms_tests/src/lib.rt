@@ -2,8 +2,6 @@
 #![tactic(auto)]
 
 #[cfg(test)]
-mod apart;
-#[cfg(test)]
 mod atoms;
 #[cfg(test)]
 mod bifs;
@@ -11,6 +9,8 @@ mod bifs;
 mod built;
 #[cfg(test)]
 mod cells;
+#[cfg(test)]
+mod deep_copies;
 #[cfg(test)]
 mod heights;
 #[cfg(test)]

@@ -23,9 +23,9 @@ use Rattle.bx_world.specs.declared.slots.Slot.TheVariants as slots
 use Rattle.bx_world.specs.Lives.{life}
 use Rattle.bx_world.specs.declared.turns.Turn.{Turn}
 use Rattle.bx_world.specs.declared.turns.Turn.TheVariants as turns
-use Rattle.bx_world.specs.World.{Life, Live, Gone}
-use Rattle.bx_world.specs.Lifetimes.{Lived, lived, lived_if, gone_if, life_expired, put_back, at_life, told_at, lives_told, lives_expired, lost_if}
-use Rattle.bx_world.specs.Births.{other_if, system_limit, life_answered, lives_answered}
+use Rattle.bx_world.specs.World.{Life, Live, Exited}
+use Rattle.bx_world.specs.Lifetimes.{Lived, lived, lived_if, exited_if, life_expired, put_back, at_life, told_at, lives_told, lives_expired, lost_if}
+use Rattle.bx_world.specs.Spawning.{other_if, system_limit, life_answered, lives_answered}
 use Rattle.bx_world.specs.Acting.{process_acted, exited_acted, missed, life_acted, acted_at, lives_acted, MayLack}
 use Rattle.bx_world.proofs.Changing.{does_through, err_through}
 
@@ -42,9 +42,9 @@ where_able old new (Err Memory) done true able h = (able, h.1)
 where_able old new (Err fault) done true able h = h
 
 -- a slot in which no process lives any more
-pub only_exited : {P : Type 0} (shown : P → Process) (s : Slot P) (D : Life → Type 0) → ((h : P) → s ≢ slots.Live h) → ((reason : Tree) → D (Gone reason)) → D (life shown s)
+pub only_exited : {P : Type 0} (shown : P → Process) (s : Slot P) (D : Life → Type 0) → ((h : P) → s ≢ slots.Live h) → ((reason : Tree) → D (Exited reason)) → D (life shown s)
 only_exited shown (slots.Live h) D dead f = absurd (dead h refl)
-only_exited shown (slots.Gone reason) D dead f = f reason
+only_exited shown (slots.Exited reason) D dead f = f reason
 
 -- a process that is free to run can run
 pub free_runs : (here : Place) (x : Process) → StandsFree here x → can_run x ≡ true
@@ -63,7 +63,7 @@ module _ (image : Loaded) (p : ℕ) where
   of_live Unspawned l x = refl
 
   -- one that has exited
-  of_exited : (act : Act) (l : Lanes) (reason : Tree) → life_acted image p act l (Gone reason) ≡ gone_if reason (exited_acted act p l)
+  of_exited : (act : Act) (l : Lanes) (reason : Tree) → life_acted image p act l (Exited reason) ≡ exited_if reason (exited_acted act p l)
   of_exited (Hear q) l reason = refl
   of_exited Expire l reason = refl
   of_exited (Spawned child linked) l reason = refl
@@ -73,14 +73,14 @@ module _ (image : Loaded) (p : ℕ) where
   living w turns.Ran other = refl
   living w (turns.Ended reason) other = absurd (other reason refl)
   living w (turns.Trapped kind) other = refl
-  living w (turns.Bears birth) other = refl
+  living w (turns.Spawns spawn) other = refl
 
   pub went : (act : Act) (x y : Process) (l m : Lanes) (turn : Turn) → ((reason : Tree) → turn ≢ turns.Ended reason) → process_acted image p act l x ≡ Ok ((y, m), turn)
       → life_acted image p act l (Live x) ≡ Ok ((Live y, m), turn)
   went act x y l m turn other is = of_live act l x ∙ ap lived_if is ∙ ap Ok (living (y, m) turn other)
 
   pub ended : (act : Act) (x y : Process) (l m : Lanes) (reason : Tree) → process_acted image p act l x ≡ Ok ((y, m), turns.Ended reason)
-      → life_acted image p act l (Live x) ≡ Ok ((Gone reason, m), turns.Ran)
+      → life_acted image p act l (Live x) ≡ Ok ((Exited reason, m), turns.Ran)
   ended act x y l m reason is = of_live act l x ∙ ap lived_if is
 
   pub live_refused : (act : Act) (x y : Process) (l m : Lanes) (takes : Type 0) (f : Fault) → Does {A = Turn} takes (x, l) (y, m) (Err f) (process_acted image p act l x)
@@ -89,14 +89,14 @@ module _ (image : Loaded) (p : ℕ) where
       err_through takes takes (x, l) (y, m) (Live x, l) (Live y, m) f (process_acted image p act l x) (life_acted image p act l (Live x)) (λ t. t) (λ fault said. of_live act l x ∙ ap lived_if said)
       (λ same. ap (λ (w : Process × Lanes). (Live w.0, w.1)) same) h
 
-  pub exited_went : (act : Act) (reason : Tree) (l m : Lanes) → exited_acted act p l ≡ Ok (m, tt) → life_acted image p act l (Gone reason) ≡ Ok ((Gone reason, m), turns.Ran)
-  exited_went act reason l m is = of_exited act l reason ∙ ap (gone_if reason) is
+  pub exited_went : (act : Act) (reason : Tree) (l m : Lanes) → exited_acted act p l ≡ Ok (m, tt) → life_acted image p act l (Exited reason) ≡ Ok ((Exited reason, m), turns.Ran)
+  exited_went act reason l m is = of_exited act l reason ∙ ap (exited_if reason) is
 
   pub exited_refused : (act : Act) (reason : Tree) (l m : Lanes) (takes : Type 0) (f : Fault) → Does {A = Unit {0}} takes l m (Err f) (exited_acted act p l)
-      → Does {A = Turn} takes (Gone reason, l) (Gone reason, m) (Err f) (life_acted image p act l (Gone reason))
+      → Does {A = Turn} takes (Exited reason, l) (Exited reason, m) (Err f) (life_acted image p act l (Exited reason))
   exited_refused act reason l m takes f h =
-      err_through takes takes l m (Gone reason, l) (Gone reason, m) f (exited_acted act p l) (life_acted image p act l (Gone reason)) (λ t. t) (λ fault said. of_exited act l reason ∙ ap (gone_if reason) said)
-      (λ same. ap (λ (n : Lanes). (Gone reason, n)) same) h
+      err_through takes takes l m (Exited reason, l) (Exited reason, m) f (exited_acted act p l) (life_acted image p act l (Exited reason)) (λ t. t) (λ fault said. of_exited act l reason ∙ ap (exited_if reason) said)
+      (λ same. ap (λ (n : Lanes). (Exited reason, n)) same) h
 
   -- among the others
   pub acted_among : {S : Type 0} (f : S → Life) (act : Act) (xs : List S) (x y : S) (old new : Lanes) (r : Result Turn Fault) → p < length xs → x ≡ get_or xs p x

@@ -25,16 +25,16 @@ use Rattle.bx_world.specs.declared.choices.Choice.TheVariants.{Run, Deliver, Exp
 use Rattle.bx_world.specs.declared.lanes.Lanes.{Lanes}
 use Rattle.bx_world.specs.declared.turns.Turn.{Turn}
 use Rattle.bx_world.specs.declared.turns.Turn.TheVariants as turns
-use Rattle.bx_world.specs.World.{Life, Live, Gone, State}
+use Rattle.bx_world.specs.World.{Life, Live, Exited, State}
 use Rattle.bx_world.specs.Sharing.{hearing}
 use Rattle.bx_world.specs.Asking.{Done, exit_message, is_kill, is_normal, low_enough}
-use Rattle.bx_world.specs.Delivering.{messaged, ending, exiting, heard, gone_heard, lost}
-use Rattle.bx_world.specs.Lifetimes.{Among, lived, lived_if, gone_if, life_run, life_expired, put_back, at_life, lost_if, told_at}
+use Rattle.bx_world.specs.Delivering.{messaged, ending, exiting, heard, exited_heard, lost}
+use Rattle.bx_world.specs.Lifetimes.{Among, lived, lived_if, exited_if, life_run, life_expired, put_back, at_life, lost_if, told_at}
 use Rattle.bx_world.specs.Enabled.{able, actor, may_at, may_run, may_expire}
 use Rattle.bx_world.specs.Seen.{place_at}
 use Rattle.bx_world.specs.Turning.{turned, runs}
-use Rattle.bx_world.specs.Choosing.{born_too, made, made_or, chosen, trap_of}
-use Rattle.bx_world.specs.Posting.{Post, parting_posts, done_posts, effect_posts, turn_posts, run_posts, heard_posts, gone_posts, signal_posts, posts, same_pair, in_channel, as_row, takes}
+use Rattle.bx_world.specs.Choosing.{spawned_too, made, made_or, chosen, trap_of}
+use Rattle.bx_world.specs.Posting.{Post, parting_posts, done_posts, effect_posts, turn_posts, run_posts, heard_posts, exited_posts, signal_posts, posts, same_pair, in_channel, as_row, takes}
 use Rattle.bx_world.specs.Independent.{is_local_at, IsNoRun, IsLocal}
 use Rattle.bx_world.proofs.Applying.{MadeAs, made_as}
 use Rattle.bx_world.proofs.Confined.{get_set_same}
@@ -85,58 +85,58 @@ module _ (p q : ℕ) (l n : Lanes) where
 -- what becomes of the life, and the turn among the others
 abbrev lived_of : Process × Turn → Life × Turn
 lived_of (x, turns.Ran) = (Live x, turns.Ran)
-lived_of (x, turns.Ended reason) = (Gone reason, turns.Ran)
+lived_of (x, turns.Ended reason) = (Exited reason, turns.Ran)
 lived_of (x, turns.Trapped kind) = (Live x, turns.Trapped kind)
-lived_of (x, turns.Bears birth) = (Live x, turns.Bears birth)
+lived_of (x, turns.Spawns spawn) = (Live x, turns.Spawns spawn)
 
 lived_is : (w : Process × Lanes) (turn : Turn) → ((lived (w, turn)).0.0, (lived (w, turn)).1) ≡ lived_of (w.0, turn)
 lived_is w turns.Ran = refl
 lived_is w (turns.Ended reason) = refl
 lived_is w (turns.Trapped kind) = refl
-lived_is w (turns.Bears birth) = refl
+lived_is w (turns.Spawns spawn) = refl
 
 -- what it sends
 abbrev posts_of : ℕ → Process × Turn → List Post
 posts_of q (x, turns.Ran) = []
 posts_of q (x, turns.Ended reason) = parting_posts q x.links reason
 posts_of q (x, turns.Trapped kind) = []
-posts_of q (x, turns.Bears birth) = []
+posts_of q (x, turns.Spawns spawn) = []
 
 posts_is : (q : ℕ) (w : Process × Lanes) (turn : Turn) → done_posts q [] (w, turn) ≡ posts_of q (w.0, turn)
 posts_is q w turns.Ran = refl
 posts_is q w (turns.Ended reason) = refl
 posts_is q w (turns.Trapped kind) = refl
-posts_is q w (turns.Bears birth) = refl
+posts_is q w (turns.Spawns spawn) = refl
 
 -- ---- a run that concerns its own process alone
 
-abbrev pub NoBirth : Turn → Type 0
-NoBirth turns.Ran = Unit {0}
-NoBirth (turns.Ended reason) = Unit {0}
-NoBirth (turns.Trapped kind) = Unit {0}
-NoBirth (turns.Bears birth) = ⊥
+abbrev pub NoSpawn : Turn → Type 0
+NoSpawn turns.Ran = Unit {0}
+NoSpawn (turns.Ended reason) = Unit {0}
+NoSpawn (turns.Trapped kind) = Unit {0}
+NoSpawn (turns.Spawns spawn) = ⊥
 
--- it shows nothing, bears nobody, and does the same whatever the channels hold
+-- it shows nothing, spawns nobody, and does the same whatever the channels hold
 pub record Calm (l n : Lanes) (d e : Done) : Type 0 where
   pub shows : d.0.1.output ≡ l.output
-  pub bears : NoBirth d.1
+  pub spawns : NoSpawn d.1
   pub alike : part d ≡ part e
 
 turned_calm : (image : Loaded) (p : ℕ) (l n : Lanes) (x : Process) (d : Process × Effect) → to_itself d.1 ≡ true → Calm l n (turned image p l x d) (turned image p n x d)
-turned_calm image p l n x (y, effects.Ran) own = record { shows = refl; bears = tt; alike = refl }
-turned_calm image p l n x (y, effects.Ended reason) own = record { shows = refl; bears = tt; alike = refl }
-turned_calm image p l n x (y, effects.Trap kind) own = record { shows = refl; bears = tt; alike = refl }
+turned_calm image p l n x (y, effects.Ran) own = record { shows = refl; spawns = tt; alike = refl }
+turned_calm image p l n x (y, effects.Ended reason) own = record { shows = refl; spawns = tt; alike = refl }
+turned_calm image p l n x (y, effects.Trap kind) own = record { shows = refl; spawns = tt; alike = refl }
 turned_calm image p l n x (y, effects.Send to message) own = absurd (cc)
 turned_calm image p l n x (y, effects.Ask native arguments) own = absurd (cc)
 
 pub runs_calm : (image : Loaded) (p : ℕ) (l n : Lanes) (x : Process) → is_local_at image x.place ≡ true → Calm l n (runs image p l x) (runs image p n x)
 runs_calm image p l n x local = turned_calm image p l n x (attempted image p x) (attempt_own image p x local)
 
-pub bears_none : (image : Loaded) (p : ℕ) (lives : List Life) (w : Process × Lanes) (turn : Turn) → NoBirth turn → born_too image p (put_back p lives (Ok (lived (w, turn)))) ≡ put_back p lives (Ok (lived (w, turn)))
-bears_none image p lives w turns.Ran h = refl
-bears_none image p lives w (turns.Ended reason) h = refl
-bears_none image p lives w (turns.Trapped kind) h = refl
-bears_none image p lives w (turns.Bears birth) h = absurd h
+pub spawns_none : (image : Loaded) (p : ℕ) (lives : List Life) (w : Process × Lanes) (turn : Turn) → NoSpawn turn → spawned_too image p (put_back p lives (Ok (lived (w, turn)))) ≡ put_back p lives (Ok (lived (w, turn)))
+spawns_none image p lives w turns.Ran h = refl
+spawns_none image p lives w (turns.Ended reason) h = refl
+spawns_none image p lives w (turns.Trapped kind) h = refl
+spawns_none image p lives w (turns.Spawns spawn) h = absurd h
 
 -- ---- the same among others
 
@@ -164,13 +164,13 @@ module _ (q : ℕ) (lives others : List Life) (one : Life) (here : slice_get liv
   heard_among p l n (Ok d) (Err g) h = absurd h
   heard_among p l n (Err f) (Ok e) h = absurd h
 
-  gone_among : (p : ℕ) (reason : Tree) (l n : Lanes) (s : Option Signal) → AmongAlike q (put_back q lives (gone_if reason (gone_heard p q l s))) (put_back q others (gone_if reason (gone_heard p q n s)))
-  gone_among p reason l n None = tt
-  gone_among p reason l n (Some signals.Link) = (put_here (Gone reason), refl)
-  gone_among p reason l n (Some (signals.Message m)) = (put_here (Gone reason), refl)
-  gone_among p reason l n (Some signals.Unlink) = (put_here (Gone reason), refl)
-  gone_among p reason l n (Some (signals.LinkExit other)) = (put_here (Gone reason), refl)
-  gone_among p reason l n (Some (signals.Exit other)) = (put_here (Gone reason), refl)
+  exited_among : (p : ℕ) (reason : Tree) (l n : Lanes) (s : Option Signal) → AmongAlike q (put_back q lives (exited_if reason (exited_heard p q l s))) (put_back q others (exited_if reason (exited_heard p q n s)))
+  exited_among p reason l n None = tt
+  exited_among p reason l n (Some signals.Link) = (put_here (Exited reason), refl)
+  exited_among p reason l n (Some (signals.Message m)) = (put_here (Exited reason), refl)
+  exited_among p reason l n (Some signals.Unlink) = (put_here (Exited reason), refl)
+  exited_among p reason l n (Some (signals.LinkExit other)) = (put_here (Exited reason), refl)
+  exited_among p reason l n (Some (signals.Exit other)) = (put_here (Exited reason), refl)
 
   expired_among : (l n : Lanes) (x : Process) (b : Bool) → AmongAlike q (put_back q lives (if b then Ok ((Live (expired x), l), turns.Ran) else Err NotEnabled)) (put_back q others (if b then Ok ((Live (expired x), n), turns.Ran) else Err NotEnabled))
   expired_among l n x true = (put_here (Live (expired x)), refl)
@@ -178,43 +178,43 @@ module _ (q : ℕ) (lives others : List Life) (one : Life) (here : slice_get liv
 
 module _ (image : Loaded) (p : ℕ) (l n : Lanes) (lives others : List Life) where
   able_local : (x : Process) (b : Bool) → is_local_at image x.place ≡ true → slice_get lives p ≡ Some (Live x) → slice_get others p ≡ Some (Live x)
-      → AmongAlike p (born_too image p (put_back p lives (if b then Ok (lived (runs image p l x)) else Err NotEnabled))) (born_too image p (put_back p others (if b then Ok (lived (runs image p n x)) else Err NotEnabled)))
+      → AmongAlike p (spawned_too image p (put_back p lives (if b then Ok (lived (runs image p l x)) else Err NotEnabled))) (spawned_too image p (put_back p others (if b then Ok (lived (runs image p n x)) else Err NotEnabled)))
   able_local x true local here there =
       let d = runs image p l x in
       let e = runs image p n x in
       let calm = runs_calm image p l n x local in
       let quiet = runs_calm image p n n x local in
-      subst (λ r. AmongAlike p r (born_too image p (put_back p others (Ok (lived e))))) (sym (bears_none image p lives d.0 d.1 calm.bears))
-      (subst (λ r. AmongAlike p (put_back p lives (Ok (lived d))) r) (sym (bears_none image p others e.0 e.1 quiet.bears)) (back_alike p lives others (Live x) here there d e calm.alike))
+      subst (λ r. AmongAlike p r (spawned_too image p (put_back p others (Ok (lived e))))) (sym (spawns_none image p lives d.0 d.1 calm.spawns))
+      (subst (λ r. AmongAlike p (put_back p lives (Ok (lived d))) r) (sym (spawns_none image p others e.0 e.1 quiet.spawns)) (back_alike p lives others (Live x) here there d e calm.alike))
   able_local x false local here there = tt
 
   local_alike : (o : Option Life) → is_local_at image (place_at o) ≡ true → slice_get lives p ≡ o → slice_get others p ≡ o
-      → AmongAlike p (born_too image p (at_life (life_run image p l) p lives o)) (born_too image p (at_life (life_run image p n) p others o))
+      → AmongAlike p (spawned_too image p (at_life (life_run image p l) p lives o)) (spawned_too image p (at_life (life_run image p n) p others o))
   local_alike None local here there = tt
   local_alike (Some (Live x)) local here there = able_local x (can_run x) local here there
-  local_alike (Some (Gone reason)) local here there = tt
+  local_alike (Some (Exited reason)) local here there = tt
 
 -- a delivery, told by the signal that waits first
 abbrev told_with : ℕ → ℕ → Lanes → List Life → Option Life → Option Signal → Result Among Fault
 told_with p q l lives None s = lost_if lives (lost p q l s)
 told_with p q l lives (Some (Live x)) s = put_back q lives (lived_if (heard p q x l s))
-told_with p q l lives (Some (Gone reason)) s = put_back q lives (gone_if reason (gone_heard p q l s))
+told_with p q l lives (Some (Exited reason)) s = put_back q lives (exited_if reason (exited_heard p q l s))
 
 told_is : (p q : ℕ) (l : Lanes) (lives : List Life) (o : Option Life) → told_at p q l lives o ≡ told_with p q l lives o (first (waiting l.channels (p, q)))
 told_is p q l lives None = refl
 told_is p q l lives (Some (Live x)) = refl
-told_is p q l lives (Some (Gone reason)) = refl
+told_is p q l lives (Some (Exited reason)) = refl
 
 told_alike : (p q : ℕ) (l n : Lanes) (lives others : List Life) (o : Option Life) (s : Option Signal) → slice_get lives q ≡ o → slice_get others q ≡ o
     → AmongAlike q (told_with p q l lives o s) (told_with p q n others o s)
 told_alike p q l n lives others None None here there = tt
 told_alike p q l n lives others None (Some s) here there = (here ∙ sym there, refl)
 told_alike p q l n lives others (Some (Live x)) s here there = heard_among q lives others (Live x) here there p l n (heard p q x l s) (heard p q x n s) (heard_alike p q l n x s)
-told_alike p q l n lives others (Some (Gone reason)) s here there = gone_among q lives others (Gone reason) here there p reason l n s
+told_alike p q l n lives others (Some (Exited reason)) s here there = exited_among q lives others (Exited reason) here there p reason l n s
 
 expired_alike : (p : ℕ) (l n : Lanes) (lives others : List Life) (o : Option Life) → slice_get lives p ≡ o → slice_get others p ≡ o → AmongAlike p (at_life (life_expired l) p lives o) (at_life (life_expired n) p others o)
 expired_alike p l n lives others None here there = tt
-expired_alike p l n lives others (Some (Gone reason)) here there = tt
+expired_alike p l n lives others (Some (Exited reason)) here there = tt
 expired_alike p l n lives others (Some (Live x)) here there = expired_among p lives others (Live x) here there l n x (can_expire x)
 
 -- the signal that a choice takes
@@ -232,7 +232,7 @@ module _ (image : Loaded) where
   made_alike : (c : Choice) (w v : State) → IsLocal image w c → Finds c w v → AmongAlike (actor c) (made image c w.processes w.lanes) (made image c v.processes v.lanes)
   made_alike (Run p) w v idle finds =
       let o = slice_get w.processes p in
-      subst (λ x. AmongAlike p (made image (Run p) w.processes w.lanes) (born_too image p (at_life (life_run image p v.lanes) p v.processes x))) finds.life
+      subst (λ x. AmongAlike p (made image (Run p) w.processes w.lanes) (spawned_too image p (at_life (life_run image p v.lanes) p v.processes x))) finds.life
       (local_alike image p w.lanes v.lanes w.processes v.processes o idle refl (sym finds.life))
   made_alike (Deliver p q) w v idle finds =
       let s = first (waiting w.lanes.channels (p, q)) in
@@ -271,12 +271,12 @@ chosen_alike image c w v idle finds can =
 
 abbrev posts_with : ℕ → ℕ → Lanes → Option Life → Option Signal → List Post
 posts_with p q l (Some (Live x)) s = heard_posts q (heard p q x l s)
-posts_with p q l (Some (Gone reason)) s = gone_posts p q s
+posts_with p q l (Some (Exited reason)) s = exited_posts p q s
 posts_with p q l None s = []
 
 posts_told : (p q : ℕ) (l : Lanes) (o : Option Life) → signal_posts p q l o ≡ posts_with p q l o (first (waiting l.channels (p, q)))
 posts_told p q l (Some (Live x)) = refl
-posts_told p q l (Some (Gone reason)) = refl
+posts_told p q l (Some (Exited reason)) = refl
 posts_told p q l None = refl
 
 heard_posts_alike : (p q : ℕ) (l n : Lanes) (r s : Result Done Fault) → HeardAlike p q l n r s → heard_posts q r ≡ heard_posts q s
@@ -287,22 +287,22 @@ heard_posts_alike p q l n (Err f) (Ok e) h = absurd h
 
 posts_with_alike : (p q : ℕ) (l n : Lanes) (o : Option Life) (s : Option Signal) → posts_with p q l o s ≡ posts_with p q n o s
 posts_with_alike p q l n (Some (Live x)) s = heard_posts_alike p q l n (heard p q x l s) (heard p q x n s) (heard_alike p q l n x s)
-posts_with_alike p q l n (Some (Gone reason)) s = refl
+posts_with_alike p q l n (Some (Exited reason)) s = refl
 posts_with_alike p q l n None s = refl
 
--- of a run that bears nobody
+-- of a run that spawns nobody
 calm_posts : ℕ → List Post → Process × Turn → List Post
 calm_posts p own (x, turns.Ran) = own
 calm_posts p own (x, turns.Ended reason) = own ++ parting_posts p x.links reason
 calm_posts p own (x, turns.Trapped kind) = []
-calm_posts p own (x, turns.Bears birth) = []
+calm_posts p own (x, turns.Spawns spawn) = []
 
-calm_is : (image : Loaded) (p : ℕ) (lives : List Life) (l : Lanes) (x : Process) (w : Process × Lanes) (turn : Turn) → NoBirth turn → turn_posts image p lives l x (w, turn) ≡ calm_posts p (effect_posts p x (attempted image p x).1) (w.0, turn)
+calm_is : (image : Loaded) (p : ℕ) (lives : List Life) (l : Lanes) (x : Process) (w : Process × Lanes) (turn : Turn) → NoSpawn turn → turn_posts image p lives l x (w, turn) ≡ calm_posts p (effect_posts p x (attempted image p x).1) (w.0, turn)
 unfolding calm_posts
 calm_is image p lives l x w turns.Ran h = refl
 calm_is image p lives l x w (turns.Ended reason) h = refl
 calm_is image p lives l x w (turns.Trapped kind) h = refl
-calm_is image p lives l x w (turns.Bears birth) h = absurd h
+calm_is image p lives l x w (turns.Spawns spawn) h = absurd h
 
 run_posts_alike : (image : Loaded) (p : ℕ) (l n : Lanes) (lives others : List Life) (o : Option Life) → is_local_at image (place_at o) ≡ true → run_posts image p lives l o ≡ run_posts image p others n o
 run_posts_alike image p l n lives others None local = refl
@@ -311,8 +311,8 @@ run_posts_alike image p l n lives others (Some (Live x)) local =
     let e = runs image p n x in
     let calm = runs_calm image p l n x local in
     let quiet = runs_calm image p n n x local in
-    calm_is image p lives l x d.0 d.1 calm.bears ∙ ap (calm_posts p (effect_posts p x (attempted image p x).1)) calm.alike ∙ sym (calm_is image p others n x e.0 e.1 quiet.bears)
-run_posts_alike image p l n lives others (Some (Gone reason)) local = refl
+    calm_is image p lives l x d.0 d.1 calm.spawns ∙ ap (calm_posts p (effect_posts p x (attempted image p x).1)) calm.alike ∙ sym (calm_is image p others n x e.0 e.1 quiet.spawns)
+run_posts_alike image p l n lives others (Some (Exited reason)) local = refl
 
 pub posts_alike : (image : Loaded) (c : Choice) (w v : State) → IsLocal image w c → Finds c w v → posts image c w ≡ posts image c v
 posts_alike image (Run p) w v idle finds =
@@ -343,7 +343,7 @@ none_done : (q : ℕ) (d : Process × Turn) (pair : ℕ × ℕ) → pair.0 ≢ q
 none_done q (x, turns.Ran) pair other = refl
 none_done q (x, turns.Ended reason) pair other = none_parting q x.links reason pair other
 none_done q (x, turns.Trapped kind) pair other = refl
-none_done q (x, turns.Bears birth) pair other = refl
+none_done q (x, turns.Spawns spawn) pair other = refl
 
 none_heard : (q : ℕ) (r : Result Done Fault) (pair : ℕ × ℕ) → pair.0 ≢ q → in_channel pair (heard_posts q r) ≡ []
 none_heard q (Ok d) pair other = ap (in_channel pair) (posts_is q d.0 d.1) ∙ none_done q (part d) pair other
@@ -351,12 +351,12 @@ none_heard q (Err f) pair other = refl
 
 none_with : (p q : ℕ) (l : Lanes) (o : Option Life) (s : Option Signal) (pair : ℕ × ℕ) → pair.0 ≢ q → in_channel pair (posts_with p q l o s) ≡ []
 none_with p q l (Some (Live x)) s pair other = none_heard q (heard p q x l s) pair other
-none_with p q l (Some (Gone reason)) (Some signals.Link) pair other = in_other pair ((q, p), signals.LinkExit (atom NOPROC.0)) [] other
-none_with p q l (Some (Gone reason)) None pair other = refl
-none_with p q l (Some (Gone reason)) (Some (signals.Message m)) pair other = refl
-none_with p q l (Some (Gone reason)) (Some signals.Unlink) pair other = refl
-none_with p q l (Some (Gone reason)) (Some (signals.LinkExit reason2)) pair other = refl
-none_with p q l (Some (Gone reason)) (Some (signals.Exit reason2)) pair other = refl
+none_with p q l (Some (Exited reason)) (Some signals.Link) pair other = in_other pair ((q, p), signals.LinkExit (atom NOPROC.0)) [] other
+none_with p q l (Some (Exited reason)) None pair other = refl
+none_with p q l (Some (Exited reason)) (Some (signals.Message m)) pair other = refl
+none_with p q l (Some (Exited reason)) (Some signals.Unlink) pair other = refl
+none_with p q l (Some (Exited reason)) (Some (signals.LinkExit reason2)) pair other = refl
+none_with p q l (Some (Exited reason)) (Some (signals.Exit reason2)) pair other = refl
 none_with p q l None s pair other = refl
 
 -- a choice puts into its own process's channels alone

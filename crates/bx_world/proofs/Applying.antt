@@ -18,16 +18,16 @@ use Rattle.bx_proc.specs.declared.parts.Answer.TheVariants as answers
 use Rattle.bx_world.specs.declared.choices.Choice.{Choice}
 use Rattle.bx_world.specs.declared.choices.Choice.TheVariants.{Run, Deliver, Expire}
 use Rattle.bx_world.specs.declared.lanes.Lanes.{Lanes}
-use Rattle.bx_world.specs.declared.requests.Birth.{Birth}
+use Rattle.bx_world.specs.declared.requests.SpawnRequest.{SpawnRequest}
 use Rattle.bx_world.specs.declared.turns.Turn.{Turn}
 use Rattle.bx_world.specs.declared.turns.Turn.TheVariants as turns
-use Rattle.bx_world.specs.World.{Life, Live, Gone, State}
+use Rattle.bx_world.specs.World.{Life, Live, Exited, State}
 use Rattle.bx_world.specs.Enabled.{able, can, actor, may_at, may_run, may_expire}
 use Rattle.bx_world.specs.Turning.{runs}
-use Rattle.bx_world.specs.Delivering.{heard, gone_heard, lost}
-use Rattle.bx_world.specs.Lifetimes.{Among, lived, lived_if, gone_if, life_run, put_back, at_life, lives_run, life_expired, lost_if, told_at, lives_told}
-use Rattle.bx_world.specs.Births.{past_limits, system_limit, other_if, newborn, life_answered, lives_answered, unborn_at_trap, lives_grown, lives_born}
-use Rattle.bx_world.specs.Choosing.{born_too, made, trap_of, world_of, made_or, unless_refused, chosen, applied}
+use Rattle.bx_world.specs.Delivering.{heard, exited_heard, lost}
+use Rattle.bx_world.specs.Lifetimes.{Among, lived, lived_if, exited_if, life_run, put_back, at_life, lives_run, life_expired, lost_if, told_at, lives_told}
+use Rattle.bx_world.specs.Spawning.{past_limits, system_limit, other_if, new_child, life_answered, lives_answered, childless_at_trap, lives_with_child, lives_spawned}
+use Rattle.bx_world.specs.Choosing.{spawned_too, made, trap_of, world_of, made_or, unless_refused, chosen, applied}
 use Rattle.bx_world.proofs.Keeping.{AmongKept, lives_run_kept}
 
 -- a choice that can be made is made, and another is refused
@@ -49,38 +49,38 @@ got_before (y ∷ xs) ys (suc p) x at = got_before xs ys p x at
 answered_made : (image : Loaded) (p : ℕ) (child : Option ℕ) (a : Answer) (l : Lanes) (lives : List Life) (x : Process) → slice_get lives p ≡ Some (Live x) → IsMade (lives_answered image p child a l lives)
 answered_made image p child a l lives x at = subst (λ o. IsMade (at_life (life_answered image p child a l) p lives o)) (sym at) tt
 
-unborn_made : (lives : List Life) (l : Lanes) (r : Result Among Fault) → IsMade r → IsMade (unborn_at_trap lives l r)
-unborn_made lives l (Ok (w, turns.Ran)) h = tt
-unborn_made lives l (Ok (w, turns.Ended reason)) h = tt
-unborn_made lives l (Ok (w, turns.Trapped kind)) h = tt
-unborn_made lives l (Ok (w, turns.Bears birth)) h = tt
-unborn_made lives l (Err fault) h = h
+childless_made : (lives : List Life) (l : Lanes) (r : Result Among Fault) → IsMade r → IsMade (childless_at_trap lives l r)
+childless_made lives l (Ok (w, turns.Ran)) h = tt
+childless_made lives l (Ok (w, turns.Ended reason)) h = tt
+childless_made lives l (Ok (w, turns.Trapped kind)) h = tt
+childless_made lives l (Ok (w, turns.Spawns spawn)) h = tt
+childless_made lives l (Err fault) h = h
 
 either_made : (b : Bool) (r s : Result Among Fault) → IsMade r → IsMade s → IsMade (if b then r else s)
 either_made true r s h k = h
 either_made false r s h k = k
 
-born_made : (image : Loaded) (p : ℕ) (birth : Birth) (l : Lanes) (lives : List Life) (x : Process) → slice_get lives p ≡ Some (Live x) → IsMade (lives_born image p birth l lives)
-born_made image p birth l lives x at =
+spawned_made : (image : Loaded) (p : ℕ) (spawn : SpawnRequest) (l : Lanes) (lives : List Life) (x : Process) → slice_get lives p ≡ Some (Live x) → IsMade (lives_spawned image p spawn l lives)
+spawned_made image p spawn l lives x at =
     let value = answers.Value (pid (length lives)) in
-    let more = lives ++ Live (newborn image p birth) ∷ [] in
-    let answer = lives_answered image p (other_if birth.linked (length lives)) value l more in
-    either_made (past_limits birth lives) (lives_answered image p None system_limit l lives) (lives_grown image p birth l lives)
+    let more = lives ++ Live (new_child image p spawn) ∷ [] in
+    let answer = lives_answered image p (other_if spawn.linked (length lives)) value l more in
+    either_made (past_limits spawn lives) (lives_answered image p None system_limit l lives) (lives_with_child image p spawn l lives)
     (answered_made image p None system_limit l lives x at)
-    (unborn_made lives l answer (answered_made image p (other_if birth.linked (length lives)) value l more x (got_before lives (Live (newborn image p birth) ∷ []) p (Live x) at)))
+    (childless_made lives l answer (answered_made image p (other_if spawn.linked (length lives)) value l more x (got_before lives (Live (new_child image p spawn) ∷ []) p (Live x) at)))
 
 -- a run
-too_made : (image : Loaded) (p : ℕ) (l : Lanes) (lives : List Life) (x : Process) (r : Result Among Fault) → slice_get lives p ≡ Some (Live x) → AmongKept (lives, l) r → IsMade r → IsMade (born_too image p r)
+too_made : (image : Loaded) (p : ℕ) (l : Lanes) (lives : List Life) (x : Process) (r : Result Among Fault) → slice_get lives p ≡ Some (Live x) → AmongKept (lives, l) r → IsMade r → IsMade (spawned_too image p r)
 too_made image p l lives x (Ok (w, turns.Ran)) at kept h = tt
 too_made image p l lives x (Ok (w, turns.Ended reason)) at kept h = tt
 too_made image p l lives x (Ok (w, turns.Trapped kind)) at kept h = tt
-too_made image p l lives x (Ok (w, turns.Bears birth)) at kept h = subst (λ (v : List Life × Lanes). IsMade (lives_born image p birth v.1 v.0)) (sym kept) (born_made image p birth l lives x at)
+too_made image p l lives x (Ok (w, turns.Spawns spawn)) at kept h = subst (λ (v : List Life × Lanes). IsMade (lives_spawned image p spawn v.1 v.0)) (sym kept) (spawned_made image p spawn l lives x at)
 too_made image p l lives x (Err fault) at kept h = h
 
 run_of : Loaded → ℕ → Lanes → List Life → Option Life → Result Among Fault
 run_of image p l lives o = at_life (life_run image p l) p lives o
 
-able_run : (image : Loaded) (p : ℕ) (l : Lanes) (lives : List Life) (x : Process) (b : Bool) → can_run x ≡ b → slice_get lives p ≡ Some (Live x) → MadeAs b (born_too image p (run_of image p l lives (Some (Live x))))
+able_run : (image : Loaded) (p : ℕ) (l : Lanes) (lives : List Life) (x : Process) (b : Bool) → can_run x ≡ b → slice_get lives p ≡ Some (Live x) → MadeAs b (spawned_too image p (run_of image p l lives (Some (Live x))))
 unfolding run_of
 able_run image p l lives x true can at =
     let r = run_of image p l lives (Some (Live x)) in
@@ -88,12 +88,12 @@ able_run image p l lives x true can at =
     too_made image p l lives x r at (subst (λ o. AmongKept (lives, l) (run_of image p l lives o)) at (lives_run_kept image p l lives)) (subst IsMade (sym is) tt)
 able_run image p l lives x false can at =
     let is : run_of image p l lives (Some (Live x)) ≡ Err NotEnabled = ap (λ b. put_back p lives (if b then Ok (lived (runs image p l x)) else Err NotEnabled)) can in
-    subst (λ r. MadeAs false (born_too image p r)) (sym is) refl
+    subst (λ r. MadeAs false (spawned_too image p r)) (sym is) refl
 
-run_made : (image : Loaded) (p : ℕ) (l : Lanes) (lives : List Life) (o : Option Life) → slice_get lives p ≡ o → MadeAs (may_at may_run o) (born_too image p (run_of image p l lives o))
+run_made : (image : Loaded) (p : ℕ) (l : Lanes) (lives : List Life) (o : Option Life) → slice_get lives p ≡ o → MadeAs (may_at may_run o) (spawned_too image p (run_of image p l lives o))
 unfolding run_of
 run_made image p l lives None at = refl
-run_made image p l lives (Some (Gone reason)) at = refl
+run_made image p l lives (Some (Exited reason)) at = refl
 run_made image p l lives (Some (Live x)) at = able_run image p l lives x (can_run x) refl at
 
 -- a delivery
@@ -106,13 +106,13 @@ module _ (p q : ℕ) (lives : List Life) where
   heard_made x l (Some (signals.LinkExit reason)) = tt
   heard_made x l (Some (signals.Exit reason)) = tt
 
-  gone_made : (reason : Tree) (l : Lanes) (o : Option Signal) → MadeAs (is_some o) (put_back q lives (gone_if reason (gone_heard p q l o)))
-  gone_made reason l None = refl
-  gone_made reason l (Some (signals.Message m)) = tt
-  gone_made reason l (Some signals.Link) = tt
-  gone_made reason l (Some signals.Unlink) = tt
-  gone_made reason l (Some (signals.LinkExit other)) = tt
-  gone_made reason l (Some (signals.Exit other)) = tt
+  exited_made : (reason : Tree) (l : Lanes) (o : Option Signal) → MadeAs (is_some o) (put_back q lives (exited_if reason (exited_heard p q l o)))
+  exited_made reason l None = refl
+  exited_made reason l (Some (signals.Message m)) = tt
+  exited_made reason l (Some signals.Link) = tt
+  exited_made reason l (Some signals.Unlink) = tt
+  exited_made reason l (Some (signals.LinkExit other)) = tt
+  exited_made reason l (Some (signals.Exit other)) = tt
 
   lost_made : (l : Lanes) (o : Option Signal) → MadeAs (is_some o) (lost_if lives (lost p q l o))
   lost_made l None = refl
@@ -121,7 +121,7 @@ module _ (p q : ℕ) (lives : List Life) where
   told_made : (l : Lanes) (o : Option Life) → MadeAs (is_some (first (waiting l.channels (p, q)))) (told_at p q l lives o)
   told_made l None = lost_made l (first (waiting l.channels (p, q)))
   told_made l (Some (Live x)) = heard_made x l (first (waiting l.channels (p, q)))
-  told_made l (Some (Gone reason)) = gone_made reason l (first (waiting l.channels (p, q)))
+  told_made l (Some (Exited reason)) = exited_made reason l (first (waiting l.channels (p, q)))
 
 -- an expiration
 able_expired : (p : ℕ) (l : Lanes) (lives : List Life) (x : Process) (b : Bool) → MadeAs b (put_back p lives (if b then Ok ((Live (expired x), l), turns.Ran) else Err NotEnabled))
@@ -130,7 +130,7 @@ able_expired p l lives x false = refl
 
 expired_made : (p : ℕ) (l : Lanes) (lives : List Life) (o : Option Life) → MadeAs (may_at may_expire o) (at_life (life_expired l) p lives o)
 expired_made p l lives None = refl
-expired_made p l lives (Some (Gone reason)) = refl
+expired_made p l lives (Some (Exited reason)) = refl
 expired_made p l lives (Some (Live x)) = able_expired p l lives x (can_expire x)
 
 pub made_as : (image : Loaded) (choice : Choice) (lives : List Life) (l : Lanes) → MadeAs (able choice lives l) (made image choice lives l)
@@ -193,7 +193,7 @@ can_is choice w free can = ap (λ t. is_none t && able choice w.processes w.lane
 run_able : (image : Loaded) (p : ℕ) (l : Lanes) (lives : List Life) (o : Option Life) (among : Among) → run_of image p l lives o ≡ Ok among → IsTrue (may_at may_run o)
 unfolding run_of
 run_able image p l lives None among is = cc
-run_able image p l lives (Some (Gone reason)) among is = cc
+run_able image p l lives (Some (Exited reason)) among is = cc
 run_able image p l lives (Some (Live x)) among is = go (can_run x) is
   where
     go : (b : Bool) → put_back p lives (if b then Ok (lived (runs image p l x)) else Err NotEnabled) ≡ Ok among → IsTrue b
@@ -204,8 +204,8 @@ pub run_was_able : (image : Loaded) (p : ℕ) (l : Lanes) (lives : List Life) (a
 run_was_able image p l lives among is = unfold run_of in run_able image p l lives (slice_get lives p) among is
 
 -- a run that asks for a spawn has changed nothing yet
-pub bears_kept : (image : Loaded) (p : ℕ) (l : Lanes) (lives : List Life) (w : List Life × Lanes) (birth : Birth) → lives_run image p l lives ≡ Ok (w, turns.Bears birth) → w ≡ (lives, l)
-bears_kept image p l lives w birth is = subst (AmongKept (lives, l)) is (lives_run_kept image p l lives)
+pub spawns_kept : (image : Loaded) (p : ℕ) (l : Lanes) (lives : List Life) (w : List Life × Lanes) (spawn : SpawnRequest) → lives_run image p l lives ≡ Ok (w, turns.Spawns spawn) → w ≡ (lives, l)
+spawns_kept image p l lives w spawn is = subst (AmongKept (lives, l)) is (lives_run_kept image p l lives)
 
 -- a refusal of what the choice makes is one of the choice
 pub refused_through : (image : Loaded) (choice : Choice) (w : State) (lives : List Life) (l : Lanes) (f : Fault) → w.trap ≡ None
@@ -223,7 +223,7 @@ untrapped : (p : ℕ) (turn : Turn) → ((kind : Trap) → turn ≢ turns.Trappe
 untrapped p turns.Ran other = refl
 untrapped p (turns.Ended reason) other = refl
 untrapped p (turns.Trapped kind) other = absurd (other kind refl)
-untrapped p (turns.Bears birth) other = refl
+untrapped p (turns.Spawns spawn) other = refl
 
 -- and any other turn does not
 pub choice_went : (image : Loaded) (choice : Choice) (w : State) (lives : List Life) (l : Lanes) (turn : Turn) → w.trap ≡ None → ((kind : Trap) → turn ≢ turns.Trapped kind) → made image choice w.processes w.lanes ≡ Ok ((lives, l), turn)

@@ -23,23 +23,23 @@ use Rattle.bx_proc.specs.declared.parts.Effect.TheVariants as effects
 use Rattle.bx_world.specs.declared.choices.Choice.{Choice}
 use Rattle.bx_world.specs.declared.choices.Choice.TheVariants.{Run, Deliver, Expire}
 use Rattle.bx_world.specs.declared.lanes.Lanes.{Lanes}
-use Rattle.bx_world.specs.declared.requests.Birth.{Birth}
+use Rattle.bx_world.specs.declared.requests.SpawnRequest.{SpawnRequest}
 use Rattle.bx_world.specs.declared.requests.Request.{Request}
 use Rattle.bx_world.specs.declared.requests.Request.TheVariants as requests
 use Rattle.bx_world.specs.declared.turns.Turn.{Turn}
 use Rattle.bx_world.specs.declared.turns.Turn.TheVariants as turns
 use Rattle.bx_terms.specs.declared.places.Place.{Place}
-use Rattle.bx_world.specs.World.{Life, Live, Gone, State, begun}
+use Rattle.bx_world.specs.World.{Life, Live, Exited, State, begun}
 use Rattle.bx_world.specs.Sharing.{telling, hearing, showing}
 use Rattle.bx_world.specs.Requests.{requested}
 use Rattle.bx_world.specs.Asking.{Done, whole, closing, leaving, yes, badarg, exit_message, is_kill, is_normal, low_enough, noted, exiting_oneself, unlinked_done, done_by}
 use Rattle.bx_world.specs.Turning.{turned, runs}
-use Rattle.bx_world.specs.Delivering.{messaged, ending, exiting, heard, received, gone_heard, lost}
-use Rattle.bx_world.specs.Lifetimes.{Among, lived, lived_if, gone_if, life_run, put_back, at_life, life_expired, lost_if, told_at}
-use Rattle.bx_world.specs.Births.{past_limits, system_limit, other_if, newborn, answering, linked_to, life_answered, lives_answered, unborn_at_trap, lives_grown, lives_born}
+use Rattle.bx_world.specs.Delivering.{messaged, ending, exiting, heard, received, exited_heard, lost}
+use Rattle.bx_world.specs.Lifetimes.{Among, lived, lived_if, exited_if, life_run, put_back, at_life, life_expired, lost_if, told_at}
+use Rattle.bx_world.specs.Spawning.{past_limits, system_limit, other_if, new_child, answering, linked_to, life_answered, lives_answered, childless_at_trap, lives_with_child, lives_spawned}
 use Rattle.bx_world.specs.Enabled.{able, can, actor}
-use Rattle.bx_world.specs.Choosing.{born_too, made, made_or, chosen}
-use Rattle.bx_world.specs.Posting.{Post, parting_posts, done_posts, own_posts, effect_posts, answered_birth, turn_posts, run_posts, heard_posts, gone_posts, signal_posts, posts, unless_trap, same_pair, in_channel, put_in, as_row, takes, taken_from, behind, all_behind, all_put, all_taken}
+use Rattle.bx_world.specs.Choosing.{spawned_too, made, made_or, chosen}
+use Rattle.bx_world.specs.Posting.{Post, parting_posts, done_posts, own_posts, effect_posts, answered_spawn, turn_posts, run_posts, heard_posts, exited_posts, signal_posts, posts, unless_trap, same_pair, in_channel, put_in, as_row, takes, taken_from, behind, all_behind, all_put, all_taken}
 use Rattle.bx_world.proofs.Keeping.{AmongKept, lives_run_kept}
 use Rattle.bx_world.proofs.Applying.{MadeAs, made_as, got_before}
 
@@ -65,15 +65,15 @@ none m = m
 
 -- the channels after what was done: at a trap the same, else the posts were put and `took` was done; whether a spawn may be asked for
 abbrev DoneFits : Type 0 → Change → Channels Signal → List Post → Done → Type 0
-DoneFits bearing took m posts (w, turns.Ran) = w.1.channels ≡ took (put_posts posts m)
-DoneFits bearing took m posts (w, turns.Ended reason) = w.1.channels ≡ took (put_posts posts m)
-DoneFits bearing took m posts (w, turns.Trapped kind) = w.1.channels ≡ m
-DoneFits bearing took m posts (w, turns.Bears birth) = bearing
+DoneFits spawning took m posts (w, turns.Ran) = w.1.channels ≡ took (put_posts posts m)
+DoneFits spawning took m posts (w, turns.Ended reason) = w.1.channels ≡ took (put_posts posts m)
+DoneFits spawning took m posts (w, turns.Trapped kind) = w.1.channels ≡ m
+DoneFits spawning took m posts (w, turns.Spawns spawn) = spawning
 
 -- an instruction
-module _ (bearing : Type 0) (p : ℕ) (x : Process) (l : Lanes) where
+module _ (spawning : Type 0) (p : ℕ) (x : Process) (l : Lanes) where
   abbrev OwnFits : List Post → Done → Type 0
-  OwnFits own d = DoneFits bearing (λ m. m) l.channels (done_posts p own d) d
+  OwnFits own d = DoneFits spawning (λ m. m) l.channels (done_posts p own d) d
 
   closing_fits : (own : List Post) (n : Lanes) (y : Process) (e : Effect) → n.channels ≡ put_posts own l.channels → OwnFits own (whole (x, l) (closing p n (y, e)))
   closing_fits own n y effects.Ran is = is
@@ -132,7 +132,7 @@ module _ (p : ℕ) (x : Process) (l : Lanes) where
       either (Unit {0}) p x l ((q == p) || not (among q x.links)) [] (((p, q), signals.Unlink) ∷ []) (closing p l (settled image yes x)) (closing p (telling (p, q) signals.Unlink l) (unlinked_done q (settled image yes x)))
       (nothing (Unit {0}) p x l (settled image yes x)) (one (Unit {0}) p x l (p, q) signals.Unlink (unlinked_done q (settled image yes x)))
   doing_fits image (requests.Display term) = closed (Unit {0}) p x l [] (showing p term l) (settled image yes x) (unfold put_posts in refl)
-  doing_fits image (requests.Spawn birth) = tt
+  doing_fits image (requests.Spawn spawn) = tt
 
   turned_fits : (image : Loaded) (y : Process) (e : Effect) → OwnFits (Unit {0}) p x l (effect_posts p x e) (turned image p l x (y, e))
   turned_fits image y effects.Ran = unfold put_posts in refl
@@ -194,27 +194,27 @@ abbrev AmongFits : Change → Channels Signal → List Post → Result Among Fau
 AmongFits took m posts (Ok (w, turns.Ran)) = w.1.channels ≡ took (put_posts posts m)
 AmongFits took m posts (Ok (w, turns.Ended reason)) = w.1.channels ≡ took (put_posts posts m)
 AmongFits took m posts (Ok (w, turns.Trapped kind)) = w.1.channels ≡ m
-AmongFits took m posts (Ok (w, turns.Bears birth)) = ⊥
+AmongFits took m posts (Ok (w, turns.Spawns spawn)) = ⊥
 AmongFits took m posts (Err fault) = Unit {0}
 
 back_fits : (took : Change) (m : Channels Signal) (ps : List Post) (p : ℕ) (lives : List Life) (w : Process × Lanes) (turn : Turn) → DoneFits ⊥ took m ps (w, turn) → AmongFits took m ps (put_back p lives (Ok (lived (w, turn))))
 back_fits took m ps p lives w turns.Ran h = h
 back_fits took m ps p lives w (turns.Ended reason) h = h
 back_fits took m ps p lives w (turns.Trapped kind) h = h
-back_fits took m ps p lives w (turns.Bears birth) h = h
+back_fits took m ps p lives w (turns.Spawns spawn) h = h
 
 back_if_fits : (p q : ℕ) (l : Lanes) (lives : List Life) (r : Result Done Fault) → HeardFitsIf p q l r → AmongFits (taken (p, q)) l.channels (heard_posts q r) (put_back q lives (lived_if r))
 back_if_fits p q l lives (Ok d) h = back_fits (taken (p, q)) l.channels (done_posts q [] d) q lives d.0 d.1 h
 back_if_fits p q l lives (Err fault) h = tt
 
-gone_fits : (p q : ℕ) (reason : Tree) (lives : List Life) (l : Lanes) (o : Option Signal) → AmongFits (taken (p, q)) l.channels (gone_posts p q o) (put_back q lives (gone_if reason (gone_heard p q l o)))
+exited_fits : (p q : ℕ) (reason : Tree) (lives : List Life) (l : Lanes) (o : Option Signal) → AmongFits (taken (p, q)) l.channels (exited_posts p q o) (put_back q lives (exited_if reason (exited_heard p q l o)))
 unfolding put_posts
-gone_fits p q reason lives l None = tt
-gone_fits p q reason lives l (Some signals.Link) = refl
-gone_fits p q reason lives l (Some (signals.Message m)) = refl
-gone_fits p q reason lives l (Some signals.Unlink) = refl
-gone_fits p q reason lives l (Some (signals.LinkExit other)) = refl
-gone_fits p q reason lives l (Some (signals.Exit other)) = refl
+exited_fits p q reason lives l None = tt
+exited_fits p q reason lives l (Some signals.Link) = refl
+exited_fits p q reason lives l (Some (signals.Message m)) = refl
+exited_fits p q reason lives l (Some signals.Unlink) = refl
+exited_fits p q reason lives l (Some (signals.LinkExit other)) = refl
+exited_fits p q reason lives l (Some (signals.Exit other)) = refl
 
 lost_fits : (p q : ℕ) (lives : List Life) (l : Lanes) (o : Option Signal) → AmongFits (taken (p, q)) l.channels [] (lost_if lives (lost p q l o))
 unfolding put_posts
@@ -224,15 +224,15 @@ lost_fits p q lives l (Some s) = refl
 told_fits : (p q : ℕ) (lives : List Life) (l : Lanes) (o : Option Life) → AmongFits (taken (p, q)) l.channels (signal_posts p q l o) (told_at p q l lives o)
 told_fits p q lives l None = lost_fits p q lives l (first (waiting l.channels (p, q)))
 told_fits p q lives l (Some (Live x)) = back_if_fits p q l lives (received p q x l) (heard_fits p q x l (first (waiting l.channels (p, q))))
-told_fits p q lives l (Some (Gone reason)) = gone_fits p q reason lives l (first (waiting l.channels (p, q)))
+told_fits p q lives l (Some (Exited reason)) = exited_fits p q reason lives l (first (waiting l.channels (p, q)))
 
 -- a spawn
-unborn_fits : (m : Channels Signal) (ps : List Post) (lives : List Life) (l : Lanes) (r : Result Among Fault) → l.channels ≡ m → AmongFits (λ n. n) m ps r → AmongFits (λ n. n) m ps (unborn_at_trap lives l r)
-unborn_fits m ps lives l (Ok (w, turns.Ran)) is h = h
-unborn_fits m ps lives l (Ok (w, turns.Ended reason)) is h = h
-unborn_fits m ps lives l (Ok (w, turns.Trapped kind)) is h = is
-unborn_fits m ps lives l (Ok (w, turns.Bears birth)) is h = h
-unborn_fits m ps lives l (Err fault) is h = tt
+childless_fits : (m : Channels Signal) (ps : List Post) (lives : List Life) (l : Lanes) (r : Result Among Fault) → l.channels ≡ m → AmongFits (λ n. n) m ps r → AmongFits (λ n. n) m ps (childless_at_trap lives l r)
+childless_fits m ps lives l (Ok (w, turns.Ran)) is h = h
+childless_fits m ps lives l (Ok (w, turns.Ended reason)) is h = h
+childless_fits m ps lives l (Ok (w, turns.Trapped kind)) is h = is
+childless_fits m ps lives l (Ok (w, turns.Spawns spawn)) is h = h
+childless_fits m ps lives l (Err fault) is h = tt
 
 answered_fits : (image : Loaded) (p : ℕ) (child : Option ℕ) (a : Answer) (l : Lanes) (lives : List Life) (x : Process) → slice_get lives p ≡ Some (Live x)
     → AmongFits (λ n. n) l.channels (done_posts p [] (answering image p child a x l)) (lives_answered image p child a l lives)
@@ -241,43 +241,43 @@ answered_fits image p child a l lives x at =
     subst (λ o. AmongFits (λ n. n) l.channels (done_posts p [] done) (at_life (life_answered image p child a l) p lives o)) (sym at)
     (back_fits (λ n. n) l.channels (done_posts p [] done) p lives done.0 done.1 (answering_fits image p child a x l))
 
-either_born : (m : Channels Signal) (b : Bool) (p : ℕ) (d e : Done) (r s : Result Among Fault) → AmongFits (λ n. n) m (done_posts p [] d) r → AmongFits (λ n. n) m (done_posts p [] e) s
+either_spawned : (m : Channels Signal) (b : Bool) (p : ℕ) (d e : Done) (r s : Result Among Fault) → AmongFits (λ n. n) m (done_posts p [] d) r → AmongFits (λ n. n) m (done_posts p [] e) s
     → AmongFits (λ n. n) m (done_posts p [] (if b then d else e)) (if b then r else s)
-either_born m true p d e r s h k = h
-either_born m false p d e r s h k = k
+either_spawned m true p d e r s h k = h
+either_spawned m false p d e r s h k = k
 
-born_fits : (image : Loaded) (p : ℕ) (birth : Birth) (l : Lanes) (lives : List Life) (x : Process) → slice_get lives p ≡ Some (Live x)
-    → AmongFits (λ n. n) l.channels (done_posts p [] (answered_birth image p birth lives l x)) (lives_born image p birth l lives)
-born_fits image p birth l lives x at =
-    let child = other_if birth.linked (length lives) in
+spawned_fits : (image : Loaded) (p : ℕ) (spawn : SpawnRequest) (l : Lanes) (lives : List Life) (x : Process) → slice_get lives p ≡ Some (Live x)
+    → AmongFits (λ n. n) l.channels (done_posts p [] (answered_spawn image p spawn lives l x)) (lives_spawned image p spawn l lives)
+spawned_fits image p spawn l lives x at =
+    let child = other_if spawn.linked (length lives) in
     let value = answers.Value (pid (length lives)) in
-    let more = lives ++ Live (newborn image p birth) ∷ [] in
-    either_born l.channels (past_limits birth lives) p (answering image p None system_limit x l) (answering image p child value x l) (lives_answered image p None system_limit l lives) (lives_grown image p birth l lives)
+    let more = lives ++ Live (new_child image p spawn) ∷ [] in
+    either_spawned l.channels (past_limits spawn lives) p (answering image p None system_limit x l) (answering image p child value x l) (lives_answered image p None system_limit l lives) (lives_with_child image p spawn l lives)
     (answered_fits image p None system_limit l lives x at)
-    (unborn_fits l.channels (done_posts p [] (answering image p child value x l)) lives l (lives_answered image p child value l more) refl
-    (answered_fits image p child value l more x (got_before lives (Live (newborn image p birth) ∷ []) p (Live x) at)))
+    (childless_fits l.channels (done_posts p [] (answering image p child value x l)) lives l (lives_answered image p child value l more) refl
+    (answered_fits image p child value l more x (got_before lives (Live (new_child image p spawn) ∷ []) p (Live x) at)))
 
 -- a run
 too_fits : (image : Loaded) (p : ℕ) (l : Lanes) (lives : List Life) (x : Process) (w : Process × Lanes) (turn : Turn) → slice_get lives p ≡ Some (Live x)
     → AmongKept (lives, l) (put_back p lives (Ok (lived (w, turn)))) → DoneFits (Unit {0}) (λ n. n) l.channels (done_posts p (effect_posts p x (attempted image p x).1) (w, turn)) (w, turn)
-    → AmongFits (λ n. n) l.channels (turn_posts image p lives l x (w, turn)) (born_too image p (put_back p lives (Ok (lived (w, turn)))))
+    → AmongFits (λ n. n) l.channels (turn_posts image p lives l x (w, turn)) (spawned_too image p (put_back p lives (Ok (lived (w, turn)))))
 too_fits image p l lives x w turns.Ran at kept h = h
 too_fits image p l lives x w (turns.Ended reason) at kept h = h
 too_fits image p l lives x w (turns.Trapped kind) at kept h = h
-too_fits image p l lives x w (turns.Bears birth) at kept h =
-    subst (λ (v : List Life × Lanes). AmongFits (λ n. n) l.channels (done_posts p [] (answered_birth image p birth lives l x)) (lives_born image p birth v.1 v.0)) (sym kept)
-    (born_fits image p birth l lives x at)
+too_fits image p l lives x w (turns.Spawns spawn) at kept h =
+    subst (λ (v : List Life × Lanes). AmongFits (λ n. n) l.channels (done_posts p [] (answered_spawn image p spawn lives l x)) (lives_spawned image p spawn v.1 v.0)) (sym kept)
+    (spawned_fits image p spawn l lives x at)
 
 able_fits : (image : Loaded) (p : ℕ) (l : Lanes) (lives : List Life) (x : Process) (b : Bool) → slice_get lives p ≡ Some (Live x)
     → AmongKept (lives, l) (put_back p lives (if b then Ok (lived (runs image p l x)) else Err NotEnabled))
-    → AmongFits (λ n. n) l.channels (turn_posts image p lives l x (runs image p l x)) (born_too image p (put_back p lives (if b then Ok (lived (runs image p l x)) else Err NotEnabled)))
+    → AmongFits (λ n. n) l.channels (turn_posts image p lives l x (runs image p l x)) (spawned_too image p (put_back p lives (if b then Ok (lived (runs image p l x)) else Err NotEnabled)))
 able_fits image p l lives x true at kept = too_fits image p l lives x (runs image p l x).0 (runs image p l x).1 at kept (runs_fit image p x l)
 able_fits image p l lives x false at kept = tt
 
 run_fits : (image : Loaded) (p : ℕ) (l : Lanes) (lives : List Life) (o : Option Life) → slice_get lives p ≡ o → AmongKept (lives, l) (at_life (life_run image p l) p lives o)
-    → AmongFits (λ n. n) l.channels (run_posts image p lives l o) (born_too image p (at_life (life_run image p l) p lives o))
+    → AmongFits (λ n. n) l.channels (run_posts image p lives l o) (spawned_too image p (at_life (life_run image p l) p lives o))
 run_fits image p l lives None at kept = tt
-run_fits image p l lives (Some (Gone reason)) at kept = tt
+run_fits image p l lives (Some (Exited reason)) at kept = tt
 run_fits image p l lives (Some (Live x)) at kept = able_fits image p l lives x (can_run x) at kept
 
 -- an expiration
@@ -288,7 +288,7 @@ able_expired_fits p l lives x false = tt
 
 expired_fits : (p : ℕ) (l : Lanes) (lives : List Life) (o : Option Life) → AmongFits (λ n. n) l.channels [] (at_life (life_expired l) p lives o)
 expired_fits p l lives None = tt
-expired_fits p l lives (Some (Gone reason)) = tt
+expired_fits p l lives (Some (Exited reason)) = tt
 expired_fits p l lives (Some (Live x)) = able_expired_fits p l lives x (can_expire x)
 
 abbrev took_by : Choice → Change
@@ -313,7 +313,7 @@ world_fits : (took : Change) (m : Channels Signal) (ps : List Post) (p : ℕ) (w
 world_fits took m ps p w (Ok (v, turns.Ran)) made h = h
 world_fits took m ps p w (Ok (v, turns.Ended reason)) made h = h
 world_fits took m ps p w (Ok (v, turns.Trapped kind)) made h = h
-world_fits took m ps p w (Ok (v, turns.Bears birth)) made h = absurd h
+world_fits took m ps p w (Ok (v, turns.Spawns spawn)) made h = absurd h
 world_fits took m ps p w (Err fault) made h = absurd made
 
 -- what a choice that can be made makes of the channels

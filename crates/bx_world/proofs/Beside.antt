@@ -20,20 +20,20 @@ use Rattle.bx_proc.specs.declared.parts.Effect.{Effect}
 use Rattle.bx_proc.specs.declared.parts.Effect.TheVariants as effects
 use Rattle.bx_world.specs.declared.choices.Choice.TheVariants.{Run}
 use Rattle.bx_world.specs.declared.lanes.Lanes.{Lanes}
-use Rattle.bx_world.specs.declared.requests.Birth.{Birth}
+use Rattle.bx_world.specs.declared.requests.SpawnRequest.{SpawnRequest}
 use Rattle.bx_world.specs.declared.requests.Request.{Request}
 use Rattle.bx_world.specs.declared.requests.Request.TheVariants as requests
 use Rattle.bx_world.specs.declared.turns.Turn.{Turn}
 use Rattle.bx_world.specs.declared.turns.Turn.TheVariants as turns
-use Rattle.bx_world.specs.World.{Life, Live, Gone}
+use Rattle.bx_world.specs.World.{Life, Live, Exited}
 use Rattle.bx_world.specs.Sharing.{telling, showing}
 use Rattle.bx_world.specs.Requests.{requested}
 use Rattle.bx_world.specs.Asking.{Done, whole, closing, leaving, yes, badarg, exit_message, is_kill, low_enough, noted, exiting_oneself, unlinked_done, doing}
 use Rattle.bx_world.specs.Turning.{turned, runs}
 use Rattle.bx_world.specs.Lifetimes.{Lived, Among, lived, life_run, put_back, at_life, lives_run}
-use Rattle.bx_world.specs.Births.{system_limit, other_if, newborn, answering, linked_to, life_answered, lives_answered, unborn_at_trap, lives_born}
-use Rattle.bx_world.specs.Choosing.{born_too, made}
-use Rattle.bx_world.specs.Posting.{Post, parting_posts, done_posts, own_posts, effect_posts, answered_birth, turn_posts, run_posts, in_channel}
+use Rattle.bx_world.specs.Spawning.{system_limit, other_if, new_child, answering, linked_to, life_answered, lives_answered, childless_at_trap, lives_spawned}
+use Rattle.bx_world.specs.Choosing.{spawned_too, made}
+use Rattle.bx_world.specs.Posting.{Post, parting_posts, done_posts, own_posts, effect_posts, answered_spawn, turn_posts, run_posts, in_channel}
 use Rattle.bx_world.proofs.Alike.{in_other}
 use Rattle.bx_world.proofs.Confined.{get_first, get_set_other, get_set_same}
 use Rattle.bx_world.proofs.Keeping.{AmongKept, lives_run_kept}
@@ -58,14 +58,14 @@ whole_of : Process × Output → Shown → Shown
 whole_of before (after, turns.Ran) = (after, turns.Ran)
 whole_of before (after, turns.Ended reason) = (after, turns.Ended reason)
 whole_of before (after, turns.Trapped kind) = (before, turns.Trapped kind)
-whole_of before (after, turns.Bears birth) = (after, turns.Bears birth)
+whole_of before (after, turns.Spawns spawn) = (after, turns.Spawns spawn)
 
 whole_is : (x : Process) (l : Lanes) (w : Process × Lanes) (turn : Turn) → shown (whole (x, l) (w, turn)) ≡ whole_of (x, l.output) (shown (w, turn))
 unfolding whole_of
 whole_is x l w turns.Ran = refl
 whole_is x l w (turns.Ended reason) = refl
 whole_is x l w (turns.Trapped kind) = refl
-whole_is x l w (turns.Bears birth) = refl
+whole_is x l w (turns.Spawns spawn) = refl
 
 deciding : (b : Bool) (d e d2 e2 : Done) → shown d ≡ shown d2 → shown e ≡ shown e2 → shown (if b then d else e) ≡ shown (if b then d2 else e2)
 deciding true d e d2 e2 h k = h
@@ -116,7 +116,7 @@ module _ (image : Loaded) (p : ℕ) (l n : Lanes) (same : l.output ≡ n.output)
   doing_shown (requests.Link q) x = either_shown ((q == p) || among q x.links) q signals.Link (settled image yes x) (settled image yes (with_link q x))
   doing_shown (requests.Unlink q) x = either_shown ((q == p) || not (among q x.links)) q signals.Unlink (settled image yes x) (unlinked_done q (settled image yes x))
   doing_shown (requests.Display term) x = closing_shown image p (showing p term l) (showing p term n) (ap (λ (o : Output). o ++ (p, term) ∷ []) same) (settled image yes x)
-  doing_shown (requests.Spawn birth) x = ap (with_turn x (turns.Bears birth)) same
+  doing_shown (requests.Spawn spawn) x = ap (with_turn x (turns.Spawns spawn)) same
 
   turned_shown : (x : Process) (d : Process × Effect) → shown (turned image p l x d) ≡ shown (turned image p n x d)
   turned_shown x (y, effects.Ran) = ap (with_turn y turns.Ran) same
@@ -143,16 +143,16 @@ life_shown d = ((d.0.0, d.0.1.output), d.1)
 
 lived_of : Shown → LifeShown
 lived_of ((x, o), turns.Ran) = ((Live x, o), turns.Ran)
-lived_of ((x, o), turns.Ended reason) = ((Gone reason, o), turns.Ran)
+lived_of ((x, o), turns.Ended reason) = ((Exited reason, o), turns.Ran)
 lived_of ((x, o), turns.Trapped kind) = ((Live x, o), turns.Trapped kind)
-lived_of ((x, o), turns.Bears birth) = ((Live x, o), turns.Bears birth)
+lived_of ((x, o), turns.Spawns spawn) = ((Live x, o), turns.Spawns spawn)
 
 lived_is : (w : Process × Lanes) (turn : Turn) → life_shown (lived (w, turn)) ≡ lived_of (shown (w, turn))
 unfolding lived_of
 lived_is w turns.Ran = refl
 lived_is w (turns.Ended reason) = refl
 lived_is w (turns.Trapped kind) = refl
-lived_is w (turns.Bears birth) = refl
+lived_is w (turns.Spawns spawn) = refl
 
 -- the same life was put at p in both rows, by the same turn, and the same was displayed
 record Puts (p : ℕ) (lives others : List Life) (v w : List Life × Lanes) (t u : Turn) : Type 0 where
@@ -229,39 +229,39 @@ module _ (image : Loaded) (p : ℕ) (l n : Lanes) (same : l.output ≡ n.output)
   run_alike : (lives others : List Life) (o : Option Life) → PutAlike p lives others (at_life (life_run image p l) p lives o) (at_life (life_run image p n) p others o)
   run_alike lives others None = tt
   run_alike lives others (Some (Live x)) = able_alike lives others x (can_run x)
-  run_alike lives others (Some (Gone reason)) = tt
+  run_alike lives others (Some (Exited reason)) = tt
 
   answered_alike : (child : Option ℕ) (answer : Answer) (lives others : List Life) (o : Option Life) → PutAlike p lives others (at_life (life_answered image p child answer l) p lives o) (at_life (life_answered image p child answer n) p others o)
   answered_alike child answer lives others None = tt
   answered_alike child answer lives others (Some (Live x)) = put_alike p lives others (answering image p child answer x l) (answering image p child answer x n) (answering_shown image p l n same child answer x)
-  answered_alike child answer lives others (Some (Gone reason)) = tt
+  answered_alike child answer lives others (Some (Exited reason)) = tt
 
 -- a spawn among so many processes
-abbrev born_by : ℕ → Loaded → ℕ → Birth → Lanes → List Life → Result Among Fault
-born_by m image p birth lanes lives =
-    if nat_le 1024 m || nat_lt 255 (length birth.arguments) then lives_answered image p None system_limit lanes lives
-    else unborn_at_trap lives lanes (lives_answered image p (other_if birth.linked m) (Value (pid m)) lanes (lives ++ Live (newborn image p birth) ∷ []))
+abbrev spawned_by : ℕ → Loaded → ℕ → SpawnRequest → Lanes → List Life → Result Among Fault
+spawned_by m image p spawn lanes lives =
+    if nat_le 1024 m || nat_lt 255 (length spawn.arguments) then lives_answered image p None system_limit lanes lives
+    else childless_at_trap lives lanes (lives_answered image p (other_if spawn.linked m) (Value (pid m)) lanes (lives ++ Live (new_child image p spawn) ∷ []))
 
-born_is : (image : Loaded) (p : ℕ) (birth : Birth) (lanes : Lanes) (lives : List Life) → lives_born image p birth lanes lives ≡ born_by (length lives) image p birth lanes lives
-born_is image p birth lanes lives = refl
+spawned_is : (image : Loaded) (p : ℕ) (spawn : SpawnRequest) (lanes : Lanes) (lives : List Life) → lives_spawned image p spawn lanes lives ≡ spawned_by (length lives) image p spawn lanes lives
+spawned_is image p spawn lanes lives = refl
 
 module _ (image : Loaded) (p : ℕ) (lives others : List Life) (l n : Lanes) (same : l.output ≡ n.output) (here : slice_get lives p ≡ slice_get others p) (within : p < length lives) (as_many : length lives ≡ length others) where
   plain : (k : ℕ) → length lives ≤ k → slice_get lives k ≡ slice_get others k
   plain k h = ap (λ (xs : List Life). slice_get xs k) (sym (append-nil lives)) ∙ tails lives others [] k as_many h ∙ ap (λ (xs : List Life). slice_get xs k) (append-nil others)
 
-  unborn_same : (v w : List Life × Lanes) (t : Turn) → Same p (length lives) v w t t → AllSame p (length lives) (unborn_at_trap lives l (Ok (v, t))) (unborn_at_trap others n (Ok (w, t)))
-  unborn_same v w turns.Ran h = h
-  unborn_same v w (turns.Ended reason) h = h
-  unborn_same v w (turns.Trapped kind) h = record { here = here; beyond = plain; count = as_many; output = same; turn = refl }
-  unborn_same v w (turns.Bears birth) h = h
+  childless_same : (v w : List Life × Lanes) (t : Turn) → Same p (length lives) v w t t → AllSame p (length lives) (childless_at_trap lives l (Ok (v, t))) (childless_at_trap others n (Ok (w, t)))
+  childless_same v w turns.Ran h = h
+  childless_same v w (turns.Ended reason) h = h
+  childless_same v w (turns.Trapped kind) h = record { here = here; beyond = plain; count = as_many; output = same; turn = refl }
+  childless_same v w (turns.Spawns spawn) h = h
 
-  unborn_all : (r s : Result Among Fault) → AllSame p (length lives) r s → AllSame p (length lives) (unborn_at_trap lives l r) (unborn_at_trap others n s)
-  unborn_all (Ok (v, t)) (Ok (w, u)) h =
-      subst (λ (z : Turn). AllSame p (length lives) (unborn_at_trap lives l (Ok (v, t))) (unborn_at_trap others n (Ok (w, z)))) h.turn
-      (unborn_same v w t (record { here = h.here; beyond = h.beyond; count = h.count; output = h.output; turn = refl }))
-  unborn_all (Err f) (Err g) h = tt
-  unborn_all (Ok (v, t)) (Err g) h = absurd h
-  unborn_all (Err f) (Ok (w, u)) h = absurd h
+  childless_all : (r s : Result Among Fault) → AllSame p (length lives) r s → AllSame p (length lives) (childless_at_trap lives l r) (childless_at_trap others n s)
+  childless_all (Ok (v, t)) (Ok (w, u)) h =
+      subst (λ (z : Turn). AllSame p (length lives) (childless_at_trap lives l (Ok (v, t))) (childless_at_trap others n (Ok (w, z)))) h.turn
+      (childless_same v w t (record { here = h.here; beyond = h.beyond; count = h.count; output = h.output; turn = refl }))
+  childless_all (Err f) (Err g) h = tt
+  childless_all (Ok (v, t)) (Err g) h = absurd h
+  childless_all (Err f) (Ok (w, u)) h = absurd h
 
   either_all : (b : Bool) (r s r2 s2 : Result Among Fault) → AllSame p (length lives) r r2 → AllSame p (length lives) s s2 → AllSame p (length lives) (if b then r else s) (if b then r2 else s2)
   either_all true r s r2 s2 h k = h
@@ -285,28 +285,28 @@ module _ (image : Loaded) (p : ℕ) (lives others : List Life) (l n : Lanes) (sa
       got_in : (xs : List Life) (one : Life) → p < length xs → slice_get (xs ++ one ∷ []) p ≡ slice_get xs p
       got_in xs one h = get_first xs (one ∷ []) p h
 
-  born_all : (birth : Birth) → AllSame p (length lives) (lives_born image p birth l lives) (lives_born image p birth n others)
-  born_all birth =
+  spawned_all : (spawn : SpawnRequest) → AllSame p (length lives) (lives_spawned image p spawn l lives) (lives_spawned image p spawn n others)
+  spawned_all spawn =
       let m = length lives in
-      let one = Live (newborn image p birth) in
-      let child = other_if birth.linked m in
-      subst (λ (c : ℕ). AllSame p m (lives_born image p birth l lives) (born_by c image p birth n others)) as_many
-      (either_all (nat_le 1024 m || nat_lt 255 (length birth.arguments)) (lives_answered image p None system_limit l lives) (unborn_at_trap lives l (lives_answered image p child (Value (pid m)) l (lives ++ one ∷ [])))
-      (lives_answered image p None system_limit n others) (unborn_at_trap others n (lives_answered image p child (Value (pid m)) n (others ++ one ∷ [])))
+      let one = Live (new_child image p spawn) in
+      let child = other_if spawn.linked m in
+      subst (λ (c : ℕ). AllSame p m (lives_spawned image p spawn l lives) (spawned_by c image p spawn n others)) as_many
+      (either_all (nat_le 1024 m || nat_lt 255 (length spawn.arguments)) (lives_answered image p None system_limit l lives) (childless_at_trap lives l (lives_answered image p child (Value (pid m)) l (lives ++ one ∷ [])))
+      (lives_answered image p None system_limit n others) (childless_at_trap others n (lives_answered image p child (Value (pid m)) n (others ++ one ∷ [])))
       (answered_all None system_limit)
-      (unborn_all (lives_answered image p child (Value (pid m)) l (lives ++ one ∷ [])) (lives_answered image p child (Value (pid m)) n (others ++ one ∷ [])) (grown_all child (Value (pid m)) one)))
+      (childless_all (lives_answered image p child (Value (pid m)) l (lives ++ one ∷ [])) (lives_answered image p child (Value (pid m)) n (others ++ one ∷ [])) (grown_all child (Value (pid m)) one)))
 
-  too_same : (v w : List Life × Lanes) (t : Turn) → Same p (length lives) v w t t → AmongKept (lives, l) (Ok (v, t)) → AmongKept (others, n) (Ok (w, t)) → AllSame p (length lives) (born_too image p (Ok (v, t))) (born_too image p (Ok (w, t)))
+  too_same : (v w : List Life × Lanes) (t : Turn) → Same p (length lives) v w t t → AmongKept (lives, l) (Ok (v, t)) → AmongKept (others, n) (Ok (w, t)) → AllSame p (length lives) (spawned_too image p (Ok (v, t))) (spawned_too image p (Ok (w, t)))
   too_same v w turns.Ran h k1 k2 = h
   too_same v w (turns.Ended reason) h k1 k2 = h
   too_same v w (turns.Trapped kind) h k1 k2 = h
-  too_same v w (turns.Bears birth) h k1 k2 =
-      subst (λ (x : List Life × Lanes). AllSame p (length lives) (lives_born image p birth x.1 x.0) (lives_born image p birth w.1 w.0)) (sym k1)
-      (subst (λ (x : List Life × Lanes). AllSame p (length lives) (lives_born image p birth l lives) (lives_born image p birth x.1 x.0)) (sym k2) (born_all birth))
+  too_same v w (turns.Spawns spawn) h k1 k2 =
+      subst (λ (x : List Life × Lanes). AllSame p (length lives) (lives_spawned image p spawn x.1 x.0) (lives_spawned image p spawn w.1 w.0)) (sym k1)
+      (subst (λ (x : List Life × Lanes). AllSame p (length lives) (lives_spawned image p spawn l lives) (lives_spawned image p spawn x.1 x.0)) (sym k2) (spawned_all spawn))
 
-  too_all : (r s : Result Among Fault) → AllSame p (length lives) r s → AmongKept (lives, l) r → AmongKept (others, n) s → AllSame p (length lives) (born_too image p r) (born_too image p s)
+  too_all : (r s : Result Among Fault) → AllSame p (length lives) r s → AmongKept (lives, l) r → AmongKept (others, n) s → AllSame p (length lives) (spawned_too image p r) (spawned_too image p s)
   too_all (Ok (v, t)) (Ok (w, u)) h k1 k2 =
-      subst (λ (z : Turn). AllSame p (length lives) (born_too image p (Ok (v, t))) (born_too image p (Ok (w, z)))) h.turn
+      subst (λ (z : Turn). AllSame p (length lives) (spawned_too image p (Ok (v, t))) (spawned_too image p (Ok (w, z)))) h.turn
       (too_same v w t (record { here = h.here; beyond = h.beyond; count = h.count; output = h.output; turn = refl }) k1 (subst (λ (z : Turn). AmongKept (others, n) (Ok (w, z))) (sym h.turn) k2))
   too_all (Err f) (Err g) h k1 k2 = tt
   too_all (Ok (v, t)) (Err g) h k1 k2 = absurd h
@@ -321,54 +321,54 @@ module _ (image : Loaded) (p : ℕ) (lives others : List Life) (l n : Lanes) (sa
 
 -- ---- what it sends
 
-posts_from : ℕ → List Post → (Birth → List Post) → Shown → List Post
-posts_from p own born ((x, o), turns.Ran) = own
-posts_from p own born ((x, o), turns.Ended reason) = own ++ parting_posts p x.links reason
-posts_from p own born ((x, o), turns.Trapped kind) = []
-posts_from p own born ((x, o), turns.Bears birth) = born birth
+posts_from : ℕ → List Post → (SpawnRequest → List Post) → Shown → List Post
+posts_from p own spawned ((x, o), turns.Ran) = own
+posts_from p own spawned ((x, o), turns.Ended reason) = own ++ parting_posts p x.links reason
+posts_from p own spawned ((x, o), turns.Trapped kind) = []
+posts_from p own spawned ((x, o), turns.Spawns spawn) = spawned spawn
 
-no_child : Birth → List Post
-no_child birth = []
+no_child : SpawnRequest → List Post
+no_child spawn = []
 
 done_is : (p : ℕ) (own : List Post) (w : Process × Lanes) (turn : Turn) → done_posts p own (w, turn) ≡ posts_from p own no_child (shown (w, turn))
 unfolding posts_from no_child
 done_is p own w turns.Ran = refl
 done_is p own w (turns.Ended reason) = refl
 done_is p own w (turns.Trapped kind) = refl
-done_is p own w (turns.Bears birth) = refl
+done_is p own w (turns.Spawns spawn) = refl
 
 -- the answer that a process gets which asks for a spawn among so many processes
-abbrev answered_by : ℕ → Loaded → ℕ → Birth → Lanes → Process → Done
-answered_by m image p birth lanes x =
-    if nat_le 1024 m || nat_lt 255 (length birth.arguments) then answering image p None system_limit x lanes
-    else answering image p (other_if birth.linked m) (Value (pid m)) x lanes
+abbrev answered_by : ℕ → Loaded → ℕ → SpawnRequest → Lanes → Process → Done
+answered_by m image p spawn lanes x =
+    if nat_le 1024 m || nat_lt 255 (length spawn.arguments) then answering image p None system_limit x lanes
+    else answering image p (other_if spawn.linked m) (Value (pid m)) x lanes
 
-answered_is : (image : Loaded) (p : ℕ) (birth : Birth) (lives : List Life) (lanes : Lanes) (x : Process) → answered_birth image p birth lives lanes x ≡ answered_by (length lives) image p birth lanes x
-answered_is image p birth lives lanes x = refl
+answered_is : (image : Loaded) (p : ℕ) (spawn : SpawnRequest) (lives : List Life) (lanes : Lanes) (x : Process) → answered_spawn image p spawn lives lanes x ≡ answered_by (length lives) image p spawn lanes x
+answered_is image p spawn lives lanes x = refl
 
 turn_is : (image : Loaded) (p : ℕ) (lives : List Life) (lanes : Lanes) (x : Process) (w : Process × Lanes) (turn : Turn)
-    → turn_posts image p lives lanes x (w, turn) ≡ posts_from p (effect_posts p x (attempted image p x).1) (λ birth. done_posts p [] (answered_by (length lives) image p birth lanes x)) (shown (w, turn))
+    → turn_posts image p lives lanes x (w, turn) ≡ posts_from p (effect_posts p x (attempted image p x).1) (λ spawn. done_posts p [] (answered_by (length lives) image p spawn lanes x)) (shown (w, turn))
 unfolding posts_from
 turn_is image p lives lanes x w turns.Ran = refl
 turn_is image p lives lanes x w (turns.Ended reason) = refl
 turn_is image p lives lanes x w (turns.Trapped kind) = refl
-turn_is image p lives lanes x w (turns.Bears birth) = refl
+turn_is image p lives lanes x w (turns.Spawns spawn) = refl
 
-by_birth : (p : ℕ) (own : List Post) (f g : Birth → List Post) (s : Shown) → ((birth : Birth) → f birth ≡ g birth) → posts_from p own f s ≡ posts_from p own g s
+by_spawn : (p : ℕ) (own : List Post) (f g : SpawnRequest → List Post) (s : Shown) → ((spawn : SpawnRequest) → f spawn ≡ g spawn) → posts_from p own f s ≡ posts_from p own g s
 unfolding posts_from
-by_birth p own f g ((x, o), turns.Ran) h = refl
-by_birth p own f g ((x, o), turns.Ended reason) h = refl
-by_birth p own f g ((x, o), turns.Trapped kind) h = refl
-by_birth p own f g ((x, o), turns.Bears birth) h = h birth
+by_spawn p own f g ((x, o), turns.Ran) h = refl
+by_spawn p own f g ((x, o), turns.Ended reason) h = refl
+by_spawn p own f g ((x, o), turns.Trapped kind) h = refl
+by_spawn p own f g ((x, o), turns.Spawns spawn) h = h spawn
 
 module _ (image : Loaded) (p : ℕ) (lives others : List Life) (l n : Lanes) (same : l.output ≡ n.output) (as_many : length lives ≡ length others) where
-  answered_shown : (birth : Birth) (x : Process) → shown (answered_by (length lives) image p birth l x) ≡ shown (answered_by (length others) image p birth n x)
-  answered_shown birth x =
+  answered_shown : (spawn : SpawnRequest) (x : Process) → shown (answered_by (length lives) image p spawn l x) ≡ shown (answered_by (length others) image p spawn n x)
+  answered_shown spawn x =
       let m = length lives in
-      deciding (nat_le 1024 m || nat_lt 255 (length birth.arguments)) (answering image p None system_limit x l) (answering image p (other_if birth.linked m) (Value (pid m)) x l)
-      (answering image p None system_limit x n) (answering image p (other_if birth.linked m) (Value (pid m)) x n)
-      (answering_shown image p l n same None system_limit x) (answering_shown image p l n same (other_if birth.linked m) (Value (pid m)) x)
-      ∙ ap (λ (c : ℕ). shown (answered_by c image p birth n x)) as_many
+      deciding (nat_le 1024 m || nat_lt 255 (length spawn.arguments)) (answering image p None system_limit x l) (answering image p (other_if spawn.linked m) (Value (pid m)) x l)
+      (answering image p None system_limit x n) (answering image p (other_if spawn.linked m) (Value (pid m)) x n)
+      (answering_shown image p l n same None system_limit x) (answering_shown image p l n same (other_if spawn.linked m) (Value (pid m)) x)
+      ∙ ap (λ (c : ℕ). shown (answered_by c image p spawn n x)) as_many
 
   done_same : (d e : Done) → shown d ≡ shown e → done_posts p [] d ≡ done_posts p [] e
   done_same d e h = done_is p [] d.0 d.1 ∙ ap (posts_from p [] no_child) h ∙ sym (done_is p [] e.0 e.1)
@@ -377,15 +377,15 @@ module _ (image : Loaded) (p : ℕ) (lives others : List Life) (l n : Lanes) (sa
   turn_same x d e h =
       let own = effect_posts p x (attempted image p x).1 in
       turn_is image p lives l x d.0 d.1
-      ∙ by_birth p own (λ birth. done_posts p [] (answered_by (length lives) image p birth l x)) (λ birth. done_posts p [] (answered_by (length others) image p birth n x)) (shown d)
-      (λ birth. done_same (answered_by (length lives) image p birth l x) (answered_by (length others) image p birth n x) (answered_shown birth x))
-      ∙ ap (posts_from p own (λ birth. done_posts p [] (answered_by (length others) image p birth n x))) h
+      ∙ by_spawn p own (λ spawn. done_posts p [] (answered_by (length lives) image p spawn l x)) (λ spawn. done_posts p [] (answered_by (length others) image p spawn n x)) (shown d)
+      (λ spawn. done_same (answered_by (length lives) image p spawn l x) (answered_by (length others) image p spawn n x) (answered_shown spawn x))
+      ∙ ap (posts_from p own (λ spawn. done_posts p [] (answered_by (length others) image p spawn n x))) h
       ∙ sym (turn_is image p others n x e.0 e.1)
 
   pub run_posts_same : (o : Option Life) → run_posts image p lives l o ≡ run_posts image p others n o
   run_posts_same None = refl
   run_posts_same (Some (Live x)) = turn_same x (runs image p l x) (runs image p n x) (runs_shown image p l n same x)
-  run_posts_same (Some (Gone reason)) = refl
+  run_posts_same (Some (Exited reason)) = refl
 
 -- all of it from its own process
 abbrev AllFrom : ℕ → List Post → Type 0
@@ -411,7 +411,7 @@ own_from p x (requests.Exit q reason) = one_from p (q == p) ((p, q), signals.Exi
 own_from p x (requests.Link q) = one_from p ((q == p) || among q x.links) ((p, q), signals.Link) refl
 own_from p x (requests.Unlink q) = one_from p ((q == p) || not (among q x.links)) ((p, q), signals.Unlink) refl
 own_from p x (requests.Display term) = tt
-own_from p x (requests.Spawn birth) = tt
+own_from p x (requests.Spawn spawn) = tt
 
 effect_from : (p : ℕ) (x : Process) (e : Effect) → AllFrom p (effect_posts p x e)
 effect_from p x effects.Ran = tt
@@ -424,18 +424,18 @@ done_from : (p : ℕ) (own : List Post) (w : Process × Lanes) (turn : Turn) →
 done_from p own w turns.Ran h = h
 done_from p own w (turns.Ended reason) h = both_from p own (parting_posts p w.0.links reason) h (parting_from p w.0.links reason)
 done_from p own w (turns.Trapped kind) h = tt
-done_from p own w (turns.Bears birth) h = tt
+done_from p own w (turns.Spawns spawn) h = tt
 
 turn_from : (image : Loaded) (p : ℕ) (lives : List Life) (l : Lanes) (x : Process) (w : Process × Lanes) (turn : Turn) → AllFrom p (turn_posts image p lives l x (w, turn))
 turn_from image p lives l x w turns.Ran = effect_from p x (attempted image p x).1
 turn_from image p lives l x w (turns.Ended reason) = both_from p (effect_posts p x (attempted image p x).1) (parting_posts p w.0.links reason) (effect_from p x (attempted image p x).1) (parting_from p w.0.links reason)
 turn_from image p lives l x w (turns.Trapped kind) = tt
-turn_from image p lives l x w (turns.Bears birth) = let d = answered_birth image p birth lives l x in done_from p [] d.0 d.1 tt
+turn_from image p lives l x w (turns.Spawns spawn) = let d = answered_spawn image p spawn lives l x in done_from p [] d.0 d.1 tt
 
 run_from : (image : Loaded) (p : ℕ) (lives : List Life) (l : Lanes) (o : Option Life) → AllFrom p (run_posts image p lives l o)
 run_from image p lives l None = tt
 run_from image p lives l (Some (Live x)) = let d = runs image p l x in turn_from image p lives l x d.0 d.1
-run_from image p lives l (Some (Gone reason)) = tt
+run_from image p lives l (Some (Exited reason)) = tt
 
 none_from : (p : ℕ) (pair : ℕ × ℕ) (ps : List Post) → pair.0 ≢ p → AllFrom p ps → in_channel pair ps ≡ []
 none_from p pair [] other h = refl

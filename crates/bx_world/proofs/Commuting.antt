@@ -23,22 +23,22 @@ use Rattle.bx_world.specs.declared.choices.Choice.TheVariants.{Run, Deliver, Exp
 use Rattle.bx_world.specs.declared.lanes.Lanes.{Lanes}
 use Rattle.bx_world.specs.declared.turns.Turn.{Turn}
 use Rattle.bx_world.specs.declared.turns.Turn.TheVariants as turns
-use Rattle.bx_world.specs.World.{Life, Live, Gone, State}
+use Rattle.bx_world.specs.World.{Life, Live, Exited, State}
 use Rattle.bx_world.specs.Sharing.{hearing}
 use Rattle.bx_world.specs.Asking.{Done, exit_message, is_kill, is_normal, low_enough}
-use Rattle.bx_world.specs.Delivering.{messaged, ending, exiting, heard, gone_heard, lost}
-use Rattle.bx_world.specs.Lifetimes.{Among, lived, lived_if, gone_if, life_run, life_expired, put_back, at_life, lost_if, told_at}
+use Rattle.bx_world.specs.Delivering.{messaged, ending, exiting, heard, exited_heard, lost}
+use Rattle.bx_world.specs.Lifetimes.{Among, lived, lived_if, exited_if, life_run, life_expired, put_back, at_life, lost_if, told_at}
 use Rattle.bx_world.specs.Enabled.{able, can, actor, may_at, may_run}
 use Rattle.bx_world.specs.Seen.{place_at}
 use Rattle.bx_world.specs.Turning.{runs}
-use Rattle.bx_world.specs.Choosing.{born_too, made, made_or, chosen, trap_of}
+use Rattle.bx_world.specs.Choosing.{spawned_too, made, made_or, chosen, trap_of}
 use Rattle.bx_world.specs.Posting.{posts, run_posts, unless_trap, where_made, in_channel, put_in, takes, taken_from, behind, all_behind}
 use Rattle.bx_world.specs.Independent.{is_local_at, runs_local, one_is_local, AreIndependent, IsNoRun, IsLocal}
 use Rattle.bx_world.proofs.Arriving.{step}
 use Rattle.bx_world.proofs.Applying.{MadeAs, made_as}
 use Rattle.bx_world.proofs.Beside.{AllSame, made_all as run_same, run_posts_same, run_puts_none}
 use Rattle.bx_world.proofs.Confined.{get_set_other, chosen_confined}
-use Rattle.bx_world.proofs.Alike.{runs_calm, bears_none, heeds, Finds, EndsAlike, able_alike, chosen_alike, posts_alike, puts_none, takes_none, takes_alike}
+use Rattle.bx_world.proofs.Alike.{runs_calm, spawns_none, heeds, Finds, EndsAlike, able_alike, chosen_alike, posts_alike, puts_none, takes_none, takes_alike}
 
 -- ---- what stays
 
@@ -58,7 +58,7 @@ lived_shows : (l : Lanes) (w : Process × Lanes) (turn : Turn) → Shows l (w, t
 lived_shows l w turns.Ran h = h
 lived_shows l w (turns.Ended reason) h = h
 lived_shows l w (turns.Trapped kind) h = h
-lived_shows l w (turns.Bears birth) h = h
+lived_shows l w (turns.Spawns spawn) h = h
 
 module _ (p q : ℕ) (lives : List Life) (l : Lanes) where
   back_keeps : (d : Done) → Shows l d → Keeps q lives l (put_back q lives (Ok (lived d)))
@@ -89,13 +89,13 @@ module _ (p q : ℕ) (lives : List Life) (l : Lanes) where
   set_keeps : (new : Life) → (length (slice_set lives q new) ≡ length lives) × ((k : ℕ) → k ≢ q → slice_get (slice_set lives q new) k ≡ slice_get lives k)
   set_keeps new = (length-set lives q new, λ k other. get_set_other lives q k new other)
 
-  gone_keeps : (reason : Tree) (s : Option Signal) → Keeps q lives l (put_back q lives (gone_if reason (gone_heard p q l s)))
-  gone_keeps reason None = tt
-  gone_keeps reason (Some signals.Link) = let kept = set_keeps (Gone reason) in (kept.0, kept.1, refl)
-  gone_keeps reason (Some (signals.Message m)) = let kept = set_keeps (Gone reason) in (kept.0, kept.1, refl)
-  gone_keeps reason (Some signals.Unlink) = let kept = set_keeps (Gone reason) in (kept.0, kept.1, refl)
-  gone_keeps reason (Some (signals.LinkExit other)) = let kept = set_keeps (Gone reason) in (kept.0, kept.1, refl)
-  gone_keeps reason (Some (signals.Exit other)) = let kept = set_keeps (Gone reason) in (kept.0, kept.1, refl)
+  exited_keeps : (reason : Tree) (s : Option Signal) → Keeps q lives l (put_back q lives (exited_if reason (exited_heard p q l s)))
+  exited_keeps reason None = tt
+  exited_keeps reason (Some signals.Link) = let kept = set_keeps (Exited reason) in (kept.0, kept.1, refl)
+  exited_keeps reason (Some (signals.Message m)) = let kept = set_keeps (Exited reason) in (kept.0, kept.1, refl)
+  exited_keeps reason (Some signals.Unlink) = let kept = set_keeps (Exited reason) in (kept.0, kept.1, refl)
+  exited_keeps reason (Some (signals.LinkExit other)) = let kept = set_keeps (Exited reason) in (kept.0, kept.1, refl)
+  exited_keeps reason (Some (signals.Exit other)) = let kept = set_keeps (Exited reason) in (kept.0, kept.1, refl)
 
   lost_keeps : (s : Option Signal) → Keeps q lives l (lost_if lives (lost p q l s))
   lost_keeps None = tt
@@ -104,7 +104,7 @@ module _ (p q : ℕ) (lives : List Life) (l : Lanes) where
   told_keeps : (o : Option Life) → Keeps q lives l (told_at p q l lives o)
   told_keeps None = lost_keeps (first (waiting l.channels (p, q)))
   told_keeps (Some (Live x)) = heard_keeps x (first (waiting l.channels (p, q)))
-  told_keeps (Some (Gone reason)) = gone_keeps reason (first (waiting l.channels (p, q)))
+  told_keeps (Some (Exited reason)) = exited_keeps reason (first (waiting l.channels (p, q)))
 
   over_keeps : (x : Process) (b : Bool) → Keeps q lives l (put_back q lives (if b then Ok ((Live (expired x), l), turns.Ran) else Err NotEnabled))
   over_keeps x true = let kept = set_keeps (Live (expired x)) in (kept.0, kept.1, refl)
@@ -112,21 +112,21 @@ module _ (p q : ℕ) (lives : List Life) (l : Lanes) where
 
   expired_keeps : (o : Option Life) → Keeps q lives l (at_life (life_expired l) q lives o)
   expired_keeps None = tt
-  expired_keeps (Some (Gone reason)) = tt
+  expired_keeps (Some (Exited reason)) = tt
   expired_keeps (Some (Live x)) = over_keeps x (can_expire x)
 
 -- a local run
-able_keeps : (image : Loaded) (p : ℕ) (lives : List Life) (l : Lanes) (x : Process) (b : Bool) → is_local_at image x.place ≡ true → Keeps p lives l (born_too image p (put_back p lives (if b then Ok (lived (runs image p l x)) else Err NotEnabled)))
+able_keeps : (image : Loaded) (p : ℕ) (lives : List Life) (l : Lanes) (x : Process) (b : Bool) → is_local_at image x.place ≡ true → Keeps p lives l (spawned_too image p (put_back p lives (if b then Ok (lived (runs image p l x)) else Err NotEnabled)))
 able_keeps image p lives l x true local =
     let d = runs image p l x in
     let calm = runs_calm image p l l x local in
-    subst (λ r. Keeps p lives l r) (sym (bears_none image p lives d.0 d.1 calm.bears)) (back_keeps p p lives l d calm.shows)
+    subst (λ r. Keeps p lives l r) (sym (spawns_none image p lives d.0 d.1 calm.spawns)) (back_keeps p p lives l d calm.shows)
 able_keeps image p lives l x false local = tt
 
-run_keeps : (image : Loaded) (p : ℕ) (lives : List Life) (l : Lanes) (o : Option Life) → is_local_at image (place_at o) ≡ true → Keeps p lives l (born_too image p (at_life (life_run image p l) p lives o))
+run_keeps : (image : Loaded) (p : ℕ) (lives : List Life) (l : Lanes) (o : Option Life) → is_local_at image (place_at o) ≡ true → Keeps p lives l (spawned_too image p (at_life (life_run image p l) p lives o))
 run_keeps image p lives l None local = tt
 run_keeps image p lives l (Some (Live x)) local = able_keeps image p lives l x (can_run x) local
-run_keeps image p lives l (Some (Gone reason)) local = tt
+run_keeps image p lives l (Some (Exited reason)) local = tt
 
 made_keeps : (image : Loaded) (c : Choice) (w : State) → IsLocal image w c → Keeps (actor c) w.processes w.lanes (made image c w.processes w.lanes)
 made_keeps image (Run p) w idle = run_keeps image p w.processes w.lanes (slice_get w.processes p) idle

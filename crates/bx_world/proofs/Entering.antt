@@ -15,7 +15,7 @@ use Rattle.bx_signals.specs.Channels.{waiting}
 use Rattle.bx_signals.specs.declared.signal.Signal.{Signal}
 use Rattle.bx_signals.specs.declared.signal.Signal.TheVariants as signals
 use Rattle.bx_cells.specs.Links.{among, placed, linked, unlinked}
-use Rattle.bx_proc.specs.Process.{Process, born, can_run, can_expire}
+use Rattle.bx_proc.specs.Process.{Process, new_process, can_run, can_expire}
 use Rattle.bx_proc.specs.Signals.{with_link, without_link, expired, expired_if}
 use Rattle.bx_proc.specs.Stepping.{attempted, settled, settled_with, Whole}
 use Rattle.bx_proc.specs.declared.parts.Answer.{Answer}
@@ -26,24 +26,24 @@ use Rattle.bx_proc.proofs.Attempts.{whole, settled_whole, settled_with_whole}
 use Rattle.bx_world.specs.declared.choices.Choice.{Choice}
 use Rattle.bx_world.specs.declared.choices.Choice.TheVariants.{Run, Deliver, Expire}
 use Rattle.bx_world.specs.declared.lanes.Lanes.{Lanes}
-use Rattle.bx_world.specs.declared.requests.Birth.{Birth}
+use Rattle.bx_world.specs.declared.requests.SpawnRequest.{SpawnRequest}
 use Rattle.bx_world.specs.declared.requests.Request.{Request}
 use Rattle.bx_world.specs.declared.requests.Request.TheVariants as requests
 use Rattle.bx_world.specs.declared.turns.Turn.{Turn}
 use Rattle.bx_world.specs.declared.turns.Turn.TheVariants as turns
-use Rattle.bx_world.specs.World.{Life, Live, Gone, State, begun}
+use Rattle.bx_world.specs.World.{Life, Live, Exited, State, begun}
 use Rattle.bx_world.specs.Sharing.{telling, hearing, showing}
 use Rattle.bx_world.specs.Requests.{requested}
 use Rattle.bx_world.specs.Asking as asking
 use Rattle.bx_world.specs.Asking.{Done, closing, leaving, yes, badarg, exit_message, is_kill, is_normal, low_enough, noted, exiting_oneself, unlinked_done, doing, done_by}
 use Rattle.bx_world.specs.Turning.{turned, runs}
-use Rattle.bx_world.specs.Delivering.{messaged, ending, exiting, heard, received, gone_received, lost}
-use Rattle.bx_world.specs.Lifetimes.{Among, lived, lived_if, gone_if, life_run, put_back, at_life, life_expired, lives_expired, lost_if, told_at}
-use Rattle.bx_world.specs.Births.{past_limits, system_limit, other_if, linked_to, newborn, answering, life_answered, lives_answered, unborn_at_trap, lives_grown, lives_born}
+use Rattle.bx_world.specs.Delivering.{messaged, ending, exiting, heard, received, exited_received, lost}
+use Rattle.bx_world.specs.Lifetimes.{Among, lived, lived_if, exited_if, life_run, put_back, at_life, life_expired, lives_expired, lost_if, told_at}
+use Rattle.bx_world.specs.Spawning.{past_limits, system_limit, other_if, linked_to, new_child, answering, life_answered, lives_answered, childless_at_trap, lives_with_child, lives_spawned}
 use Rattle.bx_world.specs.Enabled.{can, actor}
-use Rattle.bx_world.specs.Choosing.{born_too, made, made_or, chosen}
+use Rattle.bx_world.specs.Choosing.{spawned_too, made, made_or, chosen}
 use Rattle.bx_world.specs.Posting.{behind, all_behind}
-use Rattle.bx_world.specs.Entering.{holds, is_linked, request_in, request_of, BearsLinked, Enters, Entered}
+use Rattle.bx_world.specs.Entering.{holds, is_linked, request_in, request_of, SpawnsLinked, Enters, Entered}
 use Rattle.bx_world.proofs.Keeping as keeping
 use Rattle.bx_world.proofs.Keeping.{Kept, runs_kept}
 use Rattle.bx_world.proofs.Confined.{get_set_other, get_set_same}
@@ -127,7 +127,7 @@ whole_done : (E : ℕ → Type 0) (x : Process) (l : Lanes) (d : Done) → DoneG
 whole_done E x l (after, turns.Ran) h = h
 whole_done E x l (after, turns.Ended reason) h = h
 whole_done E x l (after, turns.Trapped kind) h = no_more E x
-whole_done E x l (after, turns.Bears birth) h = h
+whole_done E x l (after, turns.Spawns spawn) h = h
 
 closing_done : (E : ℕ → Type 0) (x : Process) (p : ℕ) (l : Lanes) (y : Process) (e : Effect) → Grows E x y → DoneGrows E x (closing p l (y, e))
 closing_done E x p l y effects.Ran h = h
@@ -183,7 +183,7 @@ doing_grows image p (requests.Unlink q) x l =
     (closed E image p x l yes)
     (closing_done E x p tell (without_link q y) (settled image yes x).1 (unlinked_grows q E x y (settled_grows E image yes x)))
 doing_grows image p (requests.Display term) x l = closed (Linking (requests.Display term)) image p x (showing p term l) yes
-doing_grows image p (requests.Spawn birth) x l = no_more (Linking (requests.Spawn birth)) x
+doing_grows image p (requests.Spawn spawn) x l = no_more (Linking (requests.Spawn spawn)) x
 
 done_grows : (image : Loaded) (p : ℕ) (request : Request) (x : Process) (l : Lanes) → DoneGrows (Linking request) x (done_by image p request x l)
 done_grows image p request x l = whole_done (Linking request) x l (doing image p request x l) (doing_grows image p request x l)
@@ -202,82 +202,82 @@ runs_grows : (image : Loaded) (p : ℕ) (l : Lanes) (x : Process) → DoneGrows 
 runs_grows image p l x = turned_grows image p l x (attempted image p x).0 (attempted image p x).1 (whole image p x (attempted image p x).0 (attempted image p x).1 refl)
 
 -- a spawn comes of asking for it
-abbrev Bears : Option Request → Turn → Type 0
-Bears request turns.Ran = Unit {0}
-Bears request (turns.Ended reason) = Unit {0}
-Bears request (turns.Trapped kind) = Unit {0}
-Bears request (turns.Bears birth) = request ≡ Some (requests.Spawn birth)
+abbrev Spawns : Option Request → Turn → Type 0
+Spawns request turns.Ran = Unit {0}
+Spawns request (turns.Ended reason) = Unit {0}
+Spawns request (turns.Trapped kind) = Unit {0}
+Spawns request (turns.Spawns spawn) = request ≡ Some (requests.Spawn spawn)
 
-abbrev DoneBears : Option Request → Done → Type 0
-DoneBears request d = Bears request d.1
+abbrev DoneSpawns : Option Request → Done → Type 0
+DoneSpawns request d = Spawns request d.1
 
-closing_bears : (request : Option Request) (p : ℕ) (l : Lanes) (y : Process) (e : Effect) → DoneBears request (closing p l (y, e))
-closing_bears request p l y effects.Ran = tt
-closing_bears request p l y (effects.Ended reason) = tt
-closing_bears request p l y (effects.Trap kind) = tt
-closing_bears request p l y (effects.Send to m) = tt
-closing_bears request p l y (effects.Ask n ts) = tt
+closing_spawns : (request : Option Request) (p : ℕ) (l : Lanes) (y : Process) (e : Effect) → DoneSpawns request (closing p l (y, e))
+closing_spawns request p l y effects.Ran = tt
+closing_spawns request p l y (effects.Ended reason) = tt
+closing_spawns request p l y (effects.Trap kind) = tt
+closing_spawns request p l y (effects.Send to m) = tt
+closing_spawns request p l y (effects.Ask n ts) = tt
 
-bears_either : (request : Option Request) (b : Bool) (d e : Done) → DoneBears request d → DoneBears request e → DoneBears request (if b then d else e)
-bears_either request true d e h k = h
-bears_either request false d e h k = k
+spawns_either : (request : Option Request) (b : Bool) (d e : Done) → DoneSpawns request d → DoneSpawns request e → DoneSpawns request (if b then d else e)
+spawns_either request true d e h k = h
+spawns_either request false d e h k = k
 
-whole_bears : (request : Option Request) (before : Process × Lanes) (d : Done) → DoneBears request d → DoneBears request (asking.whole before d)
-whole_bears request before (after, turns.Ran) h = tt
-whole_bears request before (after, turns.Ended reason) h = tt
-whole_bears request before (after, turns.Trapped kind) h = tt
-whole_bears request before (after, turns.Bears birth) h = h
+whole_spawns : (request : Option Request) (before : Process × Lanes) (d : Done) → DoneSpawns request d → DoneSpawns request (asking.whole before d)
+whole_spawns request before (after, turns.Ran) h = tt
+whole_spawns request before (after, turns.Ended reason) h = tt
+whole_spawns request before (after, turns.Trapped kind) h = tt
+whole_spawns request before (after, turns.Spawns spawn) h = h
 
 module _ (request : Option Request) (image : Loaded) (p : ℕ) (x : Process) where
-  none_closed : (l : Lanes) (d : Process × Effect) → DoneBears request (closing p l d)
-  none_closed l d = closing_bears request p l d.0 d.1
+  none_closed : (l : Lanes) (d : Process × Effect) → DoneSpawns request (closing p l d)
+  none_closed l d = closing_spawns request p l d.0 d.1
 
-  none_noted : (a : Answer) (l : Lanes) (o : Option Tree) → DoneBears request (noted image p a x l o)
+  none_noted : (a : Answer) (l : Lanes) (o : Option Tree) → DoneSpawns request (noted image p a x l o)
   none_noted a l None = tt
   none_noted a l (Some m) = none_closed l (settled_with image a m x)
 
-  none_oneself : (reason : Tree) (l : Lanes) → DoneBears request (exiting_oneself image p reason x l)
+  none_oneself : (reason : Tree) (l : Lanes) → DoneSpawns request (exiting_oneself image p reason x l)
   none_oneself reason l =
       let message = low_enough (exit_message p reason) in
-      bears_either request (is_kill reason) (leaving p x l (atom KILLED.0)) (if x.trap_exit then noted image p yes x l message else leaving p x l reason) tt
-      (bears_either request x.trap_exit (noted image p yes x l message) (leaving p x l reason) (none_noted yes l message) tt)
+      spawns_either request (is_kill reason) (leaving p x l (atom KILLED.0)) (if x.trap_exit then noted image p yes x l message else leaving p x l reason) tt
+      (spawns_either request x.trap_exit (noted image p yes x l message) (leaving p x l reason) (none_noted yes l message) tt)
 
-doing_bears : (image : Loaded) (p : ℕ) (request : Request) (x : Process) (l : Lanes) → DoneBears (Some request) (doing image p request x l)
-doing_bears image p requests.Refused x l = none_closed (Some requests.Refused) image p x l (settled image badarg x)
-doing_bears image p (requests.Send q m) x l =
+doing_spawns : (image : Loaded) (p : ℕ) (request : Request) (x : Process) (l : Lanes) → DoneSpawns (Some request) (doing image p request x l)
+doing_spawns image p requests.Refused x l = none_closed (Some requests.Refused) image p x l (settled image badarg x)
+doing_spawns image p (requests.Send q m) x l =
     let r = Some (requests.Send q m) in
     let tell = telling (p, q) (signals.Message m) l in
-    bears_either r (q == p) (closing p l (settled_with image (answers.Value m) m x)) (closing p tell (settled image (answers.Value m) x))
+    spawns_either r (q == p) (closing p l (settled_with image (answers.Value m) m x)) (closing p tell (settled image (answers.Value m) x))
     (none_closed r image p x l (settled_with image (answers.Value m) m x)) (none_closed r image p x tell (settled image (answers.Value m) x))
-doing_bears image p (requests.Exit q reason) x l =
+doing_spawns image p (requests.Exit q reason) x l =
     let r = Some (requests.Exit q reason) in
     let tell = telling (p, q) (signals.Exit reason) l in
-    bears_either r (q == p) (exiting_oneself image p reason x l) (closing p tell (settled image yes x)) (none_oneself r image p x reason l) (none_closed r image p x tell (settled image yes x))
-doing_bears image p (requests.Link q) x l =
+    spawns_either r (q == p) (exiting_oneself image p reason x l) (closing p tell (settled image yes x)) (none_oneself r image p x reason l) (none_closed r image p x tell (settled image yes x))
+doing_spawns image p (requests.Link q) x l =
     let r = Some (requests.Link q) in
     let tell = telling (p, q) signals.Link l in
-    bears_either r ((q == p) || among q x.links) (closing p l (settled image yes x)) (closing p tell (settled image yes (with_link q x)))
+    spawns_either r ((q == p) || among q x.links) (closing p l (settled image yes x)) (closing p tell (settled image yes (with_link q x)))
     (none_closed r image p x l (settled image yes x)) (none_closed r image p x tell (settled image yes (with_link q x)))
-doing_bears image p (requests.Unlink q) x l =
+doing_spawns image p (requests.Unlink q) x l =
     let r = Some (requests.Unlink q) in
     let tell = telling (p, q) signals.Unlink l in
-    bears_either r ((q == p) || not (among q x.links)) (closing p l (settled image yes x)) (closing p tell (unlinked_done q (settled image yes x)))
+    spawns_either r ((q == p) || not (among q x.links)) (closing p l (settled image yes x)) (closing p tell (unlinked_done q (settled image yes x)))
     (none_closed r image p x l (settled image yes x)) (none_closed r image p x tell (unlinked_done q (settled image yes x)))
-doing_bears image p (requests.Display term) x l = none_closed (Some (requests.Display term)) image p x (showing p term l) (settled image yes x)
-doing_bears image p (requests.Spawn birth) x l = refl
+doing_spawns image p (requests.Display term) x l = none_closed (Some (requests.Display term)) image p x (showing p term l) (settled image yes x)
+doing_spawns image p (requests.Spawn spawn) x l = refl
 
-asked_bears : (image : Loaded) (p : ℕ) (request : Request) (x : Process) (l : Lanes) → DoneBears (Some request) (done_by image p request x l)
-asked_bears image p request x l = whole_bears (Some request) (x, l) (doing image p request x l) (doing_bears image p request x l)
+asked_spawns : (image : Loaded) (p : ℕ) (request : Request) (x : Process) (l : Lanes) → DoneSpawns (Some request) (done_by image p request x l)
+asked_spawns image p request x l = whole_spawns (Some request) (x, l) (doing image p request x l) (doing_spawns image p request x l)
 
-turned_bears : (image : Loaded) (p : ℕ) (l : Lanes) (x y : Process) (e : Effect) → DoneBears (request_in e) (turned image p l x (y, e))
-turned_bears image p l x y effects.Ran = tt
-turned_bears image p l x y (effects.Send to m) = asked_bears image p (requests.Send to m) x l
-turned_bears image p l x y (effects.Ask n ts) = asked_bears image p (requested n ts) x l
-turned_bears image p l x y (effects.Ended reason) = tt
-turned_bears image p l x y (effects.Trap kind) = tt
+turned_spawns : (image : Loaded) (p : ℕ) (l : Lanes) (x y : Process) (e : Effect) → DoneSpawns (request_in e) (turned image p l x (y, e))
+turned_spawns image p l x y effects.Ran = tt
+turned_spawns image p l x y (effects.Send to m) = asked_spawns image p (requests.Send to m) x l
+turned_spawns image p l x y (effects.Ask n ts) = asked_spawns image p (requested n ts) x l
+turned_spawns image p l x y (effects.Ended reason) = tt
+turned_spawns image p l x y (effects.Trap kind) = tt
 
-runs_bears : (image : Loaded) (p : ℕ) (l : Lanes) (x : Process) → DoneBears (request_in (attempted image p x).1) (runs image p l x)
-runs_bears image p l x = turned_bears image p l x (attempted image p x).0 (attempted image p x).1
+runs_spawns : (image : Loaded) (p : ℕ) (l : Lanes) (x : Process) → DoneSpawns (request_in (attempted image p x).1) (runs image p l x)
+runs_spawns image p l x = turned_spawns image p l x (attempted image p x).0 (attempted image p x).1
 
 -- one process among the others
 abbrev Gains : (ℕ → ℕ → Type 0) → List Life → List Life → Type 0
@@ -310,14 +310,14 @@ put_gains p E lives one after at grows k q h = ⊎_elim here there (cases_eq k p
 ran_gains : (p : ℕ) (E : ℕ → Type 0) (lives : List Life) (x : Process) (w : Process × Lanes) → slice_get lives p ≡ Some (Live x) → Grows E x w.0 → Gains (At p E) lives (slice_set lives p (Live w.0))
 ran_gains p E lives x w at h = put_gains p E lives (Live x) (Live w.0) at h
 
-ended_gains : (p : ℕ) (E : ℕ → Type 0) (lives : List Life) (one : Life) (reason : Tree) → slice_get lives p ≡ Some one → Gains (At p E) lives (slice_set lives p (Gone reason))
-ended_gains p E lives one reason at = put_gains p E lives one (Gone reason) at (λ q h. let no : false ≡ true = h in cc)
+ended_gains : (p : ℕ) (E : ℕ → Type 0) (lives : List Life) (one : Life) (reason : Tree) → slice_get lives p ≡ Some one → Gains (At p E) lives (slice_set lives p (Exited reason))
+ended_gains p E lives one reason at = put_gains p E lives one (Exited reason) at (λ q h. let no : false ≡ true = h in cc)
 
 lived_gains : (p : ℕ) (E : ℕ → Type 0) (lives : List Life) (x : Process) (d : Done) → slice_get lives p ≡ Some (Live x) → DoneGrows E x d → AmongGains (At p E) lives (put_back p lives (Ok (lived d)))
 lived_gains p E lives x (w, turns.Ran) at h = ran_gains p E lives x w at h
 lived_gains p E lives x (w, turns.Ended reason) at h = ended_gains p E lives (Live x) reason at
 lived_gains p E lives x (w, turns.Trapped kind) at h = ran_gains p E lives x w at h
-lived_gains p E lives x (w, turns.Bears birth) at h = ran_gains p E lives x w at h
+lived_gains p E lives x (w, turns.Spawns spawn) at h = ran_gains p E lives x w at h
 
 -- a spawn
 child_asked : (child : Option ℕ) (x y : Process) → Grows (λ q. child ≡ Some q) (linked_to child x) y → Grows (λ q. child ≡ Some q) x y
@@ -333,7 +333,7 @@ answering_grows image p child a x l =
 answered_gains : (image : Loaded) (p : ℕ) (child : Option ℕ) (a : Answer) (l : Lanes) (lives : List Life) (o : Option Life) → slice_get lives p ≡ o
     → AmongGains (At p (λ q. child ≡ Some q)) lives (at_life (life_answered image p child a l) p lives o)
 answered_gains image p child a l lives None at = tt
-answered_gains image p child a l lives (Some (Gone reason)) at = tt
+answered_gains image p child a l lives (Some (Exited reason)) at = tt
 answered_gains image p child a l lives (Some (Live x)) at = lived_gains p (λ q. child ≡ Some q) lives x (answering image p child a x l) at (answering_grows image p child a x l)
 
 -- a process behind the others
@@ -352,67 +352,67 @@ only_one : (o : Option ℕ) (x : Process) (q : ℕ) → among q x.links ≡ fals
 only_one None x q none h = let no : false ≡ true = sym none ∙ h in cc
 only_one (Some c) x q none h = ⊎_elim (λ t. let no : false ≡ true = sym none ∙ t in cc) (λ e. ap (λ n. Some n) (sym e)) (linked_among q c x.links h)
 
-newborn_holds : (image : Loaded) (p : ℕ) (birth : Birth) (q : ℕ) → holds q (Some (Live (newborn image p birth))) ≡ true → (birth.linked ≡ true) × (q ≡ p)
-newborn_holds image p birth q h =
-    other_of birth.linked p q (only_one (other_if birth.linked p) (born (export image birth.«module» birth.function (length birth.arguments)) birth.arguments) q refl h)
+new_child_holds : (image : Loaded) (p : ℕ) (spawn : SpawnRequest) (q : ℕ) → holds q (Some (Live (new_child image p spawn))) ≡ true → (spawn.linked ≡ true) × (q ≡ p)
+new_child_holds image p spawn q h =
+    other_of spawn.linked p q (only_one (other_if spawn.linked p) (new_process (export image spawn.«module» spawn.function (length spawn.arguments)) spawn.arguments) q refl h)
 
 -- by a spawn: a child is linked to its parent, and the parent to its child
-abbrev ByBirth : ℕ → ℕ → Birth → ℕ → ℕ → Type 0
-ByBirth p n birth k q = (birth.linked ≡ true) × (((p ≡ k) × (q ≡ n)) ⊎ ((p ≡ q) × (k ≡ n)))
+abbrev BySpawn : ℕ → ℕ → SpawnRequest → ℕ → ℕ → Type 0
+BySpawn p n spawn k q = (spawn.linked ≡ true) × (((p ≡ k) × (q ≡ n)) ⊎ ((p ≡ q) × (k ≡ n)))
 
 weaker : (R S : ℕ → ℕ → Type 0) (lives : List Life) (r : Result Among Fault) → ((k q : ℕ) → R k q → S k q) → AmongGains R lives r → AmongGains S lives r
 weaker R S lives (Ok (w, turn)) more h = λ k q is. ⊎_elim (λ t. inl t) (λ e. inr (more k q e)) (h k q is)
 weaker R S lives (Err fault) more h = tt
 
-module _ (image : Loaded) (p : ℕ) (birth : Birth) (lives : List Life) where
+module _ (image : Loaded) (p : ℕ) (spawn : SpawnRequest) (lives : List Life) where
   abbrev one : Life
-  one = Live (newborn image p birth)
+  one = Live (new_child image p spawn)
 
   -- the parent's answer, beside what the child began with
-  grown_by : (w : List Life) → Gains (At p (λ q. other_if birth.linked (length lives) ≡ Some q)) (lives ++ one ∷ []) w → Gains (ByBirth p (length lives) birth) lives w
+  grown_by : (w : List Life) → Gains (At p (λ q. other_if spawn.linked (length lives) ≡ Some q)) (lives ++ one ∷ []) w → Gains (BySpawn p (length lives) spawn) lives w
   grown_by w h k q is = ⊎_elim was entered (h k q is)
     where
-      child : (k ≡ length lives) × (holds q (Some one) ≡ true) → (is_linked lives k q ≡ true) ⊎ ByBirth p (length lives) birth k q
-      child t = let of = newborn_holds image p birth q t.1 in inr (of.0, inr (sym of.1, t.0))
+      child : (k ≡ length lives) × (holds q (Some one) ≡ true) → (is_linked lives k q ≡ true) ⊎ BySpawn p (length lives) spawn k q
+      child t = let of = new_child_holds image p spawn q t.1 in inr (of.0, inr (sym of.1, t.0))
 
-      was : is_linked (lives ++ one ∷ []) k q ≡ true → (is_linked lives k q ≡ true) ⊎ ByBirth p (length lives) birth k q
+      was : is_linked (lives ++ one ∷ []) k q ≡ true → (is_linked lives k q ≡ true) ⊎ BySpawn p (length lives) spawn k q
       was t = ⊎_elim (λ u. inl u) child (appended lives one k q t)
 
-      entered : At p (λ q. other_if birth.linked (length lives) ≡ Some q) k q → (is_linked lives k q ≡ true) ⊎ ByBirth p (length lives) birth k q
-      entered t = let of = other_of birth.linked (length lives) q t.1 in inr (of.0, inl (t.0, of.1))
+      entered : At p (λ q. other_if spawn.linked (length lives) ≡ Some q) k q → (is_linked lives k q ≡ true) ⊎ BySpawn p (length lives) spawn k q
+      entered t = let of = other_of spawn.linked (length lives) q t.1 in inr (of.0, inl (t.0, of.1))
 
-  unborn_gains : (l : Lanes) (r : Result Among Fault) → AmongGains (At p (λ q. other_if birth.linked (length lives) ≡ Some q)) (lives ++ one ∷ []) r
-      → AmongGains (ByBirth p (length lives) birth) lives (unborn_at_trap lives l r)
-  unborn_gains l (Ok (w, turns.Ran)) h = grown_by w.0 h
-  unborn_gains l (Ok (w, turns.Ended reason)) h = grown_by w.0 h
-  unborn_gains l (Ok (w, turns.Trapped kind)) h = unchanged (ByBirth p (length lives) birth) lives
-  unborn_gains l (Ok (w, turns.Bears other)) h = grown_by w.0 h
-  unborn_gains l (Err fault) h = tt
+  childless_gains : (l : Lanes) (r : Result Among Fault) → AmongGains (At p (λ q. other_if spawn.linked (length lives) ≡ Some q)) (lives ++ one ∷ []) r
+      → AmongGains (BySpawn p (length lives) spawn) lives (childless_at_trap lives l r)
+  childless_gains l (Ok (w, turns.Ran)) h = grown_by w.0 h
+  childless_gains l (Ok (w, turns.Ended reason)) h = grown_by w.0 h
+  childless_gains l (Ok (w, turns.Trapped kind)) h = unchanged (BySpawn p (length lives) spawn) lives
+  childless_gains l (Ok (w, turns.Spawns other)) h = grown_by w.0 h
+  childless_gains l (Err fault) h = tt
 
-  none_enters : (k q : ℕ) → At p (λ q. None ≡ Some q) k q → ByBirth p (length lives) birth k q
+  none_enters : (k q : ℕ) → At p (λ q. None ≡ Some q) k q → BySpawn p (length lives) spawn k q
   none_enters k q t = let no : ◌≡◌ {A = Option ℕ} None (Some q) = t.1 in cc
 
-  either_gains : (b : Bool) (r s : Result Among Fault) → AmongGains (ByBirth p (length lives) birth) lives r → AmongGains (ByBirth p (length lives) birth) lives s
-      → AmongGains (ByBirth p (length lives) birth) lives (if b then r else s)
+  either_gains : (b : Bool) (r s : Result Among Fault) → AmongGains (BySpawn p (length lives) spawn) lives r → AmongGains (BySpawn p (length lives) spawn) lives s
+      → AmongGains (BySpawn p (length lives) spawn) lives (if b then r else s)
   either_gains true r s h k = h
   either_gains false r s h k = k
 
-  born_gains : (l : Lanes) → AmongGains (ByBirth p (length lives) birth) lives (lives_born image p birth l lives)
-  born_gains l =
-      let child = other_if birth.linked (length lives) in
+  spawned_gains : (l : Lanes) → AmongGains (BySpawn p (length lives) spawn) lives (lives_spawned image p spawn l lives)
+  spawned_gains l =
+      let child = other_if spawn.linked (length lives) in
       let value = answers.Value (pid (length lives)) in
       let grown = lives ++ one ∷ [] in
-      either_gains (past_limits birth lives) (lives_answered image p None system_limit l lives) (lives_grown image p birth l lives)
-      (weaker (At p (λ q. None ≡ Some q)) (ByBirth p (length lives) birth) lives (lives_answered image p None system_limit l lives) none_enters
+      either_gains (past_limits spawn lives) (lives_answered image p None system_limit l lives) (lives_with_child image p spawn l lives)
+      (weaker (At p (λ q. None ≡ Some q)) (BySpawn p (length lives) spawn) lives (lives_answered image p None system_limit l lives) none_enters
       (answered_gains image p None system_limit l lives (slice_get lives p) refl))
-      (unborn_gains l (lives_answered image p child value l grown) (answered_gains image p child value l grown (slice_get grown p) refl))
+      (childless_gains l (lives_answered image p child value l grown) (answered_gains image p child value l grown (slice_get grown p) refl))
 
 -- a run
 abbrev ByRun : ℕ → ℕ → Option Request → ℕ → ℕ → Type 0
-ByRun p n request k q = ((p ≡ k) × (request ≡ Some (requests.Link q))) ⊎ (BearsLinked request × (((p ≡ k) × (q ≡ n)) ⊎ ((p ≡ q) × (k ≡ n))))
+ByRun p n request k q = ((p ≡ k) × (request ≡ Some (requests.Link q))) ⊎ (SpawnsLinked request × (((p ≡ k) × (q ≡ n)) ⊎ ((p ≡ q) × (k ≡ n))))
 
-linked_birth : (request : Option Request) (birth : Birth) → request ≡ Some (requests.Spawn birth) → birth.linked ≡ true → BearsLinked request
-linked_birth request birth is h = subst BearsLinked (sym is) h
+linked_spawn : (request : Option Request) (spawn : SpawnRequest) → request ≡ Some (requests.Spawn spawn) → spawn.linked ≡ true → SpawnsLinked request
+linked_spawn request spawn is h = subst SpawnsLinked (sym is) h
 
 module _ (image : Loaded) (p : ℕ) (l : Lanes) (lives : List Life) (x : Process) (request : Option Request) (at : slice_get lives p ≡ Some (Live x)) where
   abbrev Reason : ℕ → ℕ → Type 0
@@ -424,32 +424,32 @@ module _ (image : Loaded) (p : ℕ) (l : Lanes) (lives : List Life) (x : Process
   by_itself : (after : List Life) → Gains (At p Own) lives after → Gains Reason lives after
   by_itself after h k q is = ⊎_elim (λ t. inl t) (λ e. inr (inl e)) (h k q is)
 
-  by_birth : (birth : Birth) → request ≡ Some (requests.Spawn birth) → (k q : ℕ) → ByBirth p (length lives) birth k q → Reason k q
-  by_birth birth asked k q t = inr (linked_birth request birth asked t.0, t.1)
+  by_spawn : (spawn : SpawnRequest) → request ≡ Some (requests.Spawn spawn) → (k q : ℕ) → BySpawn p (length lives) spawn k q → Reason k q
+  by_spawn spawn asked k q t = inr (linked_spawn request spawn asked t.0, t.1)
 
-  bearing_gains : (birth : Birth) → request ≡ Some (requests.Spawn birth) → AmongGains Reason lives (lives_born image p birth l lives)
-  bearing_gains birth asked = weaker (ByBirth p (length lives) birth) Reason lives (lives_born image p birth l lives) (by_birth birth asked) (born_gains image p birth lives l)
+  spawning_gains : (spawn : SpawnRequest) → request ≡ Some (requests.Spawn spawn) → AmongGains Reason lives (lives_spawned image p spawn l lives)
+  spawning_gains spawn asked = weaker (BySpawn p (length lives) spawn) Reason lives (lives_spawned image p spawn l lives) (by_spawn spawn asked) (spawned_gains image p spawn lives l)
 
   as_it_was : (w : Process × Lanes) → w ≡ (x, l) → ◌≡◌ {A = List Life × Lanes} (slice_set lives p (Live w.0), w.1) (lives, l)
   as_it_was w same = ap (λ (v : Process × Lanes). (slice_set lives p (Live v.0), v.1)) same ∙ ap (λ (more : List Life). (more, l)) (keeping.set_back lives p (Live x) at)
 
-  run_gains : (d : Done) → DoneGrows Own x d → Kept (x, l) d → DoneBears request d → AmongGains Reason lives (born_too image p (put_back p lives (Ok (lived d))))
+  run_gains : (d : Done) → DoneGrows Own x d → Kept (x, l) d → DoneSpawns request d → AmongGains Reason lives (spawned_too image p (put_back p lives (Ok (lived d))))
   run_gains (w, turns.Ran) h kept asked = by_itself (slice_set lives p (Live w.0)) (ran_gains p Own lives x w at h)
-  run_gains (w, turns.Ended reason) h kept asked = by_itself (slice_set lives p (Gone reason)) (ended_gains p Own lives (Live x) reason at)
+  run_gains (w, turns.Ended reason) h kept asked = by_itself (slice_set lives p (Exited reason)) (ended_gains p Own lives (Live x) reason at)
   run_gains (w, turns.Trapped kind) h kept asked = by_itself (slice_set lives p (Live w.0)) (ran_gains p Own lives x w at h)
-  run_gains (w, turns.Bears birth) h kept asked =
-      subst (λ (v : List Life × Lanes). AmongGains Reason lives (lives_born image p birth v.1 v.0)) (sym (as_it_was w kept)) (bearing_gains birth asked)
+  run_gains (w, turns.Spawns spawn) h kept asked =
+      subst (λ (v : List Life × Lanes). AmongGains Reason lives (lives_spawned image p spawn v.1 v.0)) (sym (as_it_was w kept)) (spawning_gains spawn asked)
 
-  able_gains : (b : Bool) (d : Done) → DoneGrows Own x d → Kept (x, l) d → DoneBears request d → AmongGains Reason lives (born_too image p (put_back p lives (if b then Ok (lived d) else Err NotEnabled)))
+  able_gains : (b : Bool) (d : Done) → DoneGrows Own x d → Kept (x, l) d → DoneSpawns request d → AmongGains Reason lives (spawned_too image p (put_back p lives (if b then Ok (lived d) else Err NotEnabled)))
   able_gains true d h kept asked = run_gains d h kept asked
   able_gains false d h kept asked = tt
 
 lives_run_gains : (image : Loaded) (p : ℕ) (l : Lanes) (lives : List Life) (o : Option Life) → slice_get lives p ≡ o
-    → AmongGains (ByRun p (length lives) (request_of image p o)) lives (born_too image p (at_life (life_run image p l) p lives o))
+    → AmongGains (ByRun p (length lives) (request_of image p o)) lives (spawned_too image p (at_life (life_run image p l) p lives o))
 lives_run_gains image p l lives None at = tt
-lives_run_gains image p l lives (Some (Gone reason)) at = tt
+lives_run_gains image p l lives (Some (Exited reason)) at = tt
 lives_run_gains image p l lives (Some (Live x)) at =
-    able_gains image p l lives x (request_in (attempted image p x).1) at (can_run x) (runs image p l x) (runs_grows image p l x) (runs_kept image p l x) (runs_bears image p l x)
+    able_gains image p l lives x (request_in (attempted image p x).1) at (can_run x) (runs image p l x) (runs_grows image p l x) (runs_kept image p l x) (runs_spawns image p l x)
 
 -- a signal
 abbrev Told : Option Signal → ℕ → ℕ → Type 0
@@ -487,9 +487,9 @@ module _ (p r : ℕ) where
   heard_gains E lives x (Ok d) at h = lived_gains r E lives x d at h
   heard_gains E lives x (Err fault) at h = tt
 
-  gone_gains : (E : ℕ → Type 0) (lives : List Life) (reason : Tree) (d : Result (Lanes × Unit {0}) Fault) → slice_get lives r ≡ Some (Gone reason) → AmongGains (At r E) lives (put_back r lives (gone_if reason d))
-  gone_gains E lives reason (Ok done) at = ended_gains r E lives (Gone reason) reason at
-  gone_gains E lives reason (Err fault) at = tt
+  exited_gains : (E : ℕ → Type 0) (lives : List Life) (reason : Tree) (d : Result (Lanes × Unit {0}) Fault) → slice_get lives r ≡ Some (Exited reason) → AmongGains (At r E) lives (put_back r lives (exited_if reason d))
+  exited_gains E lives reason (Ok done) at = ended_gains r E lives (Exited reason) reason at
+  exited_gains E lives reason (Err fault) at = tt
 
   lost_gains : (E : ℕ → Type 0) (lives : List Life) (d : Result (Lanes × Unit {0}) Fault) → AmongGains (At r E) lives (lost_if lives d)
   lost_gains E lives (Ok done) = unchanged (At r E) lives
@@ -497,7 +497,7 @@ module _ (p r : ℕ) where
 
   told_gains : (l : Lanes) (lives : List Life) (o : Option Life) → slice_get lives r ≡ o → AmongGains (At r (Told (first (waiting l.channels (p, r))) p)) lives (told_at p r l lives o)
   told_gains l lives None at = lost_gains (Told (first (waiting l.channels (p, r))) p) lives (lost p r l (first (waiting l.channels (p, r))))
-  told_gains l lives (Some (Gone reason)) at = gone_gains (Told (first (waiting l.channels (p, r))) p) lives reason (gone_received p r l) at
+  told_gains l lives (Some (Exited reason)) at = exited_gains (Told (first (waiting l.channels (p, r))) p) lives reason (exited_received p r l) at
   told_gains l lives (Some (Live x)) at =
       heard_gains (Told (first (waiting l.channels (p, r))) p) lives x (received p r x l) at (heard_grows x l (first (waiting l.channels (p, r))))
 
@@ -516,7 +516,7 @@ expire_gains p l lives x false at = tt
 
 expired_gains : (p : ℕ) (l : Lanes) (lives : List Life) (o : Option Life) → slice_get lives p ≡ o → AmongGains (At p Never) lives (at_life (life_expired l) p lives o)
 expired_gains p l lives None at = tt
-expired_gains p l lives (Some (Gone reason)) at = tt
+expired_gains p l lives (Some (Exited reason)) at = tt
 expired_gains p l lives (Some (Live x)) at = expire_gains p l lives x (can_expire x) at
 
 -- a choice

@@ -8,7 +8,7 @@ use Rattle.bx_world.specs.declared.turns.Turn.{Turn}
 use Rattle.bx_world.specs.declared.turns.Turn.TheVariants as turns
 use Rattle.bx_world.specs.World.{Life}
 use Rattle.bx_world.specs.Lifetimes.{Among}
-use Rattle.bx_world.specs.Births.{unborn_at_trap}
+use Rattle.bx_world.specs.Spawning.{childless_at_trap}
 use Rattle.bx_world.proofs.Keeping.{AmongKept}
 use Rattle.bx_world.proofs.Undoing.{front_last}
 
@@ -16,18 +16,18 @@ pub popped : (lives pushed after : List Life) (one : Life) → pushed ≡ lives 
 popped lives pushed after one is same = ap front (same ∙ is) ∙ front_last lives one
 
 pub grown_trapped : (lives pushed after : List Life) (one : Life) (l n : Lanes) (kind : Trap) (r : Result Among Fault) → pushed ≡ lives ++ one ∷ [] → AmongKept (pushed, l) r → r ≡ Ok ((after, n), turns.Trapped kind)
-    → unborn_at_trap lives l r ≡ Ok ((front after, n), turns.Trapped kind)
+    → childless_at_trap lives l r ≡ Ok ((front after, n), turns.Trapped kind)
 grown_trapped lives pushed after one l n kind r is kept said =
     let same : (after, n) ≡ (pushed, l) = subst (AmongKept (pushed, l)) said kept in
     let first : front after ≡ lives = popped lives pushed after one is (ap (λ (v : List Life × Lanes). v.0) same) in
     let second : n ≡ l = ap (λ (v : List Life × Lanes). v.1) same in
-    ap (unborn_at_trap lives l) said ∙ (λ i. Ok ((sym first i, sym second i), turns.Trapped kind))
+    ap (childless_at_trap lives l) said ∙ (λ i. Ok ((sym first i, sym second i), turns.Trapped kind))
 
-standing : (lives : List Life) (l : Lanes) (w : List Life × Lanes) (turn : Turn) → ((kind : Trap) → turn ≢ turns.Trapped kind) → unborn_at_trap lives l (Ok (w, turn)) ≡ Ok (w, turn)
+standing : (lives : List Life) (l : Lanes) (w : List Life × Lanes) (turn : Turn) → ((kind : Trap) → turn ≢ turns.Trapped kind) → childless_at_trap lives l (Ok (w, turn)) ≡ Ok (w, turn)
 standing lives l w turns.Ran free = refl
 standing lives l w (turns.Ended reason) free = refl
 standing lives l w (turns.Trapped kind) free = absurd (free kind refl)
-standing lives l w (turns.Bears birth) free = refl
+standing lives l w (turns.Spawns spawn) free = refl
 
-pub grown_stands : (lives : List Life) (l : Lanes) (w : List Life × Lanes) (turn : Turn) (r : Result Among Fault) → ((kind : Trap) → turn ≢ turns.Trapped kind) → r ≡ Ok (w, turn) → unborn_at_trap lives l r ≡ Ok (w, turn)
-grown_stands lives l w turn r free said = ap (unborn_at_trap lives l) said ∙ standing lives l w turn free
+pub grown_stands : (lives : List Life) (l : Lanes) (w : List Life × Lanes) (turn : Turn) (r : Result Among Fault) → ((kind : Trap) → turn ≢ turns.Trapped kind) → r ≡ Ok (w, turn) → childless_at_trap lives l r ≡ Ok (w, turn)
+grown_stands lives l w turn r free said = ap (childless_at_trap lives l) said ∙ standing lives l w turn free

@@ -26,43 +26,43 @@ use Rattle.bx_world.specs.declared.requests.Request.{Request}
 use Rattle.bx_world.specs.declared.requests.Request.TheVariants as requests
 use Rattle.bx_world.specs.declared.turns.Turn.{Turn}
 use Rattle.bx_world.specs.declared.turns.Turn.TheVariants as turns
-use Rattle.bx_world.specs.World.{Life, Live, Gone}
+use Rattle.bx_world.specs.World.{Life, Live, Exited}
 use Rattle.bx_world.specs.Sharing.{telling, hearing, showing}
 use Rattle.bx_world.specs.Requests.{requested}
 use Rattle.bx_world.specs.Asking.{Done, whole, closing, leaving, yes, badarg, exit_message, is_kill, is_normal, low_enough, noted, exiting_oneself, unlinked_done, done_by}
 use Rattle.bx_world.specs.Turning.{turned, runs}
-use Rattle.bx_world.specs.Delivering.{messaged, ending, exiting, heard, received, gone_received, lost}
-use Rattle.bx_world.specs.Lifetimes.{Lived, Among, lived, lived_if, gone_if, life_run, life_told, put_back, at_life, lives_run, lost_if, told_at, lives_told}
-use Rattle.bx_world.specs.Births.{answering, life_answered, lives_answered, linked_to}
+use Rattle.bx_world.specs.Delivering.{messaged, ending, exiting, heard, received, exited_received, lost}
+use Rattle.bx_world.specs.Lifetimes.{Lived, Among, lived, lived_if, exited_if, life_run, life_told, put_back, at_life, lives_run, lost_if, told_at, lives_told}
+use Rattle.bx_world.specs.Spawning.{answering, life_answered, lives_answered, linked_to}
 
 -- a trap and a spawn that is asked for leave both as they were
 abbrev pub Kept : Process × Lanes → Done → Type 0
 Kept before (after, turns.Ran) = Unit {0}
 Kept before (after, turns.Ended reason) = Unit {0}
 Kept before (after, turns.Trapped kind) = after ≡ before
-Kept before (after, turns.Bears birth) = after ≡ before
+Kept before (after, turns.Spawns spawn) = after ≡ before
 
-abbrev bears : Turn → Bool
-bears turns.Ran = false
-bears (turns.Ended reason) = false
-bears (turns.Trapped kind) = false
-bears (turns.Bears birth) = true
+abbrev spawns : Turn → Bool
+spawns turns.Ran = false
+spawns (turns.Ended reason) = false
+spawns (turns.Trapped kind) = false
+spawns (turns.Spawns spawn) = true
 
-closing_bears : (p : ℕ) (l : Lanes) (x : Process) (e : Effect) → bears (closing p l (x, e)).1 ≡ false
-closing_bears p l x effects.Ran = refl
-closing_bears p l x (effects.Ended reason) = refl
-closing_bears p l x (effects.Trap kind) = refl
-closing_bears p l x (effects.Send to m) = refl
-closing_bears p l x (effects.Ask n ts) = refl
+closing_spawns : (p : ℕ) (l : Lanes) (x : Process) (e : Effect) → spawns (closing p l (x, e)).1 ≡ false
+closing_spawns p l x effects.Ran = refl
+closing_spawns p l x (effects.Ended reason) = refl
+closing_spawns p l x (effects.Trap kind) = refl
+closing_spawns p l x (effects.Send to m) = refl
+closing_spawns p l x (effects.Ask n ts) = refl
 
-whole_by : (before after : Process × Lanes) (turn : Turn) → bears turn ≡ false → Kept before (whole before (after, turn))
+whole_by : (before after : Process × Lanes) (turn : Turn) → spawns turn ≡ false → Kept before (whole before (after, turn))
 whole_by before after turns.Ran free = tt
 whole_by before after (turns.Ended reason) free = tt
 whole_by before after (turns.Trapped kind) free = refl
-whole_by before after (turns.Bears birth) free = let no : true ≡ false = free in cc
+whole_by before after (turns.Spawns spawn) free = let no : true ≡ false = free in cc
 
 pub closing_kept : (before : Process × Lanes) (p : ℕ) (l : Lanes) (d : Process × Effect) → Kept before (whole before (closing p l d))
-closing_kept before p l d = whole_by before (closing p l d).0 (closing p l d).1 (closing_bears p l d.0 d.1)
+closing_kept before p l d = whole_by before (closing p l d).0 (closing p l d).1 (closing_spawns p l d.0 d.1)
 
 either : (before : Process × Lanes) (b : Bool) (d e : Done) → Kept before (whole before d) → Kept before (whole before e) → Kept before (whole before (if b then d else e))
 either before true d e h k = h
@@ -96,7 +96,7 @@ doing_kept image p (requests.Unlink q) x l =
     either (x, l) ((q == p) || not (among q x.links)) (closing p l (settled image yes x)) (closing p tell (unlinked_done q (settled image yes x)))
     (closing_kept (x, l) p l (settled image yes x)) (closing_kept (x, l) p tell (unlinked_done q (settled image yes x)))
 doing_kept image p (requests.Display term) x l = closing_kept (x, l) p (showing p term l) (settled image yes x)
-doing_kept image p (requests.Spawn birth) x l = refl
+doing_kept image p (requests.Spawn spawn) x l = refl
 
 turned_kept : (image : Loaded) (p : ℕ) (l : Lanes) (x y : Process) (e : Effect) → Kept (x, l) (turned image p l x (y, e))
 turned_kept image p l x y effects.Ran = tt
@@ -143,22 +143,22 @@ abbrev pub LifeKept : Life × Lanes → Result Lived Fault → Type 0
 LifeKept before (Ok (after, turns.Ran)) = Unit {0}
 LifeKept before (Ok (after, turns.Ended reason)) = Unit {0}
 LifeKept before (Ok (after, turns.Trapped kind)) = after ≡ before
-LifeKept before (Ok (after, turns.Bears birth)) = after ≡ before
+LifeKept before (Ok (after, turns.Spawns spawn)) = after ≡ before
 LifeKept before (Err fault) = Unit {0}
 
 lived_kept : (x : Process) (l : Lanes) (w : Process × Lanes) (turn : Turn) → Kept (x, l) (w, turn) → LifeKept (Live x, l) (Ok (lived (w, turn)))
 lived_kept x l w turns.Ran h = tt
 lived_kept x l w (turns.Ended reason) h = tt
 lived_kept x l w (turns.Trapped kind) h = ap (λ (v : Process × Lanes). (Live v.0, v.1)) h
-lived_kept x l w (turns.Bears birth) h = ap (λ (v : Process × Lanes). (Live v.0, v.1)) h
+lived_kept x l w (turns.Spawns spawn) h = ap (λ (v : Process × Lanes). (Live v.0, v.1)) h
 
 lived_if_kept : (x : Process) (l : Lanes) (r : Result Done Fault) → KeptIf (x, l) r → LifeKept (Live x, l) (lived_if r)
 lived_if_kept x l (Ok (w, turn)) h = lived_kept x l w turn h
 lived_if_kept x l (Err fault) h = tt
 
-gone_if_kept : (reason : Tree) (l : Lanes) (r : Result (Lanes × Unit {0}) Fault) → LifeKept (Gone reason, l) (gone_if reason r)
-gone_if_kept reason l (Ok done) = tt
-gone_if_kept reason l (Err fault) = tt
+exited_if_kept : (reason : Tree) (l : Lanes) (r : Result (Lanes × Unit {0}) Fault) → LifeKept (Exited reason, l) (exited_if reason r)
+exited_if_kept reason l (Ok done) = tt
+exited_if_kept reason l (Err fault) = tt
 
 able_kept : (x : Process) (l : Lanes) (b : Bool) (d : Done) → Kept (x, l) d → LifeKept (Live x, l) (if b then Ok (lived d) else Err NotEnabled)
 able_kept x l true d h = lived_kept x l d.0 d.1 h
@@ -166,23 +166,23 @@ able_kept x l false d h = tt
 
 pub run_kept : (image : Loaded) (p : ℕ) (l : Lanes) (one : Life) → LifeKept (one, l) (life_run image p l one)
 run_kept image p l (Live x) = able_kept x l (can_run x) (runs image p l x) (runs_kept image p l x)
-run_kept image p l (Gone reason) = tt
+run_kept image p l (Exited reason) = tt
 
 pub told_kept : (p q : ℕ) (l : Lanes) (one : Life) → LifeKept (one, l) (life_told p q l one)
 told_kept p q l (Live x) = lived_if_kept x l (received p q x l) (heard_kept p q x l (first (waiting l.channels (p, q))))
-told_kept p q l (Gone reason) = gone_if_kept reason l (gone_received p q l)
+told_kept p q l (Exited reason) = exited_if_kept reason l (exited_received p q l)
 
 pub answered_kept : (image : Loaded) (p : ℕ) (child : Option ℕ) (a : Answer) (l : Lanes) (one : Life) → LifeKept (one, l) (life_answered image p child a l one)
 answered_kept image p child a l (Live x) =
     let done = answering image p child a x l in lived_kept x l done.0 done.1 (closing_kept (x, l) p l (settled image a (linked_to child x)))
-answered_kept image p child a l (Gone reason) = tt
+answered_kept image p child a l (Exited reason) = tt
 
 -- among the others
 abbrev pub AmongKept : List Life × Lanes → Result Among Fault → Type 0
 AmongKept before (Ok (after, turns.Ran)) = Unit {0}
 AmongKept before (Ok (after, turns.Ended reason)) = Unit {0}
 AmongKept before (Ok (after, turns.Trapped kind)) = after ≡ before
-AmongKept before (Ok (after, turns.Bears birth)) = after ≡ before
+AmongKept before (Ok (after, turns.Spawns spawn)) = after ≡ before
 AmongKept before (Err fault) = Unit {0}
 
 -- what stood at a place, put there again
@@ -196,7 +196,7 @@ put_back_kept : (p : ℕ) (lives : List Life) (one : Life) (l : Lanes) (r : Resu
 put_back_kept p lives one l (Ok (after, turns.Ran)) at h = tt
 put_back_kept p lives one l (Ok (after, turns.Ended reason)) at h = tt
 put_back_kept p lives one l (Ok (after, turns.Trapped kind)) at h = back p lives one l after at h
-put_back_kept p lives one l (Ok (after, turns.Bears birth)) at h = back p lives one l after at h
+put_back_kept p lives one l (Ok (after, turns.Spawns spawn)) at h = back p lives one l after at h
 put_back_kept p lives one l (Err fault) at h = tt
 
 at_life_kept : (does : Life → Result Lived Fault) (p : ℕ) (lives : List Life) (l : Lanes) (o : Option Life) → slice_get lives p ≡ o → ((one : Life) → LifeKept (one, l) (does one)) → AmongKept (lives, l) (at_life does p lives o)

@@ -13,12 +13,12 @@ use Rattle.bx_world.specs.declared.turns.Turn.TheVariants as turns
 use Rattle.bx_proc.specs.Process.{can_expire}
 use Rattle.bx_proc.specs.Signals.{expired}
 use Rattle.bx_proc.specs.declared.parts.Answer.TheVariants.{Value}
-use Rattle.bx_world.specs.declared.requests.Birth.{Birth}
-use Rattle.bx_world.specs.World.{Life, Live, Gone, State}
+use Rattle.bx_world.specs.declared.requests.SpawnRequest.{SpawnRequest}
+use Rattle.bx_world.specs.World.{Life, Live, Exited, State}
 use Rattle.bx_world.specs.Enabled.{open_choices, unless_trapped, enabled, can, actor}
 use Rattle.bx_world.specs.Lifetimes.{Among, at_life, put_back, life_expired, lives_run, lives_told}
-use Rattle.bx_world.specs.Births.{past_limits, system_limit, other_if, newborn, lives_answered, unborn_at_trap, lives_grown, lives_born}
-use Rattle.bx_world.specs.Choosing.{born_too, made, made_or, chosen}
+use Rattle.bx_world.specs.Spawning.{past_limits, system_limit, other_if, new_child, lives_answered, childless_at_trap, lives_with_child, lives_spawned}
+use Rattle.bx_world.specs.Choosing.{spawned_too, made, made_or, chosen}
 use Rattle.bx_world.specs.Running.{Ended, tried, advanced, ran}
 use Rattle.bx_world.proofs.Keeping.{AmongKept, lives_run_kept, lives_told_kept, lives_answered_kept}
 
@@ -34,43 +34,43 @@ abbrev TrapKept : List Life × Lanes → Result Among Fault → Type 0
 TrapKept before (Ok (after, turns.Ran)) = Unit {0}
 TrapKept before (Ok (after, turns.Ended reason)) = Unit {0}
 TrapKept before (Ok (after, turns.Trapped kind)) = after ≡ before
-TrapKept before (Ok (after, turns.Bears birth)) = Unit {0}
+TrapKept before (Ok (after, turns.Spawns spawn)) = Unit {0}
 TrapKept before (Err fault) = Unit {0}
 
 at_trap : (before : List Life × Lanes) (r : Result Among Fault) → AmongKept before r → TrapKept before r
 at_trap before (Ok (after, turns.Ran)) h = tt
 at_trap before (Ok (after, turns.Ended reason)) h = tt
 at_trap before (Ok (after, turns.Trapped kind)) h = h
-at_trap before (Ok (after, turns.Bears birth)) h = tt
+at_trap before (Ok (after, turns.Spawns spawn)) h = tt
 at_trap before (Err fault) h = tt
 
-unborn_kept : (lives : List Life) (l : Lanes) (r : Result Among Fault) → TrapKept (lives, l) (unborn_at_trap lives l r)
-unborn_kept lives l (Ok (after, turns.Ran)) = tt
-unborn_kept lives l (Ok (after, turns.Ended reason)) = tt
-unborn_kept lives l (Ok (after, turns.Trapped kind)) = refl
-unborn_kept lives l (Ok (after, turns.Bears birth)) = tt
-unborn_kept lives l (Err fault) = tt
+childless_kept : (lives : List Life) (l : Lanes) (r : Result Among Fault) → TrapKept (lives, l) (childless_at_trap lives l r)
+childless_kept lives l (Ok (after, turns.Ran)) = tt
+childless_kept lives l (Ok (after, turns.Ended reason)) = tt
+childless_kept lives l (Ok (after, turns.Trapped kind)) = refl
+childless_kept lives l (Ok (after, turns.Spawns spawn)) = tt
+childless_kept lives l (Err fault) = tt
 
 either_kept : (before : List Life × Lanes) (b : Bool) (r s : Result Among Fault) → TrapKept before r → TrapKept before s → TrapKept before (if b then r else s)
 either_kept before true r s h k = h
 either_kept before false r s h k = k
 
-born_kept : (image : Loaded) (p : ℕ) (birth : Birth) (l : Lanes) (lives : List Life) → TrapKept (lives, l) (lives_born image p birth l lives)
-born_kept image p birth l lives =
-    either_kept (lives, l) (past_limits birth lives) (lives_answered image p None system_limit l lives) (lives_grown image p birth l lives)
+spawned_kept : (image : Loaded) (p : ℕ) (spawn : SpawnRequest) (l : Lanes) (lives : List Life) → TrapKept (lives, l) (lives_spawned image p spawn l lives)
+spawned_kept image p spawn l lives =
+    either_kept (lives, l) (past_limits spawn lives) (lives_answered image p None system_limit l lives) (lives_with_child image p spawn l lives)
     (at_trap (lives, l) (lives_answered image p None system_limit l lives) (lives_answered_kept image p None system_limit l lives))
-    (unborn_kept lives l (lives_answered image p (other_if birth.linked (length lives)) (Value (pid (length lives))) l (lives ++ Live (newborn image p birth) ∷ [])))
+    (childless_kept lives l (lives_answered image p (other_if spawn.linked (length lives)) (Value (pid (length lives))) l (lives ++ Live (new_child image p spawn) ∷ [])))
 
-too_kept : (image : Loaded) (p : ℕ) (l : Lanes) (lives : List Life) (r : Result Among Fault) → AmongKept (lives, l) r → TrapKept (lives, l) (born_too image p r)
+too_kept : (image : Loaded) (p : ℕ) (l : Lanes) (lives : List Life) (r : Result Among Fault) → AmongKept (lives, l) r → TrapKept (lives, l) (spawned_too image p r)
 too_kept image p l lives (Ok (after, turns.Ran)) h = tt
 too_kept image p l lives (Ok (after, turns.Ended reason)) h = tt
 too_kept image p l lives (Ok (after, turns.Trapped kind)) h = h
-too_kept image p l lives (Ok (after, turns.Bears birth)) h = subst (λ (v : List Life × Lanes). TrapKept (lives, l) (lives_born image p birth v.1 v.0)) (sym h) (born_kept image p birth l lives)
+too_kept image p l lives (Ok (after, turns.Spawns spawn)) h = subst (λ (v : List Life × Lanes). TrapKept (lives, l) (lives_spawned image p spawn v.1 v.0)) (sym h) (spawned_kept image p spawn l lives)
 too_kept image p l lives (Err fault) h = tt
 
 expired_kept : (before : List Life × Lanes) (p : ℕ) (l : Lanes) (lives : List Life) (o : Option Life) → TrapKept before (at_life (life_expired l) p lives o)
 expired_kept before p l lives None = tt
-expired_kept before p l lives (Some (Gone reason)) = tt
+expired_kept before p l lives (Some (Exited reason)) = tt
 expired_kept before p l lives (Some (Live x)) = go (can_expire x)
   where
     go : (b : Bool) → TrapKept before (put_back p lives (if b then Ok ((Live (expired x), l), turns.Ran) else Err NotEnabled))
@@ -86,7 +86,7 @@ trapped_alone : (p : ℕ) (w : State) (r : Result Among Fault) (trap : Trap × �
 trapped_alone p w (Ok (v, turns.Ran)) trap free h is = cc
 trapped_alone p w (Ok (v, turns.Ended reason)) trap free h is = cc
 trapped_alone p w (Ok (v, turns.Trapped kind)) trap free h is = ap (λ (u : List Life × Lanes). record { processes = u.0; lanes = u.1; trap = Some (kind, p) }) h ∙ ap (λ t. record w { trap = t }) is
-trapped_alone p w (Ok (v, turns.Bears birth)) trap free h is = cc
+trapped_alone p w (Ok (v, turns.Spawns spawn)) trap free h is = cc
 trapped_alone p w (Err fault) trap free h is = let no : None ≡ Some trap = sym free ∙ is in cc
 
 pub trap_alone : (image : Loaded) (choice : Choice) (w : State) (trap : Trap × ℕ) → w.trap ≡ None → (chosen image choice w).trap ≡ Some trap → chosen image choice w ≡ record w { trap = Some trap }

@@ -23,5 +23,5 @@ pub mod Alike
 pub mod Beside
 pub mod Commuting
 pub mod Orders
-pub mod Newborns
+pub mod Children
 pub mod Crossing

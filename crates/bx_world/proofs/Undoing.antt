@@ -85,7 +85,7 @@ standing : (before after : Process × Lanes) (turn : Turn) → ((kind : Trap) �
 standing before after turns.Ran free = refl
 standing before after (turns.Ended reason) free = refl
 standing before after (turns.Trapped kind) free = absurd (free kind refl)
-standing before after (turns.Bears birth) free = refl
+standing before after (turns.Spawns spawn) free = refl
 
 pub stood : (before after : Process × Lanes) (done : Done) (turn : Turn) → ((kind : Trap) → turn ≢ turns.Trapped kind) → ◌≡◌ {A = Answered} (Ok done) (Ok (after, turn)) → ◌≡◌ {A = Answered} (Ok (whole before done)) (Ok (after, turn))
 stood before after done turn free is = ap (λ (d : Done). Ok (whole before d)) (same_done done (after, turn) is) ∙ ap Ok (standing before after turn free)
@@ -96,7 +96,7 @@ rewhole b c (w, turns.Ran) after turn free is = is
 rewhole b c (w, turns.Ended reason) after turn free is = is
 rewhole b c (w, turns.Trapped kind) after turn free is =
     absurd (free kind (sym (ap (λ (d : Done). d.1) (same_done (whole b (w, turns.Trapped kind)) (after, turn) is))))
-rewhole b c (w, turns.Bears birth) after turn free is = is
+rewhole b c (w, turns.Spawns spawn) after turn free is = is
 
 -- a link that was entered is taken away again
 pub link_trapped : (q : ℕ) (x y : Process) (l m : Lanes) (d : Done) (kind : Trap) → IsRising x.links → among q x.links ≡ false
@@ -110,7 +110,7 @@ link_trapped q x y l m (w, turns.Trapped other) kind rising new is =
     λ i. Ok ((process i, lanes i), kinds i)
 link_trapped q x y l m (w, turns.Ran) kind rising new is = let e = ap (λ (d : Done). d.1) (same_done (w, turns.Ran) ((y, m), turns.Trapped kind) is) in let no : turns.Ran ≡ turns.Trapped kind = e in cc
 link_trapped q x y l m (w, turns.Ended reason) kind rising new is = let no : turns.Ended reason ≡ turns.Trapped kind = ap (λ (d : Done). d.1) (same_done (w, turns.Ended reason) ((y, m), turns.Trapped kind) is) in cc
-link_trapped q x y l m (w, turns.Bears birth) kind rising new is = let no : turns.Bears birth ≡ turns.Trapped kind = ap (λ (d : Done). d.1) (same_done (w, turns.Bears birth) ((y, m), turns.Trapped kind) is) in cc
+link_trapped q x y l m (w, turns.Spawns spawn) kind rising new is = let no : turns.Spawns spawn ≡ turns.Trapped kind = ap (λ (d : Done). d.1) (same_done (w, turns.Spawns spawn) ((y, m), turns.Trapped kind) is) in cc
 
 -- a signal that was put is taken back
 pub back_trapped : (p q : ℕ) (s : Signal) (x y : Process) (l m : Lanes) (d : Done) (kind : Trap)
@@ -124,7 +124,7 @@ back_trapped p q s x y l m (w, turns.Trapped other) kind is =
     λ i. Ok ((process i, lanes i), kinds i)
 back_trapped p q s x y l m (w, turns.Ran) kind is = let no : turns.Ran ≡ turns.Trapped kind = ap (λ (d : Done). d.1) (same_done (w, turns.Ran) ((y, m), turns.Trapped kind) is) in cc
 back_trapped p q s x y l m (w, turns.Ended reason) kind is = let no : turns.Ended reason ≡ turns.Trapped kind = ap (λ (d : Done). d.1) (same_done (w, turns.Ended reason) ((y, m), turns.Trapped kind) is) in cc
-back_trapped p q s x y l m (w, turns.Bears birth) kind is = let no : turns.Bears birth ≡ turns.Trapped kind = ap (λ (d : Done). d.1) (same_done (w, turns.Bears birth) ((y, m), turns.Trapped kind) is) in cc
+back_trapped p q s x y l m (w, turns.Spawns spawn) kind is = let no : turns.Spawns spawn ≡ turns.Trapped kind = ap (λ (d : Done). d.1) (same_done (w, turns.Spawns spawn) ((y, m), turns.Trapped kind) is) in cc
 
 -- a link that was entered is taken away, and nothing has changed
 pub unlinked_back : (q : ℕ) (x y : Process) (l m : Lanes) → IsRising x.links → among q x.links ≡ false → ◌≡◌ {A = Process × Lanes} (y, m) (with_link q x, l) → ◌≡◌ {A = Process × Lanes} (without_link q y, m) (x, l)

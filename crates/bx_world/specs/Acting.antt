@@ -15,10 +15,10 @@ use Rattle.bx_world.specs.declared.lanes.Lanes.{Lanes}
 use Rattle.bx_world.specs.declared.turns.Turn.TheVariants as turns
 use Rattle.bx_world.specs.World.{Life}
 use Rattle.bx_world.specs.Asking.{Done}
-use Rattle.bx_world.specs.Delivering.{received, gone_received, lost}
+use Rattle.bx_world.specs.Delivering.{received, exited_received, lost}
 use Rattle.bx_world.specs.Enabled.{may_at, may_expire}
 use Rattle.bx_world.specs.Lifetimes.{Lived, Among, life_told, life_expired, put_back, lost_if, Waits}
-use Rattle.bx_world.specs.Births.{answering, life_answered, other_if, system_limit}
+use Rattle.bx_world.specs.Spawning.{answering, life_answered, other_if, system_limit}
 
 -- a wait that can expire is over
 abbrev pub expiring : Lanes → Process → Result Done Fault
@@ -33,7 +33,7 @@ process_acted image p Unspawned lanes x = Ok (answering image p None system_limi
 
 -- where the process has ended, and where there is none of that pid, a signal is all that something can be done about
 abbrev pub exited_acted : Act → ℕ → Lanes → Result (Lanes × Unit {0}) Fault
-exited_acted (Hear q) p lanes = gone_received q p lanes
+exited_acted (Hear q) p lanes = exited_received q p lanes
 exited_acted act p lanes = Err NotEnabled
 
 abbrev pub missed : Act → ℕ → Lanes → Result (Lanes × Unit {0}) Fault

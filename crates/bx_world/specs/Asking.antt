@@ -21,7 +21,7 @@ use Rattle.bx_world.specs.declared.lanes.Lanes.{Lanes}
 use Rattle.bx_world.specs.declared.requests.Request.{Request}
 use Rattle.bx_world.specs.declared.requests.Request.TheVariants as requests
 use Rattle.bx_world.specs.declared.turns.Turn.{Turn}
-use Rattle.bx_world.specs.declared.turns.Turn.TheVariants.{Ran, Ended, Trapped, Bears}
+use Rattle.bx_world.specs.declared.turns.Turn.TheVariants.{Ran, Ended, Trapped, Spawns}
 use Rattle.bx_world.specs.Sharing.{telling, parting, showing}
 
 -- a process and the lanes, and what was done
@@ -33,7 +33,7 @@ abbrev pub whole : Process × Lanes → Done → Done
 whole before (after, Ran) = (after, Ran)
 whole before (after, Ended reason) = (after, Ended reason)
 whole before (after, Trapped kind) = (before, Trapped kind)
-whole before (after, Bears birth) = (after, Bears birth)
+whole before (after, Spawns spawn) = (after, Spawns spawn)
 
 -- an instruction that asked is done: the process goes on, or it ends and its links hear of it behind what the instruction itself sent
 abbrev pub closing : ℕ → Lanes → Process × Effect → Done
@@ -116,7 +116,7 @@ doing image p (requests.Exit q reason) x lanes = if q == p then exiting_oneself 
 doing image p (requests.Link q) x lanes = linking image p q x lanes
 doing image p (requests.Unlink q) x lanes = unlinking image p q x lanes
 doing image p (requests.Display term) x lanes = closing p (showing p term lanes) (settled image yes x)
-doing image p (requests.Spawn birth) x lanes = ((x, lanes), Bears birth)
+doing image p (requests.Spawn spawn) x lanes = ((x, lanes), Spawns spawn)
 
 abbrev pub done_by : Loaded → ℕ → Request → Process → Lanes → Done
 done_by image p request x lanes = whole (x, lanes) (doing image p request x lanes)

@@ -12,16 +12,16 @@ use Rattle.bx_world.specs.declared.turns.Turn.TheVariants as turns
 use Rattle.bx_world.specs.World.{Life, State}
 use Rattle.bx_world.specs.Enabled.{can, actor}
 use Rattle.bx_world.specs.Lifetimes.{Among, lives_run, lives_told, lives_expired}
-use Rattle.bx_world.specs.Births.{lives_born}
+use Rattle.bx_world.specs.Spawning.{lives_spawned}
 
 -- a run may ask for a spawn
-abbrev pub born_too : Loaded → ℕ → Result Among Fault → Result Among Fault
-born_too image p (Ok (w, turns.Bears birth)) = lives_born image p birth w.1 w.0
-born_too image p answer = answer
+abbrev pub spawned_too : Loaded → ℕ → Result Among Fault → Result Among Fault
+spawned_too image p (Ok (w, turns.Spawns spawn)) = lives_spawned image p spawn w.1 w.0
+spawned_too image p answer = answer
 
 -- a choice among the processes, beside the lanes
 abbrev pub made : Loaded → Choice → List Life → Lanes → Result Among Fault
-made image (Run p) lives lanes = born_too image p (lives_run image p lanes lives)
+made image (Run p) lives lanes = spawned_too image p (lives_run image p lanes lives)
 made image (Deliver p q) lives lanes = lives_told p q lanes lives
 made image (Expire p) lives lanes = lives_expired p lanes lives
 

@@ -53,13 +53,13 @@ abbrev pub received : ℕ → ℕ → Process → Lanes → Result Done Fault
 received p q x lanes = heard p q x lanes (first (waiting lanes.channels (p, q)))
 
 -- where q has ended, a link is answered by an exit signal, and all else is ignored
-abbrev pub gone_heard : ℕ → ℕ → Lanes → Option Signal → Result (Lanes × Unit {0}) Fault
-gone_heard p q lanes None = Err NotEnabled
-gone_heard p q lanes (Some Link) = Ok (hearing (p, q) (telling (q, p) (LinkExit (atom NOPROC.0)) lanes), tt)
-gone_heard p q lanes (Some signal) = Ok (hearing (p, q) lanes, tt)
+abbrev pub exited_heard : ℕ → ℕ → Lanes → Option Signal → Result (Lanes × Unit {0}) Fault
+exited_heard p q lanes None = Err NotEnabled
+exited_heard p q lanes (Some Link) = Ok (hearing (p, q) (telling (q, p) (LinkExit (atom NOPROC.0)) lanes), tt)
+exited_heard p q lanes (Some signal) = Ok (hearing (p, q) lanes, tt)
 
-abbrev pub gone_received : ℕ → ℕ → Lanes → Result (Lanes × Unit {0}) Fault
-gone_received p q lanes = gone_heard p q lanes (first (waiting lanes.channels (p, q)))
+abbrev pub exited_received : ℕ → ℕ → Lanes → Result (Lanes × Unit {0}) Fault
+exited_received p q lanes = exited_heard p q lanes (first (waiting lanes.channels (p, q)))
 
 -- to a pid that no process has a signal is lost
 abbrev pub lost : ℕ → ℕ → Lanes → Option Signal → Result (Lanes × Unit {0}) Fault

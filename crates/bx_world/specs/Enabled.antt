@@ -8,15 +8,15 @@ use Rattle.bx_proc.specs.Process.{can_run, can_expire}
 use Rattle.bx_world.specs.declared.choices.Choice.{Choice}
 use Rattle.bx_world.specs.declared.choices.Choice.TheVariants.{Run, Deliver, Expire}
 use Rattle.bx_world.specs.declared.lanes.Lanes.{Lanes}
-use Rattle.bx_world.specs.World.{Life, Live, Gone, State}
+use Rattle.bx_world.specs.World.{Life, Live, Exited, State}
 
 abbrev pub may_run : Life → Bool
 may_run (Live process) = can_run process
-may_run (Gone reason) = false
+may_run (Exited reason) = false
 
 abbrev pub may_expire : Life → Bool
 may_expire (Live process) = can_expire process
-may_expire (Gone reason) = false
+may_expire (Exited reason) = false
 
 -- a choice of each process that passes the test, from this pid on
 abbrev pub choices_from : (Life → Bool) → (ℕ → Choice) → ℕ → List Life → List Choice

@@ -14,7 +14,7 @@ use Rattle.bx_world.specs.declared.choices.Choice.{Choice}
 use Rattle.bx_world.specs.declared.choices.Choice.TheVariants.{Run, Deliver, Expire}
 use Rattle.bx_world.specs.declared.requests.Request.{Request}
 use Rattle.bx_world.specs.declared.requests.Request.TheVariants as requests
-use Rattle.bx_world.specs.World.{Life, Live, Gone, State}
+use Rattle.bx_world.specs.World.{Life, Live, Exited, State}
 use Rattle.bx_world.specs.Requests.{requested}
 use Rattle.bx_world.specs.Enabled.{can}
 use Rattle.bx_world.specs.Posting.{behind}
@@ -22,7 +22,7 @@ use Rattle.bx_world.specs.Posting.{behind}
 -- a process that has ended has no links
 abbrev pub holds : ℕ → Option Life → Bool
 holds q (Some (Live x)) = among q x.links
-holds q (Some (Gone reason)) = false
+holds q (Some (Exited reason)) = false
 holds q None = false
 
 -- q stands in the set of links of p
@@ -38,22 +38,22 @@ request_in (effects.Trap kind) = None
 
 abbrev pub request_of : Loaded → ℕ → Option Life → Option Request
 request_of image p (Some (Live x)) = request_in (attempted image p x).1
-request_of image p (Some (Gone reason)) = None
+request_of image p (Some (Exited reason)) = None
 request_of image p None = None
 
 -- what the next run of p asks of the world
 abbrev pub asks : Loaded → List Life → ℕ → Option Request
 asks image lives p = request_of image p (slice_get lives p)
 
-abbrev pub BearsLinked : Option Request → Type 0
-BearsLinked (Some (requests.Spawn birth)) = birth.linked ≡ true
-BearsLinked request = ⊥
+abbrev pub SpawnsLinked : Option Request → Type 0
+SpawnsLinked (Some (requests.Spawn spawn)) = spawn.linked ≡ true
+SpawnsLinked request = ⊥
 
 -- a run of r by which q enters the set of p: p's own `link` to q; or a `spawn_link`, p's, whose child is q, or q's, whose child is p
 abbrev pub EntersByRun : Loaded → List Life → ℕ → ℕ → ℕ → Type 0
 EntersByRun image lives r p q =
     ((r ≡ p) × (asks image lives r ≡ Some (requests.Link q)))
-    ⊎ (BearsLinked (asks image lives r) × (((r ≡ p) × (q ≡ length lives)) ⊎ ((r ≡ q) × (p ≡ length lives))))
+    ⊎ (SpawnsLinked (asks image lives r) × (((r ≡ p) × (q ≡ length lives)) ⊎ ((r ≡ q) × (p ≡ length lives))))
 
 -- a choice by which q enters the set of p
 abbrev pub Enters : Loaded → State → Choice → ℕ → ℕ → Type 0

@@ -7,7 +7,7 @@ pub mod Delivering
 pub mod Lives
 pub mod Enabled
 pub mod Lifetimes
-pub mod Births
+pub mod Spawning
 pub mod Acting
 pub mod Choosing
 pub mod Batches

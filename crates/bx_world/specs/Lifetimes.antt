@@ -10,11 +10,11 @@ use Rattle.bx_proc.specs.Process.{can_run, can_expire}
 use Rattle.bx_proc.specs.Signals.{expired}
 use Rattle.bx_world.specs.declared.lanes.Lanes.{Lanes}
 use Rattle.bx_world.specs.declared.turns.Turn.{Turn}
-use Rattle.bx_world.specs.declared.turns.Turn.TheVariants.{Ran, Ended, Trapped, Bears}
-use Rattle.bx_world.specs.World.{Life, Live, Gone}
+use Rattle.bx_world.specs.declared.turns.Turn.TheVariants.{Ran, Ended, Trapped, Spawns}
+use Rattle.bx_world.specs.World.{Life, Live, Exited}
 use Rattle.bx_world.specs.Asking.{Done}
 use Rattle.bx_world.specs.Turning.{runs}
-use Rattle.bx_world.specs.Delivering.{received, gone_received, lost}
+use Rattle.bx_world.specs.Delivering.{received, exited_received, lost}
 
 -- a life and the lanes, and what was done; of a process that ended the reason alone stays
 abbrev pub Lived : Type 0
@@ -22,32 +22,32 @@ Lived = (Life × Lanes) × Turn
 
 abbrev pub lived : Done → Lived
 lived (w, Ran) = ((Live w.0, w.1), Ran)
-lived (w, Ended reason) = ((Gone reason, w.1), Ran)
+lived (w, Ended reason) = ((Exited reason, w.1), Ran)
 lived (w, Trapped kind) = ((Live w.0, w.1), Trapped kind)
-lived (w, Bears birth) = ((Live w.0, w.1), Bears birth)
+lived (w, Spawns spawn) = ((Live w.0, w.1), Spawns spawn)
 
 abbrev pub lived_if : Result Done Fault → Result Lived Fault
 lived_if (Ok done) = Ok (lived done)
 lived_if (Err fault) = Err fault
 
-abbrev pub gone_if : Tree → Result (Lanes × Unit {0}) Fault → Result Lived Fault
-gone_if reason (Ok done) = Ok ((Gone reason, done.0), Ran)
-gone_if reason (Err fault) = Err fault
+abbrev pub exited_if : Tree → Result (Lanes × Unit {0}) Fault → Result Lived Fault
+exited_if reason (Ok done) = Ok ((Exited reason, done.0), Ran)
+exited_if reason (Err fault) = Err fault
 
 -- one instruction of a process that can run
 abbrev pub life_run : Loaded → ℕ → Lanes → Life → Result Lived Fault
 life_run image p lanes (Live x) = if can_run x then Ok (lived (runs image p lanes x)) else Err NotEnabled
-life_run image p lanes (Gone reason) = Err NotEnabled
+life_run image p lanes (Exited reason) = Err NotEnabled
 
 -- the first signal from p takes effect at q
 abbrev pub life_told : ℕ → ℕ → Lanes → Life → Result Lived Fault
 life_told p q lanes (Live x) = lived_if (received p q x lanes)
-life_told p q lanes (Gone reason) = gone_if reason (gone_received p q lanes)
+life_told p q lanes (Exited reason) = exited_if reason (exited_received p q lanes)
 
 -- a wait that can expire is over
 abbrev pub life_expired : Lanes → Life → Result Lived Fault
 life_expired lanes (Live x) = if can_expire x then Ok ((Live (expired x), lanes), Ran) else Err NotEnabled
-life_expired lanes (Gone reason) = Err NotEnabled
+life_expired lanes (Exited reason) = Err NotEnabled
 
 -- the same among the others
 abbrev pub Among : Type 0

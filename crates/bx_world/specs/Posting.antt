@@ -18,16 +18,16 @@ use Rattle.bx_proc.specs.declared.parts.Effect.TheVariants as effects
 use Rattle.bx_world.specs.declared.choices.Choice.{Choice}
 use Rattle.bx_world.specs.declared.choices.Choice.TheVariants.{Run, Deliver, Expire}
 use Rattle.bx_world.specs.declared.lanes.Lanes.{Lanes}
-use Rattle.bx_world.specs.declared.requests.Birth.{Birth}
+use Rattle.bx_world.specs.declared.requests.SpawnRequest.{SpawnRequest}
 use Rattle.bx_world.specs.declared.requests.Request.{Request}
 use Rattle.bx_world.specs.declared.requests.Request.TheVariants as requests
 use Rattle.bx_world.specs.declared.turns.Turn.TheVariants as turns
-use Rattle.bx_world.specs.World.{Life, Live, Gone, State}
+use Rattle.bx_world.specs.World.{Life, Live, Exited, State}
 use Rattle.bx_world.specs.Requests.{requested}
 use Rattle.bx_world.specs.Asking.{Done}
 use Rattle.bx_world.specs.Turning.{runs}
 use Rattle.bx_world.specs.Delivering.{received}
-use Rattle.bx_world.specs.Births.{past_limits, system_limit, other_if, answering}
+use Rattle.bx_world.specs.Spawning.{past_limits, system_limit, other_if, answering}
 use Rattle.bx_world.specs.Enabled.{can}
 use Rattle.bx_world.specs.Choosing.{chosen}
 
@@ -45,7 +45,7 @@ abbrev pub done_posts : ℕ → List Post → Done → List Post
 done_posts p own (w, turns.Ran) = own
 done_posts p own (w, turns.Ended reason) = own ++ parting_posts p w.0.links reason
 done_posts p own (w, turns.Trapped kind) = []
-done_posts p own (w, turns.Bears birth) = []
+done_posts p own (w, turns.Spawns spawn) = []
 
 -- what an instruction itself sends; nothing to its own process
 abbrev pub own_posts : ℕ → Process → Request → List Post
@@ -55,7 +55,7 @@ own_posts p x (requests.Exit q reason) = if q == p then [] else ((p, q), signals
 own_posts p x (requests.Link q) = if (q == p) || among q x.links then [] else ((p, q), signals.Link) ∷ []
 own_posts p x (requests.Unlink q) = if (q == p) || not (among q x.links) then [] else ((p, q), signals.Unlink) ∷ []
 own_posts p x (requests.Display term) = []
-own_posts p x (requests.Spawn birth) = []
+own_posts p x (requests.Spawn spawn) = []
 
 abbrev pub effect_posts : ℕ → Process → Effect → List Post
 effect_posts p x effects.Ran = []
@@ -65,18 +65,18 @@ effect_posts p x (effects.Ended reason) = []
 effect_posts p x (effects.Trap kind) = []
 
 -- the answer that a process gets which asks for a spawn
-abbrev pub answered_birth : Loaded → ℕ → Birth → List Life → Lanes → Process → Done
-answered_birth image p birth lives lanes x =
-    if past_limits birth lives then answering image p None system_limit x lanes
-    else answering image p (other_if birth.linked (length lives)) (Value (pid (length lives))) x lanes
+abbrev pub answered_spawn : Loaded → ℕ → SpawnRequest → List Life → Lanes → Process → Done
+answered_spawn image p spawn lives lanes x =
+    if past_limits spawn lives then answering image p None system_limit x lanes
+    else answering image p (other_if spawn.linked (length lives)) (Value (pid (length lives))) x lanes
 
 abbrev pub turn_posts : Loaded → ℕ → List Life → Lanes → Process → Done → List Post
-turn_posts image p lives lanes x (w, turns.Bears birth) = done_posts p [] (answered_birth image p birth lives lanes x)
+turn_posts image p lives lanes x (w, turns.Spawns spawn) = done_posts p [] (answered_spawn image p spawn lives lanes x)
 turn_posts image p lives lanes x done = done_posts p (effect_posts p x (attempted image p x).1) done
 
 abbrev pub run_posts : Loaded → ℕ → List Life → Lanes → Option Life → List Post
 run_posts image p lives lanes (Some (Live x)) = turn_posts image p lives lanes x (runs image p lanes x)
-run_posts image p lives lanes (Some (Gone reason)) = []
+run_posts image p lives lanes (Some (Exited reason)) = []
 run_posts image p lives lanes None = []
 
 -- a signal may end its receiver, which tells its links; a link to a process that has ended is answered
@@ -84,13 +84,13 @@ abbrev pub heard_posts : ℕ → Result Done Fault → List Post
 heard_posts q (Ok done) = done_posts q [] done
 heard_posts q (Err fault) = []
 
-abbrev pub gone_posts : ℕ → ℕ → Option Signal → List Post
-gone_posts p q (Some signals.Link) = ((q, p), signals.LinkExit (atom NOPROC.0)) ∷ []
-gone_posts p q signal = []
+abbrev pub exited_posts : ℕ → ℕ → Option Signal → List Post
+exited_posts p q (Some signals.Link) = ((q, p), signals.LinkExit (atom NOPROC.0)) ∷ []
+exited_posts p q signal = []
 
 abbrev pub signal_posts : ℕ → ℕ → Lanes → Option Life → List Post
 signal_posts p q lanes (Some (Live x)) = heard_posts q (received p q x lanes)
-signal_posts p q lanes (Some (Gone reason)) = gone_posts p q (first (waiting lanes.channels (p, q)))
+signal_posts p q lanes (Some (Exited reason)) = exited_posts p q (first (waiting lanes.channels (p, q)))
 signal_posts p q lanes None = []
 
 abbrev pub posts : Loaded → Choice → State → List Post

@@ -18,9 +18,9 @@ abbrev pub with_arguments : Bool → ℕ → ℕ → Option (List Tree) → Requ
 with_arguments linked m f None = Refused
 with_arguments linked m f (Some arguments) = Spawn (record { linked = linked; «module» = record { 0 = m }; function = record { 0 = f }; arguments = arguments })
 
-abbrev pub bearing : Bool → Tree → Tree → Tree → Request
-bearing linked (atom m) (atom f) arguments = with_arguments linked m f (elements arguments)
-bearing linked m f arguments = Refused
+abbrev pub spawning : Bool → Tree → Tree → Tree → Request
+spawning linked (atom m) (atom f) arguments = with_arguments linked m f (elements arguments)
+spawning linked m f arguments = Refused
 
 abbrev pub requested : Native → List Tree → Request
 requested natives.Send (to ∷ message ∷ []) = of_pid (λ q. Send q message) to
@@ -28,8 +28,8 @@ requested natives.ExitSignal (to ∷ reason ∷ []) = of_pid (λ q. Exit q reaso
 requested natives.Link (to ∷ []) = of_pid Link to
 requested natives.Unlink (to ∷ []) = of_pid Unlink to
 requested natives.Display (term ∷ []) = Display term
-requested natives.Spawn (m ∷ f ∷ arguments ∷ []) = bearing false m f arguments
-requested natives.SpawnLink (m ∷ f ∷ arguments ∷ []) = bearing true m f arguments
+requested natives.Spawn (m ∷ f ∷ arguments ∷ []) = spawning false m f arguments
+requested natives.SpawnLink (m ∷ f ∷ arguments ∷ []) = spawning true m f arguments
 requested native arguments = Refused
 
 -- one whose arguments are of the kinds that its native takes

@@ -10,12 +10,12 @@ use Rattle.bx_world.specs.declared.outcomes.Standing.{Standing}
 use Rattle.bx_world.specs.declared.outcomes.Standing.TheVariants.{Trapped, Quiet, Open}
 use Rattle.bx_world.specs.declared.shown.Shown.{Shown}
 use Rattle.bx_world.specs.declared.shown.Shown.TheVariants as shown
-use Rattle.bx_world.specs.World.{Life, Live, Gone, State}
+use Rattle.bx_world.specs.World.{Life, Live, Exited, State}
 use Rattle.bx_world.specs.Enabled.{enabled}
 
 abbrev pub status_of : Life → Status
 status_of (Live process) = process.status
-status_of (Gone reason) = states.Ended reason
+status_of (Exited reason) = states.Ended reason
 
 -- trapped, else quiet where no choice is enabled, else open with the choices that are
 abbrev pub standing_of : Option (Trap × ℕ) → List Choice → Standing
@@ -29,7 +29,7 @@ seen w = record { state = standing_of w.trap (enabled w); statuses = map status_
 -- where a process stands; one that has ended, and one whose function was not there, stands nowhere
 abbrev pub place_of : Life → Option Place
 place_of (Live process) = process.place
-place_of (Gone reason) = None
+place_of (Exited reason) = None
 
 abbrev pub place_at : Option Life → Option Place
 place_at None = None
@@ -41,4 +41,4 @@ place_in p w = place_at (slice_get w.processes p)
 -- what is shown of a process
 abbrev pub life_of : Shown → Life
 life_of (shown.Live process) = Live process.now
-life_of (shown.Gone reason) = Gone reason.now
+life_of (shown.Exited reason) = Exited reason.now

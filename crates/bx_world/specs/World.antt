@@ -11,13 +11,13 @@ use Rattle.bx_terms.specs.declared.faults.Fault.TheVariants.{NoEntry}
 use Rattle.bx_terms.specs.declared.kinds.Trap.{Trap}
 use Rattle.bx_terms.specs.declared.places.Place.{Place}
 use Rattle.bx_load.specs.Image.{Loaded, export}
-use Rattle.bx_proc.specs.Process.{Process, born}
+use Rattle.bx_proc.specs.Process.{Process, new_process}
 use Rattle.bx_world.specs.declared.lanes.Lanes.{Lanes}
 
 -- a pid's life: a process, or of one that has ended the reason alone
 pub data Life : Type 0 where
   Live : Process → Life
-  Gone : Tree → Life
+  Exited : Tree → Life
 
 pub record State : Type 0 where
   -- by pid, from 0
@@ -29,7 +29,7 @@ pub record State : Type 0 where
 
 -- at the start there is one process, at the entry of its function
 abbrev pub begun : Place → State
-begun place = record { processes = Live (born (Some place) []) ∷ []; lanes = record { channels = map.empty; output = [] }; trap = None }
+begun place = record { processes = Live (new_process (Some place) []) ∷ []; lanes = record { channels = map.empty; output = [] }; trap = None }
 
 abbrev pub begun_at : Option Place → Result State Fault
 begun_at None = Err NoEntry
@@ -42,14 +42,14 @@ started image m f = begun_at (export image m f 0)
 -- what a proof tells two of them apart by
 abbrev pub life_in : Process ⊎ Tree → Life
 life_in (inl p) = Live p
-life_in (inr r) = Gone r
+life_in (inr r) = Exited r
 
 abbrev pub life_out : Life → Process ⊎ Tree
 life_out (Live p) = inl p
-life_out (Gone r) = inr r
+life_out (Exited r) = inr r
 
 abbrev pub life_code : Coded Process → Coded Tree → Coded Life
-life_code process tree = code_by (Process ⊎ Tree) (coded⊎ process tree) life_out life_in (λ l. elim l as (λ m. life_in (life_out m) ≡ m) [ Live p ↦ refl | Gone r ↦ refl ])
+life_code process tree = code_by (Process ⊎ Tree) (coded⊎ process tree) life_out life_in (λ l. elim l as (λ m. life_in (life_out m) ≡ m) [ Live p ↦ refl | Exited r ↦ refl ])
 
 abbrev pub state_code : Coded Process → Coded Tree → Coded Lanes → Coded Trap → Coded State
 state_code process tree lanes trap =

@@ -75,7 +75,7 @@ impl Actor<'_> {
             Request::Link(to) => self.link(process, lanes, to),
             Request::Unlink(to) => self.unlink(process, lanes, to),
             Request::Display(term) => self.display(process, lanes, term),
-            Request::Spawn(birth) => Ok(Turn::Bears(birth)),
+            Request::Spawn(spawn) => Ok(Turn::Spawns(spawn)),
         }
     }
 

@@ -2,7 +2,7 @@
 
 ghost use Rattle.std.specs.Prelude.{◌≡◌, None, Ok};
 ghost use Rattle.bx_terms.specs.Outcomes.{Does};
-ghost use Rattle.bx_world.specs.Delivering.{received, messaged, ending, exiting, by_link, by_exit, gone_received};
+ghost use Rattle.bx_world.specs.Delivering.{received, messaged, ending, exiting, by_link, by_exit, exited_received};
 ghost use Rattle.bx_signals.specs.Handing.{message_of};
 ghost use Rattle.bx_signals.specs.Waiting.{first};
 ghost use Rattle.bx_signals.specs.Channels.{waiting};
@@ -161,13 +161,13 @@ impl Lanes {
 }
 
 /// The first signal between two processes of which the second has ended.
-pub(crate) fn receive_gone(
+pub(crate) fn receive_exited(
     alloc: Global,
     lanes: &mut Lanes,
     from: u32,
     pid: u32,
 ) -> Result<(), Fault>
-    ensures { Does (Unit {0}) lanes.old lanes.new result (gone_received from pid lanes.old) }
+    ensures { Does (Unit {0}) lanes.old lanes.new result (exited_received from pid lanes.old) }
 {
     let Some(signal) = lanes.channels.first(from, pid) else {
         return Err(Fault::NotEnabled);

@@ -35,11 +35,11 @@ impl Lanes {
         &self.output
     }
 
-    /// Equal lanes that share nothing counted with these.
-    pub(crate) fn apart(&self, alloc: Global, room: &mut usize) -> Result<Lanes, AllocError>
+    /// A deep copy.
+    pub(crate) fn deep_copy(&self, alloc: Global, room: &mut usize) -> Result<Lanes, AllocError>
         ensures { IfOk result (λ lanes. lanes ≡ self.now) }
     {
-        let output = self.output.apart(alloc, room)?;
+        let output = self.output.deep_copy(alloc, room)?;
         let mut channels = self.channels.copy(alloc)?;
         channels.unshare(alloc, room)?;
         Ok(Lanes { channels, output })

@@ -4,7 +4,7 @@ ghost use Rattle.std.specs.Prelude.{◌≡◌, ◌≢◌, ◌↔◌, ◌⊎◌, 
 ghost use Rattle.bx_load.specs.Image.{Loaded};
 ghost use Rattle.bx_terms.specs.declared.kinds.Trap.{Trap};
 ghost use Rattle.bx_world.specs.declared.choices.Choice.{Choice};
-ghost use Rattle.bx_world.specs.World.{State, Gone, begun};
+ghost use Rattle.bx_world.specs.World.{State, Exited, begun};
 ghost use Rattle.bx_terms.specs.Tree.{Tree};
 ghost use Rattle.bx_world.specs.declared.choices.Choice.TheVariants.{Run, Expire};
 ghost use Rattle.bx_world.specs.Enabled.{enabled, can, actor};
@@ -85,10 +85,10 @@ pub fn a_choice_changes_its_own_process_alone()
 /// A process that has ended keeps its reason whatever is chosen from then on, so its pid is not used again; and it does not run.
 pub fn an_ended_process_keeps_its_reason()
     ensures kept { (image : Loaded) (choices : List Choice) (w : State) (p : ℕ) (reason : Tree) →
-        slice_get w.processes p ≡ Some (Gone reason) → slice_get
-        (all_behind image choices w).processes p ≡ Some (Gone reason) }
+        slice_get w.processes p ≡ Some (Exited reason) → slice_get
+        (all_behind image choices w).processes p ≡ Some (Exited reason) }
     ensures idle { (w : State) (p : ℕ) (reason : Tree) → slice_get w.processes p ≡ Some
-        (Gone reason) → (can w (Run p) ≡ false) × (can w (Expire p) ≡ false) }
+        (Exited reason) → (can w (Run p) ≡ false) × (can w (Expire p) ≡ false) }
 {}
 
 /// A process enters another's set of links only by that one's own `link`, by a `spawn_link` of either, or by a link signal of its

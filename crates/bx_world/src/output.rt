@@ -63,12 +63,11 @@ impl Output {
         Ok(Output { items })
     }
 
-    /// An equal output, whose terms share nothing counted with these. It takes one of the room for each term, and what it takes
-    /// itself.
-    pub(crate) fn apart(&self, alloc: Global, room: &mut usize) -> Result<Output, AllocError>
+    /// A deep copy. It takes one of the room for each term, and what it takes itself.
+    pub(crate) fn deep_copy(&self, alloc: Global, room: &mut usize) -> Result<Output, AllocError>
         ensures { IfOk result (λ o. o ≡ self.now) }
     {
-        let items = items_apart(alloc, room, &self.items)?;
+        let items = deep_copy_items(alloc, room, &self.items)?;
         Ok(Output { items })
     }
 
@@ -87,7 +86,7 @@ impl Same for Output {
 }
 
 #[tactic(auto, using(std::proofs::lemmas::List::take_more))]
-fn items_apart(
+fn deep_copy_items(
     alloc: Global,
     room: &mut usize,
     items: &[(u32, Term)],
@@ -97,7 +96,7 @@ fn items_apart(
     take_room(room, items.len())?;
     let mut row = Vec::with_capacity(alloc, items.len())?;
     for at in 0..items.len() {
-        let term = items[at].1.apart(alloc, room)?;
+        let term = items[at].1.deep_copy(alloc, room)?;
         row.push((items[at].0, term))?;
     }
     Ok(row)

@@ -1,7 +1,7 @@
 //! What natives ask of the world.
 
 ghost use Rattle.std.specs.Prelude.{◌≡◌, IfOk, OnErr};
-ghost use Rattle.bx_world.specs.Requests.{requested, bearing, IsMeant};
+ghost use Rattle.bx_world.specs.Requests.{requested, spawning, IsMeant};
 
 use bx_bifs::{Native, elements};
 use bx_proc::Arguments;
@@ -10,7 +10,7 @@ use std::alloc::{AllocError, Global};
 
 /// A process that is to be spawned.
 #[derive(Debug, Drop)]
-pub struct Birth {
+pub struct SpawnRequest {
     /// Whether it is linked to its parent.
     pub linked: bool,
     pub module: AtomId,
@@ -28,7 +28,7 @@ pub enum Request {
     Link(u32),
     Unlink(u32),
     Display(Term),
-    Spawn(Birth),
+    Spawn(SpawnRequest),
 }
 
 /// What a native asks with these arguments. Memory is taken only where none of them is of a wrong kind.
@@ -59,24 +59,24 @@ pub(crate) fn request_of(
         },
         (Native::Display, [term]) => Ok(Request::Display(term.copy(alloc)?)),
         (Native::Spawn, [module, function, list]) => {
-            birth_of(alloc, false, module, function, list)
+            spawn_of(alloc, false, module, function, list)
         }
         (Native::SpawnLink, [module, function, list]) => {
-            birth_of(alloc, true, module, function, list)
+            spawn_of(alloc, true, module, function, list)
         }
         _ => Ok(Request::Refused),
     }
 }
 
-fn birth_of(
+fn spawn_of(
     alloc: Global,
     linked: bool,
     home: &Term,
     name: &Term,
     list: &Term,
 ) -> Result<Request, AllocError>
-    ensures ok { IfOk result (λ r. r ≡ bearing linked home.now name.now list.now) }
-    ensures err { OnErr result (IsMeant (bearing linked home.now name.now list.now)) }
+    ensures ok { IfOk result (λ r. r ≡ spawning linked home.now name.now list.now) }
+    ensures err { OnErr result (IsMeant (spawning linked home.now name.now list.now)) }
 {
     let (View::Atom(module), View::Atom(function)) = (home.view(), name.view()) else {
         return Ok(Request::Refused);
@@ -84,7 +84,7 @@ fn birth_of(
     let Some(arguments) = elements(alloc, list)? else {
         return Ok(Request::Refused);
     };
-    Ok(Request::Spawn(Birth {
+    Ok(Request::Spawn(SpawnRequest {
         linked,
         module,
         function,

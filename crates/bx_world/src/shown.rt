@@ -7,5 +7,5 @@ use bx_terms::Term;
 #[derive(Clone, Copy)]
 pub enum Shown<'a> {
     Live(&'a Proc),
-    Gone(&'a Term),
+    Exited(&'a Term),
 }

@@ -7,11 +7,11 @@ ghost use Rattle.bx_world.specs.Acting.{life_acted, exited_acted, MayLack};
 ghost use Rattle.bx_world.specs.Enabled.{may_run, may_expire};
 ghost use Rattle.bx_world.specs.Lives.{life};
 ghost use Rattle.bx_world.specs.Seen.{life_of, status_of, place_of};
-ghost use Rattle.bx_world.specs.World.{Gone};
+ghost use Rattle.bx_world.specs.World.{Exited};
 
 use crate::actors::Actor;
 use crate::acts::Act;
-use crate::delivering::receive_gone;
+use crate::delivering::receive_exited;
 use crate::lanes::Lanes;
 use crate::shown::Shown;
 use crate::turns::Turn;
@@ -24,7 +24,7 @@ use std::alloc::{AllocError, Global};
 #[derive(Drop)]
 pub enum Slot<P> {
     Live(P),
-    Gone(Term),
+    Exited(Term),
 }
 
 impl<P: Hold<Proc>> Slot<P> {
@@ -47,7 +47,7 @@ impl<P: Hold<Proc>> Slot<P> {
         };
         match by.act_on(holder, lanes, act)? {
             Turn::Ended(reason) => {
-                *self = Slot::Gone(reason);
+                *self = Slot::Exited(reason);
                 Ok(Turn::Ran)
             }
             turn => Ok(turn),
@@ -60,9 +60,9 @@ impl<P: Hold<Proc>> Slot<P> {
 #[inline(never)]
 fn act_exited<C: Hold<Lanes>>(by: Actor<'_>, lanes: &mut C, act: Act) -> Result<Turn, Fault>
     ensures { (reason : Tree) →
-        Does (MayLack act by.entry.pid (C.shown lanes.old) (Some (Gone reason)))
-        (Gone reason, C.shown lanes.old) (Gone reason, C.shown lanes.new) result
-        (life_acted by.entry.image.now by.entry.pid act (C.shown lanes.old) (Gone reason)) }
+        Does (MayLack act by.entry.pid (C.shown lanes.old) (Some (Exited reason)))
+        (Exited reason, C.shown lanes.old) (Exited reason, C.shown lanes.new) result
+        (life_acted by.entry.image.now by.entry.pid act (C.shown lanes.old) (Exited reason)) }
 {
     match hear_exited(by.alloc, lanes, by.pid, act) {
         Ok(()) => Ok(Turn::Ran),
@@ -76,7 +76,7 @@ fn hear_exited<C: Hold<Lanes>>(
     pid: u32,
     act: Act,
 ) -> Result<(), Fault>
-    ensures { (reason : Tree) → Does (MayLack act pid (C.shown lanes.old) (Some (Gone reason)))
+    ensures { (reason : Tree) → Does (MayLack act pid (C.shown lanes.old) (Some (Exited reason)))
         (C.shown lanes.old) (C.shown lanes.new) result (exited_acted act pid (C.shown lanes.old)) }
 {
     let Act::Hear(from) = act else {
@@ -86,7 +86,7 @@ fn hear_exited<C: Hold<Lanes>>(
         return Err(Fault::NotEnabled);
     }
     let lanes = lanes.edit(alloc)?;
-    receive_gone(alloc, lanes, from, pid)
+    receive_exited(alloc, lanes, from, pid)
 }
 
 #[inline(always)]
@@ -95,7 +95,7 @@ pub(crate) fn slot_may_run<P: Hold<Proc>>(slot: &Slot<P>) -> bool
 {
     match slot {
         Slot::Live(holder) => holder.see().can_run(),
-        Slot::Gone(_) => false,
+        Slot::Exited(_) => false,
     }
 }
 
@@ -105,7 +105,7 @@ pub(crate) fn slot_may_expire<P: Hold<Proc>>(slot: &Slot<P>) -> bool
 {
     match slot {
         Slot::Live(holder) => holder.see().can_expire(),
-        Slot::Gone(_) => false,
+        Slot::Exited(_) => false,
     }
 }
 
@@ -115,7 +115,7 @@ pub(crate) fn slot_place<P: Hold<Proc>>(slot: &Slot<P>) -> Option<Place>
 {
     match slot {
         Slot::Live(holder) => holder.see().place(),
-        Slot::Gone(_) => None,
+        Slot::Exited(_) => None,
     }
 }
 
@@ -124,7 +124,7 @@ pub(crate) fn slot_shown<P: Hold<Proc>>(slot: &Slot<P>) -> Shown<'_>
 {
     match slot {
         Slot::Live(holder) => Shown::Live(holder.see()),
-        Slot::Gone(reason) => Shown::Gone(reason),
+        Slot::Exited(reason) => Shown::Exited(reason),
     }
 }
 
@@ -136,7 +136,7 @@ pub(crate) fn slot_status<P: Hold<Proc>>(
 {
     match slot {
         Slot::Live(holder) => holder.see().status().copy(alloc),
-        Slot::Gone(reason) => Ok(Status::Ended(reason.copy(alloc)?)),
+        Slot::Exited(reason) => Ok(Status::Ended(reason.copy(alloc)?)),
     }
 }
 
@@ -148,12 +148,12 @@ pub(crate) fn share_slot<P: Hold<Proc>>(
 {
     match slot {
         Slot::Live(holder) => Ok(Slot::Live(holder.share(alloc)?)),
-        Slot::Gone(reason) => Ok(Slot::Gone(reason.copy(alloc)?)),
+        Slot::Exited(reason) => Ok(Slot::Exited(reason.copy(alloc)?)),
     }
 }
 
-/// What is kept of a process, where it shares nothing counted with others.
-pub(crate) fn apart_slot<P: Hold<Proc>>(
+/// A deep copy of what is kept of a process.
+pub(crate) fn deep_copy_slot<P: Hold<Proc>>(
     alloc: Global,
     room: &mut usize,
     slot: &Slot<P>,
@@ -162,10 +162,10 @@ pub(crate) fn apart_slot<P: Hold<Proc>>(
 {
     match slot {
         Slot::Live(holder) => {
-            let process = holder.see().apart(alloc, room)?;
+            let process = holder.see().deep_copy(alloc, room)?;
             Ok(Slot::Live(P::put(alloc, process)?))
         }
-        Slot::Gone(reason) => Ok(Slot::Gone(reason.apart(alloc, room)?)),
+        Slot::Exited(reason) => Ok(Slot::Exited(reason.deep_copy(alloc, room)?)),
     }
 }
 
@@ -174,7 +174,7 @@ pub(crate) fn same_slot<P: Hold<Proc>>(one: &Slot<P>, other: &Slot<P>) -> bool
 {
     match (one, other) {
         (Slot::Live(holder), Slot::Live(other)) => holder.see().same(other.see()),
-        (Slot::Gone(reason), Slot::Gone(other)) => reason.same(other),
+        (Slot::Exited(reason), Slot::Exited(other)) => reason.same(other),
         _ => false,
     }
 }

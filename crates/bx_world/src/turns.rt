@@ -3,7 +3,7 @@
 ghost use Rattle.std.specs.Prelude.{◌≡◌, Some};
 ghost use Rattle.bx_world.specs.Batches.{tried_of, answer_of};
 
-use crate::requests::Birth;
+use crate::requests::SpawnRequest;
 use bx_terms::{Fault, Term, Trap};
 
 /// What a run or a signal was, beside what it made of its process and of the lanes.
@@ -15,7 +15,7 @@ pub enum Turn {
     /// It had no meaning: nothing has changed.
     Trapped(Trap),
     /// The process asks for another one: nothing has changed yet.
-    Bears(Birth),
+    Spawns(SpawnRequest),
 }
 
 /// What came of a choice that was tried, in few enough bytes to lie in a register.

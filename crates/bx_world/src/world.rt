@@ -222,8 +222,8 @@ impl<P: Hold<Proc>, C: Hold<Lanes>> World<P, C> {
         })
     }
 
-    /// Puts in the place of each process, and of what they share, an equal one that shares nothing counted with other worlds, so
-    /// that threads whose worlds parted late do not wait for one count. Nothing that can be seen changes.
+    /// Puts a deep copy in the place of each process, and of what they share, so that threads whose worlds parted late do not wait
+    /// for one count. Nothing that can be seen changes.
     ///
     /// One of the room goes for each register, frame, link, message in a mailbox and displayed term, and for each list cell and
     /// element of a tuple. Where room or memory run out, the rest stays shared.
@@ -231,7 +231,7 @@ impl<P: Hold<Proc>, C: Hold<Lanes>> World<P, C> {
         ensures { self.new ≡ self.old }
     {
         self.procs.unshare(alloc, room)?;
-        let lanes = self.lanes.see().apart(alloc, room)?;
+        let lanes = self.lanes.see().deep_copy(alloc, room)?;
         self.lanes = C::put(alloc, lanes)?;
         Ok(())
     }

@@ -90,7 +90,7 @@ fn wants_a_list(alloc: Global, native: &str) -> Result<bool, Fault> {
 }
 
 #[test]
-fn births_that_are_refused(rt: HostRuntime) -> Result<(), Fail> {
+fn spawns_that_are_refused(rt: HostRuntime) -> Result<(), Fail> {
     for native in ["spawn", "spawn_link"] {
         let refused = wants_names(rt.alloc(), native)? && wants_a_list(rt.alloc(), native)?;
         assert!(rt; refused, "{native}");

@@ -151,7 +151,7 @@ const LINKED: [(&str, &str, &str, &str); 9] = [
     ),
 ];
 
-/// Whether process 0, which bears process 1 by that native, reports this where it ends so with that reason.
+/// Whether process 0, which spawns process 1 by that native, reports this where it ends so with that reason.
 fn is_reported(
     alloc: Global,
     native: &str,

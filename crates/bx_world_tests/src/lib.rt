@@ -6,8 +6,6 @@ mod answers;
 #[cfg(test)]
 mod arguments;
 #[cfg(test)]
-mod births;
-#[cfg(test)]
 mod exits;
 #[cfg(test)]
 mod lines;
@@ -29,6 +27,8 @@ mod sessions;
 mod shows;
 #[cfg(test)]
 mod snapshots;
+#[cfg(test)]
+mod spawns;
 #[cfg(test)]
 mod streams;
 #[cfg(test)]

@@ -12,7 +12,7 @@ use crate::commands::{Order, command_of};
 use crate::progress::Progress;
 use crate::prompt::Asking;
 use bx_board::{FreeGate, Gate};
-use bx_debugger::{debug_text, prompted_debug_text};
+use bx_debugger::{Prompted, debug_text};
 use bx_engine::{Failure, Workers, dis_text, fault_line, run_text, start_of};
 use bx_terms::Fault;
 use clap::Error;
@@ -286,8 +286,8 @@ where
     let listings = inputs.as_mut_slice();
     let Talk { input, output } = talk;
     if asks {
-        let prompt = Asking::new(rt);
-        return prompted_debug_text(rt.alloc(), listings, start, input, output, &prompt);
+        let prompt = &Asking::new(rt);
+        return Prompted { prompt }.debug_text(rt.alloc(), listings, start, input, output);
     }
     debug_text(rt.alloc(), listings, start, input, output)
 }

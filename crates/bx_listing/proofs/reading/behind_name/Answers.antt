@@ -8,7 +8,7 @@ use Rattle.bx_listing.specs.Forms.{forms, last_line}
 use Rattle.bx_listing.specs.HeadForms.{exports_form}
 use Rattle.bx_listing.specs.ListedCode.{ListedFunction, ListedModule}
 use Rattle.bx_listing.specs.Listing as listings
-use Rattle.bx_listing.specs.Wanting.{ReadsForms}
+use Rattle.bx_listing.specs.Taking.{ReadsForms}
 use Rattle.bx_listing.proofs.Readings.{refuses_first, refuses_result}
 use Rattle.bx_listing.proofs.FormMemory.{taken_form, refuses_wider}
 use Rattle.bx_listing.proofs.Heads.{exported-reads, listing-reads}

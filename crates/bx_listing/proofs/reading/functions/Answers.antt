@@ -9,7 +9,7 @@ use Rattle.bx_listing.specs.ListedCode.{ListedFunction}
 use Rattle.bx_listing.specs.Listing as listings
 use Rattle.bx_listing.proofs.Readings.{grown_after}
 use Rattle.bx_listing.proofs.Dropped.{part_some}
-use Rattle.bx_listing.specs.Wanting.{ReadsForms}
+use Rattle.bx_listing.specs.Taking.{ReadsForms}
 use Rattle.bx_listing.proofs.FormMemory.{form_begun, lacks, refuses_where}
 use Rattle.bx_listing.proofs.LocatedForms.{located_next, located_end}
 use Rattle.bx_listing.proofs.FormLoop.{form_read, form_refuses, form_memory, text_refuses, forms_end}

@@ -2,7 +2,7 @@ use Rattle.std.proofs.Common.{◌≡◌, [], ◌++◌, ◌⊎◌, None, length}
 use Rattle.bx_text.specs.Place.{place}
 use Rattle.bx_listing.specs.Reading.{Begins}
 use Rattle.bx_listing.specs.Forms.{forms}
-use Rattle.bx_listing.specs.Wanting.{IsForm}
+use Rattle.bx_listing.specs.Taking.{IsForm}
 use Rattle.bx_listing.specs.Listing as listings
 use Rattle.bx_listing.specs.Locations.{located}
 use Rattle.bx_listing.proofs.reading.functions.Given as goal

@@ -4,7 +4,7 @@ use Rattle.bx_text.specs.Place.{place}
 use Rattle.bx_listing.specs.Reading.{from_result, ◌>>=◌}
 use Rattle.bx_listing.specs.Forms.{forms, last_line}
 use Rattle.bx_listing.specs.Listing as listings
-use Rattle.bx_listing.specs.Wanting.{ReadsForms}
+use Rattle.bx_listing.specs.Taking.{ReadsForms}
 use Rattle.bx_listing.proofs.Readings.{refuses_first, refuses_result, reads_same}
 use Rattle.bx_listing.proofs.FormMemory.{head_form, reads_wider}
 use Rattle.bx_listing.proofs.reading.functions_behind.Goals as goal

@@ -1,7 +1,7 @@
 use Rattle.std.proofs.Common.{◌≡◌, ◌+◌, ◌-◌, ◌≤◌, List, length, take, drop, refl, ap, ◌∙◌, arith}
 use Rattle.bx_world.specs.declared.choices.Choice.{Choice}
 use Rattle.bx_world.specs.Running.{Ended, ran}
-use Rattle.bx_replay.proofs.Beginnings.{course}
+use Rattle.bx_replay.proofs.Prefixes.{course}
 use Rattle.bx_replay.proofs.Keeps.{further_reached}
 use Rattle.bx_replay.proofs.kept.keep_all.Goals as goal
 

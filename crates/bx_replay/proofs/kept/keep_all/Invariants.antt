@@ -1,7 +1,7 @@
 use Rattle.std.proofs.Common.{◌≡◌, ◌+◌, ◌-◌, ◌≤◌, length}
 use Rattle.bx_replay.specs.Courses.{reached}
 use Rattle.bx_replay.specs.Keeping.{AreKept}
-use Rattle.bx_replay.proofs.Beginnings.{course}
+use Rattle.bx_replay.proofs.Prefixes.{course}
 use Rattle.bx_replay.proofs.kept.keep_all.Given as goal
 
 -- each choice so far was applied

@@ -1,5 +1,5 @@
 use Rattle.std.specs.Prelude.{Some}
-use Rattle.bx_world.specs.World.{Gone}
+use Rattle.bx_world.specs.World.{Exited}
 use Rattle.bx_world.specs.Acting.{MayLack}
 use Rattle.bx_world.proofs.Acted.{exited_went, exited_refused}
 use Rattle.bx_world.proofs.slots.act_exited.Goals as goal
@@ -11,4 +11,4 @@ returns-in-Ok g c = λ reason.
 pub returns-in-Err : goal.returns-in-Err
 returns-in-Err g c = λ reason.
     exited_refused c.args.by.image.now c.args.by.pid c.args.act reason (g.C.Hold.shown c.args.lanes.now) (g.C.Hold.shown c.hear_exited.new.lanes)
-    (MayLack c.args.act c.args.by.pid (g.C.Hold.shown c.args.lanes.now) (Some (Gone reason))) c.in-Err.refused (c.in-Err.ensures reason)
+    (MayLack c.args.act c.args.by.pid (g.C.Hold.shown c.args.lanes.now) (Some (Exited reason))) c.in-Err.refused (c.in-Err.ensures reason)

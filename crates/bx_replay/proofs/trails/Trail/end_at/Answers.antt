@@ -5,7 +5,7 @@ use Rattle.bx_world.specs.Running.{ran}
 use Rattle.bx_replay.specs.Courses.{reached}
 use Rattle.bx_replay.specs.Keeping.{Parts}
 use Rattle.bx_replay.specs.declared.kept.Kept.{Kept}
-use Rattle.bx_replay.proofs.Beginnings.{course, if_ok_at, onward}
+use Rattle.bx_replay.proofs.Prefixes.{course, if_ok_at, onward}
 use Rattle.bx_replay.proofs.Keeps.{count_of, nearest}
 use Rattle.bx_replay.proofs.trails.Trail.end_at.Goals as goal
 

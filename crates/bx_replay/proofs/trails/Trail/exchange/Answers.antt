@@ -5,7 +5,7 @@ use Rattle.bx_world.specs.Running.{Ended}
 use Rattle.bx_replay.specs.Courses.{Course, reached}
 use Rattle.bx_replay.specs.Exchanges.{next_apart, with_exchange, MayExchange}
 use Rattle.bx_replay.specs.Keeping.{AreKept}
-use Rattle.bx_replay.proofs.Beginnings.{bounded, course}
+use Rattle.bx_replay.proofs.Prefixes.{bounded, course}
 use Rattle.bx_replay.proofs.Turning.{may_from, may_not, turns_found}
 use Rattle.bx_replay.proofs.trails.Trail.exchange.Goals as goal
 

@@ -4,7 +4,7 @@ use Rattle.bx_world.specs.declared.choices.Choice.{Choice}
 use Rattle.bx_world.specs.Running.{ran}
 use Rattle.bx_replay.specs.Courses.{Course}
 use Rattle.bx_replay.specs.Keeping.{AreKept}
-use Rattle.bx_replay.proofs.Beginnings.{course}
+use Rattle.bx_replay.proofs.Prefixes.{course}
 use Rattle.bx_replay.proofs.Keeps.{all_reached, longer}
 use Rattle.bx_replay.proofs.trails.Trail.push.Goals as goal
 

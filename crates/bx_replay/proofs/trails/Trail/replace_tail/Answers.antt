@@ -6,7 +6,7 @@ use Rattle.bx_world.specs.Running.{ran}
 use Rattle.bx_replay.specs.Courses.{Course, reached}
 use Rattle.bx_replay.specs.Keeping.{AreKept, Parts}
 use Rattle.bx_replay.specs.declared.kept.Kept.{Kept}
-use Rattle.bx_replay.proofs.Beginnings.{course}
+use Rattle.bx_replay.proofs.Prefixes.{course}
 use Rattle.bx_replay.proofs.Keeps.{joined_or_less}
 use Rattle.bx_replay.proofs.trails.Trail.replace_tail.Goals as goal
 
