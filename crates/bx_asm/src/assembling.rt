@@ -1,6 +1,5 @@
 //! A listing to numbered code.
 
-ghost use Rattle.std.specs.Prelude.{◌≡◌, None};
 ghost use Rattle.bx_terms.specs.Outcomes.{Gives};
 ghost use Rattle.bx_asm.specs.Limits.{assembled};
 ghost use Rattle.bx_asm.specs.Taking.{TakesMemory};

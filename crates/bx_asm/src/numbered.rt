@@ -1,7 +1,6 @@
 //! An item of a unit, seen where it lies: its opcode and operands, and what they spell.
 
-ghost use Rattle.std.specs.Prelude.{◌≡◌, ◌↔◌, ◌||◌, ◌==◌, IsTrue, option_map, slice_get, length};
-ghost use Rattle.bx_asm.specs.Decoding.{instruction_of};
+ghost use Rattle.std.specs.Prelude.{◌≡◌, ◌↔◌, ◌==◌, IsTrue, option_map, slice_get, length};
 ghost use Rattle.bx_asm.specs.Looked.{tables};
 ghost use Rattle.bx_asm.specs.Marks.{is_mark, label_of, label_in_row};
 ghost use Rattle.bx_asm.specs.Numbered.{item_of, spelt_of};

@@ -1,6 +1,6 @@
 //! Numbering: items to opcode numbers with operands.
 
-ghost use Rattle.std.specs.Prelude.{◌≡◌, ◌≤◌, ◌<◌, ◌+◌, ◌∷◌, ◌++◌, [], List, OnOk, IfOk, Some, None, length, true};
+ghost use Rattle.std.specs.Prelude.{◌≡◌, ◌<◌, ◌∷◌, [], List, OnOk, IfOk, Some, true};
 ghost use Rattle.std.specs.List.{list_all};
 ghost use Rattle.bx_terms.specs.Tree.{Tree};
 ghost use Rattle.bx_listing.specs.declared.items.Import.{Import as Called};

@@ -2,7 +2,7 @@
 //!
 //! Source: module `erlang` of the ERTS Reference Manual; Erlang Reference Manual, "Expressions", for `++`.
 
-ghost use Rattle.std.specs.Prelude.{◌≡◌, ◌+◌, ◌≤◌, ◌↔◌, length, Some, IfOk, OnErr, IsSome, IsTrue, MatchResult, option_map, slice_set};
+ghost use Rattle.std.specs.Prelude.{◌≡◌, ◌+◌, ◌≤◌, ◌↔◌, length, Some, IfOk, OnErr, IsSome, IsTrue, MatchResult, option_map};
 ghost use Rattle.bx_terms.specs.Built.{IsWithinHeight};
 ghost use Rattle.bx_terms.specs.Tree.{tuple, listed, height};
 ghost use Rattle.bx_bifs.specs.Given.{TakesMemory};

@@ -1,6 +1,6 @@
 //! The text of a report.
 
-ghost use Rattle.std.specs.Prelude.{◌≡◌, ◌≢◌, ◌++◌, [], Ok, string_bytes};
+ghost use Rattle.std.specs.Prelude.{◌≢◌, ◌++◌, [], Ok, string_bytes};
 ghost use Rattle.bx_terms.specs.Outcomes.{Gives};
 ghost use Rattle.bx_board.specs.Texts.{schedule_lines, report_lines};
 

@@ -1,6 +1,6 @@
 //! Chains of nodes by number, and what stands above and below each.
 
-ghost use Rattle.std.specs.Prelude.{◌≡◌, ◌+◌, ◌<◌, length, slice_index, slice_index_or};
+ghost use Rattle.std.specs.Prelude.{◌≡◌, ◌+◌, ◌<◌, length};
 ghost use Rattle.bx_chains.specs.Chains.{first, last, above, kids, Owns};
 
 use bx_share::List;

@@ -1,10 +1,10 @@
 //! Commands, as lines spell them.
 
-ghost use Rattle.std.specs.Prelude.{⊤, ◌≡◌, ◌+◌, ◌≤◌, Ok, Some, IfOk, IfSome, drop, length, option_map, slice_get};
+ghost use Rattle.std.specs.Prelude.{⊤, ◌≡◌, ◌+◌, ◌≤◌, Ok, Some, IfOk, IfSome, option_map};
 ghost use Rattle.bx_terms.specs.AtomTable as atoms;
 ghost use Rattle.bx_terms.specs.Outcomes.{Gives};
 ghost use Rattle.bx_plan.specs.Reading.{number_of};
-ghost use Rattle.bx_debugger.specs.Commands.{about, alone, beginning, function_in, function_there, items_of, most_number, ordered_by, place_in, place_named, place_there, plan_named};
+ghost use Rattle.bx_debugger.specs.Commands.{about, alone, beginning, function_in, function_there, items_of, ordered_by, place_in, place_named, place_there, plan_named};
 ghost use Rattle.bx_debugger.specs.CommandView.{ordered};
 
 use bx_asm::Head;

@@ -4,7 +4,7 @@ ghost use Rattle.std.specs.Prelude.{◌≡◌, ◌++◌, ◌∷◌, [], OnOk, co
 ghost use Rattle.bx_cells.specs.Indexed.{listed};
 ghost use Rattle.bx_world.specs.Seen.{life_of};
 ghost use Rattle.bx_debugger.specs.Words.{place_words};
-ghost use Rattle.bx_debugger.specs.Look.{fault_line, frame_lines, held_lines, life_holds, link_lines, look_answer, mail_lines, other_lines, own_lines, place_line, trapping_line, x_lines, y_lines, y_words};
+ghost use Rattle.bx_debugger.specs.Look.{fault_line, frame_lines, held_lines, life_holds, link_lines, look_answer, mail_lines, other_lines, own_lines, place_line, trapping_line, x_lines, y_lines};
 
 use crate::programs::Program;
 use crate::standings::push_life_line;

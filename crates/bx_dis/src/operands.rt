@@ -1,6 +1,6 @@
 //! Operands and items, one by one.
 
-ghost use Rattle.std.specs.Prelude.{◌≡◌, ◌++◌, [], IfOk, OnOk, length, slice_get};
+ghost use Rattle.std.specs.Prelude.{◌≡◌, ◌++◌, [], IfOk, OnOk};
 ghost use Rattle.bx_listing.specs.Code.{items};
 ghost use Rattle.bx_asm.specs.Drafts.{at_number};
 ghost use Rattle.bx_asm.specs.Numbered.{item_of, spelt_of};

@@ -3,7 +3,6 @@
 ghost use Rattle.std.specs.Prelude.{⊤, ◌≡◌, ◌⊎◌, List, ℕ, IfErr, Ok, Some, string_bytes};
 ghost use Rattle.std.specs.Io.KnownBytes.{Keeps};
 ghost use Rattle.bx_terms.specs.Outcomes.{Gives};
-ghost use Rattle.bx_terms.specs.FixedAtoms.{fixed_atoms};
 ghost use Rattle.bx_listing.specs.Writing.{code_text};
 ghost use Rattle.bx_engine.specs.Units.{FileGives};
 ghost use Rattle.bx_engine.specs.Listings.{dis_of};

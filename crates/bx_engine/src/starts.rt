@@ -1,6 +1,5 @@
 //! The start of a run, as the command line writes it.
-ghost use Rattle.std.specs.Prelude.{◌≡◌, ◌↔◌, ◌≤◌, IfErr, IfOk, IsOkAnd, IsSome, IsTrue, OnErr, Some, length, option_map, slice_get, string_bytes};
-ghost use Rattle.bx_text.specs.Forms.{atom_in};
+ghost use Rattle.std.specs.Prelude.{◌≡◌, ◌↔◌, ◌≤◌, IfErr, IfOk, IsSome, IsTrue, OnErr, Some, length, option_map, slice_get, string_bytes};
 ghost use Rattle.bx_engine.specs.Starts.{IsNoStart, start_in, token_in};
 
 use crate::failures::Failure;

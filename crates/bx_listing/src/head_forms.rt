@@ -1,7 +1,7 @@
 //! The forms of a listing that hold no item: `module`, `exports`, `attributes`, `labels` and `function`.
 
-ghost use Rattle.std.specs.Prelude.{◌≡◌, ◌++◌, option_map};
-ghost use Rattle.bx_listing.specs.HeadForms.{module_name, offer, are_offers, named_offer, named_offers, offers, exports_form, is_attributes, is_labels, begun, function_form};
+ghost use Rattle.std.specs.Prelude.{◌≡◌, option_map};
+ghost use Rattle.bx_listing.specs.HeadForms.{module_name, offer, are_offers, named_offer, named_offers, offers, exports_form, is_attributes, is_labels, function_form};
 ghost use Rattle.bx_text.specs.View.{elements_seen};
 ghost use Rattle.bx_listing.specs.Seen.{seen};
 ghost use Rattle.bx_listing.specs.Reading.{Answers};

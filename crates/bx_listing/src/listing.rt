@@ -1,6 +1,6 @@
 //! A listing that was read: a module's code as it was written, with the line of each item.
 
-ghost use Rattle.std.specs.Prelude.{◌≡◌, ◌<◌, ◌↔◌, ◌++◌, ◌∷◌, [], Ok, IfOk, OnOk, OnErr, IsTrue, length, map, slice_get, option_map};
+ghost use Rattle.std.specs.Prelude.{◌≡◌, ◌<◌, ◌++◌, ◌∷◌, [], Ok, IfOk, OnOk, OnErr, length, map, slice_get, option_map};
 ghost use Rattle.bx_listing.specs.Items.{seen_item};
 ghost use Rattle.bx_listing.specs.Code.{function_code_of, items_of, code};
 ghost use Rattle.bx_listing.specs.Taking.{CopiesParts};

@@ -2,7 +2,7 @@
 
 ghost use Rattle.std.specs.Prelude.{◌≡◌, ◌++◌, ◌∷◌, [], Some, None, length, map, option_map, option_and_then, slice_get, string_bytes, IfOk, OnOk, OnErr};
 ghost use Rattle.bx_text.specs.View.{elements_seen};
-ghost use Rattle.bx_listing.specs.Locations.{spelled, string, character, line_number, location, first_location, said_by, own, moved, passed, Located};
+ghost use Rattle.bx_listing.specs.Locations.{spelled, string, character, line_number, location, first_location, said_by, passed, Located};
 ghost use Rattle.bx_listing.specs.Seen.{seen};
 
 use crate::shapes::{Shape, list_elements, number, shape_of};
@@ -39,7 +39,6 @@ impl Model for Places {
 }
 
 impl Places {
-    ghost use Rattle.std.specs.Prelude.{◌≤◌};
     ghost use Rattle.bx_listing.specs.Marks.{place};
 
     fn new(alloc: Global) -> Places

@@ -1,6 +1,6 @@
 //! The text of operands, as a listing writes them.
 
-ghost use Rattle.std.specs.Prelude.{◌≡◌, ◌≤◌, ◌++◌, OnOk, string_bytes, decimal, codes, length, take, drop};
+ghost use Rattle.std.specs.Prelude.{◌≡◌, ◌++◌, OnOk, string_bytes, decimal, codes, take, drop};
 ghost use Rattle.std.specs.Fmt.{signed_decimal};
 ghost use Rattle.bx_listing.specs.Writing.{name_text, operand_text, added_text, joined_text, list_text};
 

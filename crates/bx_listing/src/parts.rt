@@ -1,7 +1,7 @@
 //! What each form behind the head adds to the functions before it.
 
 ghost use Rattle.std.specs.Prelude.{◌≡◌, OnOk, OnErr, IsSome};
-ghost use Rattle.bx_listing.specs.Listing.{with_item, with_optional, part, part_of, with_form_item, with_form, begun_function};
+ghost use Rattle.bx_listing.specs.Listing.{with_optional, part, with_form_item, with_form, begun_function};
 ghost use Rattle.bx_listing.specs.ItemForms.{read_as, item};
 ghost use Rattle.bx_listing.specs.Seen.{seen};
 ghost use Rattle.bx_listing.specs.Reading.{Answers};

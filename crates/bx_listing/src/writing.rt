@@ -3,7 +3,6 @@
 ghost use Rattle.std.specs.Prelude.{◌≡◌, ◌++◌, ◌+◌, Ok, OnOk, drop, string_bytes};
 ghost use Rattle.std.specs.List.{flat_map};
 ghost use Rattle.bx_terms.specs.Outcomes.{Gives};
-ghost use Rattle.bx_listing.specs.Items.{seen_item};
 ghost use Rattle.bx_listing.specs.Writing.{item_text, function_head_text, function_text, offer_text, offers_text, label_above, labels_above, greatest_label, label_count, module_text, exports_text, labels_text, head_text, code_text};
 
 use crate::code_form::{Code, CodeFunction, Export};

@@ -1,6 +1,6 @@
 //! The items of one module: marks, and labels.
 
-ghost use Rattle.std.specs.Prelude.{◌≡◌, is_some, option_map, option_and_then, slice_get};
+ghost use Rattle.std.specs.Prelude.{◌≡◌, is_some, option_and_then, slice_get};
 ghost use Rattle.bx_listing.specs.Code.{items};
 ghost use Rattle.bx_asm.specs.Marks.{label_of};
 ghost use Rattle.bx_load.specs.Image.{is_mark, unmarked};

@@ -36,7 +36,6 @@ impl Model for Mailbox {
 
     ghost coded = { mail_code term.the_row.coded };
 
-    ghost use Rattle.bx_mail.specs.Slots.{contents, link_behind};
     ghost use Rattle.bx_mail.specs.Joined.{Joined, parted};
 
     ghost view = { λ a. parted a.slots a.first a.saved a.passed a.len };

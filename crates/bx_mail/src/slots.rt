@@ -1,6 +1,6 @@
 //! Slots that hold messages and are joined by their numbers.
 
-ghost use Rattle.std.specs.Prelude.{◌≡◌, ◌↔◌, ◌^◌, ◌<◌, ◌≤◌, ◌≢◌, ℕ, [], length, Some, None, IfOk, OnOk, OnErr, IsTrue, option_map, slice_set, slice_get};
+ghost use Rattle.std.specs.Prelude.{◌≡◌, ◌↔◌, ◌^◌, ◌<◌, ℕ, [], length, Some, None, IfOk, OnOk, OnErr, IsTrue, option_map, slice_set, slice_get};
 ghost use Rattle.bx_mail.specs.Slots.{full, vacant, message_of, next_of, link_behind, last_behind, message_in, next_in, row, Relinked, Opened};
 
 use bx_share::same_held;

@@ -1,11 +1,11 @@
 //! The channels between the processes of a world.
 
-ghost use Rattle.std.specs.Prelude.{◌≡◌, ◌≢◌, ◌↔◌, ◌++◌, ◌∷◌, ◌<◌, ◌≤◌, [], length, IfErr, IfOk, IsTrue, OnOk, OnErr, option_map, is_some};
+ghost use Rattle.std.specs.Prelude.{◌≡◌, ◌≢◌, ◌↔◌, ◌++◌, ◌<◌, ◌≤◌, [], length, IfErr, IfOk, IsTrue, OnOk, OnErr, option_map};
 ghost use Rattle.std.specs.FinMap as map;
 ghost use Rattle.bx_mail.specs.Mail.{added};
 ghost use Rattle.bx_signals.specs.Handing.{message_of, Hands};
-ghost use Rattle.bx_signals.specs.Waiting.{first, rest, front};
-ghost use Rattle.bx_signals.specs.Channels.{waiting, with_waiting, put, taken, taken_back, put_to_all, taken_back_all, pairs};
+ghost use Rattle.bx_signals.specs.Waiting.{first};
+ghost use Rattle.bx_signals.specs.Channels.{waiting, put, taken, taken_back, put_to_all, taken_back_all, pairs};
 ghost use Rattle.bx_signals.specs.Rows.{rows_map, queue_at, rows_pairs, AllRising, CoversAll};
 
 use crate::row::{Row, covers, lines_of};

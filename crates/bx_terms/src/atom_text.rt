@@ -2,9 +2,9 @@
 //!
 //! Source: Erlang Reference Manual, "Data Types" ("Atom", "Escape Sequences") and "Introduction" ("Reserved Words").
 
-ghost use Rattle.std.specs.Prelude.{◌≡◌, ◌++◌, IfOk, OnOk, if◌then◌else◌, is_ok, string_bytes, map, bytes_eq};
+ghost use Rattle.std.specs.Prelude.{◌≡◌, ◌++◌, IfOk, OnOk, if◌then◌else◌, is_ok, string_bytes, bytes_eq};
 ghost use Rattle.std.specs.List.{list_any, list_all};
-ghost use Rattle.bx_terms.specs.AtomText.{printed_atom, quoted, escaped, by_code, is_bare, is_reserved, is_name_byte, begins_lower, is_lower};
+ghost use Rattle.bx_terms.specs.AtomText.{printed_atom, quoted, escaped, is_bare, is_name_byte, begins_lower};
 
 use std::alloc::{AllocError, Global};
 

@@ -2,7 +2,7 @@
 
 ghost use Rattle.std.specs.Prelude.{◌≡◌, ◌≤◌, length, count_by};
 ghost use Rattle.std.specs.Str.{IsUtf8};
-ghost use Rattle.bx_text.specs.Bytes.{is_name, is_accented, is_accented_lower, is_digit, is_feed, is_lower, is_space, begins};
+ghost use Rattle.bx_text.specs.Bytes.{is_name, is_accented, is_accented_lower, is_digit, is_feed, is_lower, is_space};
 
 pub(crate) fn is_space(b: u8) -> bool
     ensures { result ≡ is_space b }

@@ -1,6 +1,6 @@
 //! Terms that stand for no value here: they are kept as they were read.
 
-ghost use Rattle.std.specs.Prelude.{◌≡◌, ◌-◌, take};
+ghost use Rattle.std.specs.Prelude.{◌≡◌, ◌-◌};
 ghost use Rattle.bx_terms.specs.Outcomes.{Gives};
 ghost use Rattle.bx_text.specs.Place.{place};
 ghost use Rattle.bx_text.specs.Token.{lexeme_of, token_of};

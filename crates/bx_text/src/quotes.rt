@@ -1,15 +1,14 @@
 //! Quoted atoms and strings.
 
-ghost use Rattle.std.specs.Prelude.{◌≡◌, ◌≤◌, ◌+◌, ◌<◌, drop, take, length, true};
+ghost use Rattle.std.specs.Prelude.{◌≡◌, ◌≤◌, ◌+◌, ◌<◌, drop, take, length};
 ghost use Rattle.std.specs.List.{prefix_len};
-ghost use Rattle.std.specs.Str.Lossy.{utf8_valid_len};
 ghost use Rattle.bx_terms.specs.Outcomes.{Gives};
 ghost use Rattle.bx_text.specs.Bytes.{begins, is_plain};
 ghost use Rattle.bx_text.specs.Place.{place};
 ghost use Rattle.bx_text.specs.Token.{body_of};
 ghost use Rattle.bx_text.specs.Escapes as escapes;
 ghost use Rattle.bx_text.specs.Lexing as lexing;
-ghost use Rattle.bx_text.specs.Lexing.{quoted_at, body_at};
+ghost use Rattle.bx_text.specs.Lexing.{quoted_at};
 
 use crate::blanks::text_of;
 use crate::bytes::{as_text, feeds};

@@ -1,6 +1,6 @@
 //! A place in a text, from which terms are read one after another.
 
-ghost use Rattle.std.specs.Prelude.{◌≡◌, ◌+◌, ◌^◌, ◌<◌, length};
+ghost use Rattle.std.specs.Prelude.{◌+◌, ◌^◌, ◌<◌, length};
 
 /// A place in a text: what follows, where that begins, and in which line.
 #[derive(Clone, Copy, Debug)]

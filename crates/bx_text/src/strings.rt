@@ -1,6 +1,6 @@
 //! Strings: lists of their characters' codes.
 
-ghost use Rattle.std.specs.Prelude.{◌≡◌, ◌<◌, ◌⊎◌, ◌++◌, List, false, length, IsOkAnd, IsSome, MatchResult, OnErr};
+ghost use Rattle.std.specs.Prelude.{◌≡◌, ◌<◌, ◌⊎◌, ◌++◌, false, length, IsOkAnd, IsSome, MatchResult};
 ghost use Rattle.bx_terms.specs.Outcomes.{Gives};
 ghost use Rattle.bx_text.specs.Place.{place};
 ghost use Rattle.bx_text.specs.Token.{lexeme_of, token_of, body_of, spelled};

@@ -1,6 +1,6 @@
 //! Terms: which one begins at a token.
 
-ghost use Rattle.std.specs.Prelude.{◌≡◌, ◌⊎◌, ◌++◌, ◌∷◌, [], IfOk, OnOk, IsOk, IsOkAnd, suc, true, false};
+ghost use Rattle.std.specs.Prelude.{◌≡◌, ◌++◌, ◌∷◌, [], IfOk, OnOk, IsOk, IsOkAnd, suc, true, false};
 ghost use Rattle.bx_terms.specs.Outcomes.{Gives};
 ghost use Rattle.bx_text.specs.Place.{place};
 ghost use Rattle.bx_text.specs.Token.{lexeme_of, token_of, body_of, IsEscaped};
@@ -9,7 +9,7 @@ ghost use Rattle.bx_text.specs.Grammar.{IsToken};
 ghost use Rattle.bx_text.specs.Tree.{integer, atom, chain};
 ghost use Rattle.bx_text.specs.Lexing as lexing;
 ghost use Rattle.bx_text.specs.Terms as terms;
-ghost use Rattle.bx_text.specs.Rows.{prefixed, chained, joined, closing, splicing, ending};
+ghost use Rattle.bx_text.specs.Rows.{prefixed, chained, joined, closing, splicing};
 
 use crate::binaries::binary;
 use crate::brackets::{list_end, misplaced, too_deep, tuple_end, unended};

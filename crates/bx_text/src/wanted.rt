@@ -4,7 +4,7 @@ ghost use Rattle.std.specs.Prelude.{◌≡◌};
 ghost use Rattle.bx_terms.specs.Outcomes.{Gives};
 ghost use Rattle.bx_text.specs.Place.{place};
 ghost use Rattle.bx_text.specs.Token as token;
-ghost use Rattle.bx_text.specs.Token.{token_of, lexeme_of, body_of};
+ghost use Rattle.bx_text.specs.Token.{token_of, body_of};
 ghost use Rattle.bx_text.specs.Terms as terms;
 
 use crate::escapes::means_utf8;

@@ -2,7 +2,7 @@
 
 ghost use Rattle.std.specs.Prelude.{◌≡◌, None, Ok};
 ghost use Rattle.bx_terms.specs.Outcomes.{Does};
-ghost use Rattle.bx_world.specs.Delivering.{received, messaged, ending, exiting, by_link, by_exit, exited_received};
+ghost use Rattle.bx_world.specs.Delivering.{received, ending, by_link, by_exit, exited_received};
 ghost use Rattle.bx_signals.specs.Handing.{message_of};
 ghost use Rattle.bx_signals.specs.Waiting.{first};
 ghost use Rattle.bx_signals.specs.Channels.{waiting};

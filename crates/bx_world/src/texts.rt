@@ -1,6 +1,6 @@
 //! The texts of choices and outcomes.
 
-ghost use Rattle.std.specs.Prelude.{◌≡◌, ◌++◌, ◌∷◌, [], Ok, OnOk, string_bytes};
+ghost use Rattle.std.specs.Prelude.{◌≡◌, ◌++◌, Ok, OnOk, string_bytes};
 ghost use Rattle.bx_terms.specs.Outcomes.{Gives};
 ghost use Rattle.bx_terms.specs.Printed.{printed};
 ghost use Rattle.bx_world.specs.Texts.{spelling, spellings, state_words, status_words, process_line, process_lines, output_lines, outcome_lines};

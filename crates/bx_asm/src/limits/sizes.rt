@@ -1,6 +1,6 @@
 //! Sizes: of the code, of lists, labels and arities, and how many functions are called by name.
 
-ghost use Rattle.std.specs.Prelude.{◌≡◌, ◌&&◌, [], IfOk, OnOk, OnErr, IsSome, nat_le};
+ghost use Rattle.std.specs.Prelude.{◌≡◌, ◌&&◌, IfOk, OnOk, OnErr, IsSome, nat_le};
 ghost use Rattle.std.specs.List.{list_all};
 ghost use Rattle.bx_asm.specs.Decoding.{as_import};
 ghost use Rattle.bx_asm.specs.Limits.{first, is_small, is_arity, count, operands_of, is_within, imports_after, imports, first_call};

@@ -1,6 +1,6 @@
 //! Laws of arithmetic.
 
-ghost use Rattle.std.specs.Prelude.{◌≡◌, ◌≢◌, ◌↔◌, ◌+◌, ◌%◌, ◌^◌, ◌<◌, min, max, ◌-◌, ℕ, ℤ, pos, neg_ℤ, ◌+ℤ◌, ◌*ℤ◌, ◌≤ℤ◌, ◌<ℤ◌, unsigned_abs, List};
+ghost use Rattle.std.specs.Prelude.{◌≡◌, ◌↔◌, ◌+◌, ◌%◌, ◌^◌, ◌<◌, min, max, ◌-◌, ℕ, ℤ, pos, neg_ℤ, ◌+ℤ◌, ◌*ℤ◌, ◌≤ℤ◌, ◌<ℤ◌, unsigned_abs, List};
 ghost use Rattle.bx_terms.specs.Tree.{int};
 ghost use Rattle.bx_terms.specs.declared.kinds.Trap.TheVariants.{IntegerRange};
 ghost use Rattle.bx_ops.specs.declared.guard_bif.Bif.TheVariants.{Div, Rem, Band, Bor, Bxor, Bnot, Bsl, Bsr};

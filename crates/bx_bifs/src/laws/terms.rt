@@ -1,6 +1,6 @@
 //! Laws of comparisons, truth values, kinds and parts of terms.
 
-ghost use Rattle.std.specs.Prelude.{◌≡◌, ◌≢◌, ◌⊎◌, ◌↔◌, ℕ, suc, ℤ, pos, ◌<ℤ◌, Bool, true, false, not, ◌&&◌, ◌||◌, List, Some, length, slice_get};
+ghost use Rattle.std.specs.Prelude.{◌≡◌, ◌≢◌, ◌⊎◌, ◌↔◌, ℕ, suc, ℤ, pos, ◌<ℤ◌, Bool, true, false, not, ◌&&◌, ◌||◌, List, length, slice_get};
 ghost use Rattle.std.specs.declared.cmp.Ordering.TheVariants.{Less, Greater};
 ghost use Rattle.bx_terms.specs.Tree.{Tree, int, atom, pid, tuple, nil, cons, listed};
 ghost use Rattle.bx_terms.specs.AtomTable.{IsAtomTable};

@@ -1,13 +1,12 @@
 //! Building a plan line by line.
 
-ghost use Rattle.std.specs.Prelude.{◌≡◌, ◌≤◌, ◌<◌, ◌++◌, ◌∷◌, [], List, length, MatchBool, IfOk, OnErr, Some};
+ghost use Rattle.std.specs.Prelude.{◌≡◌, ◌≤◌, ◌<◌, [], List, length, IfOk, OnErr, Some};
 ghost use Rattle.bx_plan.specs.Building.{planned, so_far, HasRoom, IsBuilding, Adds, Pushes};
 ghost use Rattle.bx_plan.specs.Edges.{IsGrown};
 ghost use Rattle.bx_plan.specs.Entry.{Entry};
 ghost use Rattle.bx_plan.specs.Made.{Make};
-ghost use Rattle.bx_plan.specs.Nodes.{nodes_of};
 ghost use Rattle.bx_plan.specs.Planned.{schedules, IsPlanned};
-ghost use Rattle.bx_plan.specs.Plans.{with_read, with_schedule, choices_of, TakesFirst};
+ghost use Rattle.bx_plan.specs.Plans.{with_read, with_schedule, TakesFirst};
 ghost use Rattle.bx_plan.specs.Reading.{line_of, spread};
 
 use super::keys::NameKey;

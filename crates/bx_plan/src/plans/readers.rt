@@ -3,10 +3,9 @@
 ghost use Rattle.std.specs.Prelude.{◌≡◌, ◌<◌, length, option_map, slice_get, IfOk, OnErr, MatchOption, None, Ok};
 ghost use Rattle.bx_terms.specs.Outcomes.{Gives};
 ghost use Rattle.bx_plan.specs.Edges.{tree_by, AreFew};
-ghost use Rattle.bx_plan.specs.Runs.{spread_runs};
 ghost use Rattle.bx_plan.specs.Planned.{schedules, IsPlanned};
 ghost use Rattle.bx_plan.specs.Plans.{Shows};
-ghost use Rattle.bx_plan.specs.Trees.{path, parent, choice, tree_of, IsTree};
+ghost use Rattle.bx_plan.specs.Trees.{path, parent, choice, IsTree};
 
 use super::Plan;
 use crate::schedules::{Run, Schedule};

@@ -3,7 +3,7 @@
 ghost use Rattle.std.specs.Prelude.{◌≡◌, ◌+◌, ◌-◌, ◌<◌, ◌≤◌, ◌++◌, ◌∷◌, [], Some, false, length, option_map, replicate, MatchBool, MatchOption, IfOk, IfSome, OnErr};
 ghost use Rattle.bx_plan.specs.Nodes.{has_node};
 ghost use Rattle.bx_plan.specs.Trees.{path};
-ghost use Rattle.bx_plan.specs.Edges.{tree_by, steps_of, edge_at, IsGrown, IsOn, IsPlace, IsNext, NotNext};
+ghost use Rattle.bx_plan.specs.Edges.{tree_by, edge_at, IsGrown, IsOn, IsPlace, IsNext, NotNext};
 ghost use Rattle.bx_plan.specs.Walks.{Leads, Walks};
 
 use super::edges::node_count;

@@ -1,7 +1,7 @@
 //! Laws of heights, of the order of terms and of their text.
 
-ghost use Rattle.std.specs.Prelude.{◌≡◌, true, ◌+◌, ◌<◌, ◌↔◌, ◌++◌, ◌∷◌, max, ℕ, ℤ, List, Option, Some, None, length, map, fold, slice_get, codes, chars};
-ghost use Rattle.std.specs.declared.cmp.Ordering.TheVariants.{Less, Equal, Greater};
+ghost use Rattle.std.specs.Prelude.{◌≡◌, true, ◌+◌, ◌<◌, ◌↔◌, ◌++◌, max, ℕ, ℤ, List, Some, None, length, map, fold, slice_get, codes, chars};
+ghost use Rattle.std.specs.declared.cmp.Ordering.TheVariants.{Less, Equal};
 ghost use Rattle.std.specs.Ordering.{ordering_reverse, nat_cmp};
 ghost use Rattle.std.specs.Cmp.Lexicographic.{slice_cmp};
 ghost use Rattle.std.specs.List.{join_by};
