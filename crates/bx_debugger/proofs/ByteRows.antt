@@ -3,9 +3,9 @@ use Rattle.std.proofs.KnownBytes.{Keeps-refl}
 use Rattle.std.proofs.lemmas.Bool.{eqb-true}
 use Rattle.std.proofs.Common.{append-nil, eq-eqb, ◌≡◌, ◌∙◌, ◌<◌, ℕ, Bool, true, false, ◌||◌, ◌==◌, List, [], ◌∷◌, ◌++◌, Option, Some, None, Ok, Err, length, if◌then◌else◌, arith, refl, sym, ap, subst}
 use Rattle.std.specs.Io.KnownBytes.{Appends, Keeps}
-use Rattle.bx_debugger.specs.Answers.{answered, is_quit}
+use Rattle.bx_debugger.specs.Answers.{answered, has_quit, is_quit}
 use Rattle.bx_debugger.specs.Lines.{last_line}
-use Rattle.bx_debugger.specs.Talks.{Feeds, Hearing, Lacks, Replies, quits, told}
+use Rattle.bx_debugger.specs.Talks.{Breaks, Feeds, Hearing, Lacks, Replies, quits, told}
 use Rattle.bx_engine.specs.declared.failures.Failure.{Failure}
 use Rattle.bx_engine.specs.declared.failures.Failure.TheVariants.{Refused, Read, Write, Start}
 use Rattle.bx_terms.specs.declared.faults.Fault.TheVariants.{Memory}
@@ -56,11 +56,22 @@ lacks_begun w h b ne =
     let e : (b == 10) ≡ false = no_feed b ne in
     (b ∷ [], [], refl, (refl, (0, rw e (one_line h.line b), refl, appends_none w w (Keeps-refl w))))
 
+-- the writer failed at the line that is ended
+fails_byte : (w v : Option (List ℕ)) (h : Hearing) (b : ℕ) → b ≡ 10 → is_quit h.line ≡ false → Breaks w v h (b ∷ []) (Err Write)
+fails_byte w v h b feed on =
+    let e : (b == 10) ≡ true = eq-eqb b 10 feed in
+    (rw e refl, (rw e (omega arith), rw e (ap (λ (t : Bool). t || false) on)))
+
 -- the line that is ended has no answer
-pub broken_byte : (w v : Option (List ℕ)) (h i after : Hearing) (b : ℕ) (failure : Failure) → b ≡ 10 → Replies w v i after (Err failure)
+pub broken_byte : (w v : Option (List ℕ)) (h i after : Hearing) (b : ℕ) (failure : Failure) → b ≡ 10 → i.line ≡ h.line → Replies w v i after (Err failure)
     → Feeds w v h h (b ∷ []) (Err failure)
-broken_byte w v h i after b (Refused Memory file) feed r = (b ∷ [], [], refl, (r.0, lacks_byte w v h b feed r.2))
-broken_byte w v h i after b (Refused fault file) feed r = absurd r
-broken_byte w v h i after b (Read n) feed r = absurd r
-broken_byte w v h i after b Write feed r = (b ∷ [], [], refl, tt)
-broken_byte w v h i after b Start feed r = absurd r
+broken_byte w v h i after b (Refused Memory file) feed same r = (b ∷ [], [], refl, (r.0, lacks_byte w v h b feed r.2))
+broken_byte w v h i after b (Refused fault file) feed same r = absurd r
+broken_byte w v h i after b (Read n) feed same r = absurd r
+broken_byte w v h i after b Write feed same r = (b ∷ [], [], refl, fails_byte w v h b feed (ap is_quit (sym same) ∙ r))
+broken_byte w v h i after b Start feed same r = absurd r
+
+-- the writer failed at the last line, which lacks its line feed
+pub fails_last : (line : List ℕ) → (line ≡ [] → ⊥) → is_quit line ≡ false → (0 < length (last_line line)) × (has_quit (last_line line) ≡ false)
+fails_last [] some on = absurd (some refl)
+fails_last (x ∷ line) some on = (omega arith, ap (λ (t : Bool). t || false) on)

@@ -6,7 +6,7 @@ use Rattle.bx_debug.specs.Sessions.{History}
 use Rattle.bx_engine.specs.Sources.{Sources}
 use Rattle.bx_debugger.specs.Answers.{after_lines, has_quit}
 use Rattle.bx_debugger.specs.Lines.{begun_line, ended_lines, last_line}
-use Rattle.bx_debugger.specs.Talks.{Ends, Follows, Hearing, Hears, Lacks, Talks, ended_in, heard, lines_in, quits, told}
+use Rattle.bx_debugger.specs.Talks.{Ends, Follows, Hearing, Hears, Lacks, MayFail, Talks, ended_in, heard, lines_in, quits, told}
 use Rattle.bx_engine.specs.declared.failures.Failure.{Failure}
 use Rattle.bx_engine.specs.declared.failures.Failure.TheVariants.{Refused, Read, Write, Start}
 use Rattle.bx_terms.specs.declared.faults.Fault.TheVariants.{Memory, TooLarge}
@@ -89,6 +89,19 @@ lacks_behind w v u h i a b first second =
           (Appends-trans w v u (told h (ended_in h a)) (told (heard h a) (take k (lines_in (heard h a) b))) first.written then.3),
     )
 
+-- a writer that fails behind bytes that were heard
+pub fails_behind : (w v : Option (List ℕ)) (h i : Hearing) (a b : List ℕ) → Follows w v h i a → MayFail i b → MayFail h (a ++ b)
+fails_behind w v h i a b first second =
+    let then : MayFail (heard h a) b = subst (λ k. MayFail k b) first.state second in
+    let lines = lines-append h a b in (
+      (let l = ap length lines in let m = length-append (ended_in h a) (lines_in (heard h a) b) in let some = then.0 in omega arith),
+      ap has_quit (sym lines) ∙ quit-append (ended_in h a) (lines_in (heard h a) b) ∙ ap (λ q. q || has_quit (lines_in (heard h a) b)) first.goes_on ∙ then.1,
+    )
+
+-- a line feed ends what was heard
+pub begun_behind : (w v : Option (List ℕ)) (h i : Hearing) (a b : List ℕ) → Follows w v h i a → begun_line i.line b ≡ [] → begun_line h.line (a ++ b) ≡ []
+begun_behind w v h i a b first none = begun-append h.line a b ∙ ap (λ (k : Hearing). begun_line k.line b) (sym first.state) ∙ none
+
 hears_then : (had mid rest : Option (List ℕ)) (read more past : List ℕ) → Consumes had mid read → Consumes mid rest (more ++ past) → Consumes had rest ((read ++ more) ++ past)
 hears_then had mid rest read more past first second =
     subst (Consumes had rest) (sym (append_assoc read more past)) (Consumes-trans had mid rest read (more ++ past) first second)
@@ -139,7 +152,11 @@ ends_behind file w v u rest h i read more past (Err (Refused TooLarge n)) within
 ends_behind file w v u rest h i read more past (Err (Refused Memory n)) within first second =
     (second.0, lacks_behind w v u h i read more first second.1)
 ends_behind file w v u rest h i read more past (Err (Refused fault n)) within first second = absurd second
-ends_behind file w v u rest h i read more past (Err Write) within first second = tt
+ends_behind file w v u rest h i read more past (Err Write) within first second = (where_it second.0, fails_behind w v h i read more first second.1)
+  where
+    where_it : (begun_line i.line more ≡ []) ⊎ (IsAtEnd rest × (past ≡ [])) → (begun_line h.line (read ++ more) ≡ []) ⊎ (IsAtEnd rest × (past ≡ []))
+    where_it (inl none) = inl (begun_behind w v h i read more first none)
+    where_it (inr end) = inr end
 ends_behind file w v u rest h i read more past (Err Start) within first second = absurd second
 
 pub talks_behind : (file : ℕ) (w v u had mid rest : Option (List ℕ)) (h i : Hearing) (read : List ℕ) (answer : Result (Unit {0}) Failure)

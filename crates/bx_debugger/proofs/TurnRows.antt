@@ -11,7 +11,7 @@ use Rattle.bx_terms.specs.declared.faults.Fault.TheVariants.{Memory, TooLarge}
 use Rattle.bx_debugger.specs.declared.talks.Next.{Next}
 use Rattle.bx_debugger.specs.declared.talks.Next.TheVariants.{More, Over}
 use Rattle.bx_debugger.proofs.LineRows.{answers_past, ended-append}
-use Rattle.bx_debugger.proofs.HearingRows.{follows_nothing, follows-append, lacks_behind, quits-append, told_behind}
+use Rattle.bx_debugger.proofs.HearingRows.{begun_behind, fails_behind, follows_nothing, follows-append, lacks_behind, quits-append, told_behind}
 use Rattle.bx_debugger.proofs.ByteRows.{appends_none}
 
 -- nothing was given
@@ -39,7 +39,7 @@ breaks_behind w v u h i a b (Ok Over) first second =
 breaks_behind w v u h i a b (Err (Refused Memory n)) first second = (second.0, lacks_behind w v u h i a b first second.1)
 breaks_behind w v u h i a b (Err (Refused fault n)) first second = absurd second
 breaks_behind w v u h i a b (Err (Read n)) first second = absurd second
-breaks_behind w v u h i a b (Err Write) first second = tt
+breaks_behind w v u h i a b (Err Write) first second = (begun_behind w v h i a b first second.0, fails_behind w v h i a b first second.1)
 breaks_behind w v u h i a b (Err Start) first second = absurd second
 
 -- the bytes so far, the one that is next, and those behind it
@@ -94,7 +94,7 @@ turns_end file w v had rest h after (Ok Over) c e f = ([], [], c, omega arith, (
 turns_end file w v had rest h after (Err (Refused Memory n)) c e f = ([], [], c, omega arith, f)
 turns_end file w v had rest h after (Err (Refused fault n)) c e f = absurd f
 turns_end file w v had rest h after (Err (Read n)) c e f = absurd f
-turns_end file w v had rest h after (Err Write) c e f = ([], [], c, omega arith, tt)
+turns_end file w v had rest h after (Err Write) c e f = ([], [], c, omega arith, (inr (e, refl), f))
 turns_end file w v had rest h after (Err Start) c e f = absurd f
 
 consumes_so : (had rest : Option (List ℕ)) (piece extra read past : List ℕ) → piece ≡ read ++ past → Consumes had rest (piece ++ extra) → Consumes had rest (read ++ (past ++ extra))
@@ -123,7 +123,7 @@ talks_broken file w v had rest h piece extra failure c le b =
     go (Refused Memory n) d = d
     go (Refused fault n) d = absurd d
     go (Read n) d = absurd d
-    go Write d = tt
+    go Write d = (inl d.0, d.1)
     go Start d = absurd d
 
 -- more came than may

@@ -68,13 +68,13 @@ heard h bytes = record {
   left = h.left - length bytes;
 }
 
--- one line is answered, or quits; where memory runs out, nothing is written
+-- one line is answered, or quits; where memory runs out, nothing is written; the writer fails at no line that quits
 abbrev pub Replies : Option (List ℕ) → Option (List ℕ) → Hearing → Hearing → Result Next Failure → Type 0
 Replies old new h after (Ok More) = (is_quit h.line ≡ false) × Appends old new (answered h.sources h.number h.line h.session).0
     × (after ≡ record h { session = (answered h.sources h.number h.line h.session).1 })
 Replies old new h after (Ok Over) = (is_quit h.line ≡ true) × Keeps old new
 Replies old new h after (Err (Refused Memory file)) = (file ≡ None) × (is_quit h.line ≡ false) × Keeps old new
-Replies old new h after (Err Write) = Unit {0}
+Replies old new h after (Err Write) = is_quit h.line ≡ false
 Replies old new h after (Err failure) = ⊥
 
 -- these bytes were heard, and none of the lines that they end quits
@@ -88,11 +88,15 @@ abbrev pub Lacks : Option (List ℕ) → Option (List ℕ) → Hearing → List 
 Lacks old new h bytes = (k : ℕ) × (k < length (lines_in h bytes)) × (has_quit (take k (lines_in h bytes)) ≡ false)
     × Appends old new (told h (take k (lines_in h bytes)))
 
--- hearing broke off at the last of these bytes
+-- there is a line to be answered, and none of the lines quits
+abbrev pub MayFail : Hearing → List ℕ → Type 0
+MayFail h bytes = (0 < length (lines_in h bytes)) × (has_quit (lines_in h bytes) ≡ false)
+
+-- hearing broke off at the last of these bytes; where the writer failed, they end the line whose answer it was given
 abbrev pub Breaks : Option (List ℕ) → Option (List ℕ) → Hearing → List ℕ → Result Next Failure → Type 0
 Breaks old new h bytes (Ok Over) = (quits h bytes ≡ true) × Appends old new (told h (ended_in h bytes))
 Breaks old new h bytes (Err (Refused Memory file)) = (file ≡ None) × Lacks old new h bytes
-Breaks old new h bytes (Err Write) = Unit {0}
+Breaks old new h bytes (Err Write) = (begun_line h.line bytes ≡ []) × MayFail h bytes
 Breaks old new h bytes answer = ⊥
 
 -- hearing broke off at the last of a prefix of these bytes
@@ -108,12 +112,13 @@ Feeds old new h after bytes answer = Broken old new h bytes answer
 abbrev pub Finishes : Option (List ℕ) → Option (List ℕ) → Hearing → Result Next Failure → Type 0
 Finishes old new h (Ok Over) = Appends old new (told h (last_line h.line))
 Finishes old new h (Err (Refused Memory file)) = (file ≡ None) × Lacks old new h []
-Finishes old new h (Err Write) = Unit {0}
+Finishes old new h (Err Write) = MayFail h []
 Finishes old new h answer = ⊥
 
 -- How a debugger ended that had read these bytes, and others behind them that do not count: all its lines are answered, up to one
 -- that quits; or the reader failed, or gave more than the limit, and the lines that were ended before are answered; or memory ran
--- out at a line, and those before it are answered. Of a writer that failed nothing is said.
+-- out at a line, and those before it are answered; or the writer failed at the last line of what was read, which a line feed or the
+-- reader's end ends. What such a writer took is not said.
 abbrev pub Ends : ℕ → Hearing → Option (List ℕ) → Option (List ℕ) → Option (List ℕ) → List ℕ → List ℕ → Result (Unit {0}) Failure → Type 0
 Ends file h old new rest read past (Ok done) =
     ((IsAtEnd rest × (past ≡ [])) ⊎ (quits h read ≡ true)) × Appends old new (told h (lines_in h read))
@@ -122,7 +127,7 @@ Ends file h old new rest read past (Err (Read n)) =
 Ends file h old new rest read past (Err (Refused TooLarge n)) =
     (n ≡ Some file) × (length read ≡ h.left) × (0 < length past) × (quits h read ≡ false) × Appends old new (told h (ended_in h read))
 Ends file h old new rest read past (Err (Refused Memory n)) = (n ≡ None) × Lacks old new h read
-Ends file h old new rest read past (Err Write) = Unit {0}
+Ends file h old new rest read past (Err Write) = ((begun_line h.line read ≡ []) ⊎ (IsAtEnd rest × (past ≡ []))) × MayFail h read
 Ends file h old new rest read past (Err failure) = ⊥
 
 -- lines were read and answered, by what the reader gave

@@ -21,8 +21,8 @@ use std::io::{Read, Write};
 /// The failure is the first of these: the start is no such thing; a listing, in the order given, can't be read or is refused when it
 /// is read or assembled; the listings can't be loaded together; `NoEntry`, where the module does not export that function of no
 /// arguments. Nothing is read of the commands then, and nothing is written. While lines are read, a reader of commands that fails, one
-/// that gives more than `INPUT_LIMIT` bytes, and memory that runs out end it behind the answers to the lines before. In a failure the
-/// commands are the file behind the listings.
+/// that gives more than `INPUT_LIMIT` bytes, and memory that runs out end it behind the answers to the lines before; a writer can fail
+/// only at an answer. In a failure the commands are the file behind the listings.
 pub fn debug_text<R: Read, C: Read, W: Write>(
     alloc: Global,
     listings: &mut [R],

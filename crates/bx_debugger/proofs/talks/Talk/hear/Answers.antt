@@ -17,4 +17,4 @@ returns-in-Err g c =
     let inside = c.self.inside in
     broken_byte (g.W.Write.contents c.args.writer.now) (g.W.Write.contents c.answer.new.writer) c.args.self.now
     (record { session = inside.session; sources = inside.sources.now; number = inside.number; line = inside.line.items; left = inside.left - 1 }) c.answer.new.self
-    c.args.byte c.in-Err.failure c.if-byte-ne10.false c.in-Err.ensures
+    c.args.byte c.in-Err.failure c.if-byte-ne10.false (ap (λ (h : Hearing). h.line) c.self.view_is) c.in-Err.ensures
