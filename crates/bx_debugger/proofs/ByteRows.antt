@@ -3,7 +3,7 @@ use Rattle.std.proofs.KnownBytes.{Keeps-refl}
 use Rattle.std.proofs.lemmas.Bool.{eqb-true}
 use Rattle.std.proofs.Common.{append-nil, eq-eqb, ◌≡◌, ◌∙◌, ◌<◌, ℕ, Bool, true, false, ◌||◌, ◌==◌, List, [], ◌∷◌, ◌++◌, Option, Some, None, Ok, Err, length, if◌then◌else◌, arith, refl, sym, ap, subst}
 use Rattle.std.specs.Io.KnownBytes.{Appends, Keeps}
-use Rattle.bx_debugger.specs.Answers.{answered, has_quit, is_quit}
+use Rattle.bx_debugger.specs.Answers.{answered, is_quit}
 use Rattle.bx_debugger.specs.Lines.{last_line}
 use Rattle.bx_debugger.specs.Talks.{Breaks, Feeds, Hearing, Lacks, Replies, quits, told}
 use Rattle.bx_engine.specs.declared.failures.Failure.{Failure}
@@ -70,8 +70,3 @@ broken_byte w v h i after b (Refused fault file) feed same r = absurd r
 broken_byte w v h i after b (Read n) feed same r = absurd r
 broken_byte w v h i after b Write feed same r = (b ∷ [], [], refl, fails_byte w v h b feed (ap is_quit (sym same) ∙ r))
 broken_byte w v h i after b Start feed same r = absurd r
-
--- the writer failed at the last line, which lacks its line feed
-pub fails_last : (line : List ℕ) → (line ≡ [] → ⊥) → is_quit line ≡ false → (0 < length (last_line line)) × (has_quit (last_line line) ≡ false)
-fails_last [] some on = absurd (some refl)
-fails_last (x ∷ line) some on = (omega arith, ap (λ (t : Bool). t || false) on)
