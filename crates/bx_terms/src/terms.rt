@@ -137,6 +137,7 @@ impl Term {
     }
 
     /// The list cell of `head` and `tail`, or the refusal with both handed back.
+    #[inline(always)]
     pub fn cons(alloc: Global, head: Term, tail: Term) -> Result<Term, (TermRefusal, Term, Term)>
         ensures built { IfOk result (λ t. t ≡ cons head tail) }
         ensures within { IfOk result IsWithinHeight }
