@@ -1,4 +1,4 @@
-//! Spawning and their limits, and waits that expire.
+//! Spawns and their limits, and waits that expire.
 
 use crate::reports::report_of;
 use bx_terms::Fault;
