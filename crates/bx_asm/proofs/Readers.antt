@@ -11,7 +11,7 @@ use Rattle.bx_asm.specs.declared.instruction.Register.{Register}
 use Rattle.bx_asm.specs.declared.instruction.Register.TheVariants as registers
 use Rattle.bx_asm.specs.declared.operands.Operand.{Operand}
 use Rattle.bx_asm.specs.declared.operands.Operand.TheVariants as numbers
-use Rattle.bx_asm.specs.Decoding.{as_source, as_register, as_y, as_label, as_fail, as_place, as_number, as_atom, as_import, as_bif, as_key, list_behind, as_sources, as_registers, as_pairs, y_or_zero, label_or_zero}
+use Rattle.bx_asm.specs.Meaning.{as_source, as_register, as_y, as_label, as_fail, as_place, as_number, as_atom, as_import, as_bif, as_key, list_behind, as_sources, as_registers, as_pairs, y_or_zero, label_or_zero}
 use Rattle.bx_asm.specs.Source as source
 use Rattle.bx_asm.specs.Members.{literal_or_nil, source_in, sources_in, y_of, registers_in, key_of, label_in, with_pair, pairs_in}
 use Rattle.bx_asm.specs.Operands.{Tables, operand_of, row_of}
@@ -68,13 +68,17 @@ place_is t (numbers.Literal k) = named as_place spelt.Literal (slice_get t.liter
 place_is t (numbers.Import k) = named as_place spelt.Import (slice_get t.imports k) (λ x. refl) refl
 place_is t _ = refl
 
-abbrev pub number_of : Operand → Option ℕ
-number_of (numbers.Number n) = Some n
-number_of _ = None
+abbrev pub number_of : Operand → ℕ
+number_of (numbers.Number n) = n
+number_of _ = 0
+
+no_number : {A : Type 0} (c : A → Spelt) (o : Option A) → ((a : A) → as_number (c a) ≡ 0) → as_number (unwrap_or (option_map c o) spelt.Nil) ≡ 0
+no_number c (Some a) given = given a
+no_number c None given = refl
 
 pub number_is : (t : Tables) (o : Operand) → as_number (operand_of t o) ≡ number_of o
-number_is t (numbers.Literal k) = named as_number spelt.Literal (slice_get t.literals k) (λ x. refl) refl
-number_is t (numbers.Import k) = named as_number spelt.Import (slice_get t.imports k) (λ x. refl) refl
+number_is t (numbers.Literal k) = no_number spelt.Literal (slice_get t.literals k) (λ x. refl)
+number_is t (numbers.Import k) = no_number spelt.Import (slice_get t.imports k) (λ x. refl)
 number_is t _ = refl
 
 abbrev pub atom_of : Operand → Option AtomId

@@ -1,10 +1,9 @@
 pub mod Source
-pub mod Instr
 pub mod Members
 pub mod Instructed
 pub mod Operands
 pub mod Looked
-pub mod Decoding
+pub mod Meaning
 pub mod Spelling
 pub mod Numbered
 pub mod Marks

@@ -12,7 +12,7 @@ use Rattle.bx_listing.specs.Items.{Item, PlacedItem}
 use Rattle.bx_listing.specs.ListedCode.{ListedFunction, ListedModule}
 use Rattle.bx_listing.specs.Stored.{operands_in}
 use Rattle.bx_listing.specs.Code.{Code, code, items_of}
-use Rattle.bx_asm.specs.Decoding.{as_place, as_label, as_import}
+use Rattle.bx_asm.specs.Meaning.{as_place, as_label, as_import}
 
 -- the first of a list that has something to show, and what it shows
 abbrev pub or_else : {B : Type 0} → Option B → Option B → Option B

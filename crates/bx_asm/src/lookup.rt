@@ -1,8 +1,9 @@
 //! Operands looked at where they lie: nothing is copied, and no memory is taken.
 
 ghost use Rattle.std.specs.Prelude.{◌≡◌, Option, option_map, length};
+ghost use Rattle.bx_ops.specs.declared.sorts.Sort.TheVariants as sorts;
 ghost use Rattle.bx_asm.specs.Operands.{operand_of, row_of};
-ghost use Rattle.bx_asm.specs.Decoding.{as_source, as_register, as_y, as_label, as_fail, as_place, as_number, as_atom, as_import, as_bif, members, sources_behind, registers_behind, pairs_behind, label_alone, y_alone, first_number};
+ghost use Rattle.bx_asm.specs.Meaning.{as_source, as_register, as_y, as_label, as_fail, as_place, as_number, as_atom, as_import, as_bif, members, listed, pairs_behind};
 ghost use Rattle.bx_asm.specs.Instructed.{source_of, sources_of, registers_of, pairs_of};
 ghost use Rattle.bx_asm.specs.Looked.{tables};
 
@@ -94,12 +95,12 @@ impl<'a> Lookup<'a> {
 
     #[inline(always)]
     #[tactic(auto, using(crate::proofs::Readers::number_is))]
-    pub fn number(self, operand: Operand) -> Option<u32>
+    pub fn number(self, operand: Operand) -> u32
         ensures { result ≡ as_number (operand_of (tables self.entry) operand) }
     {
         match operand {
-            Operand::Number(number) => Some(number),
-            _ => None,
+            Operand::Number(number) => number,
+            _ => 0,
         }
     }
 
@@ -160,7 +161,7 @@ impl<'a> Lookup<'a> {
     #[inline(always)]
     #[tactic(auto, using(crate::proofs::Readers::sources_are))]
     pub fn sources(self, row: &'a [Operand]) -> Option<Sources<'a>>
-        ensures { option_map sources_of result ≡ sources_behind
+        ensures { option_map sources_of result ≡ listed sorts.Source
             (row_of (tables self.entry) row.now) }
     {
         let operands = self.members(row)?;
@@ -172,7 +173,7 @@ impl<'a> Lookup<'a> {
     #[inline(always)]
     #[tactic(auto, using(crate::proofs::Readers::registers_are))]
     pub fn registers(self, row: &'a [Operand]) -> Option<YRegisters<'a>>
-        ensures { option_map registers_of result ≡ registers_behind
+        ensures { option_map registers_of result ≡ listed sorts.YRegister
             (row_of (tables self.entry) row.now) }
     {
         let operands = self.members(row)?;
@@ -187,38 +188,5 @@ impl<'a> Lookup<'a> {
     {
         let operands = self.members(row)?;
         Some(Pairs { operands })
-    }
-
-    /// The label that is the only operand.
-    #[inline(always)]
-    pub fn label_alone(self, row: &[Operand]) -> Option<u32>
-        ensures { result ≡ label_alone (row_of (tables self.entry) row.now) }
-    {
-        match row {
-            [target] => self.label(*target),
-            _ => None,
-        }
-    }
-
-    /// The y register that is the only operand.
-    #[inline(always)]
-    pub fn y_alone(self, row: &[Operand]) -> Option<u16>
-        ensures { result ≡ y_alone (row_of (tables self.entry) row.now) }
-    {
-        match row {
-            [tag] => self.y(*tag),
-            _ => None,
-        }
-    }
-
-    /// The number that is the first operand.
-    #[inline(always)]
-    pub fn first_number(self, row: &[Operand]) -> Option<u32>
-        ensures { result ≡ first_number (row_of (tables self.entry) row.now) }
-    {
-        match row {
-            [number, ..] => self.number(*number),
-            _ => None,
-        }
     }
 }

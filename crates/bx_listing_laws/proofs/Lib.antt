@@ -1,5 +1,4 @@
 pub mod Operands
-pub mod Forms
 pub mod Rows
 pub mod Trees
 pub mod WrittenTerms

@@ -1,4 +1,3 @@
-pub mod Marks
 pub mod Spellable
 pub mod Writable
 pub mod ReadBack

@@ -1,6 +1,6 @@
 //! Laws over the definitions of the crates below: each function's clause is one, and its body is empty.
 
-ghost use Rattle.std.specs.Prelude.{◌≡◌, ◌↔◌, ℕ, List, is_some, not};
+ghost use Rattle.std.specs.Prelude.{◌≡◌, ◌↔◌, ℕ, List, not};
 ghost use Rattle.bx_terms.specs.AtomTable.{IsAtomTable};
 ghost use Rattle.bx_text.specs.Place.{place_in};
 ghost use Rattle.bx_text.specs.Tree.{Tree};
@@ -11,14 +11,13 @@ ghost use Rattle.bx_listing.specs.ListedCode.{ListedModule};
 ghost use Rattle.bx_listing.specs.Items.{Item};
 ghost use Rattle.bx_listing.specs.ListedItems.{IsItem};
 ghost use Rattle.bx_listing.specs.Code.{Code, code};
-ghost use Rattle.bx_asm.specs.Decoding.{instruction_of};
-ghost use Rattle.bx_listing_laws.specs.Marks.{is_mark};
+ghost use Rattle.bx_asm.specs.Marks.{is_mark, is_instruction};
 ghost use Rattle.bx_listing_laws.specs.ReadBack.{IsRead, IsReadBack};
 ghost use Rattle.bx_listing_laws.specs.Writable.{IsWritable};
 
 /// What is listed as an item is an instruction, unless it is a label or a line, which are none.
 pub fn a_listed_item_is_an_instruction_or_a_mark()
-    ensures { (before behind : Table) (t : Tree) (i : Item) → IsItem before t i behind → is_some (instruction_of i) ≡ not (is_mark i.op) }
+    ensures { (before behind : Table) (t : Tree) (i : Item) → IsItem before t i behind → is_instruction i ≡ not (is_mark i) }
 {}
 
 /// What is written of a code form is read as a listing with that code form, and names no atom that the table lacks, where the

@@ -3,7 +3,7 @@ pub mod Attempts
 pub mod Bursting
 pub mod Calm
 pub mod Crossing
-pub mod Decoded
+pub mod Taking
 pub mod Effects
 pub mod Elements
 pub mod Hearing
@@ -22,5 +22,4 @@ pub mod Told
 pub mod Unsent
 pub mod Woken
 pub mod Writing
-pub mod Alone
 pub mod Own

@@ -1,18 +1,20 @@
 //! The end of what a process asked for or sent.
 
-ghost use Rattle.std.specs.Prelude.{◌≡◌, true, is_some};
-ghost use Rattle.bx_asm.specs.Decoding.{instruction_of, call_ext_row as call_ext_form};
+ghost use Rattle.std.specs.Prelude.{◌≡◌, true, is_some, Some, None, [], ◌∷◌};
 ghost use Rattle.bx_asm.specs.Numbered.{item_of};
 ghost use Rattle.std.specs.FinMap as finite;
-ghost use Rattle.bx_load.specs.Image.{after, instruction_at};
+ghost use Rattle.bx_load.specs.Image.{after};
+ghost use Rattle.bx_load.specs.Numbering.{numbered_at};
+ghost use Rattle.bx_ops.specs.declared.sorts.Slot.TheVariants.{One};
+ghost use Rattle.bx_ops.specs.declared.sorts.Sort.TheVariants.{Arity, Callee};
+ghost use Rattle.bx_asm.specs.Meaning.{taken};
 ghost use Rattle.bx_proc.specs.declared.parts.Answer.TheVariants as answers;
 ghost use Rattle.bx_proc.specs.Asking.{finished_with};
 ghost use Rattle.bx_proc.specs.Runs.{Runs};
-ghost use Rattle.bx_proc.specs.Spelled.{spelled};
-ghost use Rattle.bx_proc.specs.Stepping.{asked_at, called_in, given_to, settling, settled, settled_with, SettlingTakes, SettlingWithTakes, NotingTakes, GivenTakes, noting, leads_to, leads_on, unasked, rested, asking_still, resumed, ResumedTakes};
+ghost use Rattle.bx_proc.specs.Stepping.{asked_at, called_by, called_in, given_to, settling, settled, settled_with, SettlingTakes, SettlingWithTakes, NotingTakes, GivenTakes, noting, leads_to, leads_on, unasked, rested, asking_still, resumed, ResumedTakes};
 ghost use Rattle.bx_proc.specs.Telling.{Resumes, Settles};
 
-use crate::operands::{import_of, number_of};
+use crate::operands::import_of;
 use crate::parts::{Answer, Status};
 use crate::process::Proc;
 use crate::stops::Stop;
@@ -233,9 +235,8 @@ impl Proc {
 }
 
 /// In which way the instruction at an address calls that may have asked others.
-#[tactic(auto, using(crate::proofs::Decoded::called_item, crate::proofs::Decoded::called_none))]
 fn called_there(image: &Image, here: Place) -> Result<CallKind, Trap>
-    ensures { result ≡ called_in (instruction_at image.now here) }
+    ensures { result ≡ called_in (numbered_at image.now here) }
 {
     let Some(item) = image.item(here) else {
         return Err(Trap::BadPlace);
@@ -244,31 +245,32 @@ fn called_there(image: &Image, here: Place) -> Result<CallKind, Trap>
 }
 
 /// The same of an item.
-#[tactic(auto, unfolding(bx_asm::specs::Decoding::decoded))]
+#[tactic(auto, unfolding(bx_asm::specs::Meaning::taken))]
 fn called_as(item: Numbered<'_>) -> Result<CallKind, Trap>
-    ensures { result ≡ called_in (instruction_of (item_of item.entry)) }
+    ensures { result ≡ called_in (Some (item_of item.entry)) }
 {
     match item.op() {
         Op::Send => Ok(CallKind::Plain),
         Op::CallExt => called_plainly(CallKind::Plain, item),
         Op::CallExtOnly => called_plainly(CallKind::Only, item),
         Op::CallExtLast => {
-            let [_, callee, size] = item.operands else {
+            let [_, callee, size, ..] = item.operands else {
                 return Err(Trap::BadPlace);
             };
             import_of(item.tables, *callee)?;
-            Ok(CallKind::Last(number_of(item.tables, *size)?))
+            Ok(CallKind::Last(item.tables.number(*size)))
         }
         _ => Err(Trap::BadPlace),
     }
 }
 
 /// In that way, where a callee stands there.
+#[tactic(auto, unfolding(bx_asm::specs::Meaning::taken))]
 fn called_plainly(kind: CallKind, item: Numbered<'_>) -> Result<CallKind, Trap>
-    ensures { result ≡ called_in (call_ext_form kind
-        (spelled item.entry.tables item.entry.operands.now)) }
+    ensures { result ≡ called_by (taken None (One Arity ∷ One Callee ∷ [])
+        (item_of item.entry).operands (λ arity import. Some kind)) }
 {
-    let [_, callee] = item.operands else {
+    let [_, callee, ..] = item.operands else {
         return Err(Trap::BadPlace);
     };
     import_of(item.tables, *callee)?;

@@ -1,17 +1,18 @@
 //! Calls, returns and frames.
 
-ghost use Rattle.std.specs.Prelude.{◌≡◌, ℕ, Ok, Err, Some, MatchResult};
-ghost use Rattle.bx_asm.specs.Decoding.{call_row as call_form, call_last_row as call_last_form};
-ghost use Rattle.bx_asm.specs.Instr as instr;
+ghost use Rattle.std.specs.Prelude.{◌≡◌, ℕ, Ok, Err, Some, MatchResult, List};
 ghost use Rattle.bx_cells.specs.TopFrame.{top_of};
 ghost use Rattle.bx_load.specs.Image.{after, Loaded};
 ghost use Rattle.bx_terms.specs.declared.places.Place as places;
 ghost use Rattle.bx_proc.specs.Calls.{goes, saved_in, deallocated, prepared, framed, call_row};
-ghost use Rattle.bx_proc.specs.Runs.{RunsAt};
+ghost use Rattle.bx_listing.specs.declared.items.Operand.{Operand as Spelt};
+ghost use Rattle.bx_ops.specs.declared.opcode.Op.TheVariants as ops;
+ghost use Rattle.bx_proc.specs.Runs.{RunsBy};
+ghost use Rattle.bx_proc.specs.Table.{rule, calling};
 ghost use Rattle.bx_proc.specs.Spelled.{spelled};
 ghost use Rattle.bx_proc.specs.Stops.{Turns};
 
-use crate::operands::{label_of, number_of};
+use crate::operands::label_of;
 use crate::process::Proc;
 use crate::stops::Stop;
 use bx_asm::{CallKind, Lookup, Operand};
@@ -46,7 +47,7 @@ impl Proc {
 
     /// `call` and `call_only`.
     #[inline(always)]
-    #[tactic(auto, unfolding(crate::specs::Table::rule))]
+    #[tactic(auto, unfolding(bx_asm::specs::Meaning::taken))]
     pub(crate) fn call(
         &mut self,
         image: &Image,
@@ -55,10 +56,10 @@ impl Proc {
         tables: Lookup<'_>,
         row: &[Operand],
     ) -> Result<(), Stop>
-        ensures { (pid : ℕ) → RunsAt pid image.now here self.old self.new result
-            (call_form kind (spelled tables.entry row.now)) }
+        ensures { RunsBy self.old self.new result
+            (calling image.now here kind (spelled tables.entry row.now) self.old) }
     {
-        let [_, target] = row else {
+        let [_, target, ..] = row else {
             return Err(Stop::trapped(Trap::BadPlace));
         };
         let label = label_of(tables, *target)?;
@@ -68,7 +69,7 @@ impl Proc {
 
     /// `call_last`.
     #[inline(never)]
-    #[tactic(auto, unfolding(crate::specs::Table::rule))]
+    #[tactic(auto, unfolding(crate::specs::Table::rule, bx_asm::specs::Meaning::taken))]
     pub(crate) fn call_last(
         &mut self,
         image: &Image,
@@ -76,14 +77,14 @@ impl Proc {
         tables: Lookup<'_>,
         row: &[Operand],
     ) -> Result<(), Stop>
-        ensures { (pid : ℕ) → RunsAt pid image.now here self.old self.new result
-            (call_last_form (spelled tables.entry row.now)) }
+        ensures { (pid : ℕ) → RunsBy self.old self.new result
+            (rule pid image.now here ops.CallLast (spelled tables.entry row.now) self.old) }
     {
-        let [_, target, size] = row else {
+        let [_, target, size, ..] = row else {
             return Err(Stop::trapped(Trap::BadPlace));
         };
         let label = label_of(tables, *target)?;
-        let size = number_of(tables, *size)?;
+        let size = tables.number(*size);
         self.enter(image, here, CallKind::Last(size), label)?;
         Ok(())
     }
@@ -174,10 +175,10 @@ impl Proc {
 
     /// `return`.
     #[inline(always)]
-    #[tactic(auto, unfolding(crate::specs::Table::rule))]
+    #[tactic(auto, unfolding(crate::specs::Table::rule, bx_asm::specs::Meaning::taken))]
     pub(crate) fn return_to(&mut self) -> Result<(), Stop>
-        ensures { (pid : ℕ) (image : Loaded) (here : places.Place) → RunsAt pid image here self.old
-            self.new result (Some instr.return) }
+        ensures { (pid : ℕ) (image : Loaded) (here : places.Place) (os : List Spelt) → RunsBy self.old self.new result
+            (rule pid image here ops.Return os self.old) }
     {
         if self.cp.is_none() {
             return self.end(Term::atom(fixed::NORMAL));

@@ -1,21 +1,22 @@
 //! Catch tags, the faults that they catch, and values that nothing matched.
 
-ghost use Rattle.std.specs.Prelude.{◌≡◌, ℕ, Ok, Err, Some, option_map};
-ghost use Rattle.bx_asm.specs.Decoding.{catch_row as catch_form, no_match_row as no_match_form, raise_row as raise_form, y_alone};
-ghost use Rattle.bx_asm.specs.Instr as instr;
+ghost use Rattle.std.specs.Prelude.{◌≡◌, ℕ, Ok, Err, Some, option_map, List};
 ghost use Rattle.bx_asm.specs.Instructed.{source_of};
 ghost use Rattle.bx_load.specs.Image.{Loaded};
 ghost use Rattle.bx_terms.specs.declared.places.Place as places;
 ghost use Rattle.bx_proc.specs.Catching.{tagged, tag_at, caught_of, class_atom, trace_at, mismatched};
 ghost use Rattle.bx_proc.specs.Faults.{within_height};
-ghost use Rattle.bx_proc.specs.Runs.{RunsAt};
+ghost use Rattle.bx_listing.specs.declared.items.Operand.{Operand as Spelt};
+ghost use Rattle.bx_ops.specs.declared.opcode.Op.TheVariants as ops;
+ghost use Rattle.bx_proc.specs.Runs.{RunsBy};
+ghost use Rattle.bx_proc.specs.Table.{rule, tagging, not_matching};
 ghost use Rattle.bx_proc.specs.Spelled.{spelled};
 ghost use Rattle.bx_proc.specs.Stops.{Reads, Turns};
 ghost use Rattle.bx_proc.specs.Looking.{tree_of};
 ghost use Rattle.bx_terms.specs.Built.{IsWithinHeight};
 
 use crate::faults::pair;
-use crate::operands::{label_of, y_in, y_of};
+use crate::operands::{atom_of, label_of, y_of};
 use crate::process::Proc;
 use crate::reading::Seen;
 use crate::stops::Stop;
@@ -28,7 +29,7 @@ use std::alloc::Global;
 impl Proc {
     /// `catch` and `try`.
     #[inline(never)]
-    #[tactic(auto, unfolding(crate::specs::Table::rule))]
+    #[tactic(auto, unfolding(bx_asm::specs::Meaning::taken))]
     pub(crate) fn catch_at_label(
         &mut self,
         image: &Image,
@@ -36,10 +37,10 @@ impl Proc {
         tables: Lookup<'_>,
         row: &[Operand],
     ) -> Result<(), Stop>
-        ensures { (pid : ℕ) → RunsAt pid image.now here self.old self.new result
-            (catch_form (spelled tables.entry row.now)) }
+        ensures { RunsBy self.old self.new result
+            (tagging image.now here (spelled tables.entry row.now) self.old) }
     {
-        let [tag, label] = row else {
+        let [tag, label, ..] = row else {
             return Err(Stop::trapped(Trap::BadPlace));
         };
         let tag = y_of(tables, *tag)?;
@@ -74,7 +75,7 @@ impl Proc {
 
     /// `catch_end`.
     #[inline(never)]
-    #[tactic(auto, unfolding(crate::specs::Table::rule, crate::specs::Catching::catch_end_row))]
+    #[tactic(auto, unfolding(crate::specs::Table::rule, bx_asm::specs::Meaning::taken, crate::specs::Catching::catch_end_row))]
     pub(crate) fn catch_end(
         &mut self,
         alloc: Global,
@@ -83,10 +84,13 @@ impl Proc {
         tables: Lookup<'_>,
         row: &[Operand],
     ) -> Result<(), Stop>
-        ensures { (pid : ℕ) → RunsAt pid image.now here self.old self.new result
-            (option_map instr.catch_end (y_alone (spelled tables.entry row.now))) }
+        ensures { (pid : ℕ) → RunsBy self.old self.new result
+            (rule pid image.now here ops.CatchEnd (spelled tables.entry row.now) self.old) }
     {
-        let number = y_in(tables, row)?;
+        let [number, ..] = row else {
+            return Err(Stop::trapped(Trap::BadPlace));
+        };
+        let number = y_of(tables, *number)?;
         self.tag_of(number)?;
         if let Some(fault) = &self.fault {
             let caught = caught_of(alloc, fault.class, &fault.value)?;
@@ -102,7 +106,7 @@ impl Proc {
 
     /// `try_end`.
     #[inline(never)]
-    #[tactic(auto, unfolding(crate::specs::Table::rule, crate::specs::Catching::try_end_row))]
+    #[tactic(auto, unfolding(crate::specs::Table::rule, bx_asm::specs::Meaning::taken, crate::specs::Catching::try_end_row))]
     pub(crate) fn try_end(
         &mut self,
         image: &Image,
@@ -110,10 +114,13 @@ impl Proc {
         tables: Lookup<'_>,
         row: &[Operand],
     ) -> Result<(), Stop>
-        ensures { (pid : ℕ) → RunsAt pid image.now here self.old self.new result
-            (option_map instr.try_end (y_alone (spelled tables.entry row.now))) }
+        ensures { (pid : ℕ) → RunsBy self.old self.new result
+            (rule pid image.now here ops.TryEnd (spelled tables.entry row.now) self.old) }
     {
-        let number = y_in(tables, row)?;
+        let [number, ..] = row else {
+            return Err(Stop::trapped(Trap::BadPlace));
+        };
+        let number = y_of(tables, *number)?;
         self.tag_of(number)?;
         self.clear(number)?;
         self.place = Some(image.after(here));
@@ -122,7 +129,7 @@ impl Proc {
 
     /// `try_case`.
     #[inline(never)]
-    #[tactic(auto, unfolding(crate::specs::Table::rule, crate::specs::Catching::try_case_row))]
+    #[tactic(auto, unfolding(crate::specs::Table::rule, bx_asm::specs::Meaning::taken, crate::specs::Catching::try_case_row))]
     pub(crate) fn try_case(
         &mut self,
         alloc: Global,
@@ -131,10 +138,13 @@ impl Proc {
         tables: Lookup<'_>,
         row: &[Operand],
     ) -> Result<(), Stop>
-        ensures { (pid : ℕ) → RunsAt pid image.now here self.old self.new result
-            (option_map instr.try_case (y_alone (spelled tables.entry row.now))) }
+        ensures { (pid : ℕ) → RunsBy self.old self.new result
+            (rule pid image.now here ops.TryCase (spelled tables.entry row.now) self.old) }
     {
-        let number = y_in(tables, row)?;
+        let [number, ..] = row else {
+            return Err(Stop::trapped(Trap::BadPlace));
+        };
+        let number = y_of(tables, *number)?;
         self.frames.get(number)?;
         let Some(fault) = &self.fault else {
             return Err(Stop::trapped(Trap::NoPending));
@@ -167,17 +177,17 @@ impl Proc {
 
     /// `raise`.
     #[inline(never)]
-    #[tactic(auto, unfolding(crate::specs::Table::rule, crate::specs::Catching::raise_row))]
+    #[tactic(auto, unfolding(crate::specs::Table::rule, bx_asm::specs::Meaning::taken, crate::specs::Catching::raise_row))]
     pub(crate) fn raise_again(
         &mut self,
         alloc: Global,
         tables: Lookup<'_>,
         row: &[Operand],
     ) -> Result<(), Stop>
-        ensures { (pid : ℕ) (image : Loaded) (here : places.Place) → RunsAt pid image here self.old
-            self.new result (raise_form (spelled tables.entry row.now)) }
+        ensures { (pid : ℕ) (image : Loaded) (here : places.Place) → RunsBy self.old self.new result
+            (rule pid image here ops.Raise (spelled tables.entry row.now) self.old) }
     {
-        let [trace, value] = row else {
+        let [trace, value, ..] = row else {
             return Err(Stop::trapped(Trap::BadPlace));
         };
         let class = self.trace(tables.source(*trace))?;
@@ -187,10 +197,10 @@ impl Proc {
 
     /// `build_stacktrace`.
     #[inline(never)]
-    #[tactic(auto, unfolding(crate::specs::Table::rule, crate::specs::Catching::build_stacktrace_row))]
+    #[tactic(auto, unfolding(crate::specs::Table::rule, bx_asm::specs::Meaning::taken, crate::specs::Catching::build_stacktrace_row))]
     pub(crate) fn build_stacktrace(&mut self, image: &Image, here: Place) -> Result<(), Stop>
-        ensures { (pid : ℕ) → RunsAt pid image.now here self.old self.new result
-            (Some instr.build_stacktrace) }
+        ensures { (pid : ℕ) (os : List Spelt) → RunsBy self.old self.new result
+            (rule pid image.now here ops.BuildStacktrace os self.old) }
     {
         self.trace(Source::Register(Register::X(0)))?;
         if let Err(_) = self.x.set(0, Value::Term(Term::nil())) {
@@ -202,37 +212,47 @@ impl Proc {
 
     /// `func_info`.
     #[inline(never)]
-    #[tactic(auto, unfolding(crate::specs::Table::rule))]
-    pub(crate) fn func_info(&mut self, alloc: Global) -> Result<(), Stop>
-        ensures { (pid : ℕ) (image : Loaded) (here : places.Place) → RunsAt pid image here self.old
-            self.new result (Some instr.func_info) }
+    #[tactic(auto, unfolding(crate::specs::Table::rule, bx_asm::specs::Meaning::taken))]
+    pub(crate) fn func_info(
+        &mut self,
+        alloc: Global,
+        tables: Lookup<'_>,
+        row: &[Operand],
+    ) -> Result<(), Stop>
+        ensures { (pid : ℕ) (image : Loaded) (here : places.Place) → RunsBy self.old self.new result
+            (rule pid image here ops.FuncInfo (spelled tables.entry row.now) self.old) }
     {
+        let [module, name, _, ..] = row else {
+            return Err(Stop::trapped(Trap::BadPlace));
+        };
+        atom_of(tables, *module)?;
+        atom_of(tables, *name)?;
         self.raise(alloc, Class::Error, Term::atom(fixed::FUNCTION_CLAUSE))
     }
 
     /// `int_code_end`.
     #[inline(always)]
-    #[tactic(auto, unfolding(crate::specs::Table::rule))]
+    #[tactic(auto, unfolding(crate::specs::Table::rule, bx_asm::specs::Meaning::taken))]
     pub(crate) fn int_code_end(&mut self) -> Result<(), Stop>
-        ensures { (pid : ℕ) (image : Loaded) (here : places.Place) → RunsAt pid image here self.old
-            self.new result (Some instr.int_code_end) }
+        ensures { (pid : ℕ) (image : Loaded) (here : places.Place) (os : List Spelt) → RunsBy self.old self.new result
+            (rule pid image here ops.IntCodeEnd os self.old) }
     {
         Err(Stop::trapped(Trap::BadPlace))
     }
 
     /// `if_end`.
     #[inline(never)]
-    #[tactic(auto, unfolding(crate::specs::Table::rule))]
+    #[tactic(auto, unfolding(crate::specs::Table::rule, bx_asm::specs::Meaning::taken))]
     pub(crate) fn if_end(&mut self, alloc: Global) -> Result<(), Stop>
-        ensures { (pid : ℕ) (image : Loaded) (here : places.Place) → RunsAt pid image here self.old
-            self.new result (Some instr.if_end) }
+        ensures { (pid : ℕ) (image : Loaded) (here : places.Place) (os : List Spelt) → RunsBy self.old self.new result
+            (rule pid image here ops.IfEnd os self.old) }
     {
         self.raise(alloc, Class::Error, Term::atom(fixed::IF_CLAUSE))
     }
 
     /// `badmatch`, `case_end` and `try_case_end`.
     #[inline(never)]
-    #[tactic(auto, unfolding(crate::specs::Table::rule, crate::specs::Catching::no_match_row))]
+    #[tactic(auto, unfolding(bx_asm::specs::Meaning::taken, crate::specs::Catching::no_match_row))]
     pub(crate) fn no_match(
         &mut self,
         alloc: Global,
@@ -240,10 +260,10 @@ impl Proc {
         tables: Lookup<'_>,
         row: &[Operand],
     ) -> Result<(), Stop>
-        ensures { (pid : ℕ) (image : Loaded) (here : places.Place) → RunsAt pid image here self.old
-            self.new result (no_match_form mismatch (spelled tables.entry row.now)) }
+        ensures { RunsBy self.old self.new result
+            (not_matching mismatch (spelled tables.entry row.now) self.old) }
     {
-        let [value] = row else {
+        let [value, ..] = row else {
             return Err(Stop::trapped(Trap::BadPlace));
         };
         let told = {

@@ -2,8 +2,6 @@
 
 ghost use Rattle.std.specs.Prelude.{◌≡◌, ℕ, Ok, Err, None, Some, true, false};
 ghost use Rattle.bx_bifs.specs.declared.natives.Native.{Native};
-ghost use Rattle.bx_asm.specs.Instr.{Instr};
-ghost use Rattle.bx_asm.specs.Decoding.{instruction_of};
 ghost use Rattle.bx_listing.specs.Items.{Item};
 ghost use Rattle.bx_load.specs.Image.{Loaded, instruction_at, item_at};
 ghost use Rattle.bx_terms.specs.Tree.{Tree};
@@ -16,7 +14,7 @@ ghost use Rattle.bx_proc.specs.declared.parts.Pending.{Pending};
 ghost use Rattle.bx_proc.specs.declared.parts.Status.TheVariants.{Ready, Ended};
 ghost use Rattle.bx_proc.specs.Process.{Process};
 ghost use Rattle.bx_proc.specs.Families.{parts_of, KeepsBut, MayBe, Mailed};
-ghost use Rattle.bx_proc.specs.Stepping.{attempted, settled, settled_with, is_held_up_by, takes_memory, unasked, resumed, ResumedTakes, SettlingTakes, Whole};
+ghost use Rattle.bx_proc.specs.Stepping.{attempted, settled, settled_with, takes_memory, unasked, resumed, ResumedTakes, SettlingTakes, Whole};
 ghost use Rattle.bx_proc.specs.Telling.{Tells, Resumes, unfaulted};
 ghost use Rattle.bx_proc.specs.declared.stops.Why.TheVariants.{Asks, Ends};
 ghost use Rattle.bx_proc.specs.Table.{row, looks_at_faults};
@@ -24,16 +22,16 @@ ghost use Rattle.bx_proc.specs.Table.{row, looks_at_faults};
 /// An instruction changes only the parts of its process that its family may change, and sends or asks only where its family
 /// may.
 pub fn an_instruction_changes_only_what_its_family_may()
-    ensures parts { (pid : ℕ) (image : Loaded) (here : Place) (i : Instr) (p q : Process)
-        (effect : Effect) → row pid image here i p ≡ Ok (q, effect) → KeepsBut (parts_of i) p q }
-    ensures effect { (pid : ℕ) (image : Loaded) (here : Place) (i : Instr) (p q : Process)
-        (effect : Effect) → row pid image here i p ≡ Ok (q, effect) → MayBe (parts_of i) effect }
+    ensures parts { (pid : ℕ) (image : Loaded) (here : Place) (i : Item) (p q : Process)
+        (effect : Effect) → row pid image here i p ≡ Ok (q, effect) → KeepsBut (parts_of i.op) p q }
+    ensures effect { (pid : ℕ) (image : Loaded) (here : Place) (i : Item) (p q : Process)
+        (effect : Effect) → row pid image here i p ≡ Ok (q, effect) → MayBe (parts_of i.op) effect }
 {}
 
 /// An instruction leaves the mailbox as it was; or it passes over the current message, takes it, or passes over none any
 /// more.
 pub fn a_mailbox_is_left_passed_over_taken_from_or_reset()
-    ensures { (pid : ℕ) (image : Loaded) (here : Place) (i : Instr) (p q : Process)
+    ensures { (pid : ℕ) (image : Loaded) (here : Place) (i : Item) (p q : Process)
         (effect : Effect) → row pid image here i p ≡ Ok (q, effect) → Mailed p.mailbox q.mailbox }
 {}
 
@@ -59,12 +57,6 @@ pub fn there_is_nothing_to_run_without_an_instruction()
         attempted image pid p ≡ (p, effects.Trap BadPlace) }
 {}
 
-/// That an instruction does not look at a pending fault is told by its opcode.
-pub fn the_opcode_tells_what_looks_at_a_fault()
-    ensures { (item : Item) (i : Instr) → instruction_of item ≡ Some i → looks_at_faults i ≡ false →
-        is_held_up_by item.op ≡ true }
-{}
-
 /// A process whose run, or whose answer, ended it is as it was before once the reason is taken out; one whose run asked for
 /// something, once that is withdrawn.
 pub fn what_waits_in_a_process_is_taken_out_again()
@@ -80,9 +72,9 @@ pub fn what_waits_in_a_process_is_taken_out_again()
 
 /// While a fault is pending, an instruction that does not look at it is the trap `NoTag`.
 pub fn a_pending_fault_is_looked_at_first()
-    ensures { (image : Loaded) (pid : ℕ) (here : Place) (i : Instr) (fault : Pending) (p : Process)
+    ensures { (image : Loaded) (pid : ℕ) (here : Place) (i : Item) (fault : Pending) (p : Process)
         → p.status ≡ Ready → p.asked ≡ None → p.place ≡ Some here → p.fault ≡ Some fault →
-        instruction_at image here ≡ Some i → looks_at_faults i ≡ false → attempted image pid p ≡
+        instruction_at image here ≡ Some i → looks_at_faults i.op ≡ false → attempted image pid p ≡
         (p, effects.Trap NoTag) }
 {}
 

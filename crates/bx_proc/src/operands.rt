@@ -1,7 +1,8 @@
 //! What the operands of a row are. What is spelled otherwise is no instruction: the trap `BadPlace`.
 
 ghost use Rattle.std.specs.Prelude.{◌≡◌, None, Some, MatchResult};
-ghost use Rattle.bx_asm.specs.Decoding.{as_register, as_number, as_label, as_y, as_fail, as_bif, as_import, as_atom, sources_behind, registers_behind, label_alone, y_alone, first_number, pairs_behind};
+ghost use Rattle.bx_asm.specs.Meaning.{as_register, as_label, as_y, as_fail, as_bif, as_import, as_atom, listed, pairs_behind};
+ghost use Rattle.bx_ops.specs.declared.sorts.Sort.TheVariants as sorts;
 ghost use Rattle.bx_asm.specs.Instructed.{pairs_of, sources_of, registers_of};
 ghost use Rattle.bx_asm.specs.Looked.{tables};
 ghost use Rattle.bx_asm.specs.Operands.{operand_of};
@@ -19,17 +20,6 @@ pub(crate) fn register_of(lookup: Lookup<'_>, operand: Operand) -> Result<Regist
         (λ trap. (as_register (operand_of (tables lookup.entry) operand) ≡ None) × (trap ≡ BadPlace)) }
 {
     match lookup.register(operand) {
-        Some(found) => Ok(found),
-        None => Err(Trap::BadPlace),
-    }
-}
-
-#[inline(always)]
-pub(crate) fn number_of(lookup: Lookup<'_>, operand: Operand) -> Result<u32, Trap>
-    ensures { MatchResult result (λ x. as_number (operand_of (tables lookup.entry) operand) ≡ Some x)
-        (λ trap. (as_number (operand_of (tables lookup.entry) operand) ≡ None) × (trap ≡ BadPlace)) }
-{
-    match lookup.number(operand) {
         Some(found) => Ok(found),
         None => Err(Trap::BadPlace),
     }
@@ -90,42 +80,6 @@ pub(crate) fn import_of(lookup: Lookup<'_>, operand: Operand) -> Result<Import, 
     }
 }
 
-/// The label that is the only operand.
-#[inline(always)]
-pub(crate) fn label_in(lookup: Lookup<'_>, row: &[Operand]) -> Result<u32, Trap>
-    ensures { MatchResult result (λ x. label_alone (spelled lookup.entry row.now) ≡ Some x)
-        (λ trap. (label_alone (spelled lookup.entry row.now) ≡ None) × (trap ≡ BadPlace)) }
-{
-    match lookup.label_alone(row) {
-        Some(found) => Ok(found),
-        None => Err(Trap::BadPlace),
-    }
-}
-
-/// The y register that is the only operand.
-#[inline(always)]
-pub(crate) fn y_in(lookup: Lookup<'_>, row: &[Operand]) -> Result<u16, Trap>
-    ensures { MatchResult result (λ x. y_alone (spelled lookup.entry row.now) ≡ Some x)
-        (λ trap. (y_alone (spelled lookup.entry row.now) ≡ None) × (trap ≡ BadPlace)) }
-{
-    match lookup.y_alone(row) {
-        Some(found) => Ok(found),
-        None => Err(Trap::BadPlace),
-    }
-}
-
-/// The number that is the first operand.
-#[inline(always)]
-pub(crate) fn number_in(lookup: Lookup<'_>, row: &[Operand]) -> Result<u32, Trap>
-    ensures { MatchResult result (λ x. first_number (spelled lookup.entry row.now) ≡ Some x)
-        (λ trap. (first_number (spelled lookup.entry row.now) ≡ None) × (trap ≡ BadPlace)) }
-{
-    match lookup.first_number(row) {
-        Some(found) => Ok(found),
-        None => Err(Trap::BadPlace),
-    }
-}
-
 /// The keys with labels that a row ends in.
 #[inline(always)]
 pub(crate) fn pairs_in<'a>(lookup: Lookup<'a>, row: &'a [Operand]) -> Result<Pairs<'a>, Trap>
@@ -141,8 +95,8 @@ pub(crate) fn pairs_in<'a>(lookup: Lookup<'a>, row: &'a [Operand]) -> Result<Pai
 /// The sources that a row ends in.
 #[inline(always)]
 pub(crate) fn sources_in<'a>(lookup: Lookup<'a>, row: &'a [Operand]) -> Result<Sources<'a>, Trap>
-    ensures { MatchResult result (λ x. sources_behind (spelled lookup.entry row.now) ≡ Some (sources_of x))
-        (λ trap. (sources_behind (spelled lookup.entry row.now) ≡ None) × (trap ≡ BadPlace)) }
+    ensures { MatchResult result (λ x. listed sorts.Source (spelled lookup.entry row.now) ≡ Some (sources_of x))
+        (λ trap. (listed sorts.Source (spelled lookup.entry row.now) ≡ None) × (trap ≡ BadPlace)) }
 {
     match lookup.sources(row) {
         Some(found) => Ok(found),
@@ -156,8 +110,8 @@ pub(crate) fn registers_in<'a>(
     lookup: Lookup<'a>,
     row: &'a [Operand],
 ) -> Result<YRegisters<'a>, Trap>
-    ensures { MatchResult result (λ x. registers_behind (spelled lookup.entry row.now) ≡ Some (registers_of x))
-        (λ trap. (registers_behind (spelled lookup.entry row.now) ≡ None) × (trap ≡ BadPlace)) }
+    ensures { MatchResult result (λ x. listed sorts.YRegister (spelled lookup.entry row.now) ≡ Some (registers_of x))
+        (λ trap. (listed sorts.YRegister (spelled lookup.entry row.now) ≡ None) × (trap ≡ BadPlace)) }
 {
     match lookup.registers(row) {
         Some(found) => Ok(found),

@@ -1,13 +1,14 @@
 //! Messages that are looked at, passed over and taken, and waiting for them.
 
-ghost use Rattle.std.specs.Prelude.{◌≡◌, ℕ, Some, option_map};
-ghost use Rattle.bx_asm.specs.Decoding.{loop_rec_row as loop_rec_form, wait_timeout_row as wait_timeout_form, label_alone};
-ghost use Rattle.bx_asm.specs.Instr as instr;
+ghost use Rattle.std.specs.Prelude.{◌≡◌, ℕ, Some, option_map, List};
 ghost use Rattle.bx_proc.specs.Receiving.{time_of};
-ghost use Rattle.bx_proc.specs.Runs.{RunsAt};
+ghost use Rattle.bx_listing.specs.declared.items.Operand.{Operand as Spelt};
+ghost use Rattle.bx_ops.specs.declared.opcode.Op.TheVariants as ops;
+ghost use Rattle.bx_proc.specs.Runs.{RunsBy};
+ghost use Rattle.bx_proc.specs.Table.{rule};
 ghost use Rattle.bx_proc.specs.Spelled.{spelled};
 
-use crate::operands::{label_in, label_of, register_of};
+use crate::operands::{label_of, register_of};
 use crate::parts::Status;
 use crate::process::Proc;
 use crate::stops::Stop;
@@ -28,7 +29,7 @@ pub(crate) enum Time {
 impl Proc {
     /// `loop_rec`.
     #[inline(never)]
-    #[tactic(auto, unfolding(crate::specs::Table::rule, crate::specs::Receiving::loop_rec_row))]
+    #[tactic(auto, unfolding(crate::specs::Table::rule, bx_asm::specs::Meaning::taken, crate::specs::Receiving::loop_rec_row))]
     pub(crate) fn loop_rec(
         &mut self,
         alloc: Global,
@@ -37,10 +38,10 @@ impl Proc {
         tables: Lookup<'_>,
         row: &[Operand],
     ) -> Result<(), Stop>
-        ensures { (pid : ℕ) → RunsAt pid image.now here self.old self.new result
-            (loop_rec_form (spelled tables.entry row.now)) }
+        ensures { (pid : ℕ) → RunsBy self.old self.new result
+            (rule pid image.now here ops.LoopRec (spelled tables.entry row.now) self.old) }
     {
-        let [otherwise, to] = row else {
+        let [otherwise, to, ..] = row else {
             return Err(Stop::trapped(Trap::BadPlace));
         };
         let otherwise = label_of(tables, *otherwise)?;
@@ -57,10 +58,10 @@ impl Proc {
 
     /// `remove_message`.
     #[inline(never)]
-    #[tactic(auto, unfolding(crate::specs::Table::rule))]
+    #[tactic(auto, unfolding(crate::specs::Table::rule, bx_asm::specs::Meaning::taken))]
     pub(crate) fn remove_message(&mut self, image: &Image, here: Place) -> Result<(), Stop>
-        ensures { (pid : ℕ) → RunsAt pid image.now here self.old self.new result
-            (Some instr.remove_message) }
+        ensures { (pid : ℕ) (os : List Spelt) → RunsBy self.old self.new result
+            (rule pid image.now here ops.RemoveMessage os self.old) }
     {
         let Some(_) = self.mailbox.take() else {
             return Err(Stop::trapped(Trap::NoMessage));
@@ -71,7 +72,7 @@ impl Proc {
 
     /// `wait`.
     #[inline(never)]
-    #[tactic(auto, unfolding(crate::specs::Table::rule))]
+    #[tactic(auto, unfolding(crate::specs::Table::rule, bx_asm::specs::Meaning::taken))]
     pub(crate) fn wait(
         &mut self,
         image: &Image,
@@ -79,10 +80,13 @@ impl Proc {
         tables: Lookup<'_>,
         row: &[Operand],
     ) -> Result<(), Stop>
-        ensures { (pid : ℕ) → RunsAt pid image.now here self.old self.new result
-            (option_map instr.wait (label_alone (spelled tables.entry row.now))) }
+        ensures { (pid : ℕ) → RunsBy self.old self.new result
+            (rule pid image.now here ops.Wait (spelled tables.entry row.now) self.old) }
     {
-        let label = label_in(tables, row)?;
+        let [label, ..] = row else {
+            return Err(Stop::trapped(Trap::BadPlace));
+        };
+        let label = label_of(tables, *label)?;
         self.go(image, here, label)?;
         self.status = Status::Waiting;
         Ok(())
@@ -90,7 +94,7 @@ impl Proc {
 
     /// `loop_rec_end`.
     #[inline(never)]
-    #[tactic(auto, unfolding(crate::specs::Table::rule))]
+    #[tactic(auto, unfolding(crate::specs::Table::rule, bx_asm::specs::Meaning::taken))]
     pub(crate) fn loop_rec_end(
         &mut self,
         image: &Image,
@@ -98,10 +102,13 @@ impl Proc {
         tables: Lookup<'_>,
         row: &[Operand],
     ) -> Result<(), Stop>
-        ensures { (pid : ℕ) → RunsAt pid image.now here self.old self.new result
-            (option_map instr.loop_rec_end (label_alone (spelled tables.entry row.now))) }
+        ensures { (pid : ℕ) → RunsBy self.old self.new result
+            (rule pid image.now here ops.LoopRecEnd (spelled tables.entry row.now) self.old) }
     {
-        let label = label_in(tables, row)?;
+        let [label, ..] = row else {
+            return Err(Stop::trapped(Trap::BadPlace));
+        };
+        let label = label_of(tables, *label)?;
         if self.mailbox.current().is_none() {
             return Err(Stop::trapped(Trap::NoMessage));
         }
@@ -112,10 +119,10 @@ impl Proc {
 
     /// `timeout`.
     #[inline(never)]
-    #[tactic(auto, unfolding(crate::specs::Table::rule))]
+    #[tactic(auto, unfolding(crate::specs::Table::rule, bx_asm::specs::Meaning::taken))]
     pub(crate) fn timeout(&mut self, image: &Image, here: Place) -> Result<(), Stop>
-        ensures { (pid : ℕ) → RunsAt pid image.now here self.old self.new result
-            (Some instr.timeout) }
+        ensures { (pid : ℕ) (os : List Spelt) → RunsBy self.old self.new result
+            (rule pid image.now here ops.Timeout os self.old) }
     {
         self.mailbox.reset();
         self.place = Some(image.after(here));
@@ -124,7 +131,7 @@ impl Proc {
 
     /// `wait_timeout`.
     #[inline(never)]
-    #[tactic(auto, unfolding(crate::specs::Table::rule, crate::specs::Receiving::wait_timeout_row))]
+    #[tactic(auto, unfolding(crate::specs::Table::rule, bx_asm::specs::Meaning::taken, crate::specs::Receiving::wait_timeout_row))]
     pub(crate) fn wait_timeout(
         &mut self,
         alloc: Global,
@@ -133,10 +140,10 @@ impl Proc {
         tables: Lookup<'_>,
         row: &[Operand],
     ) -> Result<(), Stop>
-        ensures { (pid : ℕ) → RunsAt pid image.now here self.old self.new result
-            (wait_timeout_form (spelled tables.entry row.now)) }
+        ensures { (pid : ℕ) → RunsBy self.old self.new result
+            (rule pid image.now here ops.WaitTimeout (spelled tables.entry row.now) self.old) }
     {
-        let [label, time] = row else {
+        let [label, time, ..] = row else {
             return Err(Stop::trapped(Trap::BadPlace));
         };
         let label = label_of(tables, *label)?;

@@ -1,15 +1,16 @@
 //! Frames of the stack.
 
-ghost use Rattle.std.specs.Prelude.{◌≡◌, ℕ, Ok, Err, MatchResult, option_map};
-ghost use Rattle.bx_asm.specs.Decoding.{trim_row as trim_form, init_yregs_row as init_yregs_form, first_number};
-ghost use Rattle.bx_asm.specs.Instr as instr;
+ghost use Rattle.std.specs.Prelude.{◌≡◌, ℕ, Ok, Err, MatchResult, option_map, List};
 ghost use Rattle.bx_asm.specs.Instructed.{registers_of};
-ghost use Rattle.bx_proc.specs.Runs.{RunsAt};
+ghost use Rattle.bx_listing.specs.declared.items.Operand.{Operand as Spelt};
+ghost use Rattle.bx_ops.specs.declared.opcode.Op.TheVariants as ops;
+ghost use Rattle.bx_proc.specs.Runs.{RunsBy};
+ghost use Rattle.bx_proc.specs.Table.{rule, allocating};
 ghost use Rattle.bx_proc.specs.Spelled.{spelled};
 ghost use Rattle.bx_proc.specs.Stacking.{cleared, cleared_if, there_all, all_cleared};
 ghost use Rattle.bx_proc.specs.Stops.{Turns};
 
-use crate::operands::{number_in, number_of, registers_in};
+use crate::operands::registers_in;
 use crate::process::Proc;
 use crate::stops::Stop;
 use bx_asm::{Lookup, Operand, YRegisters};
@@ -18,9 +19,9 @@ use bx_load::Image;
 use bx_terms::{Place, Term, Trap};
 
 impl Proc {
-    /// `allocate` and `allocate_heap`.
+    /// `allocate`.
     #[inline(never)]
-    #[tactic(auto, unfolding(crate::specs::Table::rule))]
+    #[tactic(auto, unfolding(crate::specs::Table::rule, bx_asm::specs::Meaning::taken))]
     pub(crate) fn allocate(
         &mut self,
         image: &Image,
@@ -28,10 +29,39 @@ impl Proc {
         tables: Lookup<'_>,
         row: &[Operand],
     ) -> Result<(), Stop>
-        ensures { (pid : ℕ) → RunsAt pid image.now here self.old self.new result
-            (option_map instr.allocate (first_number (spelled tables.entry row.now))) }
+        ensures { (pid : ℕ) → RunsBy self.old self.new result
+            (rule pid image.now here ops.Allocate (spelled tables.entry row.now) self.old) }
     {
-        let size = number_in(tables, row)?;
+        let [size, _, ..] = row else {
+            return Err(Stop::trapped(Trap::BadPlace));
+        };
+        self.add_frame(image, here, tables.number(*size))
+    }
+
+    /// `allocate_heap`.
+    #[inline(never)]
+    #[tactic(auto, unfolding(crate::specs::Table::rule, bx_asm::specs::Meaning::taken))]
+    pub(crate) fn allocate_heap(
+        &mut self,
+        image: &Image,
+        here: Place,
+        tables: Lookup<'_>,
+        row: &[Operand],
+    ) -> Result<(), Stop>
+        ensures { (pid : ℕ) → RunsBy self.old self.new result
+            (rule pid image.now here ops.AllocateHeap (spelled tables.entry row.now) self.old) }
+    {
+        let [size, ..] = row else {
+            return Err(Stop::trapped(Trap::BadPlace));
+        };
+        self.add_frame(image, here, tables.number(*size))
+    }
+
+    /// A frame more, of that many registers.
+    #[inline(always)]
+    fn add_frame(&mut self, image: &Image, here: Place, size: u32) -> Result<(), Stop>
+        ensures { RunsBy self.old self.new result (allocating image.now here size self.old) }
+    {
         self.frames.push(size as usize, self.cp)?;
         self.place = Some(image.after(here));
         Ok(())
@@ -39,7 +69,7 @@ impl Proc {
 
     /// `deallocate`.
     #[inline(never)]
-    #[tactic(auto, unfolding(crate::specs::Table::rule))]
+    #[tactic(auto, unfolding(crate::specs::Table::rule, bx_asm::specs::Meaning::taken))]
     pub(crate) fn deallocate(
         &mut self,
         image: &Image,
@@ -47,10 +77,13 @@ impl Proc {
         tables: Lookup<'_>,
         row: &[Operand],
     ) -> Result<(), Stop>
-        ensures { (pid : ℕ) → RunsAt pid image.now here self.old self.new result
-            (option_map instr.deallocate (first_number (spelled tables.entry row.now))) }
+        ensures { (pid : ℕ) → RunsBy self.old self.new result
+            (rule pid image.now here ops.Deallocate (spelled tables.entry row.now) self.old) }
     {
-        let size = number_in(tables, row)?;
+        let [size, ..] = row else {
+            return Err(Stop::trapped(Trap::BadPlace));
+        };
+        let size = tables.number(*size);
         self.give_back(size)?;
         self.place = Some(image.after(here));
         Ok(())
@@ -58,10 +91,10 @@ impl Proc {
 
     /// `test_heap`.
     #[inline(always)]
-    #[tactic(auto, unfolding(crate::specs::Table::rule))]
+    #[tactic(auto, unfolding(crate::specs::Table::rule, bx_asm::specs::Meaning::taken))]
     pub(crate) fn test_heap(&mut self, image: &Image, here: Place) -> Result<(), Stop>
-        ensures { (pid : ℕ) → RunsAt pid image.now here self.old self.new result
-            (Some instr.test_heap) }
+        ensures { (pid : ℕ) (os : List Spelt) → RunsBy self.old self.new result
+            (rule pid image.now here ops.TestHeap os self.old) }
     {
         self.place = Some(image.after(here));
         Ok(())
@@ -69,7 +102,7 @@ impl Proc {
 
     /// `trim`.
     #[inline(never)]
-    #[tactic(auto, unfolding(crate::specs::Table::rule))]
+    #[tactic(auto, unfolding(crate::specs::Table::rule, bx_asm::specs::Meaning::taken))]
     pub(crate) fn trim(
         &mut self,
         image: &Image,
@@ -77,14 +110,14 @@ impl Proc {
         tables: Lookup<'_>,
         row: &[Operand],
     ) -> Result<(), Stop>
-        ensures { (pid : ℕ) → RunsAt pid image.now here self.old self.new result
-            (trim_form (spelled tables.entry row.now)) }
+        ensures { (pid : ℕ) → RunsBy self.old self.new result
+            (rule pid image.now here ops.Trim (spelled tables.entry row.now) self.old) }
     {
-        let [count, left] = row else {
+        let [count, left, ..] = row else {
             return Err(Stop::trapped(Trap::BadPlace));
         };
-        let count = number_of(tables, *count)?;
-        let left = number_of(tables, *left)?;
+        let count = tables.number(*count);
+        let left = tables.number(*left);
         self.saved(count as u64 + left as u64)?;
         self.frames.trim(count as usize);
         self.place = Some(image.after(here));
@@ -93,7 +126,7 @@ impl Proc {
 
     /// `init_yregs`.
     #[inline(never)]
-    #[tactic(auto, unfolding(crate::specs::Table::rule))]
+    #[tactic(auto, unfolding(crate::specs::Table::rule, bx_asm::specs::Meaning::taken))]
     pub(crate) fn init_yregs(
         &mut self,
         image: &Image,
@@ -101,8 +134,8 @@ impl Proc {
         tables: Lookup<'_>,
         row: &[Operand],
     ) -> Result<(), Stop>
-        ensures { (pid : ℕ) → RunsAt pid image.now here self.old self.new result
-            (init_yregs_form (spelled tables.entry row.now)) }
+        ensures { (pid : ℕ) → RunsBy self.old self.new result
+            (rule pid image.now here ops.InitYregs (spelled tables.entry row.now) self.old) }
     {
         let registers = registers_in(tables, row)?;
         self.find_yregs(registers)?;

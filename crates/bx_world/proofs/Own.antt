@@ -6,7 +6,6 @@ use Rattle.bx_terms.specs.declared.kinds.Trap.{Trap}
 use Rattle.bx_terms.specs.declared.places.Place.{Place}
 use Rattle.bx_ops.specs.Classes.{is_local}
 use Rattle.bx_listing.specs.Items.{Item}
-use Rattle.bx_asm.specs.Decoding.{instruction_of}
 use Rattle.bx_bifs.specs.declared.natives.Native.{Native}
 use Rattle.bx_load.specs.Image.{Loaded}
 use Rattle.bx_load.specs.Numbering.{numbered_at}
@@ -15,16 +14,16 @@ use Rattle.bx_proc.specs.declared.parts.Effect.TheVariants as effects
 use Rattle.bx_proc.specs.declared.parts.Status.{Status}
 use Rattle.bx_proc.specs.declared.parts.Status.TheVariants as states
 use Rattle.bx_proc.specs.Process.{Process}
-use Rattle.bx_proc.specs.Runs.{row_at}
+use Rattle.bx_proc.specs.Table.{row}
 use Rattle.bx_proc.specs.Stepping.{run, tried, told, attempted, there, allowed, allowed_if, is_held_up, woken}
 use Rattle.bx_proc.proofs.Own.{to_itself, Own, own_row}
 use Rattle.bx_world.specs.Independent.{is_local_item, is_local_at}
 
-allowed_row : (number : ℕ) (image : Loaded) (here : Place) (b : Bool) (i : Item) (p : Process) → is_local i.op ≡ true → Own (allowed_if b i >>= λ j. row_at number image here (instruction_of j) p)
+allowed_row : (number : ℕ) (image : Loaded) (here : Place) (b : Bool) (i : Item) (p : Process) → is_local i.op ≡ true → Own (allowed_if b i >>= λ j. row number image here j p)
 allowed_row number image here true i p local = tt
 allowed_row number image here false i p local = own_row number image here i p local
 
-at_item : (number : ℕ) (image : Loaded) (here : Place) (o : Option Item) (p : Process) → is_local_item o ≡ true → Own (there o >>= allowed p.fault >>= λ i. row_at number image here (instruction_of i) p)
+at_item : (number : ℕ) (image : Loaded) (here : Place) (o : Option Item) (p : Process) → is_local_item o ≡ true → Own (there o >>= allowed p.fault >>= λ i. row number image here i p)
 at_item number image here None p local = tt
 at_item number image here (Some i) p local = allowed_row number image here (is_held_up p.fault i) i p local
 

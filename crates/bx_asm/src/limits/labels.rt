@@ -2,7 +2,7 @@
 
 ghost use Rattle.std.specs.Prelude.{◌≡◌, ◌++◌, [], None, IfOk, OnErr, IfErr, IsSome, nat_eq};
 ghost use Rattle.std.specs.List.{list_any};
-ghost use Rattle.bx_asm.specs.Decoding.{as_place};
+ghost use Rattle.bx_asm.specs.Meaning.{as_place};
 ghost use Rattle.bx_asm.specs.Limits.{first, labels, all_labels, again, target_fault, target_faults, entry_faults, RefusesLabels};
 
 use bx_listing::{Function, Operand};

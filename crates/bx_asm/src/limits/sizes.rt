@@ -2,7 +2,7 @@
 
 ghost use Rattle.std.specs.Prelude.{◌≡◌, ◌&&◌, IfOk, OnOk, OnErr, IsSome, nat_le};
 ghost use Rattle.std.specs.List.{list_all};
-ghost use Rattle.bx_asm.specs.Decoding.{as_import};
+ghost use Rattle.bx_asm.specs.Meaning.{as_import};
 ghost use Rattle.bx_asm.specs.Limits.{first, is_small, is_arity, count, operands_of, is_within, imports_after, imports, first_call};
 
 use bx_listing::{Export, Function, Import, Listing, Operand};

@@ -6,4 +6,4 @@ use Rattle.bx_proc.proofs.Mailing.{MailedRun, row_mailed}
 use Rattle.bx_proc.proofs.laws.a_mailbox_is_left_passed_over_taken_from_or_reset.Goals as goal
 
 pub returns : goal.returns
-returns c pid image here i p q effect is = subst (λ (r : Result (Process × Effect) Trap). MailedRun p r) is (row_mailed pid image here i p)
+returns c pid image here i p q effect is = subst (λ (r : Result (Process × Effect) Trap). MailedRun p r) is (row_mailed pid image here i.op i.operands p)

@@ -1,7 +1,7 @@
 use Rattle.std.proofs.Common.{◌≡◌, ◌++◌, drop}
 use Rattle.std.specs.Prelude.{IsSome}
 use Rattle.bx_asm.specs.Limits.{again, labels, first}
-use Rattle.bx_asm.specs.Decoding.{as_place}
+use Rattle.bx_asm.specs.Meaning.{as_place}
 use Rattle.bx_asm.proofs.limits.labels.add_labels.Given as goal
 
 abbrev pub invariant-loop-operand : goal.invariant-loop-operand

@@ -1,7 +1,7 @@
 use Rattle.std.proofs.Common.{◌≡◌, drop}
 use Rattle.std.specs.Prelude.{IsSome}
 use Rattle.bx_asm.specs.Limits.{imports_after, first}
-use Rattle.bx_asm.specs.Decoding.{as_import}
+use Rattle.bx_asm.specs.Meaning.{as_import}
 use Rattle.bx_asm.proofs.limits.sizes.add_imports.Given as goal
 
 abbrev pub invariant-loop-operand : goal.invariant-loop-operand
