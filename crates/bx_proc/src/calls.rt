@@ -8,7 +8,7 @@ ghost use Rattle.bx_proc.specs.Calls.{goes, saved_in, deallocated, prepared, fra
 ghost use Rattle.bx_listing.specs.declared.items.Operand.{Operand as Spelt};
 ghost use Rattle.bx_ops.specs.declared.opcode.Op.TheVariants as ops;
 ghost use Rattle.bx_proc.specs.Runs.{RunsBy};
-ghost use Rattle.bx_proc.specs.Table.{rule, calling};
+ghost use Rattle.bx_proc.specs.Table.{own_rule, calling};
 ghost use Rattle.bx_proc.specs.Spelled.{spelled};
 ghost use Rattle.bx_proc.specs.Stops.{Turns};
 
@@ -69,7 +69,7 @@ impl Proc {
 
     /// `call_last`.
     #[inline(never)]
-    #[tactic(auto, unfolding(crate::specs::Table::rule, bx_asm::specs::Meaning::taken))]
+    #[tactic(auto, unfolding(crate::specs::Table::own_rule, bx_asm::specs::Meaning::taken))]
     pub(crate) fn call_last(
         &mut self,
         image: &Image,
@@ -78,7 +78,7 @@ impl Proc {
         row: &[Operand],
     ) -> Result<(), Stop>
         ensures { (pid : ℕ) → RunsBy self.old self.new result
-            (rule pid image.now here ops.CallLast (spelled tables.entry row.now) self.old) }
+            (own_rule pid image.now here ops.CallLast (spelled tables.entry row.now) self.old) }
     {
         let [_, target, size, ..] = row else {
             return Err(Stop::trapped(Trap::BadPlace));
@@ -175,10 +175,10 @@ impl Proc {
 
     /// `return`.
     #[inline(always)]
-    #[tactic(auto, unfolding(crate::specs::Table::rule, bx_asm::specs::Meaning::taken))]
+    #[tactic(auto, unfolding(crate::specs::Table::own_rule, bx_asm::specs::Meaning::taken))]
     pub(crate) fn return_to(&mut self) -> Result<(), Stop>
         ensures { (pid : ℕ) (image : Loaded) (here : places.Place) (os : List Spelt) → RunsBy self.old self.new result
-            (rule pid image here ops.Return os self.old) }
+            (own_rule pid image here ops.Return os self.old) }
     {
         if self.cp.is_none() {
             return self.end(Term::atom(fixed::NORMAL));

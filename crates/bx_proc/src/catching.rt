@@ -9,7 +9,7 @@ ghost use Rattle.bx_proc.specs.Faults.{within_height};
 ghost use Rattle.bx_listing.specs.declared.items.Operand.{Operand as Spelt};
 ghost use Rattle.bx_ops.specs.declared.opcode.Op.TheVariants as ops;
 ghost use Rattle.bx_proc.specs.Runs.{RunsBy};
-ghost use Rattle.bx_proc.specs.Table.{rule, tagging, not_matching};
+ghost use Rattle.bx_proc.specs.Table.{own_rule, tagging, not_matching};
 ghost use Rattle.bx_proc.specs.Spelled.{spelled};
 ghost use Rattle.bx_proc.specs.Stops.{Reads, Turns};
 ghost use Rattle.bx_proc.specs.Looking.{tree_of};
@@ -75,7 +75,7 @@ impl Proc {
 
     /// `catch_end`.
     #[inline(never)]
-    #[tactic(auto, unfolding(crate::specs::Table::rule, bx_asm::specs::Meaning::taken, crate::specs::Catching::catch_end_row))]
+    #[tactic(auto, unfolding(crate::specs::Table::own_rule, bx_asm::specs::Meaning::taken, crate::specs::Catching::catch_end_row))]
     pub(crate) fn catch_end(
         &mut self,
         alloc: Global,
@@ -85,7 +85,7 @@ impl Proc {
         row: &[Operand],
     ) -> Result<(), Stop>
         ensures { (pid : ℕ) → RunsBy self.old self.new result
-            (rule pid image.now here ops.CatchEnd (spelled tables.entry row.now) self.old) }
+            (own_rule pid image.now here ops.CatchEnd (spelled tables.entry row.now) self.old) }
     {
         let [number, ..] = row else {
             return Err(Stop::trapped(Trap::BadPlace));
@@ -106,7 +106,7 @@ impl Proc {
 
     /// `try_end`.
     #[inline(never)]
-    #[tactic(auto, unfolding(crate::specs::Table::rule, bx_asm::specs::Meaning::taken, crate::specs::Catching::try_end_row))]
+    #[tactic(auto, unfolding(crate::specs::Table::own_rule, bx_asm::specs::Meaning::taken, crate::specs::Catching::try_end_row))]
     pub(crate) fn try_end(
         &mut self,
         image: &Image,
@@ -115,7 +115,7 @@ impl Proc {
         row: &[Operand],
     ) -> Result<(), Stop>
         ensures { (pid : ℕ) → RunsBy self.old self.new result
-            (rule pid image.now here ops.TryEnd (spelled tables.entry row.now) self.old) }
+            (own_rule pid image.now here ops.TryEnd (spelled tables.entry row.now) self.old) }
     {
         let [number, ..] = row else {
             return Err(Stop::trapped(Trap::BadPlace));
@@ -129,7 +129,7 @@ impl Proc {
 
     /// `try_case`.
     #[inline(never)]
-    #[tactic(auto, unfolding(crate::specs::Table::rule, bx_asm::specs::Meaning::taken, crate::specs::Catching::try_case_row))]
+    #[tactic(auto, unfolding(crate::specs::Table::own_rule, bx_asm::specs::Meaning::taken, crate::specs::Catching::try_case_row))]
     pub(crate) fn try_case(
         &mut self,
         alloc: Global,
@@ -139,7 +139,7 @@ impl Proc {
         row: &[Operand],
     ) -> Result<(), Stop>
         ensures { (pid : ℕ) → RunsBy self.old self.new result
-            (rule pid image.now here ops.TryCase (spelled tables.entry row.now) self.old) }
+            (own_rule pid image.now here ops.TryCase (spelled tables.entry row.now) self.old) }
     {
         let [number, ..] = row else {
             return Err(Stop::trapped(Trap::BadPlace));
@@ -177,7 +177,7 @@ impl Proc {
 
     /// `raise`.
     #[inline(never)]
-    #[tactic(auto, unfolding(crate::specs::Table::rule, bx_asm::specs::Meaning::taken, crate::specs::Catching::raise_row))]
+    #[tactic(auto, unfolding(crate::specs::Table::own_rule, bx_asm::specs::Meaning::taken, crate::specs::Catching::raise_row))]
     pub(crate) fn raise_again(
         &mut self,
         alloc: Global,
@@ -185,7 +185,7 @@ impl Proc {
         row: &[Operand],
     ) -> Result<(), Stop>
         ensures { (pid : ℕ) (image : Loaded) (here : places.Place) → RunsBy self.old self.new result
-            (rule pid image here ops.Raise (spelled tables.entry row.now) self.old) }
+            (own_rule pid image here ops.Raise (spelled tables.entry row.now) self.old) }
     {
         let [trace, value, ..] = row else {
             return Err(Stop::trapped(Trap::BadPlace));
@@ -197,10 +197,10 @@ impl Proc {
 
     /// `build_stacktrace`.
     #[inline(never)]
-    #[tactic(auto, unfolding(crate::specs::Table::rule, bx_asm::specs::Meaning::taken, crate::specs::Catching::build_stacktrace_row))]
+    #[tactic(auto, unfolding(crate::specs::Table::own_rule, bx_asm::specs::Meaning::taken, crate::specs::Catching::build_stacktrace_row))]
     pub(crate) fn build_stacktrace(&mut self, image: &Image, here: Place) -> Result<(), Stop>
         ensures { (pid : ℕ) (os : List Spelt) → RunsBy self.old self.new result
-            (rule pid image.now here ops.BuildStacktrace os self.old) }
+            (own_rule pid image.now here ops.BuildStacktrace os self.old) }
     {
         self.trace(Source::Register(Register::X(0)))?;
         if let Err(_) = self.x.set(0, Value::Term(Term::nil())) {
@@ -212,7 +212,7 @@ impl Proc {
 
     /// `func_info`.
     #[inline(never)]
-    #[tactic(auto, unfolding(crate::specs::Table::rule, bx_asm::specs::Meaning::taken))]
+    #[tactic(auto, unfolding(crate::specs::Table::own_rule, bx_asm::specs::Meaning::taken))]
     pub(crate) fn func_info(
         &mut self,
         alloc: Global,
@@ -220,7 +220,7 @@ impl Proc {
         row: &[Operand],
     ) -> Result<(), Stop>
         ensures { (pid : ℕ) (image : Loaded) (here : places.Place) → RunsBy self.old self.new result
-            (rule pid image here ops.FuncInfo (spelled tables.entry row.now) self.old) }
+            (own_rule pid image here ops.FuncInfo (spelled tables.entry row.now) self.old) }
     {
         let [module, name, _, ..] = row else {
             return Err(Stop::trapped(Trap::BadPlace));
@@ -232,20 +232,20 @@ impl Proc {
 
     /// `int_code_end`.
     #[inline(always)]
-    #[tactic(auto, unfolding(crate::specs::Table::rule, bx_asm::specs::Meaning::taken))]
+    #[tactic(auto, unfolding(crate::specs::Table::own_rule, bx_asm::specs::Meaning::taken))]
     pub(crate) fn int_code_end(&mut self) -> Result<(), Stop>
         ensures { (pid : ℕ) (image : Loaded) (here : places.Place) (os : List Spelt) → RunsBy self.old self.new result
-            (rule pid image here ops.IntCodeEnd os self.old) }
+            (own_rule pid image here ops.IntCodeEnd os self.old) }
     {
         Err(Stop::trapped(Trap::BadPlace))
     }
 
     /// `if_end`.
     #[inline(never)]
-    #[tactic(auto, unfolding(crate::specs::Table::rule, bx_asm::specs::Meaning::taken))]
+    #[tactic(auto, unfolding(crate::specs::Table::own_rule, bx_asm::specs::Meaning::taken))]
     pub(crate) fn if_end(&mut self, alloc: Global) -> Result<(), Stop>
         ensures { (pid : ℕ) (image : Loaded) (here : places.Place) (os : List Spelt) → RunsBy self.old self.new result
-            (rule pid image here ops.IfEnd os self.old) }
+            (own_rule pid image here ops.IfEnd os self.old) }
     {
         self.raise(alloc, Class::Error, Term::atom(fixed::IF_CLAUSE))
     }

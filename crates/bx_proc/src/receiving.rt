@@ -5,7 +5,7 @@ ghost use Rattle.bx_proc.specs.Receiving.{time_of};
 ghost use Rattle.bx_listing.specs.declared.items.Operand.{Operand as Spelt};
 ghost use Rattle.bx_ops.specs.declared.opcode.Op.TheVariants as ops;
 ghost use Rattle.bx_proc.specs.Runs.{RunsBy};
-ghost use Rattle.bx_proc.specs.Table.{rule};
+ghost use Rattle.bx_proc.specs.Table.{own_rule};
 ghost use Rattle.bx_proc.specs.Spelled.{spelled};
 
 use crate::operands::{label_of, register_of};
@@ -29,7 +29,7 @@ pub(crate) enum Time {
 impl Proc {
     /// `loop_rec`.
     #[inline(never)]
-    #[tactic(auto, unfolding(crate::specs::Table::rule, bx_asm::specs::Meaning::taken, crate::specs::Receiving::loop_rec_row))]
+    #[tactic(auto, unfolding(crate::specs::Table::own_rule, bx_asm::specs::Meaning::taken, crate::specs::Receiving::loop_rec_row))]
     pub(crate) fn loop_rec(
         &mut self,
         alloc: Global,
@@ -39,7 +39,7 @@ impl Proc {
         row: &[Operand],
     ) -> Result<(), Stop>
         ensures { (pid : ℕ) → RunsBy self.old self.new result
-            (rule pid image.now here ops.LoopRec (spelled tables.entry row.now) self.old) }
+            (own_rule pid image.now here ops.LoopRec (spelled tables.entry row.now) self.old) }
     {
         let [otherwise, to, ..] = row else {
             return Err(Stop::trapped(Trap::BadPlace));
@@ -58,10 +58,10 @@ impl Proc {
 
     /// `remove_message`.
     #[inline(never)]
-    #[tactic(auto, unfolding(crate::specs::Table::rule, bx_asm::specs::Meaning::taken))]
+    #[tactic(auto, unfolding(crate::specs::Table::own_rule, bx_asm::specs::Meaning::taken))]
     pub(crate) fn remove_message(&mut self, image: &Image, here: Place) -> Result<(), Stop>
         ensures { (pid : ℕ) (os : List Spelt) → RunsBy self.old self.new result
-            (rule pid image.now here ops.RemoveMessage os self.old) }
+            (own_rule pid image.now here ops.RemoveMessage os self.old) }
     {
         let Some(_) = self.mailbox.take() else {
             return Err(Stop::trapped(Trap::NoMessage));
@@ -72,7 +72,7 @@ impl Proc {
 
     /// `wait`.
     #[inline(never)]
-    #[tactic(auto, unfolding(crate::specs::Table::rule, bx_asm::specs::Meaning::taken))]
+    #[tactic(auto, unfolding(crate::specs::Table::own_rule, bx_asm::specs::Meaning::taken))]
     pub(crate) fn wait(
         &mut self,
         image: &Image,
@@ -81,7 +81,7 @@ impl Proc {
         row: &[Operand],
     ) -> Result<(), Stop>
         ensures { (pid : ℕ) → RunsBy self.old self.new result
-            (rule pid image.now here ops.Wait (spelled tables.entry row.now) self.old) }
+            (own_rule pid image.now here ops.Wait (spelled tables.entry row.now) self.old) }
     {
         let [label, ..] = row else {
             return Err(Stop::trapped(Trap::BadPlace));
@@ -94,7 +94,7 @@ impl Proc {
 
     /// `loop_rec_end`.
     #[inline(never)]
-    #[tactic(auto, unfolding(crate::specs::Table::rule, bx_asm::specs::Meaning::taken))]
+    #[tactic(auto, unfolding(crate::specs::Table::own_rule, bx_asm::specs::Meaning::taken))]
     pub(crate) fn loop_rec_end(
         &mut self,
         image: &Image,
@@ -103,7 +103,7 @@ impl Proc {
         row: &[Operand],
     ) -> Result<(), Stop>
         ensures { (pid : ℕ) → RunsBy self.old self.new result
-            (rule pid image.now here ops.LoopRecEnd (spelled tables.entry row.now) self.old) }
+            (own_rule pid image.now here ops.LoopRecEnd (spelled tables.entry row.now) self.old) }
     {
         let [label, ..] = row else {
             return Err(Stop::trapped(Trap::BadPlace));
@@ -119,10 +119,10 @@ impl Proc {
 
     /// `timeout`.
     #[inline(never)]
-    #[tactic(auto, unfolding(crate::specs::Table::rule, bx_asm::specs::Meaning::taken))]
+    #[tactic(auto, unfolding(crate::specs::Table::own_rule, bx_asm::specs::Meaning::taken))]
     pub(crate) fn timeout(&mut self, image: &Image, here: Place) -> Result<(), Stop>
         ensures { (pid : ℕ) (os : List Spelt) → RunsBy self.old self.new result
-            (rule pid image.now here ops.Timeout os self.old) }
+            (own_rule pid image.now here ops.Timeout os self.old) }
     {
         self.mailbox.reset();
         self.place = Some(image.after(here));
@@ -131,7 +131,7 @@ impl Proc {
 
     /// `wait_timeout`.
     #[inline(never)]
-    #[tactic(auto, unfolding(crate::specs::Table::rule, bx_asm::specs::Meaning::taken, crate::specs::Receiving::wait_timeout_row))]
+    #[tactic(auto, unfolding(crate::specs::Table::own_rule, bx_asm::specs::Meaning::taken, crate::specs::Receiving::wait_timeout_row))]
     pub(crate) fn wait_timeout(
         &mut self,
         alloc: Global,
@@ -141,7 +141,7 @@ impl Proc {
         row: &[Operand],
     ) -> Result<(), Stop>
         ensures { (pid : ℕ) → RunsBy self.old self.new result
-            (rule pid image.now here ops.WaitTimeout (spelled tables.entry row.now) self.old) }
+            (own_rule pid image.now here ops.WaitTimeout (spelled tables.entry row.now) self.old) }
     {
         let [label, time, ..] = row else {
             return Err(Stop::trapped(Trap::BadPlace));

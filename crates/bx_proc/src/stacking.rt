@@ -5,7 +5,7 @@ ghost use Rattle.bx_asm.specs.Instructed.{registers_of};
 ghost use Rattle.bx_listing.specs.declared.items.Operand.{Operand as Spelt};
 ghost use Rattle.bx_ops.specs.declared.opcode.Op.TheVariants as ops;
 ghost use Rattle.bx_proc.specs.Runs.{RunsBy};
-ghost use Rattle.bx_proc.specs.Table.{rule, allocating};
+ghost use Rattle.bx_proc.specs.Table.{own_rule, allocating};
 ghost use Rattle.bx_proc.specs.Spelled.{spelled};
 ghost use Rattle.bx_proc.specs.Stacking.{cleared, cleared_if, there_all, all_cleared};
 ghost use Rattle.bx_proc.specs.Stops.{Turns};
@@ -21,7 +21,7 @@ use bx_terms::{Place, Term, Trap};
 impl Proc {
     /// `allocate`.
     #[inline(never)]
-    #[tactic(auto, unfolding(crate::specs::Table::rule, bx_asm::specs::Meaning::taken))]
+    #[tactic(auto, unfolding(crate::specs::Table::own_rule, bx_asm::specs::Meaning::taken))]
     pub(crate) fn allocate(
         &mut self,
         image: &Image,
@@ -30,7 +30,7 @@ impl Proc {
         row: &[Operand],
     ) -> Result<(), Stop>
         ensures { (pid : ℕ) → RunsBy self.old self.new result
-            (rule pid image.now here ops.Allocate (spelled tables.entry row.now) self.old) }
+            (own_rule pid image.now here ops.Allocate (spelled tables.entry row.now) self.old) }
     {
         let [size, _, ..] = row else {
             return Err(Stop::trapped(Trap::BadPlace));
@@ -40,7 +40,7 @@ impl Proc {
 
     /// `allocate_heap`.
     #[inline(never)]
-    #[tactic(auto, unfolding(crate::specs::Table::rule, bx_asm::specs::Meaning::taken))]
+    #[tactic(auto, unfolding(crate::specs::Table::own_rule, bx_asm::specs::Meaning::taken))]
     pub(crate) fn allocate_heap(
         &mut self,
         image: &Image,
@@ -49,7 +49,7 @@ impl Proc {
         row: &[Operand],
     ) -> Result<(), Stop>
         ensures { (pid : ℕ) → RunsBy self.old self.new result
-            (rule pid image.now here ops.AllocateHeap (spelled tables.entry row.now) self.old) }
+            (own_rule pid image.now here ops.AllocateHeap (spelled tables.entry row.now) self.old) }
     {
         let [size, ..] = row else {
             return Err(Stop::trapped(Trap::BadPlace));
@@ -69,7 +69,7 @@ impl Proc {
 
     /// `deallocate`.
     #[inline(never)]
-    #[tactic(auto, unfolding(crate::specs::Table::rule, bx_asm::specs::Meaning::taken))]
+    #[tactic(auto, unfolding(crate::specs::Table::own_rule, bx_asm::specs::Meaning::taken))]
     pub(crate) fn deallocate(
         &mut self,
         image: &Image,
@@ -78,7 +78,7 @@ impl Proc {
         row: &[Operand],
     ) -> Result<(), Stop>
         ensures { (pid : ℕ) → RunsBy self.old self.new result
-            (rule pid image.now here ops.Deallocate (spelled tables.entry row.now) self.old) }
+            (own_rule pid image.now here ops.Deallocate (spelled tables.entry row.now) self.old) }
     {
         let [size, ..] = row else {
             return Err(Stop::trapped(Trap::BadPlace));
@@ -91,10 +91,10 @@ impl Proc {
 
     /// `test_heap`.
     #[inline(always)]
-    #[tactic(auto, unfolding(crate::specs::Table::rule, bx_asm::specs::Meaning::taken))]
+    #[tactic(auto, unfolding(crate::specs::Table::own_rule, bx_asm::specs::Meaning::taken))]
     pub(crate) fn test_heap(&mut self, image: &Image, here: Place) -> Result<(), Stop>
         ensures { (pid : ℕ) (os : List Spelt) → RunsBy self.old self.new result
-            (rule pid image.now here ops.TestHeap os self.old) }
+            (own_rule pid image.now here ops.TestHeap os self.old) }
     {
         self.place = Some(image.after(here));
         Ok(())
@@ -102,7 +102,7 @@ impl Proc {
 
     /// `trim`.
     #[inline(never)]
-    #[tactic(auto, unfolding(crate::specs::Table::rule, bx_asm::specs::Meaning::taken))]
+    #[tactic(auto, unfolding(crate::specs::Table::own_rule, bx_asm::specs::Meaning::taken))]
     pub(crate) fn trim(
         &mut self,
         image: &Image,
@@ -111,7 +111,7 @@ impl Proc {
         row: &[Operand],
     ) -> Result<(), Stop>
         ensures { (pid : ℕ) → RunsBy self.old self.new result
-            (rule pid image.now here ops.Trim (spelled tables.entry row.now) self.old) }
+            (own_rule pid image.now here ops.Trim (spelled tables.entry row.now) self.old) }
     {
         let [count, left, ..] = row else {
             return Err(Stop::trapped(Trap::BadPlace));
@@ -126,7 +126,7 @@ impl Proc {
 
     /// `init_yregs`.
     #[inline(never)]
-    #[tactic(auto, unfolding(crate::specs::Table::rule, bx_asm::specs::Meaning::taken))]
+    #[tactic(auto, unfolding(crate::specs::Table::own_rule, bx_asm::specs::Meaning::taken))]
     pub(crate) fn init_yregs(
         &mut self,
         image: &Image,
@@ -135,7 +135,7 @@ impl Proc {
         row: &[Operand],
     ) -> Result<(), Stop>
         ensures { (pid : ℕ) → RunsBy self.old self.new result
-            (rule pid image.now here ops.InitYregs (spelled tables.entry row.now) self.old) }
+            (own_rule pid image.now here ops.InitYregs (spelled tables.entry row.now) self.old) }
     {
         let registers = registers_in(tables, row)?;
         self.find_yregs(registers)?;
