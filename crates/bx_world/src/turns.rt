@@ -31,6 +31,7 @@ pub enum Tried {
 
 impl Tried {
     /// What a turn comes to, once its process and the others have changed by it.
+    #[inline(always)]
     pub(crate) fn of(done: Result<Turn, Fault>) -> Tried
         ensures { result ≡ tried_of done }
     {

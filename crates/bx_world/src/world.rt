@@ -7,6 +7,7 @@ ghost use Rattle.bx_world.specs.World.{started};
 ghost use Rattle.bx_world.specs.Enabled.{enabled, open_choices, can};
 ghost use Rattle.bx_world.specs.Choosing.{applied};
 ghost use Rattle.bx_world.specs.Batches.{Fits, WorldActs, WorldRunsOn, state_after};
+ghost use Rattle.bx_world.specs.declared.acts.Act.TheVariants as acts;
 ghost use Rattle.bx_world.specs.declared.choices.Choice.TheVariants as choices;
 ghost use Rattle.bx_world.specs.Seen.{life_of, seen, standing_of, place_in};
 
@@ -162,10 +163,8 @@ impl<P: Hold<Proc>, C: Hold<Lanes>> World<P, C> {
     {
         match choice {
             Choice::Run(pid) => self.run(Actor { alloc, image, pid }, times),
-            Choice::Deliver(from, pid) => {
-                Batch::one(self.act(Actor { alloc, image, pid }, Act::Hear(from)))
-            }
-            Choice::Expire(pid) => Batch::one(self.act(Actor { alloc, image, pid }, Act::Expire)),
+            Choice::Deliver(from, pid) => Batch::one(self.hear(Actor { alloc, image, pid }, from)),
+            Choice::Expire(pid) => Batch::one(self.expire(Actor { alloc, image, pid })),
         }
     }
 
@@ -186,8 +185,27 @@ impl<P: Hold<Proc>, C: Hold<Lanes>> World<P, C> {
         batch
     }
 
-    /// Has a process do what it is to do, where it can do it.
+    /// The first signal from that process takes effect, where one waits.
     #[inline(never)]
+    fn hear(&mut self, by: Actor<'_>, from: u32) -> Tried
+        requires { self.old.trap ≡ None }
+        ensures { WorldActs by.entry.image.now by.entry.pid (acts.Hear from) self.old self.new
+            result }
+    {
+        self.act(by, Act::Hear(from))
+    }
+
+    /// A process's wait is over, where it can expire.
+    #[inline(never)]
+    fn expire(&mut self, by: Actor<'_>) -> Tried
+        requires { self.old.trap ≡ None }
+        ensures { WorldActs by.entry.image.now by.entry.pid acts.Expire self.old self.new result }
+    {
+        self.act(by, Act::Expire)
+    }
+
+    /// Has a process do what it is to do, where it can do it.
+    #[inline(always)]
     fn act(&mut self, by: Actor<'_>, act: Act) -> Tried
         requires { self.old.trap ≡ None }
         ensures { WorldActs by.entry.image.now by.entry.pid act self.old self.new result }
