@@ -1,4 +1,4 @@
-//! Sessions of a debugger: choices are made one by one, stepped back over and made anew, and runs break off at breakpoints.
+//! Sessions of a debugger: choices are made one by one, stepped back over and made again, and runs break off at breakpoints.
 #![tactic(auto)]
 
 pub mod laws;

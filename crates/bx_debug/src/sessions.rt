@@ -21,8 +21,8 @@ use bx_world::{Choice, RcWorld, RunEnd};
 use std::alloc::{AllocError, Global};
 use std::marker::Model;
 
-/// A world with the choices that led to it, which can be stepped back over and made anew, and the breakpoints at which a run breaks
-/// off.
+/// A world with the choices that led to it, which can be stepped back over and made again, and the breakpoints at which a run
+/// breaks off.
 ///
 /// It keeps each choice, and some of the worlds on the way, so that a move of the position makes few choices again, at most 63
 /// where the state stays small. Where memory runs out, a call has changed nothing.

@@ -60,8 +60,8 @@ fn stretch_run(
     Ok((run.times, None))
 }
 
-/// The same where no run breaks off: equal neighbours are made at once. Once a choice was refused or the world has trapped nothing
-/// changes any more, so why it stopped is looked at behind the last one.
+/// The same where no run breaks off: equal ones in a row are made in one call. Once a choice was refused or the world has trapped
+/// nothing changes any more, so why it stopped is looked at behind the last one.
 #[inline(never)]
 fn stretch_unbroken(
     alloc: Global,

@@ -15,7 +15,7 @@ macro_rules! commands {
   swap K       Exchanges choices K and K+1 where they are independent
   break M:I    Lets go stop behind a run that leaves its process at item I of module M
   break M:F/A  Lets go stop where a call of that function begins
-  clear M:I    Takes such a place back, which M:F/A names too
+  clear M:I    Removes that breakpoint; M:F/A names one too
   show         Shows the outcome of the choices so far
   where        Shows for each process where it goes on, and the item there
   look P       Shows all that process P holds

@@ -50,8 +50,8 @@ impl Failure {
         }
     }
 
-    /// The status that the program ends with: 1 for a refused input, 2 for a bad start, 3 for want
-    /// of memory, 4 for a file or a stream.
+    /// The status that the program ends with: 1 for a refused input, 2 for a bad start, 3 for out of
+    /// memory, 4 for a file or a stream.
     fn status(&self) -> u8
         ensures status { result ≡ status_of self.now }
         ensures few { (1 ≤ result) × (result ≤ 4) }

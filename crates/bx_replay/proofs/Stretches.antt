@@ -1,4 +1,4 @@
--- Equal choices in a row, made at once.
+-- Equal choices in a row, made in one call.
 use Rattle.std.proofs.Common.{◌≡◌, ℕ, ◌+◌, ◌-◌, ◌<◌, ◌≤◌, List, ◌++◌, replicate, sym, ap, ◌∙◌, arith}
 use Rattle.std.proofs.lemmas.List.{length-replicate}
 use Rattle.bx_load.specs.Image.{Loaded}

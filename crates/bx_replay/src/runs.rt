@@ -80,7 +80,7 @@ pub(crate) fn follow_both(
     Ok(end)
 }
 
-/// These choices more, in order; equal neighbours are made at once. It can only run out of memory.
+/// These choices more, in order; equal ones in a row are made in one call. It can only run out of memory.
 pub fn advance_all(
     alloc: Global,
     end: &mut RcEnd,

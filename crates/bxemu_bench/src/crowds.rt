@@ -1,5 +1,5 @@
 //! Messages among many processes: one that goes round a ring, and sends over many channels. Equal
-//! choices in a row are made at once, as `run` makes them.
+//! choices in a row are made in one call, as `run` makes them.
 
 use crate::programs::Program;
 use crate::trouble::Trouble;
