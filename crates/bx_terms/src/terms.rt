@@ -148,13 +148,37 @@ impl Term {
         if height > MAX_HEIGHT {
             return Err((TermRefusal::TooHigh, head, tail));
         }
-        match Arc::new(alloc, Cell { head, tail, height }) {
+        match Term::cons_of_height(alloc, head, tail, height) {
+            Ok(cell) => Ok(cell),
+            Err((head, tail)) => Err((TermRefusal::Memory, head, tail)),
+        }
+    }
+
+    /// The list cell of `head` and `tail`, which is of that height, or both handed back where memory ran out.
+    #[inline(always)]
+    pub fn cons_of_height(
+        alloc: Global,
+        head: Term,
+        tail: Term,
+        tall: u32,
+    ) -> Result<Term, (Term, Term)>
+        requires known { tall ≡ height (cons head tail) }
+        requires within { tall ≤ 10000 }
+        ensures built { IfOk result (λ t. t ≡ cons head tail) }
+        ensures handed_back { IfErr result (λ e. (e.0 ≡ head) × (e.1 ≡ tail)) }
+    {
+        let cell = Cell {
+            head,
+            tail,
+            height: tall,
+        };
+        match Arc::new(alloc, cell) {
             Ok(cell) => Ok(Term {
                 form: Form::Cons(cell),
             }),
             Err(failed) => {
                 let Cell { head, tail, .. } = failed.value;
-                Err((TermRefusal::Memory, head, tail))
+                Err((head, tail))
             }
         }
     }
