@@ -1,10 +1,11 @@
 //! What a choice was at one process, and what came of it.
 
 ghost use Rattle.std.specs.Prelude.{◌≡◌, Some};
-ghost use Rattle.bx_world.specs.Batches.{tried_of, answer_of};
+ghost use Rattle.bx_world.specs.Batches.{tried_of, sent_so, answer_of};
 
 use crate::requests::SpawnRequest;
 use bx_terms::{Fault, Term, Trap};
+use std::alloc::AllocError;
 
 /// What a run or a signal was, beside what it made of its process and of the lanes.
 #[derive(Debug, Drop)]
@@ -40,6 +41,17 @@ impl Tried {
             Ok(_) => Tried::Done,
             Err(Fault::Memory) => Tried::Memory,
             Err(_) => Tried::NotEnabled,
+        }
+    }
+
+    /// What a send comes to.
+    #[inline(always)]
+    pub(crate) fn sent(done: Result<(), AllocError>) -> Tried
+        ensures { result ≡ sent_so done }
+    {
+        match done {
+            Ok(()) => Tried::Done,
+            Err(_) => Tried::Memory,
         }
     }
 

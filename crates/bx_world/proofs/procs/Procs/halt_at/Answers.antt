@@ -2,7 +2,6 @@ use Rattle.std.proofs.Common.{◌≡◌, ◌<◌, Some, length, map, refl, sym, 
 use Rattle.std.specs.Prelude.{List, Option, IsOk, OnErr, slice_get}
 use Rattle.std.proofs.Math.ListN.{set}
 use Rattle.std.proofs.Math.Seq.{map-set_same}
-use Rattle.bx_proc.specs.Stepping.{takes_memory}
 use Rattle.bx_world.specs.declared.lanes.Lanes.{Lanes}
 use Rattle.bx_world.specs.declared.slots.Slot.TheVariants as slots
 use Rattle.bx_world.specs.Batches.{LivesRunOn, StopsAt}
@@ -10,20 +9,8 @@ use Rattle.bx_world.specs.Enabled.{may_at, may_run}
 use Rattle.bx_world.specs.Lives.{life}
 use Rattle.bx_world.specs.World.{Life, Live}
 use Rattle.bx_world.proofs.Acted.{seen_at}
-use Rattle.bx_world.proofs.Batches.{sends_at, stopped_among, one_whole, whole_alone}
+use Rattle.bx_world.proofs.Batches.{stopped_among, one_whole, whole_alone}
 use Rattle.bx_world.proofs.procs.Procs.halt_at.Goals as goal
-
-pub halt-done-requires : goal.halt-done-requires
-halt-done-requires g c =
-    let image = c.args.by.image.now in
-    let p = c.args.by.pid in
-    let seen = life g.P.Hold.shown in
-    let all = c.self.inside.slots.items in
-    let here : p < length all = omega arith in
-    let x = c.in-Ok.process.now in
-    let there : slice_get c.args.self.now p ≡ Some (Live x) = ap (λ (xs : List Life). slice_get xs p) (sym c.self.view_is) ∙ seen_at seen all p c.index_mut-slot.result.now here c.index_mut-slot.ensures.value ∙ ap Some (ap seen c.in-Live.is ∙ ap Live (sym c.in-Ok.ensures.value)) in
-    let stops = subst (λ (o : Option Life). StopsAt image p o c.args.stop) there c.requires in
-    sends_at image p (takes_memory image p x) x stops.0 c.args.stop stops.2
 
 pub returns-in_default-edit : goal.returns-in_default-edit
 returns-in_default-edit g c =

@@ -8,13 +8,14 @@ use Rattle.bx_proc.specs.Process.{can_run}
 use Rattle.bx_proc.specs.declared.stops.Why.{Why}
 use Rattle.bx_world.specs.declared.lanes.Lanes.{Lanes}
 use Rattle.bx_world.specs.declared.turns.Tried.TheVariants as tries
-use Rattle.bx_world.specs.Batches.{LivesRunOn, StopsIf, StopsAt}
+use Rattle.bx_world.specs.declared.turns.Tried.{Tried}
+use Rattle.bx_world.specs.Batches.{GoesOn, LivesRunOn, StopsIf, StopsAt, sent_so}
 use Rattle.bx_world.specs.Enabled.{may_at, may_run}
 use Rattle.bx_world.specs.Lives.{life}
 use Rattle.bx_world.specs.World.{Life, Live}
 use Rattle.bx_world.specs.declared.slots.Slot.TheVariants as slots
 use Rattle.bx_world.proofs.Acted.{seen_at}
-use Rattle.bx_world.proofs.Batches.{one_told, unable_among, lacked_among, live_at, went_among, went_on, one_behind}
+use Rattle.bx_world.proofs.Batches.{one_told, unable_among, lacked_among, live_at, went_among, went_on, sent_among, stands_sending, one_behind}
 use Rattle.bx_world.proofs.procs.Procs.run.Goals as goal
 
 pub returns-then-at-len-clause-done : goal.returns-then-at-len-clause-done
@@ -99,6 +100,35 @@ returns-in_default-stop-clause-done g c =
     subst (λ (xs : List Life). LivesRunOn image p (xs, l) (map seen (set all p back), l) ran None) c.self.view_is
     (went_among image p seen all c.index_mut-slot.result.now back x y here c.index_mut-slot.ensures.value (ap seen c.in-Live.is ∙ ap Live (sym c.in-Ok.ensures.value)) (ap Live lent) ran l
     (went_on image p c.args.times ran x y c.run_on-ran.result.stop l c.run_on-ran.ensures))
+
+pub sends-sent-requires : goal.sends-sent-requires
+sends-sent-requires g c =
+    let image = c.args.by.image.now in
+    let p = c.args.by.pid in
+    let mid = c.run_on-ran.new.process in
+    let stops = subst (λ (o : Option Why). StopsIf image p mid o) c.in-Some.is c.run_on-ran.ensures.2 in
+    stands_sending image p mid (subst (λ (w : Why). StopsIf image p mid (Some w)) (sym c.why.ensures ∙ c.in-Sends.is) stops)
+
+pub returns-in-Sends-clause-done : goal.returns-in-Sends-clause-done
+returns-in-Sends-clause-done g c =
+    let image = c.args.by.image.now in
+    let p = c.args.by.pid in
+    let seen = life g.P.Hold.shown in
+    let all = c.self.inside.slots.items in
+    let here : p < length all = omega arith in
+    let x = c.in-Ok.process.now in
+    let mid = c.run_on-ran.new.process in
+    let y = c.sends-sent.new.process in
+    let back = slots.Live (c.edit.follows.lender y) in
+    let ran = c.run_on-ran.result.ran in
+    let l = g.C.Hold.shown c.args.lanes.now in
+    let m = g.C.Hold.shown c.sends-sent.new.lanes in
+    let lent : g.P.Hold.shown (c.edit.follows.lender y) ≡ y = c.edit.follows.holds y (subst (λ r. IsOk r) (sym c.in-Ok.is) refl) in
+    let went = subst (λ (w : Why). GoesOn image p c.args.times x mid ran (Some w)) (sym c.why.ensures ∙ c.in-Sends.is) (subst (λ (o : Option Why). GoesOn image p c.args.times x mid ran o) c.in-Some.is c.run_on-ran.ensures) in
+    subst (λ (t : Tried). LivesRunOn image p (c.args.self.now, l) (map seen (set all p back), m) ran (Some t)) (sym c.sent.ensures)
+    (subst (λ (xs : List Life). LivesRunOn image p (xs, l) (map seen (set all p back), m) ran (Some (sent_so c.sends-sent.result))) c.self.view_is
+    (sent_among image p seen all c.index_mut-slot.result.now back x y here c.index_mut-slot.ensures.value (ap seen c.in-Live.is ∙ ap Live (sym c.in-Ok.ensures.value)) (ap Live lent)
+    c.args.times ran mid l m c.sends-sent.result went c.sends-sent.ensures.sent c.sends-sent.ensures.lacked))
 
 pub halt_at-last-requires : goal.halt_at-last-requires
 halt_at-last-requires g c =
