@@ -1,5 +1,5 @@
 -- Messages that are taken out one after another.
-use Rattle.std.proofs.Common.{◌≡◌, ◌∙◌, ℕ, ◌+◌, ◌≤◌, List, [], ◌∷◌, ◌++◌, length, append_assoc, append-nil, refl, sym, ap, arith}
+use Rattle.std.proofs.Common.{◌≡◌, ◌∙◌, ℕ, ◌+◌, ◌≤◌, List, [], ◌∷◌, ◌++◌, length, append_assoc, append-nil, sym, ap, arith}
 use Rattle.std.specs.Prelude.{Some, None}
 use Rattle.bx_mail.specs.Mail.{Box, first, take_first}
 

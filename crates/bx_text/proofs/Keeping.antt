@@ -1,5 +1,5 @@
 -- What is kept as it was read is spelled by some text.
-use Rattle.std.proofs.Common.{◌≡◌, ℕ, suc, Bool, true, false, eqb, inl, inr, List, length, Ok, Err, arith, refl, sym, ap, ◌∙◌, subst, if◌then◌else◌}
+use Rattle.std.proofs.Common.{◌≡◌, ℕ, suc, Bool, true, false, eqb, inl, inr, List, length, Ok, Err, arith, ap, ◌∙◌, subst, if◌then◌else◌}
 use Rattle.std.proofs.lemmas.Bool.Decides.{nat_tests}
 use Rattle.std.specs.Str.Lossy.{utf8_valid_len}
 use Rattle.bx_terms.specs.Outcomes.{◌>>=◌}
@@ -13,7 +13,7 @@ use Rattle.bx_text.specs.Token as token
 use Rattle.bx_text.specs.Token.{Lexeme}
 use Rattle.bx_text.specs.Lexing.{lexeme_from, lexeme_at}
 use Rattle.bx_text.specs.Tree.{Tree, other}
-use Rattle.bx_text.specs.Terms.{Follow, next, span, taken, kept_at, closed, closes_tuple, closes_binary, want, is_atom, is_colon, is_slash, is_integer, follow_at, element_at, pair_at, is_arrow, passed, value_at, parts_at, segment_at, map_on, binary_on, bracket_by, begin_by, group_at, term_at, fun_at}
+use Rattle.bx_text.specs.Terms.{Follow, next, span, taken, kept_at, closed, closes_tuple, closes_binary, want, is_atom, is_colon, is_slash, is_integer, follow_at, element_at, pair_at, is_arrow, passed, value_at, parts_at, segment_at, map_on, binary_on, bracket_by, begin_by, group_at, term_at}
 use Rattle.bx_text.specs.Rows.{joined}
 use Rattle.bx_text.specs.Grammar.{IsToken, IsKept, SpelledAs}
 use Rattle.bx_text.proofs.Outcomes.{ok_same, bind_ok}

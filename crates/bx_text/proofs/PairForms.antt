@@ -1,8 +1,7 @@
 -- A form that is passed over as a pair is read as one.
-use Rattle.std.proofs.Common.{◌≡◌, ℕ, true, List, [], ◌∷◌, Option, Some, None, Result, Ok, Err, refl, sym, ap, ◌∙◌}
+use Rattle.std.proofs.Common.{◌≡◌, ℕ, true, List, [], ◌∷◌, Option, Some, Result, Ok, Err, refl, sym, ap, ◌∙◌}
 use Rattle.std.specs.Prelude.{option_map, IfSome}
 use Rattle.std.specs.Result.{result_ok}
-use Rattle.std.specs.Str.{bytes_eq}
 use Rattle.std.proofs.lemmas.Slice.Eq.{bytes_eq-Decides}
 use Rattle.bx_terms.specs.Outcomes.{Gives, ◌>>=◌}
 use Rattle.bx_terms.specs.declared.faults.Fault.{Fault}
@@ -14,7 +13,7 @@ use Rattle.bx_text.specs.declared.node.Span.{Span}
 use Rattle.bx_text.specs.Tree.{Tree, atom, tuple, nil, cons}
 use Rattle.bx_text.specs.Lexing.{lexeme_at}
 use Rattle.bx_text.specs.Terms.{span, opens_tuple, closes_tuple, is_comma, is_stop, want, value_at, term_at}
-use Rattle.bx_text.specs.Grammar.{Next, Spells, Row, Form, an_atom, a_tuple, one, more, a_form}
+use Rattle.bx_text.specs.Grammar.{Next, Row, Form, an_atom, a_tuple, one, more, a_form}
 use Rattle.bx_text.specs.Pairs.{is_word, pair_end, good, IsPairForm}
 use Rattle.bx_text.proofs.Outcomes.{bind_ok}
 use Rattle.bx_text.proofs.Sound.{sound, comma_is, tuple_close_is, stop_is, want_from, passed_from}

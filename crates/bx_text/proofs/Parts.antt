@@ -1,11 +1,9 @@
 -- Parts in a loop: a map's pairs, a binary's segments.
-use Rattle.std.proofs.Common.{◌≡◌, ℕ, zero, suc, ◌+◌, ◌-◌, ◌<◌, Result, Ok, Err, IsOk, refl, sym, ap, ◌∙◌, subst, arith}
+use Rattle.std.proofs.Common.{◌≡◌, ℕ, ◌+◌, ◌-◌, ◌<◌, Result, Ok, Err, sym, ap, ◌∙◌}
 use Rattle.bx_terms.specs.Outcomes.{Gives, ◌>>=◌}
 use Rattle.bx_terms.specs.declared.faults.Fault.{Fault}
-use Rattle.bx_text.specs.Place.{Place}
 use Rattle.bx_text.specs.Token.{Lexeme}
-use Rattle.bx_text.specs.Tree.{Tree}
-use Rattle.bx_text.specs.Terms.{Follow, next, end, follow_at, want, is_arrow, passed, value_at, pair_at, go_through, parts, term_at}
+use Rattle.bx_text.specs.Terms.{Follow, next, end, go_through, parts}
 use Rattle.bx_text.proofs.Outcomes.{gives_err}
 use Rattle.bx_text.proofs.Rows.{turns}
 

@@ -1,17 +1,15 @@
 -- Integers are printed by their digits.
-use Rattle.std.proofs.Common.{◌≡◌, ℕ, zero, suc, ◌+◌, ◌-◌, ◌*◌, ◌/◌, ◌%◌, ◌<◌, ◌≤◌, ◌^◌, Bool, true, false, cond, List, [], ◌∷◌, ◌++◌, drop, refl, sym, ap, ◌∙◌, subst, arith, eqb, codes, length, get_or, slice_range, append_assoc, append-nil}
+use Rattle.std.proofs.Common.{◌≡◌, ℕ, zero, suc, ◌+◌, ◌-◌, ◌*◌, ◌/◌, ◌%◌, ◌<◌, ◌≤◌, ◌^◌, Bool, true, false, cond, List, [], ◌∷◌, ◌++◌, drop, refl, sym, ap, ◌∙◌, subst, arith, eqb, codes, append_assoc, append-nil}
 use Rattle.std.specs.Prelude.{ℤ, pos, negsuc, nat_lt}
 use Rattle.std.specs.Fmt.{decimal as shortest, signed_decimal}
 use Rattle.std.specs.List.{fold, list_all, prefix_len}
 use Rattle.std.specs.Str.{IsUtf8}
 use Rattle.std.proofs.lemmas.Bool.Decides.{nat_tests}
 use Rattle.std.proofs.lemmas.Fmt.{decimal_digit, decimal_step}
-use Rattle.std.proofs.lemmas.List.{take_rest}
-use Rattle.bx_text.proofs.Contents.{nodes_at, nodes_tailed}
 use lib.Signed.{mag}
 use Rattle.bx_text.specs.Bytes.{is_digit}
 use Rattle.bx_text.specs.Number.{decimal, signed, is_large, with_digit}
-use Rattle.bx_text.specs.Tree.{Tree, integer, atom, tuple, list, other, nil, cons, chain, nodes, IsWhole, IsEnd}
+use Rattle.bx_text.specs.Tree.{Tree, integer, atom, tuple, list, other, nil, cons, IsWhole, IsEnd}
 use Rattle.bx_text.specs.Printed.{is_zero, sign_text, digits_within, whole_decimal, integer_text, node_text, row_text, rest_text}
 use Rattle.bx_text.proofs.Digits.{both, digits_utf8}
 

@@ -1,5 +1,5 @@
 -- How the characters of strings are kept: each with the number of its string, and of each string where it stands.
-use Rattle.std.specs.Prelude.{ℕ, ◌<◌, pos, List, get_or, length}
+use Rattle.std.specs.Prelude.{◌<◌, pos, List, get_or, length}
 use Rattle.std.specs.List.{All}
 use Rattle.bx_text.specs.declared.node.Span.{Span}
 use Rattle.bx_text.specs.declared.letters.Letter.{Letter}

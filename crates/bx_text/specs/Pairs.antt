@@ -1,5 +1,5 @@
 -- A form that is a pair of a word and a term: where it ends, token by token, and that it is read as one.
-use Rattle.std.specs.Prelude.{◌≡◌, ℕ, Bool, true, false, List, Option, Some, None, Result, Ok, Err, bytes_eq}
+use Rattle.std.specs.Prelude.{◌≡◌, ℕ, Bool, false, List, Option, Some, None, Result, Ok, Err, bytes_eq}
 use Rattle.bx_terms.specs.Outcomes.{◌>>=◌}
 use Rattle.bx_terms.specs.declared.faults.Fault.{Fault}
 use Rattle.bx_text.specs.declared.node.Span.{Span}

@@ -1,5 +1,5 @@
 -- Terms that are passed over: where they end, or their first fault.
-use Rattle.std.specs.Prelude.{ℕ, if◌then◌else◌, Result, Ok}
+use Rattle.std.specs.Prelude.{if◌then◌else◌, Result, Ok}
 use Rattle.bx_terms.specs.Outcomes.{◌>>=◌}
 use Rattle.bx_terms.specs.declared.faults.Fault.{Fault}
 use Rattle.bx_text.specs.Place.{Place}

@@ -1,10 +1,10 @@
-use Rattle.std.proofs.Common.{◌≡◌, suc, ◌+◌, ◌-◌, true, false, length, Ok, sym, ap, ◌∙◌, subst, arith}
+use Rattle.std.proofs.Common.{◌≡◌, suc, ◌+◌, ◌-◌, true, false, length, sym, ap, ◌∙◌, subst, arith}
 use Rattle.bx_text.specs.declared.lexemes.Lexeme.{Lexeme as Held}
 use Rattle.bx_text.specs.declared.node.Sort.TheVariants as sort
 use Rattle.bx_text.specs.Place.{place}
 use Rattle.bx_text.specs.Token.{Lexeme, lexeme_of, token_of}
 use Rattle.bx_text.specs.Grammar.{IsKept}
-use Rattle.bx_text.specs.Terms.{Follow, next, closes_tuple, passed, pair_at, parts_at, strings_at, term_at, group_at}
+use Rattle.bx_text.specs.Terms.{Follow, closes_tuple, passed, pair_at, parts_at, strings_at, term_at, group_at}
 use Rattle.bx_text.specs.Passing.{element_passed, tuple_passed, list_passed}
 use Rattle.bx_text.proofs.Outcomes.{gives_same}
 use Rattle.bx_text.proofs.Rows.{part_last, part_next}

@@ -1,10 +1,10 @@
-use Rattle.std.proofs.Common.{◌≡◌, ◌∷◌, ◌++◌, [], length, map, pos, sym, ap, ◌∙◌, refl, arith}
+use Rattle.std.proofs.Common.{◌≡◌, ◌++◌, length, map, pos, sym, ap, ◌∙◌}
 use Rattle.std.specs.Str.{chars}
 use Rattle.std.proofs.lemmas.Iterator.{YieldsList-from_chars}
 use Rattle.std.proofs.lemmas.Iterator.Consumers.{YieldsList-end}
 use Rattle.bx_text.specs.Tree.{integer}
 use Rattle.bx_text.proofs.Escaping.{same_map}
-use Rattle.bx_text.proofs.Lettered.{letter_of, letters_added, are_added}
+use Rattle.bx_text.proofs.Lettered.{letters_added, are_added}
 use Rattle.bx_text.proofs.letters.Letters.add.Goals as goal
 
 pub invariant_of-self-in-None : goal.invariant_of-self-in-None

@@ -1,4 +1,4 @@
-use Rattle.std.proofs.Common.{◌≡◌, ◌∷◌, ◌++◌, [], length, map}
+use Rattle.std.proofs.Common.{◌≡◌, ◌++◌, map}
 use Rattle.bx_text.proofs.Lettered.{letter_of}
 use Rattle.bx_text.proofs.letters.Letters.add.Given as goal
 
