@@ -12,7 +12,7 @@ const CARRIERS: [(&str, &str); 3] = [
 ];
 
 /// Instructions that read a term in a register, whose text is left out between the two.
-const READERS: [(&str, &str); 29] = [
+const READERS: [(&str, &str); 40] = [
     ("{bif,hd,{f,2},[", "],{x,0}}."),
     ("{bif,element,{f,2},[", ",{literal,{a}}],{x,0}}."),
     ("{bif,element,{f,2},[{integer,1},", "],{x,0}}."),
@@ -22,10 +22,21 @@ const READERS: [(&str, &str); 29] = [
     ("{test,is_lt,{f,2},[", ",{integer,1}]}."),
     ("{test,is_ge,{f,2},[{integer,1},", "]}."),
     ("{test,is_eq,{f,2},[{integer,1},", "]}."),
+    ("{test,is_ne,{f,2},[", ",nil]}."),
+    ("{test,is_eq_exact,{f,2},[{integer,1},", "]}."),
     ("{test,is_ne_exact,{f,2},[", ",nil]}."),
     ("{test,is_integer,{f,2},[", "]}."),
     ("{test,is_float,{f,2},[", "]}."),
+    ("{test,is_number,{f,2},[", "]}."),
+    ("{test,is_atom,{f,2},[", "]}."),
+    ("{test,is_pid,{f,2},[", "]}."),
+    ("{test,is_reference,{f,2},[", "]}."),
+    ("{test,is_port,{f,2},[", "]}."),
     ("{test,is_nil,{f,2},[", "]}."),
+    ("{test,is_binary,{f,2},[", "]}."),
+    ("{test,is_list,{f,2},[", "]}."),
+    ("{test,is_nonempty_list,{f,2},[", "]}."),
+    ("{test,is_tuple,{f,2},[", "]}."),
     ("{test,is_boolean,{f,2},[", "]}."),
     ("{test,test_arity,{f,2},[", ",2]}."),
     ("{test,is_tagged_tuple,{f,2},[", ",2,{atom,a}]}."),

@@ -18,8 +18,12 @@ const SHOWS_ALL: &str =
 const SENDS_FOUR: &str =
     "{move,{x,0},{x,8}}. {move,{atom,a},{x,1}}. send. {move,{x,8},{x,0}}. {move,{atom,b},{x,1}}. send. {move,{x,8},{x,0}}. {move,{atom,c},{x,1}}. send. {move,{x,8},{x,0}}. {move,{atom,d},{x,1}}. send. return.";
 
+/// A link to the process in x0, its end, and a message, in seven runs. What ends without a link tells nobody.
+const LINKS_UNLINKS_AND_SENDS: &str =
+    "{move,{x,0},{x,8}}. {call_ext,1,{extfunc,erlang,link,1}}. {move,{x,8},{x,0}}. {call_ext,1,{extfunc,erlang,unlink,1}}. {move,{x,8},{x,0}}. {move,{atom,a},{x,1}}. send. return.";
+
 /// What process 0 does once it has spawned process 1 in four runs, the child, the choices and the report.
-const SIGNALS: [(&str, &str, &str, &str); 17] = [
+const SIGNALS: [(&str, &str, &str, &str); 19] = [
     (
         SENDS_FOUR,
         SHOWS_ALL,
@@ -121,6 +125,18 @@ const SIGNALS: [(&str, &str, &str, &str); 17] = [
         "if_end.",
         "r0*8 d0>1 r1 d0>1 d1>0",
         "applied 12\nstate open r0\nprocess <0.0.0> ready\nprocess <0.1.0> ended {if_clause,[]}\nend\n",
+    ),
+    (
+        LINKS_UNLINKS_AND_SENDS,
+        SHOWS,
+        "r0*4 r1*2 r0*7 d0>1 d0>1 d0>1 r1*2",
+        "applied 18\nstate open r0\nprocess <0.0.0> ready\nprocess <0.1.0> ended normal\noutput <0.1.0> a\nend\n",
+    ),
+    (
+        LINKS_UNLINKS_AND_SENDS,
+        TRAPS,
+        "r0*4 r1*5 r0*7 d0>1 d0>1 d0>1 r1*2",
+        "applied 21\nstate open r0\nprocess <0.0.0> ready\nprocess <0.1.0> ended normal\noutput <0.1.0> a\nend\n",
     ),
 ];
 
