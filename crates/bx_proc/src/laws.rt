@@ -14,7 +14,7 @@ ghost use Rattle.bx_proc.specs.declared.parts.Pending.{Pending};
 ghost use Rattle.bx_proc.specs.declared.parts.Status.TheVariants.{Ready, Ended};
 ghost use Rattle.bx_proc.specs.Process.{Process};
 ghost use Rattle.bx_proc.specs.Families.{parts_of, KeepsBut, MayBe, Mailed};
-ghost use Rattle.bx_proc.specs.Stepping.{attempted, settled, settled_with, takes_memory, unasked, resumed, ResumedTakes, SettlingTakes, Whole};
+ghost use Rattle.bx_proc.specs.Stepping.{attempted, settled, settled_with, takes_memory, stepped, answered, unasked, resumed, ResumedTakes, SettlingTakes, Whole};
 ghost use Rattle.bx_proc.specs.Telling.{Tells, Resumes, unfaulted};
 ghost use Rattle.bx_proc.specs.declared.stops.Why.TheVariants.{Asks, Ends};
 ghost use Rattle.bx_proc.specs.Table.{row, looks_at_faults};
@@ -78,10 +78,19 @@ pub fn a_pending_fault_is_looked_at_first()
         (p, effects.Trap NoTag) }
 {}
 
-/// A process that has ended, and one that was not answered yet, does not run: the trap `WrongShape`.
+/// A process that has ended, and one that was not answered yet, does not run: the trap `WrongShape`. One that asks for nothing
+/// is not answered, and so none that a run or an answer ended.
 pub fn nothing_runs_after_the_end_or_before_an_answer()
     ensures ended { (image : Loaded) (pid : ℕ) (reason : Tree) (p : Process) → p.status ≡ Ended
         reason → attempted image pid p ≡ (p, effects.Trap WrongShape) }
     ensures asked { (image : Loaded) (pid : ℕ) (native : Native) (p : Process) → p.asked ≡ Some
         native → attempted image pid p ≡ (p, effects.Trap WrongShape) }
+    ensures unasked { (image : Loaded) (answer : Answer) (p : Process) → p.asked ≡ None → answered
+        image answer p ≡ (p, effects.Trap WrongShape) }
+    ensures stepped { (image : Loaded) (pid : ℕ) (answer : Answer) (reason : Tree) (p q : Process) →
+        stepped image pid p ≡ (q, effects.Ended reason) → answered image answer q ≡ (q, effects.Trap
+        WrongShape) }
+    ensures answered { (image : Loaded) (answer more : Answer) (reason : Tree) (p q : Process) →
+        answered image answer p ≡ (q, effects.Ended reason) → answered image more q ≡ (q,
+        effects.Trap WrongShape) }
 {}
