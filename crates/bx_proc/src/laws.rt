@@ -13,7 +13,7 @@ ghost use Rattle.bx_proc.specs.declared.parts.Effect.TheVariants as effects;
 ghost use Rattle.bx_proc.specs.declared.parts.Pending.{Pending};
 ghost use Rattle.bx_proc.specs.declared.parts.Status.TheVariants.{Ready, Ended};
 ghost use Rattle.bx_proc.specs.Process.{Process};
-ghost use Rattle.bx_proc.specs.Families.{parts_of, KeepsBut, MayBe, Mailed};
+ghost use Rattle.bx_proc.specs.Families.{parts_of, KeepsBut, MayBe, mailed_by};
 ghost use Rattle.bx_proc.specs.Stepping.{attempted, settled, settled_with, takes_memory, stepped, answered, unasked, resumed, ResumedTakes, SettlingTakes, Whole};
 ghost use Rattle.bx_proc.specs.Telling.{Tells, Resumes, unfaulted};
 ghost use Rattle.bx_proc.specs.declared.stops.Why.TheVariants.{Asks, Ends};
@@ -28,11 +28,12 @@ pub fn an_instruction_changes_only_what_its_family_may()
         (effect : Effect) → row pid image here i p ≡ Ok (q, effect) → MayBe (parts_of i.op) effect }
 {}
 
-/// An instruction leaves the mailbox as it was; or it passes over the current message, takes it, or passes over none any
-/// more.
+/// `remove_message` takes the current message, `loop_rec_end` passes it over, and behind `timeout` none is passed over any
+/// more. Every other instruction leaves the mailbox as it was.
 pub fn a_mailbox_is_left_passed_over_taken_from_or_reset()
     ensures { (pid : ℕ) (image : Loaded) (here : Place) (i : Item) (p q : Process)
-        (effect : Effect) → row pid image here i p ≡ Ok (q, effect) → Mailed p.mailbox q.mailbox }
+        (effect : Effect) → row pid image here i p ≡ Ok (q, effect) → q.mailbox ≡
+        mailed_by i.op p.mailbox }
 {}
 
 /// A run of one instruction that concerns nobody else does not end its process and keeps its links. Any other run, and a
