@@ -89,9 +89,14 @@ pub fn nothing_runs_after_the_end_or_before_an_answer()
     ensures unasked { (image : Loaded) (answer : Answer) (p : Process) → p.asked ≡ None → answered
         image answer p ≡ (p, effects.Trap WrongShape) }
     ensures stepped { (image : Loaded) (pid : ℕ) (answer : Answer) (reason : Tree) (p q : Process) →
-        stepped image pid p ≡ (q, effects.Ended reason) → answered image answer q ≡ (q, effects.Trap
-        WrongShape) }
+        stepped image pid p ≡ (q, effects.Ended reason) → answered image answer q ≡ (
+          q,
+          effects.Trap
+              WrongShape,
+        ) }
     ensures answered { (image : Loaded) (answer more : Answer) (reason : Tree) (p q : Process) →
-        answered image answer p ≡ (q, effects.Ended reason) → answered image more q ≡ (q,
-        effects.Trap WrongShape) }
+        answered image answer p ≡ (q, effects.Ended reason) → answered image more q ≡ (
+          q,
+          effects.Trap WrongShape,
+        ) }
 {}
