@@ -10,3 +10,4 @@ pub mod Kinds
 pub mod Parts
 pub mod Guards
 pub mod Values
+pub mod Passing

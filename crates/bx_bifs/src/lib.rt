@@ -10,6 +10,7 @@ pub mod laws;
 mod native_names;
 mod natives;
 mod parts;
+mod passing;
 mod shifts;
 mod values;
 
@@ -20,4 +21,5 @@ pub use kinds::{is_atom, is_integer, is_list, is_pid, is_the_atom, is_tuple, tru
 pub use native_names::native;
 pub use natives::Native;
 pub use parts::{element, element_from_zero, head, length, size, tail};
+pub use passing::Passed;
 pub use values::{elements, native_value};

@@ -7,11 +7,13 @@ ghost use Rattle.bx_terms.specs.Built.{IsWithinHeight};
 ghost use Rattle.bx_terms.specs.Tree.{tuple, listed, height};
 ghost use Rattle.bx_bifs.specs.Given.{TakesMemory};
 ghost use Rattle.bx_bifs.specs.Parts.{length_of};
+ghost use Rattle.bx_bifs.specs.Passing.{passed};
 ghost use Rattle.bx_bifs.specs.Values.{elements as elements_of, ahead, appended, tupled, untupled, put_at, with_element, native_value};
 
 use crate::given::{Given, badarg, undef};
 use crate::natives::Native;
 use crate::parts::length;
+use crate::passing::Passed;
 use bx_terms::{MAX_HEIGHT, Term, Trap, View};
 use std::alloc::{AllocError, Global};
 
@@ -21,15 +23,21 @@ use std::alloc::{AllocError, Global};
 ///
 /// It can only run out of memory, and only where the value is a tuple or a list cell.
 #[tactic(auto, unfolding(crate::specs::Values::native_value))]
-pub fn native_value(alloc: Global, native: Native, arguments: &[Term]) -> Result<Given, AllocError>
-    ensures { MatchResult result (λ given. given ≡ native_value native arguments.now)
-        (λ _. TakesMemory (native_value native arguments.now)) }
+pub fn native_value(
+    alloc: Global,
+    native: Native,
+    arguments: Passed<'_>,
+) -> Result<Given, AllocError>
+    ensures { MatchResult result (λ given. given ≡ native_value native (passed arguments.entry))
+        (λ _. TakesMemory (native_value native (passed arguments.entry))) }
 {
     match (native, arguments) {
-        (Native::Append, [list, rest]) => append(alloc, list, rest),
-        (Native::SetElement, [place, tuple, new]) => set_element(alloc, place, tuple, new),
-        (Native::ListToTuple, [list]) => list_to_tuple(alloc, list),
-        (Native::TupleToList, [tuple]) => tuple_to_list(alloc, tuple),
+        (Native::Append, Passed::Two(list, rest)) => append(alloc, list, rest),
+        (Native::SetElement, Passed::Three(place, tuple, new)) => {
+            set_element(alloc, place, tuple, new)
+        }
+        (Native::ListToTuple, Passed::One(list)) => list_to_tuple(alloc, list),
+        (Native::TupleToList, Passed::One(tuple)) => tuple_to_list(alloc, tuple),
         _ => Ok(undef()),
     }
 }

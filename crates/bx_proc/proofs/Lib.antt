@@ -19,6 +19,7 @@ pub mod Registers
 pub mod Resuming
 pub mod Sent
 pub mod Told
+pub mod Unasked
 pub mod Unsent
 pub mod Woken
 pub mod Writing

@@ -9,7 +9,6 @@ pub mod Faults
 pub mod Looking
 pub mod Moving
 pub mod Tuples
-pub mod Passing
 pub mod Process
 pub mod Reading
 pub mod Receiving

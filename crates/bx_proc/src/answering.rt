@@ -10,8 +10,9 @@ ghost use Rattle.bx_ops.specs.declared.sorts.Sort.TheVariants.{Arity, Callee};
 ghost use Rattle.bx_asm.specs.Meaning.{taken};
 ghost use Rattle.bx_proc.specs.declared.parts.Answer.TheVariants as answers;
 ghost use Rattle.bx_proc.specs.Asking.{finished_with};
+ghost use Rattle.bx_proc.specs.Calls.{leads_to, GoesOn};
 ghost use Rattle.bx_proc.specs.Runs.{Runs};
-ghost use Rattle.bx_proc.specs.Stepping.{asked_at, called_by, called_in, given_to, settling, settled, settled_with, SettlingTakes, SettlingWithTakes, NotingTakes, GivenTakes, noting, leads_to, leads_on, unasked, rested, asking_still, resumed, ResumedTakes};
+ghost use Rattle.bx_proc.specs.Stepping.{asked_at, called_by, called_in, given_to, settling, settled, settled_with, SettlingTakes, SettlingWithTakes, NotingTakes, GivenTakes, noting, unasked, rested, asking_still, resumed, ResumedTakes};
 ghost use Rattle.bx_proc.specs.Telling.{Resumes, Settles};
 
 use crate::operands::import_of;
@@ -159,7 +160,7 @@ impl Proc {
         kind: CallKind,
         answer: &Answer,
     ) -> Result<(), Stop>
-        ensures { Runs (GivenTakes kind answer.now self.old) self.old self.new result
+        ensures { Runs (GivenTakes (after image.now here) kind answer.now self.old) self.old self.new result
             (given_to (after image.now here) kind answer.now self.old) }
     {
         match answer {
@@ -167,10 +168,14 @@ impl Proc {
                 let Some(_) = self.x.get(0) else {
                     return Err(Stop::trapped(Trap::Unset));
                 };
+                let Some(_) = self.leads_to(image, here, kind)? else {
+                    return self.end(Term::atom(fixed::NORMAL));
+                };
                 let value = value.copy(alloc)?;
                 self.finish_with(image, here, kind, value)
             }
             Answer::Fault(class, value) => {
+                self.may_raise(kind, *class, value)?;
                 let value = value.copy(alloc)?;
                 self.raise_by(alloc, kind, *class, value)
             }
@@ -223,7 +228,7 @@ impl Proc {
         message: Term,
     ) -> Result<(), Stop>
         requires held { is_some (finite.get self.old.x 0) ≡ true }
-        requires goes_on { leads_on (leads_to kind (after image.now here) self.old) ≡ true }
+        requires goes_on { GoesOn kind (after image.now here) self.old }
         ensures { Runs (Unit {0}) self.old self.new result
             (noting message (finished_with (after image.now here) kind value self.old)) }
     {

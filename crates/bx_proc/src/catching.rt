@@ -20,7 +20,7 @@ use crate::operands::{atom_of, label_of, y_of};
 use crate::process::Proc;
 use crate::reading::Seen;
 use crate::stops::Stop;
-use bx_asm::{Lookup, Mismatch, Operand, Register, Source};
+use bx_asm::{CallKind, Lookup, Mismatch, Operand, Register, Source};
 use bx_cells::Value;
 use bx_load::Image;
 use bx_terms::{AtomId, Class, MAX_HEIGHT, Place, Term, Trap, fixed};
@@ -149,9 +149,9 @@ impl Proc {
         let Some(fault) = &self.fault else {
             return Err(Stop::trapped(Trap::NoPending));
         };
+        self.tag_of(number)?;
         let class = fault.class;
         let value = Value::Term(fault.value.copy(alloc)?);
-        self.tag_of(number)?;
         let name = Value::Term(Term::atom(class_atom(class)));
         if let Err(_) = self.x.set_three(name, value, Value::Trace(class)) {
             return Err(Stop::memory());
@@ -191,7 +191,11 @@ impl Proc {
             return Err(Stop::trapped(Trap::BadPlace));
         };
         let class = self.trace(tables.source(*trace))?;
-        let value = self.term_by(alloc, tables, *value)?;
+        let value = {
+            let seen = self.seen(tables.source(*value))?;
+            self.may_raise(CallKind::Plain, class, seen.term())?;
+            seen.kept(alloc)?
+        };
         self.raise(alloc, class, value)
     }
 

@@ -1,9 +1,10 @@
 //! What becomes of a fault, and the end of a process.
 
-ghost use Rattle.std.specs.Prelude.{◌≡◌};
+ghost use Rattle.std.specs.Prelude.{◌≡◌, ◌↔◌, IsTrue, IsOk, MatchResult, is_some};
+ghost use Rattle.bx_cells.specs.Stack.{unwound};
 ghost use Rattle.bx_terms.specs.Built.{IsWithinHeight};
-ghost use Rattle.bx_proc.specs.Faults.{reasoned, pair, within_height, raised, caught_at};
-ghost use Rattle.bx_proc.specs.Calls.{raised_by};
+ghost use Rattle.bx_proc.specs.Faults.{reason, reasoned, pair, within_height, raised, caught_at};
+ghost use Rattle.bx_proc.specs.Calls.{raised_by, frames_left};
 ghost use Rattle.bx_proc.specs.Ending.{ended};
 ghost use Rattle.bx_proc.specs.Runs.{RunsBy};
 ghost use Rattle.bx_proc.specs.Stops.{Reads};
@@ -71,6 +72,31 @@ impl Proc {
         Ok(())
     }
 
+    /// Whether such a fault can be raised: a last call has a frame of its size to give back, and the reason of an end is not
+    /// too high.
+    #[cold]
+    #[inline(never)]
+    pub(crate) fn may_raise(&self, kind: CallKind, class: Class, value: &Term) -> Result<(), Trap>
+        ensures { MatchResult result (λ done. IsOk (raised_by kind class value.now self.now).said)
+            (λ trap. (raised_by kind class value.now self.now).said ≡ Err trap) }
+    {
+        self.may_prepare(kind)?;
+        if is_low(class, value) || self.is_caught(kind) {
+            return Ok(());
+        }
+        Err(Trap::TermHeight)
+    }
+
+    /// Whether such a fault is caught.
+    fn is_caught(&self, kind: CallKind) -> bool
+        ensures { result ≡ is_some (unwound (frames_left kind self.now.frames)) }
+    {
+        match kind {
+            CallKind::Last(_) => self.frames.handler_below().is_some(),
+            _ => self.frames.handler().is_some(),
+        }
+    }
+
     /// The frames above go, and the fault waits to be looked at.
     fn catch_at(&mut self, above: usize, place: Place, class: Class, value: Term)
         ensures { self.new ≡ caught_at above place class value self.old }
@@ -78,6 +104,18 @@ impl Proc {
         self.frames.cut(above);
         self.place = Some(place);
         self.fault = Some(Pending { class, value });
+    }
+}
+
+/// Whether the reason with which a process ends that did not catch a fault is no higher than 10,000.
+fn is_low(class: Class, value: &Term) -> bool
+    ensures { IsTrue result ↔ IsWithinHeight (reason class value.now) }
+{
+    let height = value.height();
+    match class {
+        Class::Exit => true,
+        Class::Error => height < MAX_HEIGHT,
+        Class::Throw => height <= MAX_HEIGHT - 2,
     }
 }
 

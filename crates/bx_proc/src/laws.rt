@@ -13,8 +13,8 @@ ghost use Rattle.bx_proc.specs.declared.parts.Effect.TheVariants as effects;
 ghost use Rattle.bx_proc.specs.declared.parts.Pending.{Pending};
 ghost use Rattle.bx_proc.specs.declared.parts.Status.TheVariants.{Ready, Ended};
 ghost use Rattle.bx_proc.specs.Process.{Process};
-ghost use Rattle.bx_proc.specs.Families.{parts_of, KeepsBut, MayBe, Mailed};
-ghost use Rattle.bx_proc.specs.Stepping.{attempted, settled, settled_with, takes_memory, unasked, resumed, ResumedTakes, SettlingTakes, Whole};
+ghost use Rattle.bx_proc.specs.Families.{parts_of, KeepsBut, MayBe, mailed_by};
+ghost use Rattle.bx_proc.specs.Stepping.{attempted, settled, settled_with, takes_memory, stepped, answered, unasked, resumed, ResumedTakes, SettlingTakes, Whole};
 ghost use Rattle.bx_proc.specs.Telling.{Tells, Resumes, unfaulted};
 ghost use Rattle.bx_proc.specs.declared.stops.Why.TheVariants.{Asks, Ends};
 ghost use Rattle.bx_proc.specs.Table.{row, looks_at_faults};
@@ -28,11 +28,12 @@ pub fn an_instruction_changes_only_what_its_family_may()
         (effect : Effect) → row pid image here i p ≡ Ok (q, effect) → MayBe (parts_of i.op) effect }
 {}
 
-/// An instruction leaves the mailbox as it was; or it passes over the current message, takes it, or passes over none any
-/// more.
+/// `remove_message` takes the current message, `loop_rec_end` passes it over, and behind `timeout` none is passed over any
+/// more. Every other instruction leaves the mailbox as it was.
 pub fn a_mailbox_is_left_passed_over_taken_from_or_reset()
     ensures { (pid : ℕ) (image : Loaded) (here : Place) (i : Item) (p q : Process)
-        (effect : Effect) → row pid image here i p ≡ Ok (q, effect) → Mailed p.mailbox q.mailbox }
+        (effect : Effect) → row pid image here i p ≡ Ok (q, effect) → q.mailbox ≡
+        mailed_by i.op p.mailbox }
 {}
 
 /// A run of one instruction that concerns nobody else does not end its process and keeps its links. Any other run, and a
@@ -78,10 +79,24 @@ pub fn a_pending_fault_is_looked_at_first()
         (p, effects.Trap NoTag) }
 {}
 
-/// A process that has ended, and one that was not answered yet, does not run: the trap `WrongShape`.
+/// A process that has ended, and one that was not answered yet, does not run: the trap `WrongShape`. One that asks for nothing
+/// is not answered, and so none that a run or an answer ended.
 pub fn nothing_runs_after_the_end_or_before_an_answer()
     ensures ended { (image : Loaded) (pid : ℕ) (reason : Tree) (p : Process) → p.status ≡ Ended
         reason → attempted image pid p ≡ (p, effects.Trap WrongShape) }
     ensures asked { (image : Loaded) (pid : ℕ) (native : Native) (p : Process) → p.asked ≡ Some
         native → attempted image pid p ≡ (p, effects.Trap WrongShape) }
+    ensures unasked { (image : Loaded) (answer : Answer) (p : Process) → p.asked ≡ None → answered
+        image answer p ≡ (p, effects.Trap WrongShape) }
+    ensures stepped { (image : Loaded) (pid : ℕ) (answer : Answer) (reason : Tree) (p q : Process) →
+        stepped image pid p ≡ (q, effects.Ended reason) → answered image answer q ≡ (
+          q,
+          effects.Trap
+              WrongShape,
+        ) }
+    ensures answered { (image : Loaded) (answer more : Answer) (reason : Tree) (p q : Process) →
+        answered image answer p ≡ (q, effects.Ended reason) → answered image more q ≡ (
+          q,
+          effects.Trap WrongShape,
+        ) }
 {}

@@ -4,7 +4,7 @@ use crate::reports::right_ends;
 use std::test::Fail;
 
 /// Items, how many runs, and the reason with which the last of them ends the process.
-const ROWS: [(&str, u32, &str); 13] = [
+const ROWS: [(&str, u32, &str); 15] = [
     ("return.", 1, "normal"),
     ("{allocate,0,0}. {deallocate,0}. return.", 3, "normal"),
     (
@@ -40,6 +40,16 @@ const ROWS: [(&str, u32, &str); 13] = [
     (
         "{allocate_heap,1,{alloc,[{words,2}]},0}. {deallocate,1}. return.",
         3,
+        "normal",
+    ),
+    (
+        "{allocate,1,0}. {move,{literal,{a}},{x,0}}. {call_ext_last,1,{extfunc,erlang,exit,1},1}.",
+        3,
+        "{a}",
+    ),
+    (
+        "{allocate,1,0}. {move,{literal,[a]},{x,0}}. {move,{literal,[b]},{x,1}}. {call_ext_last,2,{extfunc,erlang,'++',2},1}.",
+        4,
         "normal",
     ),
     (

@@ -73,7 +73,7 @@ const CALLED: [Row; 5] = [
 ];
 
 /// Faults whose reason is built where nothing catches them, or where they are caught.
-const FAULTS: [Row; 11] = [
+const FAULTS: [Row; 15] = [
     (
         "",
         10_000,
@@ -87,6 +87,34 @@ const FAULTS: [Row; 11] = [
         " {call_ext,1,{extfunc,erlang,throw,1}}.",
         2,
         true,
+    ),
+    (
+        "{allocate,1,0}. ",
+        10_000,
+        " {call_ext_last,1,{extfunc,erlang,error,1},1}.",
+        3,
+        true,
+    ),
+    (
+        "{allocate,1,0}. {'try',{y,0},{f,3}}. ",
+        10_000,
+        " {call_ext_last,1,{extfunc,erlang,error,1},1}. {label,3}. {try_case,{y,0}}.",
+        4,
+        true,
+    ),
+    (
+        "{allocate,1,0}. {'try',{y,0},{f,3}}. ",
+        10_000,
+        " {call,1,{f,4}}. {label,3}. {try_case,{y,0}}. {move,{atom,normal},{x,0}}. {call_ext_only,1,{extfunc,erlang,exit,1}}. {label,4}. {allocate,0,0}. {call_ext_last,1,{extfunc,erlang,error,1},0}.",
+        9,
+        false,
+    ),
+    (
+        "{allocate,2,0}. {'try',{y,0},{f,3}}. if_end. {label,3}. {try_case,{y,0}}. {move,{x,2},{y,0}}. {'try',{y,1},{f,4}}. ",
+        10_000,
+        " {raise,{f,0},[{y,0},{x,0}],{x,0}}. {label,4}. {try_case,{y,1}}. return.",
+        10,
+        false,
     ),
     (
         "{allocate,1,0}. {'catch',{y,0},{f,3}}. ",

@@ -23,7 +23,7 @@ enum Turn {
 use Turn::{Exit, Step, Value};
 
 /// Items, and what is done with a process that begins at them, with what is told of each.
-const TURNS: [(&str, &[(Turn, &str)]); 5] = [
+const TURNS: [(&str, &[(Turn, &str)]); 6] = [
     (
         "{move,{integer,5},{x,0}}. {call_ext,1,{extfunc,erlang,link,1}}. {call_ext_only,1,{extfunc,erlang,exit,1}}.",
         &[
@@ -57,6 +57,18 @@ const TURNS: [(&str, &[(Turn, &str)]); 5] = [
             (Step, "ran"),
             (Step, "asks for Display 5"),
             (Exit(3), "ended 3"),
+            (Value(9), "trap WrongShape"),
+            (Exit(9), "trap WrongShape"),
+            (Step, "trap WrongShape"),
+        ],
+    ),
+    (
+        "{move,{integer,5},{x,0}}. {call_ext,1,{extfunc,erlang,display,1}}. return.",
+        &[
+            (Step, "ran"),
+            (Step, "asks for Display 5"),
+            (Exit(3), "ended 3"),
+            (Value(9), "trap WrongShape"),
             (Step, "trap WrongShape"),
         ],
     ),
@@ -66,6 +78,8 @@ const TURNS: [(&str, &[(Turn, &str)]); 5] = [
             (Step, "ran"),
             (Step, "asks for Display 5"),
             (Value(3), "ended normal"),
+            (Value(3), "trap WrongShape"),
+            (Step, "trap WrongShape"),
         ],
     ),
     (
@@ -75,6 +89,7 @@ const TURNS: [(&str, &[(Turn, &str)]); 5] = [
             (Step, "ran"),
             (Step, "sends 4 to 7"),
             (Step, "ended 4"),
+            (Value(4), "trap WrongShape"),
         ],
     ),
 ];

@@ -36,7 +36,7 @@ const TAGS: [(&str, u32, &str); 12] = [
 ];
 
 /// The same while a fault is pending.
-const TAGS_OF_A_FAULT: [(&str, u32, &str); 8] = [
+const TAGS_OF_A_FAULT: [(&str, u32, &str); 9] = [
     (
         "{allocate,1,0}. {'try',{y,0},{f,3}}. if_end. {label,3}. {try_case,{y,1}}.",
         4,
@@ -44,6 +44,11 @@ const TAGS_OF_A_FAULT: [(&str, u32, &str); 8] = [
     ),
     (
         "{allocate,2,0}. {'try',{y,0},{f,3}}. if_end. {label,3}. {try_case,{y,1}}.",
+        4,
+        "NoTag",
+    ),
+    (
+        "{allocate,2,0}. {'try',{y,0},{f,3}}. {badmatch,{integer,5}}. {label,3}. {try_case,{y,1}}.",
         4,
         "NoTag",
     ),

@@ -5,7 +5,7 @@ use std::alloc::Global;
 use std::test::Fail;
 
 /// Items, how many runs, and the trap that the last of them is.
-const RUNS: [(&str, u32, &str); 41] = [
+const RUNS: [(&str, u32, &str); 50] = [
     ("", 1, "BadPlace"),
     ("int_code_end.", 1, "BadPlace"),
     ("{jump,{f,3}}. {label,3}.", 2, "BadPlace"),
@@ -63,6 +63,47 @@ const RUNS: [(&str, u32, &str); 41] = [
         4,
         "FrameSize",
     ),
+    (
+        "{move,{literal,[a]},{x,0}}. {move,{literal,[b]},{x,1}}. {call_ext_last,2,{extfunc,erlang,'++',2},0}.",
+        3,
+        "NoFrame",
+    ),
+    (
+        "{allocate,1,0}. {move,{literal,[a]},{x,0}}. {move,{literal,[b]},{x,1}}. {call_ext_last,2,{extfunc,erlang,'++',2},0}.",
+        4,
+        "FrameSize",
+    ),
+    (
+        "{allocate,1,0}. {move,{atom,a},{x,0}}. {move,{literal,[b]},{x,1}}. {call_ext_last,2,{extfunc,erlang,'++',2},0}.",
+        4,
+        "FrameSize",
+    ),
+    (
+        "{allocate,1,0}. {move,{literal,[{a}]},{x,0}}. {call_ext_last,1,{extfunc,erlang,hd,1},0}.",
+        3,
+        "FrameSize",
+    ),
+    (
+        "{move,{literal,{a}},{x,0}}. {call_ext_last,1,{extfunc,erlang,exit,1},0}.",
+        2,
+        "NoFrame",
+    ),
+    (
+        "{allocate,1,0}. {move,{literal,{a}},{x,0}}. {call_ext_last,1,{extfunc,erlang,exit,1},0}.",
+        3,
+        "FrameSize",
+    ),
+    (
+        "{allocate,1,0}. {move,{literal,{a}},{x,0}}. {call_ext_last,1,{extfunc,erlang,throw,1},2}.",
+        3,
+        "FrameSize",
+    ),
+    (
+        "{allocate,1,0}. {move,{literal,{a}},{x,0}}. {call_ext_last,1,{extfunc,erlang,error,1},0}.",
+        3,
+        "FrameSize",
+    ),
+    ("{allocate,1023,0}. {move,{y,1022},{x,0}}.", 2, "Unset"),
     ("remove_message.", 1, "NoMessage"),
     ("{label,3}. {loop_rec_end,{f,3}}.", 1, "NoMessage"),
     (

@@ -1,7 +1,7 @@
 //! The plain meaning of instructions and of built-in functions, told by the reason with which `exit` ends the process.
 
 use crate::reports::{ended, report_of};
-use std::alloc::Global;
+use std::alloc::{AllocError, Global};
 use std::test::Fail;
 
 /// The report of a process that runs these items and then ends with what x0 holds.
@@ -23,7 +23,7 @@ fn right_values(alloc: Global, rows: &[(&str, u32, &str)]) -> Result<usize, Fail
 }
 
 /// Items, how many runs with the one that ends the process, and what x0 then holds.
-const INSTRUCTIONS: [(&str, u32, &str); 23] = [
+const INSTRUCTIONS: [(&str, u32, &str); 26] = [
     ("{move,{integer,5},{x,0}}.", 2, "5"),
     ("{move,{literal,{a,[1|b]}},{x,0}}.", 2, "{a,[1|b]}"),
     ("{move,nil,{x,0}}.", 2, "[]"),
@@ -38,6 +38,21 @@ const INSTRUCTIONS: [(&str, u32, &str); 23] = [
         "a",
     ),
     ("{move,{atom,a},{x,0}}. {swap,{x,0},{x,0}}.", 3, "a"),
+    (
+        "{allocate,1023,0}. {move,{integer,5},{y,1022}}. {move,{y,1022},{x,0}}.",
+        4,
+        "5",
+    ),
+    (
+        "{move,{literal,[a|b]},{x,0}}. {get_list,{x,0},{x,1022},{x,1021}}. {swap,{x,1022},{x,1021}}. {move,{x,1022},{x,0}}.",
+        5,
+        "b",
+    ),
+    (
+        "{move,{literal,[a|b]},{x,0}}. {get_list,{x,0},{x,1022},{x,1021}}. {swap,{x,1022},{x,1021}}. {move,{x,1021},{x,0}}.",
+        5,
+        "a",
+    ),
     ("{put_list,{integer,1},nil,{x,0}}.", 2, "[1]"),
     ("{put_list,{integer,1},{integer,2},{x,0}}.", 2, "[1|2]"),
     ("{put_tuple2,{x,0},{list,[]}}.", 2, "{}"),
@@ -107,6 +122,51 @@ fn instructions_that_build_and_move(rt: HostRuntime) -> Result<(), Fail> {
         right_values(rt.alloc(), &INSTRUCTIONS)?,
         INSTRUCTIONS.len()
     );
+    Ok(())
+}
+
+/// A tuple of the integers from 0 to 299 in x1, and then these items.
+fn with_a_long_tuple(alloc: Global, behind: &str) -> Result<String, AllocError> {
+    let mut items = String::from_str(alloc, "{put_tuple2,{x,1},{list,[{integer,0}")?;
+    for number in 1..300 {
+        let element = format!(in alloc; ",{{integer,{number}}}")?;
+        items.push_str(element.as_str())?;
+    }
+    items.push_str("]}}. ")?;
+    items.push_str(behind)?;
+    Ok(items)
+}
+
+/// Items behind that tuple, how many runs in all, and what x0 then holds.
+const BEHIND_A_LONG_TUPLE: [(&str, u32, &str); 5] = [
+    ("{bif,tuple_size,{f,0},[{x,1}],{x,0}}.", 3, "300"),
+    ("{get_tuple_element,{x,1},299,{x,0}}.", 3, "299"),
+    (
+        "{move,{integer,300},{x,0}}. {move,{atom,z},{x,2}}. {call_ext,3,{extfunc,erlang,setelement,3}}. {get_tuple_element,{x,0},299,{x,0}}.",
+        6,
+        "z",
+    ),
+    (
+        "{move,{integer,300},{x,0}}. {move,{atom,z},{x,2}}. {call_ext,3,{extfunc,erlang,setelement,3}}. {get_tuple_element,{x,0},298,{x,0}}.",
+        6,
+        "298",
+    ),
+    (
+        "{move,{integer,300},{x,0}}. {move,{atom,z},{x,2}}. {call_ext,3,{extfunc,erlang,setelement,3}}. {get_tuple_element,{x,1},299,{x,0}}.",
+        6,
+        "299",
+    ),
+];
+
+#[test]
+fn long_tuples(rt: HostRuntime) -> Result<(), Fail> {
+    for (behind, runs, value) in BEHIND_A_LONG_TUPLE.iter() {
+        let items = with_a_long_tuple(rt.alloc(), behind)?;
+        assert_eq!(rt;
+            right_values(rt.alloc(), &[(items.as_str(), *runs, value)])?,
+            1
+        );
+    }
     Ok(())
 }
 
@@ -191,7 +251,7 @@ fn comparisons_and_parts(rt: HostRuntime) -> Result<(), Fail> {
 }
 
 /// The same, of calls by name.
-const CALLS: [(&str, u32, &str); 16] = [
+const CALLS: [(&str, u32, &str); 17] = [
     (
         "{move,{literal,[1,2]},{x,0}}. {move,{literal,[3]},{x,1}}. {call_ext,2,{extfunc,erlang,'++',2}}.",
         4,
@@ -201,6 +261,11 @@ const CALLS: [(&str, u32, &str); 16] = [
         "{move,{literal,[1,2]},{x,0}}. {move,{integer,3},{x,1}}. {call_ext,2,{extfunc,erlang,'++',2}}.",
         4,
         "[1,2|3]",
+    ),
+    (
+        "{allocate,0,0}. {move,{literal,[1,2]},{x,0}}. {move,{literal,[3]},{x,1}}. {call,2,{f,3}}. {call_ext_only,1,{extfunc,erlang,exit,1}}. {label,3}. {allocate,0,0}. {call_ext_last,2,{extfunc,erlang,'++',2},0}.",
+        7,
+        "[1,2,3]",
     ),
     (
         "{move,nil,{x,0}}. {move,{atom,a},{x,1}}. {call_ext,2,{extfunc,erlang,'++',2}}.",
