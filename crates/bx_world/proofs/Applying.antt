@@ -1,10 +1,12 @@
--- A choice is made exactly where it is enabled, and what it makes is what the world becomes.
-use Rattle.std.proofs.Common.{◌≡◌, ◌≢◌, ℕ, zero, suc, List, [], ◌∷◌, ◌++◌, Option, Some, None, Result, Ok, Err, Bool, true, false, length, refl, sym, ap, subst, ◌∙◌}
-use Rattle.std.specs.Prelude.{IsTrue, IsSome, ◌&&◌, if◌then◌else◌, is_some, is_none, slice_get}
-use Rattle.bx_terms.specs.Outcomes.{Does}
+-- What a choice makes of processes and lanes is its change, applied; and it makes something exactly where it is enabled.
+use Rattle.std.proofs.Common.{◌≡◌, ℕ, zero, suc, List, [], ◌∷◌, ◌++◌, Option, Some, None, Result, Ok, Err, Bool, true, false, length, refl, sym, ap, subst, ◌∙◌}
+use Rattle.std.specs.Prelude.{IsTrue, ◌&&◌, if◌then◌else◌, is_some, is_none, slice_get, slice_set}
+use Rattle.std.proofs.Math.ListN.{set}
+use Rattle.std.proofs.lemmas.List.{set-get_or}
+use Rattle.std.proofs.lemmas.Option.{get_or_from_slice_get}
 use Rattle.bx_terms.specs.Tree.{Tree, pid}
 use Rattle.bx_terms.specs.declared.faults.Fault.{Fault}
-use Rattle.bx_terms.specs.declared.faults.Fault.TheVariants.{NotEnabled, Halted, Memory}
+use Rattle.bx_terms.specs.declared.faults.Fault.TheVariants.{NotEnabled, Halted}
 use Rattle.bx_terms.specs.declared.kinds.Trap.{Trap}
 use Rattle.bx_load.specs.Image.{Loaded}
 use Rattle.bx_signals.specs.Waiting.{first}
@@ -13,185 +15,245 @@ use Rattle.bx_signals.specs.declared.signal.Signal.{Signal}
 use Rattle.bx_signals.specs.declared.signal.Signal.TheVariants as signals
 use Rattle.bx_proc.specs.Process.{Process, can_run, can_expire}
 use Rattle.bx_proc.specs.Signals.{expired}
+use Rattle.bx_proc.specs.Stepping.{settled}
 use Rattle.bx_proc.specs.declared.parts.Answer.{Answer}
-use Rattle.bx_proc.specs.declared.parts.Answer.TheVariants as answers
+use Rattle.bx_proc.specs.declared.parts.Answer.TheVariants.{Value}
 use Rattle.bx_world.specs.declared.choices.Choice.{Choice}
 use Rattle.bx_world.specs.declared.choices.Choice.TheVariants.{Run, Deliver, Expire}
 use Rattle.bx_world.specs.declared.lanes.Lanes.{Lanes}
 use Rattle.bx_world.specs.declared.requests.SpawnRequest.{SpawnRequest}
+use Rattle.bx_world.specs.declared.requests.Request.TheVariants as requests
 use Rattle.bx_world.specs.declared.turns.Turn.{Turn}
 use Rattle.bx_world.specs.declared.turns.Turn.TheVariants as turns
 use Rattle.bx_world.specs.World.{Life, Live, Exited, State}
-use Rattle.bx_world.specs.Enabled.{able, can, actor, may_at, may_run, may_expire}
+use Rattle.bx_world.specs.Asking.{Done, whole, closing}
 use Rattle.bx_world.specs.Turning.{runs}
 use Rattle.bx_world.specs.Delivering.{heard, exited_heard, lost}
-use Rattle.bx_world.specs.Lifetimes.{Among, lived, lived_if, exited_if, life_run, put_back, at_life, lives_run, life_expired, lost_if, told_at, lives_told}
-use Rattle.bx_world.specs.Spawning.{past_limits, system_limit, other_if, new_child, life_answered, lives_answered, childless_at_trap, lives_with_child, lives_spawned}
-use Rattle.bx_world.specs.Choosing.{spawned_too, made, trap_of, world_of, made_or, unless_refused, chosen, applied}
-use Rattle.bx_world.proofs.Keeping.{AmongKept, lives_run_kept}
+use Rattle.bx_world.specs.Enabled.{able, can, actor, may_at, may_run, may_expire}
+use Rattle.bx_world.specs.Lifetimes.{Among, lived, lived_if, exited_if, life_run, life_expired, put_back, at_life, lives_run, lost_if, told_at}
+use Rattle.bx_world.specs.Spawning.{past_limits, system_limit, other_if, linked_to, new_child, answering, life_answered, lives_answered, childless_at_trap, lives_with_child, lives_spawned}
+use Rattle.bx_world.specs.Batches.{trap_in, tell, pinned, world_if}
+use Rattle.bx_world.specs.Choosing.{spawned_too, made, trap_of, world_of, unless_refused, chosen, applied}
+use Rattle.bx_world.specs.Deeds.{Deed, alone, closes, performs, instruction, signalled}
+use Rattle.bx_world.specs.Changes.{Coming, change, is_answered, spawned, run_turn, signal_change, run_coming, signal_coming, expire_coming, coming, after}
+use Rattle.bx_world.proofs.Deeds.{onto, closing_is, runs_is, heard_is, Spawns, asked, spawns, spawns_alone}
 
--- a choice that can be made is made, and another is refused
-abbrev pub MadeAs : Bool → Result Among Fault → Type 0
-MadeAs true (Ok among) = Unit {0}
-MadeAs true (Err fault) = ⊥
-MadeAs false (Ok among) = ⊥
-MadeAs false (Err fault) = fault ≡ NotEnabled
-
-abbrev IsMade : Result Among Fault → Type 0
-IsMade r = MadeAs true r
+-- what stood at a place, put there again
+pub set_back : {A : Type 0} (xs : List A) (p : ℕ) (x : A) → slice_get xs p ≡ Some x → slice_set xs p x ≡ xs
+set_back xs p x at = ap (λ y. set xs p y) (sym (get_or_from_slice_get xs p x x at)) ∙ set-get_or xs p x
 
 pub got_before : {A : Type 0} (xs ys : List A) (p : ℕ) (x : A) → slice_get xs p ≡ Some x → slice_get (xs ++ ys) p ≡ Some x
 got_before [] ys p x at = cc
 got_before (y ∷ xs) ys zero x at = at
 got_before (y ∷ xs) ys (suc p) x at = got_before xs ys p x at
 
--- a process that lives can be answered
-answered_made : (image : Loaded) (p : ℕ) (child : Option ℕ) (a : Answer) (l : Lanes) (lives : List Life) (x : Process) → slice_get lives p ≡ Some (Live x) → IsMade (lives_answered image p child a l lives)
-answered_made image p child a l lives x at = subst (λ o. IsMade (at_life (life_answered image p child a l) p lives o)) (sym at) tt
+-- ---- what is made is the change, applied
 
-childless_made : (lives : List Life) (l : Lanes) (r : Result Among Fault) → IsMade r → IsMade (childless_at_trap lives l r)
-childless_made lives l (Ok (w, turns.Ran)) h = tt
-childless_made lives l (Ok (w, turns.Ended reason)) h = tt
-childless_made lives l (Ok (w, turns.Trapped kind)) h = tt
-childless_made lives l (Ok (w, turns.Spawns spawn)) h = tt
-childless_made lives l (Err fault) h = h
+abbrev pub Mirrors : Choice → State → Result Among Fault → Coming → Type 0
+Mirrors c w (Ok among) (Ok comes) = world_of (actor c) among ≡ after c w (Ok comes)
+Mirrors c w (Err fault) (Err none) = fault ≡ NotEnabled
+Mirrors c w (Ok among) (Err none) = ⊥
+Mirrors c w (Err fault) (Ok comes) = ⊥
 
-either_made : (b : Bool) (r s : Result Among Fault) → IsMade r → IsMade s → IsMade (if b then r else s)
-either_made true r s h k = h
-either_made false r s h k = k
+either : (c : Choice) (w : State) (b : Bool) (r s : Result Among Fault) (x y : Coming) → Mirrors c w r x → Mirrors c w s y → Mirrors c w (if b then r else s) (if b then x else y)
+either c w true r s x y h k = h
+either c w false r s x y h k = k
 
-spawned_made : (image : Loaded) (p : ℕ) (spawn : SpawnRequest) (l : Lanes) (lives : List Life) (x : Process) → slice_get lives p ≡ Some (Live x) → IsMade (lives_spawned image p spawn l lives)
-spawned_made image p spawn l lives x at =
-    let value = answers.Value (pid (length lives)) in
-    let more = lives ++ Live (new_child image p spawn) ∷ [] in
-    let answer = lives_answered image p (other_if spawn.linked (length lives)) value l more in
-    either_made (past_limits spawn lives) (lives_answered image p None system_limit l lives) (lives_with_child image p spawn l lives)
-    (answered_made image p None system_limit l lives x at)
-    (childless_made lives l answer (answered_made image p (other_if spawn.linked (length lives)) value l more x (got_before lives (Live (new_child image p spawn) ∷ []) p (Live x) at)))
-
--- a run
-too_made : (image : Loaded) (p : ℕ) (l : Lanes) (lives : List Life) (x : Process) (r : Result Among Fault) → slice_get lives p ≡ Some (Live x) → AmongKept (lives, l) r → IsMade r → IsMade (spawned_too image p r)
-too_made image p l lives x (Ok (w, turns.Ran)) at kept h = tt
-too_made image p l lives x (Ok (w, turns.Ended reason)) at kept h = tt
-too_made image p l lives x (Ok (w, turns.Trapped kind)) at kept h = tt
-too_made image p l lives x (Ok (w, turns.Spawns spawn)) at kept h = subst (λ (v : List Life × Lanes). IsMade (lives_spawned image p spawn v.1 v.0)) (sym kept) (spawned_made image p spawn l lives x at)
-too_made image p l lives x (Err fault) at kept h = h
-
-run_of : Loaded → ℕ → Lanes → List Life → Option Life → Result Among Fault
-run_of image p l lives o = at_life (life_run image p l) p lives o
-
-able_run : (image : Loaded) (p : ℕ) (l : Lanes) (lives : List Life) (x : Process) (b : Bool) → can_run x ≡ b → slice_get lives p ≡ Some (Live x) → MadeAs b (spawned_too image p (run_of image p l lives (Some (Live x))))
-unfolding run_of
-able_run image p l lives x true can at =
-    let r = run_of image p l lives (Some (Live x)) in
-    let is : r ≡ put_back p lives (Ok (lived (runs image p l x))) = ap (λ b. put_back p lives (if b then Ok (lived (runs image p l x)) else Err NotEnabled)) can in
-    too_made image p l lives x r at (subst (λ o. AmongKept (lives, l) (run_of image p l lives o)) at (lives_run_kept image p l lives)) (subst IsMade (sym is) tt)
-able_run image p l lives x false can at =
-    let is : run_of image p l lives (Some (Live x)) ≡ Err NotEnabled = ap (λ b. put_back p lives (if b then Ok (lived (runs image p l x)) else Err NotEnabled)) can in
-    subst (λ r. MadeAs false (spawned_too image p r)) (sym is) refl
-
-run_made : (image : Loaded) (p : ℕ) (l : Lanes) (lives : List Life) (o : Option Life) → slice_get lives p ≡ o → MadeAs (may_at may_run o) (spawned_too image p (run_of image p l lives o))
-unfolding run_of
-run_made image p l lives None at = refl
-run_made image p l lives (Some (Exited reason)) at = refl
-run_made image p l lives (Some (Live x)) at = able_run image p l lives x (can_run x) refl at
-
--- a delivery
-module _ (p q : ℕ) (lives : List Life) where
-  heard_made : (x : Process) (l : Lanes) (o : Option Signal) → MadeAs (is_some o) (put_back q lives (lived_if (heard p q x l o)))
-  heard_made x l None = refl
-  heard_made x l (Some (signals.Message m)) = tt
-  heard_made x l (Some signals.Link) = tt
-  heard_made x l (Some signals.Unlink) = tt
-  heard_made x l (Some (signals.LinkExit reason)) = tt
-  heard_made x l (Some (signals.Exit reason)) = tt
-
-  exited_made : (reason : Tree) (l : Lanes) (o : Option Signal) → MadeAs (is_some o) (put_back q lives (exited_if reason (exited_heard p q l o)))
-  exited_made reason l None = refl
-  exited_made reason l (Some (signals.Message m)) = tt
-  exited_made reason l (Some signals.Link) = tt
-  exited_made reason l (Some signals.Unlink) = tt
-  exited_made reason l (Some (signals.LinkExit other)) = tt
-  exited_made reason l (Some (signals.Exit other)) = tt
-
-  lost_made : (l : Lanes) (o : Option Signal) → MadeAs (is_some o) (lost_if lives (lost p q l o))
-  lost_made l None = refl
-  lost_made l (Some signal) = tt
-
-  told_made : (l : Lanes) (o : Option Life) → MadeAs (is_some (first (waiting l.channels (p, q)))) (told_at p q l lives o)
-  told_made l None = lost_made l (first (waiting l.channels (p, q)))
-  told_made l (Some (Live x)) = heard_made x l (first (waiting l.channels (p, q)))
-  told_made l (Some (Exited reason)) = exited_made reason l (first (waiting l.channels (p, q)))
-
--- an expiration
-able_expired : (p : ℕ) (l : Lanes) (lives : List Life) (x : Process) (b : Bool) → MadeAs b (put_back p lives (if b then Ok ((Live (expired x), l), turns.Ran) else Err NotEnabled))
-able_expired p l lives x true = tt
-able_expired p l lives x false = refl
-
-expired_made : (p : ℕ) (l : Lanes) (lives : List Life) (o : Option Life) → MadeAs (may_at may_expire o) (at_life (life_expired l) p lives o)
-expired_made p l lives None = refl
-expired_made p l lives (Some (Exited reason)) = refl
-expired_made p l lives (Some (Live x)) = able_expired p l lives x (can_expire x)
-
-pub made_as : (image : Loaded) (choice : Choice) (lives : List Life) (l : Lanes) → MadeAs (able choice lives l) (made image choice lives l)
-made_as image (Run p) lives l = unfold run_of in run_made image p l lives (slice_get lives p) refl
-made_as image (Deliver p q) lives l = told_made p q lives l (slice_get lives q)
-made_as image (Expire p) lives l = expired_made p l lives (slice_get lives p)
-
--- nothing is told where nothing waits
-pub nothing_told : (p q : ℕ) (l : Lanes) (lives : List Life) → is_some (first (waiting l.channels (p, q))) ≡ false → lives_told p q l lives ≡ Err NotEnabled
-nothing_told p q l lives none = refused_by (lives_told p q l lives) (subst (λ b. MadeAs b (lives_told p q l lives)) none (told_made p q lives l (slice_get lives q)))
+-- a deed of a process that lives
+deed_mirrors : (c : Choice) (w : State) (x : Process) (d : Deed) → slice_get w.processes (actor c) ≡ Some (Live x)
+    → Mirrors c w (put_back (actor c) w.processes (Ok (lived (whole (x, w.lanes) (onto c w.lanes d))))) (Ok (change None d))
+deed_mirrors c w x d at = by_turn d.turn
   where
-    refused_by : (r : Result Among Fault) → MadeAs false r → r ≡ Err NotEnabled
-    refused_by (Ok among) h = absurd h
-    refused_by (Err fault) h = ap Err h
+    by_turn : (turn : Turn) → Mirrors c w (put_back (actor c) w.processes (Ok (lived (whole (x, w.lanes) (onto c w.lanes (record d { turn = turn })))))) (Ok (change None (record d { turn = turn })))
+    by_turn turns.Ran = refl
+    by_turn (turns.Ended reason) = refl
+    by_turn (turns.Trapped kind) = ap (λ (lives : List Life). record w { processes = lives; trap = Some (kind, actor c) }) (set_back w.processes (actor c) (Live x) at)
+    by_turn (turns.Spawns spawn) = refl
+
+-- the same with a child, which after a trap there is not
+child_mirrors : (p : ℕ) (w : State) (x child : Process) (d : Deed)
+    → Mirrors (Run p) w (childless_at_trap w.processes w.lanes (put_back p (w.processes ++ Live child ∷ []) (Ok (lived (whole (x, w.lanes) (onto (Run p) w.lanes d)))))) (Ok (change (Some child) d))
+child_mirrors p w x child d = by_turn d.turn
+  where
+    by_turn : (turn : Turn) → Mirrors (Run p) w (childless_at_trap w.processes w.lanes (put_back p (w.processes ++ Live child ∷ []) (Ok (lived (whole (x, w.lanes) (onto (Run p) w.lanes (record d { turn = turn })))))))
+        (Ok (change (Some child) (record d { turn = turn })))
+    by_turn turns.Ran = refl
+    by_turn (turns.Ended reason) = refl
+    by_turn (turns.Trapped kind) = refl
+    by_turn (turns.Spawns spawn) = refl
+
+module _ (image : Loaded) (p : ℕ) (w : State) (x : Process) (at : slice_get w.processes p ≡ Some (Live x)) where
+  answered_done : (child : Option ℕ) (answer : Answer) → answering image p child answer x w.lanes ≡ whole (x, w.lanes) (onto (Run p) w.lanes (is_answered image child answer x))
+  answered_done child answer = ap (whole (x, w.lanes)) (closing_is image p w.lanes (settled image answer (linked_to child x)))
+
+  spawned_mirrors : (spawn : SpawnRequest) → Mirrors (Run p) w (lives_spawned image p spawn w.lanes w.processes) (Ok (spawned image p (length w.processes) spawn x))
+  spawned_mirrors spawn =
+      let count = length w.processes in
+      let child = new_child image p spawn in
+      let value = Value (pid count) in
+      let other = other_if spawn.linked count in
+      let more = w.processes ++ Live child ∷ [] in
+      go (past_limits spawn count) (lives_answered image p None system_limit w.lanes w.processes) (lives_with_child image p spawn w.lanes w.processes)
+      (is_answered image None system_limit x) (is_answered image other value x) (Some child)
+      (subst (λ (o : Option Life). Mirrors (Run p) w (at_life (life_answered image p None system_limit w.lanes) p w.processes o) (Ok (change None (is_answered image None system_limit x)))) (sym at)
+      (subst (λ (d : Done). Mirrors (Run p) w (put_back p w.processes (Ok (lived d))) (Ok (change None (is_answered image None system_limit x)))) (sym (answered_done None system_limit))
+      (deed_mirrors (Run p) w x (is_answered image None system_limit x) at)))
+      (subst (λ (o : Option Life). Mirrors (Run p) w (childless_at_trap w.processes w.lanes (at_life (life_answered image p other value w.lanes) p more o)) (Ok (change (Some child) (is_answered image other value x))))
+      (sym (got_before w.processes (Live child ∷ []) p (Live x) at))
+      (subst (λ (d : Done). Mirrors (Run p) w (childless_at_trap w.processes w.lanes (put_back p more (Ok (lived d)))) (Ok (change (Some child) (is_answered image other value x)))) (sym (answered_done other value))
+      (child_mirrors p w x child (is_answered image other value x))))
+    where
+      go : (b : Bool) (r s : Result Among Fault) (d e : Deed) (child : Option Process) → Mirrors (Run p) w r (Ok (change None d)) → Mirrors (Run p) w s (Ok (change child e))
+          → Mirrors (Run p) w (if b then r else s) (Ok (if b then change None d else change child e))
+      go true r s d e child h k = h
+      go false r s d e child h k = k
+
+  -- what an instruction was, and then a child
+  abbrev run_made : Deed → Result Among Fault
+  run_made d = spawned_too image p (put_back p w.processes (Ok (lived (whole (x, w.lanes) (onto (Run p) w.lanes d)))))
+
+  spawning_mirrors : (spawn : SpawnRequest) → Mirrors (Run p) w (run_made (alone x (turns.Spawns spawn))) (Ok (spawned image p (length w.processes) spawn x))
+  spawning_mirrors spawn =
+      subst (λ (lives : List Life). Mirrors (Run p) w (lives_spawned image p spawn w.lanes lives) (Ok (spawned image p (length w.processes) spawn x))) (sym (set_back w.processes p (Live x) at)) (spawned_mirrors spawn)
+
+  ran_mirrors : (d : Deed) (turn : Turn) → d.turn ≡ turn → ((spawn : SpawnRequest) → turn ≡ turns.Spawns spawn → d ≡ alone x (turns.Spawns spawn))
+      → Mirrors (Run p) w (run_made (record d { turn = turn })) (Ok (run_turn turn image p (length w.processes) x (record d { turn = turn })))
+  ran_mirrors d turns.Ran is only = deed_mirrors (Run p) w x (record d { turn = turns.Ran }) at
+  ran_mirrors d (turns.Ended reason) is only = deed_mirrors (Run p) w x (record d { turn = turns.Ended reason }) at
+  ran_mirrors d (turns.Trapped kind) is only = deed_mirrors (Run p) w x (record d { turn = turns.Trapped kind }) at
+  ran_mirrors d (turns.Spawns spawn) is only =
+      subst (λ (e : Deed). Mirrors (Run p) w (run_made (record e { turn = turns.Spawns spawn })) (Ok (spawned image p (length w.processes) spawn x))) (sym (only spawn refl)) (spawning_mirrors spawn)
+
+  asked_only : (turn : Turn) (spawn : SpawnRequest) → Spawns (asked image p x) turn → turn ≡ turns.Spawns spawn → instruction image p x ≡ alone x (turns.Spawns spawn)
+  asked_only turn spawn h is = spawns_alone image p x (requests.Spawn spawn) (subst (Spawns (asked image p x)) is h)
+
+  instruction_mirrors : Mirrors (Run p) w (spawned_too image p (put_back p w.processes (Ok (lived (runs image p w.lanes x))))) (Ok (run_turn (instruction image p x).turn image p (length w.processes) x (instruction image p x)))
+  instruction_mirrors =
+      let d = instruction image p x in
+      subst (λ (done : Done). Mirrors (Run p) w (spawned_too image p (put_back p w.processes (Ok (lived done)))) (Ok (run_turn d.turn image p (length w.processes) x d))) (sym (runs_is image p w.lanes x))
+      (ran_mirrors d d.turn refl (λ spawn is. asked_only d.turn spawn (spawns image p x) is))
+
+-- by choice
+module _ (image : Loaded) (w : State) where
+  run_mirrors : (p : ℕ) (o : Option Life) → slice_get w.processes p ≡ o → Mirrors (Run p) w (spawned_too image p (at_life (life_run image p w.lanes) p w.processes o)) (run_coming image p (length w.processes) o)
+  run_mirrors p None at = refl
+  run_mirrors p (Some (Exited reason)) at = refl
+  run_mirrors p (Some (Live x)) at = go (can_run x)
+    where
+      go : (b : Bool) → Mirrors (Run p) w (spawned_too image p (put_back p w.processes (if b then Ok (lived (runs image p w.lanes x)) else Err NotEnabled)))
+          (if b then Ok (run_turn (instruction image p x).turn image p (length w.processes) x (instruction image p x)) else Err NotEnabled)
+      go true = instruction_mirrors image p w x at
+      go false = refl
+
+  -- a delivery, told by the signal that waits first
+  abbrev told_with : ℕ → ℕ → Option Life → Option Signal → Result Among Fault
+  told_with p q None s = lost_if w.processes (lost p q w.lanes s)
+  told_with p q (Some (Live x)) s = put_back q w.processes (lived_if (heard p q x w.lanes s))
+  told_with p q (Some (Exited reason)) s = put_back q w.processes (exited_if reason (exited_heard p q w.lanes s))
+
+  told_is : (p q : ℕ) (o : Option Life) → told_at p q w.lanes w.processes o ≡ told_with p q o (first (waiting w.lanes.channels (p, q)))
+  told_is p q None = refl
+  told_is p q (Some (Live x)) = refl
+  told_is p q (Some (Exited reason)) = refl
+
+  told_mirrors : (p q : ℕ) (o : Option Life) (s : Option Signal) → slice_get w.processes q ≡ o → Mirrors (Deliver p q) w (told_with p q o s) (signal_coming p o s)
+  told_mirrors p q None None at = refl
+  told_mirrors p q None (Some s) at = refl
+  told_mirrors p q (Some (Live x)) None at = refl
+  told_mirrors p q (Some (Live x)) (Some s) at =
+      subst (λ (r : Result Done Fault). Mirrors (Deliver p q) w (put_back q w.processes (lived_if r)) (Ok (change None (signalled p x s)))) (sym (heard_is p q w.lanes x s))
+      (deed_mirrors (Deliver p q) w x (signalled p x s) at)
+  told_mirrors p q (Some (Exited reason)) None at = refl
+  told_mirrors p q (Some (Exited reason)) (Some signals.Link) at = refl
+  told_mirrors p q (Some (Exited reason)) (Some (signals.Message m)) at = refl
+  told_mirrors p q (Some (Exited reason)) (Some signals.Unlink) at = refl
+  told_mirrors p q (Some (Exited reason)) (Some (signals.LinkExit other)) at = refl
+  told_mirrors p q (Some (Exited reason)) (Some (signals.Exit other)) at = refl
+
+  expire_mirrors : (p : ℕ) (o : Option Life) → Mirrors (Expire p) w (at_life (life_expired w.lanes) p w.processes o) (expire_coming o)
+  expire_mirrors p None = refl
+  expire_mirrors p (Some (Exited reason)) = refl
+  expire_mirrors p (Some (Live x)) = go (can_expire x)
+    where
+      go : (b : Bool) → Mirrors (Expire p) w (put_back p w.processes (if b then Ok ((Live (expired x), w.lanes), turns.Ran) else Err NotEnabled))
+          (if b then Ok (Ok (record { life = Some (Live (expired x)); child = None; posts = []; takes = false; shows = None })) else Err NotEnabled)
+      go true = refl
+      go false = refl
+
+  pub made_mirrors : (c : Choice) → Mirrors c w (made image c w.processes w.lanes) (coming image c w)
+  made_mirrors (Run p) = run_mirrors p (slice_get w.processes p) refl
+  made_mirrors (Deliver p q) =
+      let o = slice_get w.processes q in
+      let s = first (waiting w.lanes.channels (p, q)) in subst (λ (r : Result Among Fault). Mirrors (Deliver p q) w r (signal_coming p o s)) (sym (told_is p q o)) (told_mirrors p q o s refl)
+  made_mirrors (Expire p) = expire_mirrors p (slice_get w.processes p)
+
+-- ---- something comes of a choice exactly where it is enabled
+
+abbrev pub ComesAs : Bool → Coming → Type 0
+ComesAs true (Ok comes) = Unit {0}
+ComesAs true (Err fault) = ⊥
+ComesAs false (Ok comes) = ⊥
+ComesAs false (Err fault) = fault ≡ NotEnabled
+
+comes_if : (b : Bool) (x : Coming) → ComesAs true x → ComesAs b (if b then x else Err NotEnabled)
+comes_if true x h = h
+comes_if false x h = refl
+
+pub comes_as : (image : Loaded) (c : Choice) (w : State) → ComesAs (able c w.processes w.lanes) (coming image c w)
+comes_as image (Run p) w = go (slice_get w.processes p)
+  where
+    go : (o : Option Life) → ComesAs (may_at may_run o) (run_coming image p (length w.processes) o)
+    go None = refl
+    go (Some (Exited reason)) = refl
+    go (Some (Live x)) = comes_if (can_run x) (Ok (run_turn (instruction image p x).turn image p (length w.processes) x (instruction image p x))) tt
+comes_as image (Deliver p q) w = go (first (waiting w.lanes.channels (p, q)))
+  where
+    go : (s : Option Signal) → ComesAs (is_some s) (signal_coming p (slice_get w.processes q) s)
+    go None = refl
+    go (Some s) = tt
+comes_as image (Expire p) w = go (slice_get w.processes p)
+  where
+    go : (o : Option Life) → ComesAs (may_at may_expire o) (expire_coming o)
+    go None = refl
+    go (Some (Exited reason)) = refl
+    go (Some (Live x)) = comes_if (can_expire x) (Ok (Ok (record { life = Some (Live (expired x)); child = None; posts = []; takes = false; shows = None }))) tt
 
 -- the world
-answer : ℕ → State → Option (Trap × ℕ) → Bool → Result Among Fault → Result (State × Unit {0}) Fault
-answer p w t b r = unless_refused (if is_some t then Some Halted else if is_none t && b then None else Some NotEnabled) (made_or p w r)
+answer : Bool → State → Result (State × Unit {0}) Fault
+answer b v = unless_refused (if b then None else Some NotEnabled) v
 
-answered : (image : Loaded) (choice : Choice) (w : State) (r : Result Among Fault) → w.trap ≡ None → made image choice w.processes w.lanes ≡ r
-    → applied image choice w ≡ answer (actor choice) w None (able choice w.processes w.lanes) r
+pinned_is : (p : ℕ) (turn : Turn) → trap_of p turn ≡ pinned p (trap_in turn)
+pinned_is p turns.Ran = refl
+pinned_is p (turns.Ended reason) = refl
+pinned_is p (turns.Trapped kind) = refl
+pinned_is p (turns.Spawns spawn) = refl
+
+answered_as : (c : Choice) (w : State) (b : Bool) (r : Result Among Fault) (x : Coming) → ComesAs b x → Mirrors c w r x → answer b (after c w x) ≡ world_if (actor c) (tell r)
 unfolding answer
-answered image choice w r free is =
-    ap (λ t. answer (actor choice) w t (able choice w.processes w.lanes) (made image choice w.processes w.lanes)) free
-    ∙ ap (answer (actor choice) w None (able choice w.processes w.lanes)) is
+answered_as c w true (Ok (v, turn)) (Ok comes) h m =
+    ap (λ (u : State). Ok (u, tt)) (sym m) ∙ ap (λ t. Ok (record { processes = v.0; lanes = v.1; trap = t }, tt)) (pinned_is (actor c) turn)
+answered_as c w true (Err fault) (Ok comes) h m = absurd m
+answered_as c w true r (Err none) h m = absurd h
+answered_as c w false r (Ok comes) h m = absurd h
+answered_as c w false (Ok among) (Err none) h m = absurd m
+answered_as c w false (Err fault) (Err none) h m = refl
 
-done_by_able : (p : ℕ) (w : State) (b : Bool) (among : Among) → MadeAs b (Ok among) → answer p w None b (Ok among) ≡ Ok (world_of p among, tt)
-unfolding answer
-done_by_able p w true among h = refl
-done_by_able p w false among h = absurd h
-
-refused_by_able : (p : ℕ) (w : State) (b : Bool) (fault : Fault) → MadeAs b (Err fault) → answer p w None b (Err fault) ≡ Err fault
-unfolding answer
-refused_by_able p w true fault h = absurd h
-refused_by_able p w false fault h = ap Err (sym h)
-
--- what a choice made is what the world becomes
-pub choice_done : (image : Loaded) (choice : Choice) (w : State) (among : Among) → w.trap ≡ None → made image choice w.processes w.lanes ≡ Ok among → applied image choice w ≡ Ok (world_of (actor choice) among, tt)
-choice_done image choice w among free is =
-    answered image choice w (Ok among) free is
-    ∙ done_by_able (actor choice) w (able choice w.processes w.lanes) among (subst (MadeAs (able choice w.processes w.lanes)) is (made_as image choice w.processes w.lanes))
-
--- a choice that was not made is refused for the same
-pub choice_refused : (image : Loaded) (choice : Choice) (w : State) (fault : Fault) → w.trap ≡ None → made image choice w.processes w.lanes ≡ Err fault → applied image choice w ≡ Err fault
-choice_refused image choice w fault free is =
-    answered image choice w (Err fault) free is
-    ∙ refused_by_able (actor choice) w (able choice w.processes w.lanes) fault (subst (MadeAs (able choice w.processes w.lanes)) is (made_as image choice w.processes w.lanes))
-
-halted : (t : Option (Trap × ℕ)) (b : Bool) (v : State) → IsSome t → unless_refused (if is_some t then Some Halted else if is_none t && b then None else Some NotEnabled) v ≡ Err Halted
-halted None b v h = cc
-halted (Some t) b v h = refl
-
-pub choice_halted : (image : Loaded) (choice : Choice) (w : State) → IsSome w.trap → applied image choice w ≡ Err Halted
-choice_halted image choice w h = halted w.trap (able choice w.processes w.lanes) (chosen image choice w) h
+-- what a choice makes is what the world becomes
+pub applied_is : (image : Loaded) (c : Choice) (w : State) → w.trap ≡ None → applied image c w ≡ world_if (actor c) (tell (made image c w.processes w.lanes))
+applied_is image c w free =
+    let x = coming image c w in
+    let b = able c w.processes w.lanes in
+    let refused : applied image c w ≡ answer b (chosen image c w) =
+    ap (λ (t : Option (Trap × ℕ)). unless_refused (if is_some t then Some Halted else if is_none t && b then None else Some NotEnabled) (chosen image c w)) free ∙ (unfold answer in refl) in
+    refused ∙ answered_as c w b (made image c w.processes w.lanes) x (comes_as image c w) (made_mirrors image w c)
 
 pub can_is : (choice : Choice) (w : State) → w.trap ≡ None → IsTrue (able choice w.processes w.lanes) → IsTrue (can w choice)
 can_is choice w free can = ap (λ t. is_none t && able choice w.processes w.lanes) free ∙ can
 
+-- ---- runs, and answers of spawns
+
 -- a run that was done could be made
-run_able : (image : Loaded) (p : ℕ) (l : Lanes) (lives : List Life) (o : Option Life) (among : Among) → run_of image p l lives o ≡ Ok among → IsTrue (may_at may_run o)
-unfolding run_of
+run_able : (image : Loaded) (p : ℕ) (l : Lanes) (lives : List Life) (o : Option Life) (among : Among) → at_life (life_run image p l) p lives o ≡ Ok among → IsTrue (may_at may_run o)
 run_able image p l lives None among is = cc
 run_able image p l lives (Some (Exited reason)) among is = cc
 run_able image p l lives (Some (Live x)) among is = go (can_run x) is
@@ -201,32 +263,60 @@ run_able image p l lives (Some (Live x)) among is = go (can_run x) is
     go false e = cc
 
 pub run_was_able : (image : Loaded) (p : ℕ) (l : Lanes) (lives : List Life) (among : Among) → lives_run image p l lives ≡ Ok among → IsTrue (may_at may_run (slice_get lives p))
-run_was_able image p l lives among is = unfold run_of in run_able image p l lives (slice_get lives p) among is
+run_was_able image p l lives among is = run_able image p l lives (slice_get lives p) among is
 
--- a run that asks for a spawn has changed nothing yet
+-- what leaves everything as it was
+abbrev pub KeptIf : (Turn → Bool) → List Life × Lanes → Result Among Fault → Type 0
+KeptIf of before (Ok (after, turn)) = of turn ≡ true → after ≡ before
+KeptIf of before (Err fault) = Unit {0}
+
+abbrev pub is_trap : Turn → Bool
+is_trap turns.Ran = false
+is_trap (turns.Ended reason) = false
+is_trap (turns.Trapped kind) = true
+is_trap (turns.Spawns spawn) = false
+
+abbrev is_spawn : Turn → Bool
+is_spawn turns.Ran = false
+is_spawn (turns.Ended reason) = false
+is_spawn (turns.Trapped kind) = false
+is_spawn (turns.Spawns spawn) = true
+
+-- a trap does
+whole_kept : (p : ℕ) (lives : List Life) (l : Lanes) (x : Process) (w : Process × Lanes) (turn : Turn) → slice_get lives p ≡ Some (Live x) → KeptIf is_trap (lives, l) (put_back p lives (Ok (lived (whole (x, l) (w, turn)))))
+whole_kept p lives l x w turns.Ran at = λ h. cc
+whole_kept p lives l x w (turns.Ended reason) at = λ h. cc
+whole_kept p lives l x w (turns.Trapped kind) at = λ h. ap (λ (more : List Life). (more, l)) (set_back lives p (Live x) at)
+whole_kept p lives l x w (turns.Spawns spawn) at = λ h. cc
+
+pub answered_kept : (image : Loaded) (p : ℕ) (child : Option ℕ) (answer : Answer) (l : Lanes) (lives : List Life) → KeptIf is_trap (lives, l) (lives_answered image p child answer l lives)
+answered_kept image p child answer l lives = go (slice_get lives p) refl
+  where
+    go : (o : Option Life) → slice_get lives p ≡ o → KeptIf is_trap (lives, l) (at_life (life_answered image p child answer l) p lives o)
+    go None at = tt
+    go (Some (Exited reason)) at = tt
+    go (Some (Live x)) at = let d = closing p l (settled image answer (linked_to child x)) in whole_kept p lives l x d.0 d.1 at
+
+-- and a run that asks for a spawn
+spawning_kept : (image : Loaded) (p : ℕ) (l : Lanes) (lives : List Life) (o : Option Life) → slice_get lives p ≡ o → KeptIf is_spawn (lives, l) (at_life (life_run image p l) p lives o)
+spawning_kept image p l lives None at = tt
+spawning_kept image p l lives (Some (Exited reason)) at = tt
+spawning_kept image p l lives (Some (Live x)) at = go (can_run x)
+  where
+    by_turn : (d : Deed) (turn : Turn) → d.turn ≡ turn → ((spawn : SpawnRequest) → turn ≡ turns.Spawns spawn → d ≡ alone x (turns.Spawns spawn))
+        → KeptIf is_spawn (lives, l) (put_back p lives (Ok (lived (whole (x, l) (onto (Run p) l (record d { turn = turn }))))))
+    by_turn d turns.Ran is only = λ h. cc
+    by_turn d (turns.Ended reason) is only = λ h. cc
+    by_turn d (turns.Trapped kind) is only = λ h. cc
+    by_turn d (turns.Spawns spawn) is only =
+        λ h. ap (λ (e : Deed). (slice_set lives p (Live e.process), (onto (Run p) l e).0.1)) (only spawn refl) ∙ ap (λ (more : List Life). (more, l)) (set_back lives p (Live x) at)
+
+    go : (b : Bool) → KeptIf is_spawn (lives, l) (put_back p lives (if b then Ok (lived (runs image p l x)) else Err NotEnabled))
+    go true =
+        let d = instruction image p x in
+        subst (λ (done : Done). KeptIf is_spawn (lives, l) (put_back p lives (Ok (lived done)))) (sym (runs_is image p l x))
+        (by_turn d d.turn refl (λ spawn is. spawns_alone image p x (requests.Spawn spawn) (subst (Spawns (asked image p x)) is (spawns image p x))))
+    go false = tt
+
 pub spawns_kept : (image : Loaded) (p : ℕ) (l : Lanes) (lives : List Life) (w : List Life × Lanes) (spawn : SpawnRequest) → lives_run image p l lives ≡ Ok (w, turns.Spawns spawn) → w ≡ (lives, l)
-spawns_kept image p l lives w spawn is = subst (AmongKept (lives, l)) is (lives_run_kept image p l lives)
-
--- a refusal of what the choice makes is one of the choice
-pub refused_through : (image : Loaded) (choice : Choice) (w : State) (lives : List Life) (l : Lanes) (f : Fault) → w.trap ≡ None
-    → Does {A = Turn} (IsTrue (able choice w.processes w.lanes)) (w.processes, w.lanes) (lives, l) (Err f) (made image choice w.processes w.lanes)
-    → Does {A = Unit {0}} (IsTrue (can w choice)) w (record w { processes = lives; lanes = l }) (Err f) (applied image choice w)
-refused_through image choice w lives l Memory free h = (can_is choice w free h.0, ap (λ (v : List Life × Lanes). record w { processes = v.0; lanes = v.1 }) h.1)
-refused_through image choice w lives l fault free h = (choice_refused image choice w fault free h.0, ap (λ (v : List Life × Lanes). record w { processes = v.0; lanes = v.1 }) h.1)
-
--- a trap halts the world
-pub choice_trapped : (image : Loaded) (choice : Choice) (w : State) (lives : List Life) (l : Lanes) (kind : Trap) → w.trap ≡ None → made image choice w.processes w.lanes ≡ Ok ((lives, l), turns.Trapped kind)
-    → applied image choice w ≡ Ok (record { processes = lives; lanes = l; trap = Some (kind, actor choice) }, tt)
-choice_trapped image choice w lives l kind free is = choice_done image choice w ((lives, l), turns.Trapped kind) free is
-
-untrapped : (p : ℕ) (turn : Turn) → ((kind : Trap) → turn ≢ turns.Trapped kind) → trap_of p turn ≡ None
-untrapped p turns.Ran other = refl
-untrapped p (turns.Ended reason) other = refl
-untrapped p (turns.Trapped kind) other = absurd (other kind refl)
-untrapped p (turns.Spawns spawn) other = refl
-
--- and any other turn does not
-pub choice_went : (image : Loaded) (choice : Choice) (w : State) (lives : List Life) (l : Lanes) (turn : Turn) → w.trap ≡ None → ((kind : Trap) → turn ≢ turns.Trapped kind) → made image choice w.processes w.lanes ≡ Ok ((lives, l), turn)
-    → applied image choice w ≡ Ok (record w { processes = lives; lanes = l }, tt)
-choice_went image choice w lives l turn free other is =
-    choice_done image choice w ((lives, l), turn) free is ∙ ap (λ t. Ok (record { processes = lives; lanes = l; trap = t }, tt)) (untrapped (actor choice) turn other ∙ sym free)
+spawns_kept image p l lives w spawn is = subst (KeptIf is_spawn (lives, l)) is (spawning_kept image p l lives (slice_get lives p) refl) refl

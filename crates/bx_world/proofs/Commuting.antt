@@ -1,137 +1,254 @@
--- Choices of different actors, of which one at least is local, lead to the same world in both orders.
-use Rattle.std.proofs.Common.{◌≡◌, ◌≢◌, ℕ, ◌<◌, ◌≤◌, List, [], ◌∷◌, ◌++◌, Bool, true, false, ◌⊎◌, inl, inr, Option, Some, None, Result, Ok, Err, length, refl, sym, ap, subst, ◌∙◌, arith, append_assoc, append-nil, length-set}
-use Rattle.std.specs.Prelude.{◌&&◌, ◌||◌, nat_lt, is_some, is_none, if◌then◌else◌, slice_get, slice_set}
-use Rattle.std.proofs.lemmas.Bool.{cases_eq, ltb-true, ltb-false}
-use Rattle.std.proofs.lemmas.Option.{slice_get_within, slice_get_past}
+-- Choices of different actors, of which one at least is local, lead to the same world in both orders: their changes are the same in both.
+use Rattle.std.proofs.Common.{◌≡◌, ◌≢◌, ℕ, zero, suc, ◌<◌, ◌≤◌, List, [], ◌∷◌, ◌++◌, Bool, true, false, ◌⊎◌, inl, inr, Option, Some, None, Result, Ok, Err, length, refl, sym, ap, subst, ◌∙◌, arith, append_assoc, append-nil, length-append, length-set}
+use Rattle.std.specs.Prelude.{◌&&◌, ◌||◌, is_some, is_none, if◌then◌else◌, slice_get, slice_set}
+use Rattle.std.proofs.lemmas.Bool.{cases_eq, false_from_ne_true}
+use Rattle.std.proofs.lemmas.Option.{slice_get_within}
 use Rattle.bx_terms.specs.Tree.{Tree, atom}
 use Rattle.bx_terms.specs.declared.fixed.TheConstants.{KILLED}
-use Rattle.bx_terms.specs.declared.faults.Fault.{Fault}
 use Rattle.bx_terms.specs.declared.faults.Fault.TheVariants.{NotEnabled}
 use Rattle.bx_terms.specs.declared.kinds.Trap.{Trap}
 use Rattle.bx_load.specs.Image.{Loaded}
 use Rattle.bx_signals.specs.Waiting.{first}
-use Rattle.bx_signals.specs.Channels.{waiting}
+use Rattle.bx_signals.specs.Channels.{Channels, waiting}
 use Rattle.bx_signals.specs.declared.signal.Signal.{Signal}
 use Rattle.bx_signals.specs.declared.signal.Signal.TheVariants as signals
-use Rattle.bx_signals.proofs.Maps.{same_channels}
+use Rattle.bx_signals.proofs.Maps.{same_channels, equal_pair}
 use Rattle.bx_signals.proofs.Turned.{same_everywhere}
-use Rattle.bx_cells.specs.Links.{among}
+use Rattle.bx_cells.specs.Links.{among as holds}
 use Rattle.bx_proc.specs.Process.{Process, can_run, can_expire}
-use Rattle.bx_proc.specs.Signals.{with_message, with_link, without_link, expired}
+use Rattle.bx_proc.specs.Signals.{without_link, expired}
+use Rattle.bx_proc.specs.Stepping.{attempted}
+use Rattle.bx_proc.specs.declared.parts.Effect.{Effect}
+use Rattle.bx_proc.specs.declared.parts.Effect.TheVariants as effects
+use Rattle.bx_proc.proofs.Own.{to_itself}
 use Rattle.bx_world.specs.declared.choices.Choice.{Choice}
 use Rattle.bx_world.specs.declared.choices.Choice.TheVariants.{Run, Deliver, Expire}
-use Rattle.bx_world.specs.declared.lanes.Lanes.{Lanes}
 use Rattle.bx_world.specs.declared.turns.Turn.{Turn}
 use Rattle.bx_world.specs.declared.turns.Turn.TheVariants as turns
 use Rattle.bx_world.specs.World.{Life, Live, Exited, State}
-use Rattle.bx_world.specs.Sharing.{hearing}
-use Rattle.bx_world.specs.Asking.{Done, exit_message, is_kill, is_normal, low_enough}
-use Rattle.bx_world.specs.Delivering.{messaged, ending, exiting, heard, exited_heard, lost}
-use Rattle.bx_world.specs.Lifetimes.{Among, lived, lived_if, exited_if, life_run, life_expired, put_back, at_life, lost_if, told_at}
-use Rattle.bx_world.specs.Enabled.{able, can, actor, may_at, may_run}
+use Rattle.bx_world.specs.Enabled.{able, can, actor, may_at, may_run, may_expire}
 use Rattle.bx_world.specs.Seen.{place_at}
-use Rattle.bx_world.specs.Turning.{runs}
-use Rattle.bx_world.specs.Choosing.{spawned_too, made, made_or, chosen, trap_of}
-use Rattle.bx_world.specs.Posting.{posts, run_posts, unless_trap, where_made, in_channel, put_in, takes, taken_from, behind, all_behind}
+use Rattle.bx_world.specs.Asking.{exit_message, is_kill, is_normal, low_enough}
+use Rattle.bx_world.specs.Deeds.{Posts, Deed, did, instruction, hears, dies, is_told, exit_comes, signalled}
+use Rattle.bx_world.specs.Changes.{Change, Coming, turned_to, run_turn, run_coming, signal_coming, expire_coming, change_of, heeds, coming, displayed, with_life, with_child, after}
+use Rattle.bx_world.specs.Choosing.{chosen}
+use Rattle.bx_world.specs.Posting.{same_pair, in_channel, as_row, first_of, put_by, taken_by, behind, all_behind}
 use Rattle.bx_world.specs.Independent.{is_local_at, runs_local, one_is_local, AreIndependent, IsNoRun, IsLocal}
-use Rattle.bx_world.proofs.Arriving.{step}
-use Rattle.bx_world.proofs.Applying.{MadeAs, made_as}
-use Rattle.bx_world.proofs.Beside.{AllSame, made_all as run_same, run_posts_same, run_puts_none}
+use Rattle.bx_world.proofs.Arriving.{came}
+use Rattle.bx_world.proofs.Applying.{ComesAs, comes_as}
 use Rattle.bx_world.proofs.Confined.{get_set_other, chosen_confined}
-use Rattle.bx_world.proofs.Alike.{runs_calm, spawns_none, heeds, Finds, EndsAlike, able_alike, chosen_alike, posts_alike, puts_none, takes_none, takes_alike}
+use Rattle.bx_world.proofs.Own.{attempt_own}
 
--- ---- what stays
+-- ---- two worlds in which a choice finds the same
 
--- the others, and what was displayed
-abbrev Keeps : ℕ → List Life → Lanes → Result Among Fault → Type 0
-Keeps q lives l (Ok (v, t)) = (length v.0 ≡ length lives) × ((k : ℕ) → k ≢ q → slice_get v.0 k ≡ slice_get lives k) × (v.1.output ≡ l.output)
-Keeps q lives l (Err f) = Unit {0}
+pub record Finds (c : Choice) (w v : State) : Type 0 where
+  pub life : slice_get w.processes (actor c) ≡ slice_get v.processes (actor c)
+  pub signal : heeds c w.lanes.channels ≡ heeds c v.lanes.channels
 
-abbrev Shows : Lanes → Done → Type 0
-Shows l d = d.0.1.output ≡ l.output
+pub able_alike : (c : Choice) (w v : State) → Finds c w v → able c w.processes w.lanes ≡ able c v.processes v.lanes
+able_alike (Run p) w v finds = ap (may_at may_run) finds.life
+able_alike (Deliver p q) w v finds = ap (λ o. is_some o) finds.signal
+able_alike (Expire p) w v finds = ap (may_at may_expire) finds.life
 
-deciding : (l : Lanes) (b : Bool) (d e : Done) → Shows l d → Shows l e → Shows l (if b then d else e)
-deciding l true d e h k = h
-deciding l false d e h k = k
+module _ (image : Loaded) (c : Choice) (w v : State) (finds : Finds c w v) where
+  among : (n : ℕ) → change_of image c (slice_get w.processes (actor c)) n (heeds c w.lanes.channels) ≡ change_of image c (slice_get v.processes (actor c)) n (heeds c v.lanes.channels)
+  among n =
+      ap (λ o. change_of image c o n (heeds c w.lanes.channels)) finds.life ∙ ap (change_of image c (slice_get v.processes (actor c)) n) finds.signal
 
-lived_shows : (l : Lanes) (w : Process × Lanes) (turn : Turn) → Shows l (w, turn) → (lived (w, turn)).0.1.output ≡ l.output
-lived_shows l w turns.Ran h = h
-lived_shows l w (turns.Ended reason) h = h
-lived_shows l w (turns.Trapped kind) h = h
-lived_shows l w (turns.Spawns spawn) h = h
+  -- among as many processes its change is the same
+  pub same_coming : length w.processes ≡ length v.processes → coming image c w ≡ coming image c v
+  same_coming as_many =
+      among (length w.processes) ∙ ap (λ n. change_of image c (slice_get v.processes (actor c)) n (heeds c v.lanes.channels)) as_many
 
-module _ (p q : ℕ) (lives : List Life) (l : Lanes) where
-  back_keeps : (d : Done) → Shows l d → Keeps q lives l (put_back q lives (Ok (lived d)))
-  back_keeps d h = (length-set lives q (lived d).0.0, λ k other. get_set_other lives q k (lived d).0.0 other, lived_shows l d.0 d.1 h)
+-- ---- a local choice: it spawns nobody and displays nothing, and does the same among however many processes
 
-  messaged_shows : (old x : Process) (o : Option Tree) → Shows l (messaged p q old x l o)
-  messaged_shows old x None = refl
-  messaged_shows old x (Some m) = refl
+abbrev Calm : Coming → Type 0
+Calm (Ok (Ok made)) = (made.child ≡ None) × (made.shows ≡ None)
+Calm (Ok (Err kind)) = Unit {0}
+Calm (Err fault) = Unit {0}
 
-  exiting_shows : (old x : Process) (reason : Tree) → Shows l (exiting p q old x reason l)
-  exiting_shows old x reason =
-      let message = low_enough (exit_message p reason) in
-      deciding l old.trap_exit (messaged p q old x l message) (if is_normal reason then ((x, hearing (p, q) l), turns.Ran) else ending p q x reason l) (messaged_shows old x message)
-      (deciding l (is_normal reason) ((x, hearing (p, q) l), turns.Ran) (ending p q x reason l) refl refl)
+calm_deed : (d : Deed) (turn : Turn) → d.shows ≡ None → Calm (Ok (turned_to turn None d))
+calm_deed d turns.Ran h = (refl, h)
+calm_deed d (turns.Ended reason) h = (refl, h)
+calm_deed d (turns.Trapped kind) h = tt
+calm_deed d (turns.Spawns spawn) h = (refl, h)
 
-  heard_keeps : (x : Process) (s : Option Signal) → Keeps q lives l (put_back q lives (lived_if (heard p q x l s)))
-  heard_keeps x None = tt
-  heard_keeps x (Some (signals.Message m)) = back_keeps ((with_message m x, hearing (p, q) l), turns.Ran) refl
-  heard_keeps x (Some signals.Link) = back_keeps ((with_link p x, hearing (p, q) l), turns.Ran) refl
-  heard_keeps x (Some signals.Unlink) = back_keeps ((without_link p x, hearing (p, q) l), turns.Ran) refl
-  heard_keeps x (Some (signals.LinkExit reason)) =
-      back_keeps (if among p x.links then exiting p q x (without_link p x) reason l else ((x, hearing (p, q) l), turns.Ran))
-      (deciding l (among p x.links) (exiting p q x (without_link p x) reason l) ((x, hearing (p, q) l), turns.Ran) (exiting_shows x (without_link p x) reason) refl)
-  heard_keeps x (Some (signals.Exit reason)) =
-      back_keeps (if is_kill reason then ending p q x (atom KILLED.0) l else exiting p q x x reason l)
-      (deciding l (is_kill reason) (ending p q x (atom KILLED.0) l) (exiting p q x x reason l) refl (exiting_shows x x reason))
+either : (P : Deed → Type 0) (b : Bool) (d e : Deed) → P d → P e → P (if b then d else e)
+either P true d e h k = h
+either P false d e h k = k
 
-  set_keeps : (new : Life) → (length (slice_set lives q new) ≡ length lives) × ((k : ℕ) → k ≢ q → slice_get (slice_set lives q new) k ≡ slice_get lives k)
-  set_keeps new = (length-set lives q new, λ k other. get_set_other lives q k new other)
+-- a signal displays nothing, is taken, and has something sent only where it ends its receiver
+abbrev pub Quiet : Turn → Posts → Bool → Type 0
+Quiet turns.Ran posts takes = (posts ≡ []) × (takes ≡ true)
+Quiet (turns.Ended reason) posts takes = takes ≡ true
+Quiet (turns.Trapped kind) posts takes = Unit {0}
+Quiet (turns.Spawns spawn) posts takes = (posts ≡ []) × (takes ≡ true)
 
-  exited_keeps : (reason : Tree) (s : Option Signal) → Keeps q lives l (put_back q lives (exited_if reason (exited_heard p q l s)))
-  exited_keeps reason None = tt
-  exited_keeps reason (Some signals.Link) = let kept = set_keeps (Exited reason) in (kept.0, kept.1, refl)
-  exited_keeps reason (Some (signals.Message m)) = let kept = set_keeps (Exited reason) in (kept.0, kept.1, refl)
-  exited_keeps reason (Some signals.Unlink) = let kept = set_keeps (Exited reason) in (kept.0, kept.1, refl)
-  exited_keeps reason (Some (signals.LinkExit other)) = let kept = set_keeps (Exited reason) in (kept.0, kept.1, refl)
-  exited_keeps reason (Some (signals.Exit other)) = let kept = set_keeps (Exited reason) in (kept.0, kept.1, refl)
+abbrev pub Plain : Deed → Type 0
+Plain d = (d.shows ≡ None) × Quiet d.turn d.posts d.takes
 
-  lost_keeps : (s : Option Signal) → Keeps q lives l (lost_if lives (lost p q l s))
-  lost_keeps None = tt
-  lost_keeps (Some s) = (refl, λ k other. refl, refl)
+told_plain : (old x : Process) (o : Option Tree) → Plain (is_told old x o)
+told_plain old x None = (refl, tt)
+told_plain old x (Some message) = (refl, (refl, refl))
 
-  told_keeps : (o : Option Life) → Keeps q lives l (told_at p q l lives o)
-  told_keeps None = lost_keeps (first (waiting l.channels (p, q)))
-  told_keeps (Some (Live x)) = heard_keeps x (first (waiting l.channels (p, q)))
-  told_keeps (Some (Exited reason)) = exited_keeps reason (first (waiting l.channels (p, q)))
+exit_plain : (p : ℕ) (old x : Process) (reason : Tree) → Plain (exit_comes p old x reason)
+exit_plain p old x reason =
+    let message = low_enough (exit_message p reason) in
+    either Plain old.trap_exit (is_told old x message) (if is_normal reason then hears x turns.Ran else dies x reason) (told_plain old x message)
+    (either Plain (is_normal reason) (hears x turns.Ran) (dies x reason) (refl, (refl, refl)) (refl, refl))
 
-  over_keeps : (x : Process) (b : Bool) → Keeps q lives l (put_back q lives (if b then Ok ((Live (expired x), l), turns.Ran) else Err NotEnabled))
-  over_keeps x true = let kept = set_keeps (Live (expired x)) in (kept.0, kept.1, refl)
-  over_keeps x false = tt
+pub signal_plain : (p : ℕ) (x : Process) (s : Signal) → Plain (signalled p x s)
+signal_plain p x (signals.Message message) = (refl, (refl, refl))
+signal_plain p x signals.Link = (refl, (refl, refl))
+signal_plain p x signals.Unlink = (refl, (refl, refl))
+signal_plain p x (signals.LinkExit reason) =
+    either Plain (holds p x.links) (exit_comes p x (without_link p x) reason) (hears x turns.Ran) (exit_plain p x (without_link p x) reason) (refl, (refl, refl))
+signal_plain p x (signals.Exit reason) =
+    either Plain (is_kill reason) (dies x (atom KILLED.0)) (exit_comes p x x reason) (refl, refl) (exit_plain p x x reason)
 
-  expired_keeps : (o : Option Life) → Keeps q lives l (at_life (life_expired l) q lives o)
-  expired_keeps None = tt
-  expired_keeps (Some (Exited reason)) = tt
-  expired_keeps (Some (Live x)) = over_keeps x (can_expire x)
+module _ (image : Loaded) (p : ℕ) (x : Process) where
+  local_turn : (n m : ℕ) (y : Process) (e : Effect) → to_itself e ≡ true → run_turn (did image p x (y, e)).turn image p n x (did image p x (y, e)) ≡ run_turn (did image p x (y, e)).turn image p m x (did image p x (y, e))
+  local_turn n m y effects.Ran own = refl
+  local_turn n m y (effects.Ended reason) own = refl
+  local_turn n m y (effects.Trap kind) own = refl
+  local_turn n m y (effects.Send to message) own = absurd (cc)
+  local_turn n m y (effects.Ask native arguments) own = absurd (cc)
 
--- a local run
-able_keeps : (image : Loaded) (p : ℕ) (lives : List Life) (l : Lanes) (x : Process) (b : Bool) → is_local_at image x.place ≡ true → Keeps p lives l (spawned_too image p (put_back p lives (if b then Ok (lived (runs image p l x)) else Err NotEnabled)))
-able_keeps image p lives l x true local =
-    let d = runs image p l x in
-    let calm = runs_calm image p l l x local in
-    subst (λ r. Keeps p lives l r) (sym (spawns_none image p lives d.0 d.1 calm.spawns)) (back_keeps p p lives l d calm.shows)
-able_keeps image p lives l x false local = tt
+  calm_turn : (n : ℕ) (y : Process) (e : Effect) → to_itself e ≡ true → Calm (Ok (run_turn (did image p x (y, e)).turn image p n x (did image p x (y, e))))
+  calm_turn n y effects.Ran own = (refl, refl)
+  calm_turn n y (effects.Ended reason) own = (refl, refl)
+  calm_turn n y (effects.Trap kind) own = tt
+  calm_turn n y (effects.Send to message) own = absurd (cc)
+  calm_turn n y (effects.Ask native arguments) own = absurd (cc)
 
-run_keeps : (image : Loaded) (p : ℕ) (lives : List Life) (l : Lanes) (o : Option Life) → is_local_at image (place_at o) ≡ true → Keeps p lives l (spawned_too image p (at_life (life_run image p l) p lives o))
-run_keeps image p lives l None local = tt
-run_keeps image p lives l (Some (Live x)) local = able_keeps image p lives l x (can_run x) local
-run_keeps image p lives l (Some (Exited reason)) local = tt
+calm_if : (b : Bool) (r : Result Change Trap) → Calm (Ok r) → Calm (if b then Ok r else Err NotEnabled)
+calm_if true r h = h
+calm_if false r h = tt
 
-made_keeps : (image : Loaded) (c : Choice) (w : State) → IsLocal image w c → Keeps (actor c) w.processes w.lanes (made image c w.processes w.lanes)
-made_keeps image (Run p) w idle = run_keeps image p w.processes w.lanes (slice_get w.processes p) idle
-made_keeps image (Deliver p q) w idle = told_keeps p q w.processes w.lanes (slice_get w.processes q)
-made_keeps image (Expire p) w idle = expired_keeps p p w.processes w.lanes (slice_get w.processes p)
+-- the same among however many processes
+local_among : (image : Loaded) (c : Choice) (w : State) → IsLocal image w c → (n m : ℕ)
+    → change_of image c (slice_get w.processes (actor c)) n (heeds c w.lanes.channels) ≡ change_of image c (slice_get w.processes (actor c)) m (heeds c w.lanes.channels)
+local_among image (Run p) w local n m = go (slice_get w.processes p) local
+  where
+    go : (o : Option Life) → is_local_at image (place_at o) ≡ true → run_coming image p n o ≡ run_coming image p m o
+    go None h = refl
+    go (Some (Exited reason)) h = refl
+    go (Some (Live x)) h = ap (λ r. if can_run x then Ok r else Err NotEnabled) (local_turn image p x n m (attempted image p x).0 (attempted image p x).1 (attempt_own image p x h))
+local_among image (Deliver p q) w local n m = refl
+local_among image (Expire p) w local n m = refl
+
+local_calm : (image : Loaded) (c : Choice) (w : State) → IsLocal image w c → Calm (coming image c w)
+local_calm image (Run p) w local = go (slice_get w.processes p) local
+  where
+    go : (o : Option Life) → is_local_at image (place_at o) ≡ true → Calm (run_coming image p (length w.processes) o)
+    go None h = tt
+    go (Some (Exited reason)) h = tt
+    go (Some (Live x)) h =
+        calm_if (can_run x) (run_turn (instruction image p x).turn image p (length w.processes) x (instruction image p x))
+        (calm_turn image p x (length w.processes) (attempted image p x).0 (attempted image p x).1 (attempt_own image p x h))
+local_calm image (Deliver p q) w local = go (slice_get w.processes q) (heeds (Deliver p q) w.lanes.channels)
+  where
+    go : (o : Option Life) (s : Option Signal) → Calm (signal_coming p o s)
+    go o None = tt
+    go None (Some s) = (refl, refl)
+    go (Some (Exited reason)) (Some s) = (refl, refl)
+    go (Some (Live x)) (Some s) = let d = signalled p x s in calm_deed d d.turn (signal_plain p x s).0
+local_calm image (Expire p) w local = go (slice_get w.processes p)
+  where
+    go : (o : Option Life) → Calm (expire_coming o)
+    go None = tt
+    go (Some (Exited reason)) = tt
+    go (Some (Live x)) = calm_if (can_expire x) (Ok (record { life = Some (Live (expired x)); child = None; posts = []; takes = false; shows = None })) (refl, refl)
+
+-- what is local stays so where its process does
+local_again : (image : Loaded) (c : Choice) (w v : State) → Finds c w v → IsLocal image w c → IsLocal image v c
+local_again image (Run p) w v finds local = ap (λ o. is_local_at image (place_at o)) (sym finds.life) ∙ local
+local_again image (Deliver p q) w v finds local = tt
+local_again image (Expire p) w v finds local = tt
+
+pub local_coming : (image : Loaded) (c : Choice) (w v : State) → IsLocal image w c → Finds c w v → coming image c w ≡ coming image c v
+local_coming image c w v local finds = local_among image c w local (length w.processes) (length v.processes) ∙ among image c w v finds (length v.processes)
+
+-- ---- one change in two worlds
+
+module _ {A : Type 0} where
+  set_alike : (xs ys : List A) (p k : ℕ) (x : A) → length xs ≡ length ys → slice_get xs k ≡ slice_get ys k → slice_get (slice_set xs p x) k ≡ slice_get (slice_set ys p x) k
+  set_alike [] [] p k x e h = refl
+  set_alike [] (b ∷ ys) p k x e h = absurd (omega arith)
+  set_alike (a ∷ xs) [] p k x e h = absurd (omega arith)
+  set_alike (a ∷ xs) (b ∷ ys) zero zero x e h = refl
+  set_alike (a ∷ xs) (b ∷ ys) zero (suc k) x e h = h
+  set_alike (a ∷ xs) (b ∷ ys) (suc p) zero x e h = h
+  set_alike (a ∷ xs) (b ∷ ys) (suc p) (suc k) x e h = set_alike xs ys p k x (omega arith) h
+
+  -- where it is put itself, it doesn't matter how many there are
+  set_here : (xs ys : List A) (p : ℕ) (x : A) → slice_get xs p ≡ slice_get ys p → slice_get (slice_set xs p x) p ≡ slice_get (slice_set ys p x) p
+  set_here [] [] p x h = refl
+  set_here [] (b ∷ ys) zero x h = cc
+  set_here [] (b ∷ ys) (suc p) x h = set_here [] ys p x h
+  set_here (a ∷ xs) [] zero x h = cc
+  set_here (a ∷ xs) [] (suc p) x h = set_here xs [] p x h
+  set_here (a ∷ xs) (b ∷ ys) zero x h = refl
+  set_here (a ∷ xs) (b ∷ ys) (suc p) x h = set_here xs ys p x h
+
+  more_alike : (xs ys zs : List A) (k : ℕ) → length xs ≡ length ys → slice_get xs k ≡ slice_get ys k → slice_get (xs ++ zs) k ≡ slice_get (ys ++ zs) k
+  more_alike [] [] zs k e h = refl
+  more_alike [] (b ∷ ys) zs k e h = absurd (omega arith)
+  more_alike (a ∷ xs) [] zs k e h = absurd (omega arith)
+  more_alike (a ∷ xs) (b ∷ ys) zs zero e h = h
+  more_alike (a ∷ xs) (b ∷ ys) zs (suc k) e h = more_alike xs ys zs k (omega arith) h
+
+child_count : (child : Option Process) (xs ys : List Life) → length xs ≡ length ys → length (with_child child xs) ≡ length (with_child child ys)
+child_count None xs ys e = e
+child_count (Some x) xs ys e = omega (arith, e, length-append xs (Live x ∷ []), length-append ys (Live x ∷ []))
+
+child_alike : (child : Option Process) (xs ys : List Life) (k : ℕ) → length xs ≡ length ys → slice_get xs k ≡ slice_get ys k → slice_get (with_child child xs) k ≡ slice_get (with_child child ys) k
+child_alike None xs ys k e h = h
+child_alike (Some x) xs ys k e h = more_alike xs ys (Live x ∷ []) k e h
+
+life_count : (p : ℕ) (one : Option Life) (xs : List Life) → length (with_life p one xs) ≡ length xs
+life_count p None xs = refl
+life_count p (Some one) xs = length-set xs p one
+
+life_alike : (p : ℕ) (one : Option Life) (xs ys : List Life) (k : ℕ) → length xs ≡ length ys → slice_get xs k ≡ slice_get ys k → slice_get (with_life p one xs) k ≡ slice_get (with_life p one ys) k
+life_alike p None xs ys k e h = h
+life_alike p (Some one) xs ys k e h = set_alike xs ys p k one e h
+
+life_here : (p : ℕ) (one : Option Life) (xs ys : List Life) → slice_get xs p ≡ slice_get ys p → slice_get (with_life p one xs) p ≡ slice_get (with_life p one ys) p
+life_here p None xs ys h = h
+life_here p (Some one) xs ys h = set_here xs ys p one h
+
+module _ (c : Choice) (w v : State) where
+  after_count : (x : Coming) → length w.processes ≡ length v.processes → length (after c w x).processes ≡ length (after c v x).processes
+  after_count (Ok (Ok made)) e =
+      life_count (actor c) made.life (with_child made.child w.processes) ∙ child_count made.child w.processes v.processes e ∙ sym (life_count (actor c) made.life (with_child made.child v.processes))
+  after_count (Ok (Err kind)) e = e
+  after_count (Err fault) e = e
+
+  after_alike : (x : Coming) (k : ℕ) → length w.processes ≡ length v.processes → slice_get w.processes k ≡ slice_get v.processes k → slice_get (after c w x).processes k ≡ slice_get (after c v x).processes k
+  after_alike (Ok (Ok made)) k e h =
+      life_alike (actor c) made.life (with_child made.child w.processes) (with_child made.child v.processes) k (child_count made.child w.processes v.processes e) (child_alike made.child w.processes v.processes k e h)
+  after_alike (Ok (Err kind)) k e h = h
+  after_alike (Err fault) k e h = h
+
+  after_shows : (x : Coming) → w.lanes.output ≡ v.lanes.output → (after c w x).lanes.output ≡ (after c v x).lanes.output
+  after_shows (Ok (Ok made)) e = ap (displayed (actor c) made.shows) e
+  after_shows (Ok (Err kind)) e = e
+  after_shows (Err fault) e = e
+
+  after_trap : (x : Coming) → ComesAs true x → (after c w x).trap ≡ (after c v x).trap
+  after_trap (Ok (Ok made)) h = refl
+  after_trap (Ok (Err kind)) h = refl
+  after_trap (Err fault) h = absurd h
+
+  -- of a local choice
+  calm_here : (x : Coming) → Calm x → slice_get w.processes (actor c) ≡ slice_get v.processes (actor c) → slice_get (after c w x).processes (actor c) ≡ slice_get (after c v x).processes (actor c)
+  calm_here (Ok (Ok made)) h same =
+      let here = life_here (actor c) made.life w.processes v.processes same in
+      ap (λ (o : Option Process). slice_get (with_life (actor c) made.life (with_child o w.processes)) (actor c)) h.0 ∙ here
+      ∙ ap (λ (o : Option Process). slice_get (with_life (actor c) made.life (with_child o v.processes)) (actor c)) (sym h.0)
+  calm_here (Ok (Err kind)) h same = same
+  calm_here (Err fault) h same = same
 
 -- a world after a choice that is local
 pub record Kept (c : Choice) (w after : State) : Type 0 where
@@ -139,12 +256,70 @@ pub record Kept (c : Choice) (w after : State) : Type 0 where
   pub others : (k : ℕ) → k ≢ actor c → slice_get after.processes k ≡ slice_get w.processes k
   pub output : after.lanes.output ≡ w.lanes.output
 
-or_kept : (c : Choice) (w : State) (r : Result Among Fault) → Keeps (actor c) w.processes w.lanes r → Kept c w (made_or (actor c) w r)
-or_kept c w (Ok (v, t)) h = record { count = h.0; others = h.1; output = h.2 }
-or_kept c w (Err f) h = record { count = refl; others = λ k other. refl; output = refl }
+life_other : (p : ℕ) (one : Option Life) (xs : List Life) (k : ℕ) → k ≢ p → slice_get (with_life p one xs) k ≡ slice_get xs k
+life_other p None xs k other = refl
+life_other p (Some one) xs k other = get_set_other xs p k one other
+
+kept : (c : Choice) (w : State) (x : Coming) → Calm x → Kept c w (after c w x)
+kept c w (Ok (Ok made)) h =
+    let p = actor c in
+    record {
+      count = life_count p made.life (with_child made.child w.processes) ∙ ap (λ (o : Option Process). length (with_child o w.processes)) h.0;
+      others = λ k other. life_other p made.life (with_child made.child w.processes) k other ∙ ap (λ (o : Option Process). slice_get (with_child o w.processes) k) h.0;
+      output = ap (λ (o : Option Tree). displayed p o w.lanes.output) h.1;
+    }
+kept c w (Ok (Err kind)) h = record { count = refl; others = λ k other. refl; output = refl }
+kept c w (Err fault) h = record { count = refl; others = λ k other. refl; output = refl }
 
 pub chosen_kept : (image : Loaded) (c : Choice) (w : State) → IsLocal image w c → Kept c w (chosen image c w)
-chosen_kept image c w idle = or_kept c w (made image c w.processes w.lanes) (made_keeps image c w idle)
+chosen_kept image c w local = kept c w (coming image c w) (local_calm image c w local)
+
+-- ---- what waits
+
+other_sender : (pair own : ℕ × ℕ) → pair.0 ≢ own.0 → same_pair pair own ≡ false
+other_sender pair own other = false_from_ne_true (same_pair pair own) (λ e. other (ap (λ (k : ℕ × ℕ). k.0) (equal_pair pair own e)))
+
+other_receiver : (pair own : ℕ × ℕ) → pair.1 ≢ own.1 → same_pair pair own ≡ false
+other_receiver pair own other = false_from_ne_true (same_pair pair own) (λ e. other (ap (λ (k : ℕ × ℕ). k.1) (equal_pair pair own e)))
+
+-- a choice puts into its own process's channels alone
+in_other : (p : ℕ) (pair : ℕ × ℕ) (posts : Posts) → pair.0 ≢ p → in_channel p pair posts ≡ []
+in_other p pair [] other = refl
+in_other p pair (post ∷ more) other = ap (λ b. if b then post.1 ∷ in_channel p pair more else in_channel p pair more) (other_sender pair (p, post.0) other) ∙ in_other p pair more other
+
+puts_none : (c : Choice) (pair : ℕ × ℕ) (x : Coming) → pair.0 ≢ actor c → put_by c pair x ≡ []
+puts_none c pair (Ok (Ok made)) other = in_other (actor c) pair made.posts other
+puts_none c pair (Ok (Err kind)) other = refl
+puts_none c pair (Err fault) other = refl
+
+-- and takes from what waits for it alone
+takes_none : (c : Choice) (pair : ℕ × ℕ) (m : Channels Signal) (x : Coming) → pair.1 ≢ actor c → taken_by c pair m x ≡ []
+takes_none c pair m (Ok (Ok made)) other = one c made.takes other
+  where
+    one : (c : Choice) (takes : Bool) → pair.1 ≢ actor c → first_of c takes pair m ≡ []
+    one (Run p) takes other = refl
+    one (Deliver p q) true other = ap (λ b. if b then as_row (first (waiting m pair)) else []) (other_receiver pair (p, q) other)
+    one (Deliver p q) false other = refl
+    one (Expire p) takes other = refl
+takes_none c pair m (Ok (Err kind)) other = refl
+takes_none c pair m (Err fault) other = refl
+
+if_same : (b : Bool) (xs ys : List Signal) → (b ≡ true → xs ≡ ys) → (if b then xs else []) ≡ (if b then ys else [])
+if_same true xs ys same = same refl
+if_same false xs ys same = refl
+
+pub takes_alike : (c : Choice) (pair : ℕ × ℕ) (m n : Channels Signal) (x : Coming) → heeds c m ≡ heeds c n → taken_by c pair m x ≡ taken_by c pair n x
+takes_alike c pair m n (Ok (Ok made)) signal = one c made.takes signal
+  where
+    one : (c : Choice) (takes : Bool) → heeds c m ≡ heeds c n → first_of c takes pair m ≡ first_of c takes pair n
+    one (Run p) takes signal = refl
+    one (Deliver p q) true signal =
+        if_same (same_pair pair (p, q)) (as_row (first (waiting m pair))) (as_row (first (waiting n pair)))
+        (λ e. let own = equal_pair pair (p, q) e in ap (λ k. as_row (first (waiting m k))) own ∙ ap as_row signal ∙ ap (λ k. as_row (first (waiting n k))) (sym own))
+    one (Deliver p q) false signal = refl
+    one (Expire p) takes signal = refl
+takes_alike c pair m n (Ok (Err kind)) signal = refl
+takes_alike c pair m n (Err fault) signal = refl
 
 -- ---- one beside the other
 
@@ -155,51 +330,35 @@ and_parts false b h = cc
 pub able_of : (w : State) (c : Choice) → can w c ≡ true → able c w.processes w.lanes ≡ true
 able_of w c h = (and_parts (is_none w.trap) (able c w.processes w.lanes) h).1
 
-pub untrapped_of : (w : State) (c : Choice) → can w c ≡ true → w.trap ≡ None
-untrapped_of w c h = one w.trap (and_parts (is_none w.trap) (able c w.processes w.lanes) h).0 where
-  one : (t : Option (Trap × ℕ)) → is_none t ≡ true → t ≡ None
-  one None e = refl
-  one (Some t) e = cc
-
 pub can_from : (w : State) (c : Choice) → w.trap ≡ None → able c w.processes w.lanes ≡ true → can w c ≡ true
 can_from w c none h = ap (λ t. is_none t && able c w.processes w.lanes) none ∙ h
 
--- a choice that is made without a trap
-module _ (image : Loaded) (c : Choice) (w : State) (enabled : can w c ≡ true) (runs : (chosen image c w).trap ≡ None) where
-  made_all : {A : Type 0} (xs : List A) → where_made image c w xs ≡ xs
-  made_all xs = ap (λ b. if b then unless_trap (chosen image c w).trap xs else []) enabled ∙ ap (λ t. unless_trap t xs) runs
+-- the same change traps in both worlds or in neither
+pub trap_alike : (image : Loaded) (c : Choice) (w v : State) → can w c ≡ true → coming image c w ≡ coming image c v → (chosen image c w).trap ≡ (chosen image c v).trap
+trap_alike image c w v enabled same =
+    after_trap c w v (coming image c w) (subst (λ b. ComesAs b (coming image c w)) (able_of w c enabled) (comes_as image c w)) ∙ ap (λ x. (after c v x).trap) same
 
-  puts : (pair : ℕ × ℕ) → put_in image c w pair ≡ in_channel pair (posts image c w)
-  puts pair = ap (in_channel pair) (made_all (posts image c w))
-
-  taken : (pair : ℕ × ℕ) → taken_from image c w pair ≡ takes c w pair
-  taken pair = made_all (takes c w pair)
-
-  stepped : (pair : ℕ × ℕ) → waiting w.lanes.channels pair ++ in_channel pair (posts image c w) ≡ takes c w pair ++ waiting (chosen image c w).lanes.channels pair
-  stepped pair =
-      ap (λ ss. waiting w.lanes.channels pair ++ ss) (sym (puts pair)) ∙ step image c w pair ∙ ap (λ ss. ss ++ waiting (behind image c w).lanes.channels pair) (taken pair)
-      ∙ ap (λ b. takes c w pair ++ waiting (if b then chosen image c w else w).lanes.channels pair) enabled
-
-  -- what waits for another stays first
+-- what waits for another stays first
+module _ (image : Loaded) (c : Choice) (w : State) (enabled : can w c ≡ true) where
   pub first_stays : (pair : ℕ × ℕ) → pair.1 ≢ actor c → is_some (first (waiting w.lanes.channels pair)) ≡ true → first (waiting (chosen image c w).lanes.channels pair) ≡ first (waiting w.lanes.channels pair)
   first_stays pair other some =
-      ap first (sym (stepped pair ∙ ap (λ ss. ss ++ waiting (chosen image c w).lanes.channels pair) (takes_none c w pair other)))
-      ∙ front (waiting w.lanes.channels pair) (in_channel pair (posts image c w)) some
+      let x = coming image c w in
+      ap first (sym (came c w pair x (able_of w c enabled) ∙ ap (λ ss. ss ++ waiting (after c w x).lanes.channels pair) (takes_none c pair w.lanes.channels x other)))
+      ∙ front (waiting w.lanes.channels pair) (put_by c pair x) some
     where
       front : (xs ys : List Signal) → is_some (first xs) ≡ true → first (xs ++ ys) ≡ first xs
       front [] ys h = cc
       front (x ∷ xs) ys h = refl
 
 -- what another choice finds behind one that leaves its process as it was
-pub finds_again : (image : Loaded) (c d : Choice) (w : State) → slice_get (chosen image c w).processes (actor d) ≡ slice_get w.processes (actor d) → actor c ≢ actor d → can w c ≡ true → (chosen image c w).trap ≡ None → can w d ≡ true
-    → Finds d w (chosen image c w)
-finds_again image c d w stays apart enabled runs also = record {
+pub finds_again : (image : Loaded) (c d : Choice) (w : State) → slice_get (chosen image c w).processes (actor d) ≡ slice_get w.processes (actor d) → actor c ≢ actor d → can w c ≡ true → can w d ≡ true → Finds d w (chosen image c w)
+finds_again image c d w stays apart enabled also = record {
   life = sym stays;
   signal = one d apart (able_of w d also);
 } where
-  one : (d : Choice) → actor c ≢ actor d → able d w.processes w.lanes ≡ true → heeds d w ≡ heeds d (chosen image c w)
+  one : (d : Choice) → actor c ≢ actor d → able d w.processes w.lanes ≡ true → heeds d w.lanes.channels ≡ heeds d (chosen image c w).lanes.channels
   one (Run p) other able_there = refl
-  one (Deliver p q) other able_there = sym (first_stays image c w enabled runs (p, q) (λ e. other (sym e)) able_there)
+  one (Deliver p q) other able_there = sym (first_stays image c w enabled (p, q) (λ e. other (sym e)) able_there)
   one (Expire p) other able_there = refl
 
 cancel : (xs ys zs : List Signal) → xs ++ ys ≡ xs ++ zs → ys ≡ zs
@@ -242,180 +401,128 @@ may_within may w p h = one (slice_get w.processes p) refl h where
   one None e k = cc
   one (Some life) e k = slice_get_within w.processes p life e
 
--- what a choice does in two worlds alike
-pub record Acts (image : Loaded) (c : Choice) (w v : State) : Type 0 where
-  pub trap : (chosen image c w).trap ≡ (chosen image c v).trap
-  pub here : slice_get (chosen image c w).processes (actor c) ≡ slice_get (chosen image c v).processes (actor c)
-  pub beyond : (k : ℕ) → length w.processes ≤ k → k ≢ actor c → slice_get (chosen image c w).processes k ≡ slice_get (chosen image c v).processes k
-  pub count : length (chosen image c w).processes ≡ length (chosen image c v).processes
-  pub output : (chosen image c w).lanes.output ≡ (chosen image c v).lanes.output
-  pub posts : posts image c w ≡ posts image c v
-
--- what is local stays so where its process does
-local_again : (image : Loaded) (c : Choice) (w v : State) → Finds c w v → IsLocal image w c → IsLocal image v c
-local_again image (Run p) w v finds local = ap (λ o. is_local_at image (place_at o)) (sym finds.life) ∙ local
-local_again image (Deliver p q) w v finds local = tt
-local_again image (Expire p) w v finds local = tt
-
-quiet_acts : (image : Loaded) (c : Choice) (w v : State) → IsLocal image w c → Finds c w v → length w.processes ≡ length v.processes → w.lanes.output ≡ v.lanes.output → can w c ≡ true → Acts image c w v
-quiet_acts image c w v idle finds as_many same enabled =
-    let alike = chosen_alike image c w v idle finds (able_of w c enabled) in
-    let first = chosen_kept image c w idle in
-    let second = chosen_kept image c v (local_again image c w v finds idle) in
-    record {
-      trap = alike.trap;
-      here = alike.life;
-      beyond = λ k far other. first.others k other ∙ slice_get_past w.processes k far ∙ sym (slice_get_past v.processes k (omega (arith, as_many))) ∙ sym (second.others k other);
-      count = first.count ∙ as_many ∙ sym second.count;
-      output = first.output ∙ same ∙ sym second.output;
-      posts = posts_alike image c w v idle finds;
-    }
-
-run_acts : (image : Loaded) (p : ℕ) (w v : State) (r s : Result Among Fault) → r ≡ made image (Run p) w.processes w.lanes → s ≡ made image (Run p) v.processes v.lanes → MadeAs true r → MadeAs true s → AllSame p (length w.processes) r s
-    → posts image (Run p) w ≡ posts image (Run p) v → Acts image (Run p) w v
-run_acts image p w v (Ok (x, t)) (Ok (y, u)) is also m n h sent =
-    let first : chosen image (Run p) w ≡ made_or p w (Ok (x, t)) = ap (made_or p w) (sym is) in
-    let second : chosen image (Run p) v ≡ made_or p v (Ok (y, u)) = ap (made_or p v) (sym also) in
-    record {
-      trap = ap (λ (z : State). z.trap) first ∙ ap (trap_of p) h.turn ∙ ap (λ (z : State). z.trap) (sym second);
-      here = ap (λ (z : State). slice_get z.processes p) first ∙ h.here ∙ ap (λ (z : State). slice_get z.processes p) (sym second);
-      beyond = λ k far other. ap (λ (z : State). slice_get z.processes k) first ∙ h.beyond k far ∙ ap (λ (z : State). slice_get z.processes k) (sym second);
-      count = ap (λ (z : State). length z.processes) first ∙ h.count ∙ ap (λ (z : State). length z.processes) (sym second);
-      output = ap (λ (z : State). z.lanes.output) first ∙ h.output ∙ ap (λ (z : State). z.lanes.output) (sym second);
-      posts = sent;
-    }
-run_acts image p w v (Ok (x, t)) (Err g) is also m n h sent = absurd n
-run_acts image p w v (Err f) s is also m n h sent = absurd m
-
-pub acts : (image : Loaded) (c : Choice) (w v : State) → Finds c w v → length w.processes ≡ length v.processes → w.lanes.output ≡ v.lanes.output → can w c ≡ true → Acts image c w v
-acts image (Run p) w v finds as_many same enabled =
-    let able_here = able_of w (Run p) enabled in
-    let made_here = subst (λ b. MadeAs b (made image (Run p) w.processes w.lanes)) able_here (made_as image (Run p) w.processes w.lanes) in
-    let made_there = subst (λ b. MadeAs b (made image (Run p) v.processes v.lanes)) (sym (able_alike (Run p) w v finds) ∙ able_here) (made_as image (Run p) v.processes v.lanes) in
-    run_acts image p w v (made image (Run p) w.processes w.lanes) (made image (Run p) v.processes v.lanes) refl refl made_here made_there
-    (run_same image p w.processes v.processes w.lanes v.lanes same finds.life (may_within may_run w p able_here) as_many)
-    (run_posts_same image p w.processes v.processes w.lanes v.lanes same as_many (slice_get w.processes p) ∙ ap (run_posts image p v.processes v.lanes) finds.life)
-acts image (Deliver p q) w v finds as_many same enabled = quiet_acts image (Deliver p q) w v tt finds as_many same enabled
-acts image (Expire p) w v finds as_many same enabled = quiet_acts image (Expire p) w v tt finds as_many same enabled
-
--- a choice puts into its own process's channels alone
-sends_none : (image : Loaded) (c : Choice) (w : State) (pair : ℕ × ℕ) → pair.0 ≢ actor c → in_channel pair (posts image c w) ≡ []
-sends_none image (Run p) w pair other = run_puts_none image p w.processes w.lanes (slice_get w.processes p) pair other
-sends_none image (Deliver p q) w pair other = puts_none image (Deliver p q) w pair tt other
-sends_none image (Expire p) w pair other = puts_none image (Expire p) w pair tt other
-
 -- a choice that is local, and another behind it
-module _ (image : Loaded) (a b : Choice) (w : State) (no_a : IsLocal image w a) (apart : actor a ≢ actor b) (can_a : can w a ≡ true) (can_b : can w b ≡ true)
-    (a_runs : (chosen image a w).trap ≡ None) (b_runs : (chosen image b (chosen image a w)).trap ≡ None) where
+module _ (image : Loaded) (a b : Choice) (w : State) (no_a : IsLocal image w a) (apart : actor a ≢ actor b) (can_a : can w a ≡ true) (can_b : can w b ≡ true) where
   flipped : actor b ≢ actor a
   flipped e = apart (sym e)
 
-  -- b behind a finds what it finds at first
+  a_kept : Kept a w (chosen image a w)
+  a_kept = chosen_kept image a w no_a
+
+  -- b behind a finds what it finds at first, so its change is the same
   b_finds : Finds b w (chosen image a w)
-  b_finds = finds_again image a b w ((chosen_kept image a w no_a).others (actor b) flipped) apart can_a a_runs can_b
+  b_finds = finds_again image a b w (a_kept.others (actor b) flipped) apart can_a can_b
 
-  pub b_acts : Acts image b w (chosen image a w)
-  b_acts = acts image b w (chosen image a w) b_finds (sym (chosen_kept image a w no_a).count) (sym (chosen_kept image a w no_a).output) can_b
+  pub b_again : coming image b w ≡ coming image b (chosen image a w)
+  b_again = same_coming image b w (chosen image a w) b_finds (sym a_kept.count)
 
-  pub b_first : (chosen image b w).trap ≡ None
-  b_first = b_acts.trap ∙ b_runs
+  -- a life that a leaves as it is becomes the same by b
+  pub b_alike : (k : ℕ) → slice_get w.processes k ≡ slice_get (chosen image a w).processes k → slice_get (chosen image b w).processes k ≡ slice_get (chosen image b (chosen image a w)).processes k
+  b_alike k same =
+      after_alike b w (chosen image a w) (coming image b w) k (sym a_kept.count) same ∙ ap (λ x. slice_get (after b (chosen image a w) x).processes k) b_again
 
-  b_enabled : can (chosen image a w) b ≡ true
-  b_enabled = can_from (chosen image a w) b a_runs (sym (able_alike b w (chosen image a w) b_finds) ∙ able_of w b can_b)
+  pub b_trap : (chosen image b w).trap ≡ (chosen image b (chosen image a w)).trap
+  b_trap = trap_alike image b w (chosen image a w) can_b b_again
 
-  -- and in the other order, where the local one is local too, and sends and takes the same
-  module _ (last_a : IsLocal image (chosen image b w) a) (a_enabled : can (chosen image b w) a ≡ true) (a_last : (chosen image a (chosen image b w)).trap ≡ None)
-      (here : slice_get (chosen image b (chosen image a w)).processes (actor a) ≡ slice_get (chosen image a (chosen image b w)).processes (actor a))
-      (sends : posts image a w ≡ posts image a (chosen image b w)) (heeded : heeds a w ≡ heeds a (chosen image b w)) where
-    -- life by life
-    kept_a : (k : ℕ) → k ≢ actor a → slice_get (chosen image a (chosen image b w)).processes k ≡ slice_get (chosen image b w).processes k
-    kept_a k other = (chosen_kept image a (chosen image b w) last_a).others k other
+  module _ (a_runs : (chosen image a w).trap ≡ None) (b_runs : (chosen image b (chosen image a w)).trap ≡ None) where
+    pub b_first : (chosen image b w).trap ≡ None
+    b_first = b_trap ∙ b_runs
 
-    other_life : (k : ℕ) → k ≢ actor a → k ≢ actor b → slice_get (chosen image b (chosen image a w)).processes k ≡ slice_get (chosen image a (chosen image b w)).processes k
-    other_life k e f = one (nat_lt k (length w.processes)) refl where
-      one : (less : Bool) → nat_lt k (length w.processes) ≡ less → slice_get (chosen image b (chosen image a w)).processes k ≡ slice_get (chosen image a (chosen image b w)).processes k
-      one true h =
-          let lower = ltb-true k (length w.processes) h in
-          let count = (chosen_kept image a w no_a).count in
-          (chosen_confined image b (chosen image a w)).2 k f (omega arith) ∙ (chosen_kept image a w no_a).others k e ∙ sym ((chosen_confined image b w).2 k f lower) ∙ sym (kept_a k e)
-      one false h = sym (b_acts.beyond k (ltb-false k (length w.processes) h) f) ∙ sym (kept_a k e)
+    b_enabled : can (chosen image a w) b ≡ true
+    b_enabled = can_from (chosen image a w) b a_runs (sym (able_alike b w (chosen image a w) b_finds) ∙ able_of w b can_b)
 
-    same_life : (k : ℕ) → slice_get (chosen image b (chosen image a w)).processes k ≡ slice_get (chosen image a (chosen image b w)).processes k
-    same_life k = one (cases_eq k (actor a)) (cases_eq k (actor b)) where
-      one : (k ≡ actor a) ⊎ (k ≢ actor a) → (k ≡ actor b) ⊎ (k ≢ actor b) → slice_get (chosen image b (chosen image a w)).processes k ≡ slice_get (chosen image a (chosen image b w)).processes k
-      one (inl e) f = ap (slice_get (chosen image b (chosen image a w)).processes) e ∙ here ∙ ap (slice_get (chosen image a (chosen image b w)).processes) (sym e)
-      one (inr e) (inl f) = ap (slice_get (chosen image b (chosen image a w)).processes) f ∙ sym b_acts.here ∙ ap (slice_get (chosen image b w).processes) (sym f) ∙ sym (kept_a k e)
-      one (inr e) (inr f) = other_life k e f
+    -- and in the other order, where the local one is local too, and sends and takes the same
+    module _ (last_a : IsLocal image (chosen image b w) a) (a_enabled : can (chosen image b w) a ≡ true) (a_last : (chosen image a (chosen image b w)).trap ≡ None)
+        (here : slice_get (chosen image b (chosen image a w)).processes (actor a) ≡ slice_get (chosen image a (chosen image b w)).processes (actor a))
+        (sends : (pair : ℕ × ℕ) → put_by a pair (coming image a w) ≡ put_by a pair (coming image a (chosen image b w)))
+        (takes : (pair : ℕ × ℕ) → taken_by a pair w.lanes.channels (coming image a w) ≡ taken_by a pair (chosen image b w).lanes.channels (coming image a (chosen image b w))) where
+      a_after : Kept a (chosen image b w) (chosen image a (chosen image b w))
+      a_after = chosen_kept image a (chosen image b w) last_a
 
-    as_many : length (chosen image b (chosen image a w)).processes ≡ length (chosen image a (chosen image b w)).processes
-    as_many = sym b_acts.count ∙ sym (chosen_kept image a (chosen image b w) last_a).count
+      same_life : (k : ℕ) → slice_get (chosen image b (chosen image a w)).processes k ≡ slice_get (chosen image a (chosen image b w)).processes k
+      same_life k = one (cases_eq k (actor a)) where
+        one : (k ≡ actor a) ⊎ (k ≢ actor a) → slice_get (chosen image b (chosen image a w)).processes k ≡ slice_get (chosen image a (chosen image b w)).processes k
+        one (inl e) = ap (slice_get (chosen image b (chosen image a w)).processes) e ∙ here ∙ ap (slice_get (chosen image a (chosen image b w)).processes) (sym e)
+        one (inr other) = sym (b_alike k (sym (a_kept.others k other))) ∙ sym (a_after.others k other)
 
-    -- channel by channel
-    same_row : (pair : ℕ × ℕ) → waiting (chosen image b (chosen image a w)).lanes.channels pair ≡ waiting (chosen image a (chosen image b w)).lanes.channels pair
-    same_row pair =
-        both_rows (waiting w.lanes.channels pair) (waiting (chosen image a w).lanes.channels pair) (waiting (chosen image b w).lanes.channels pair)
-        (waiting (chosen image b (chosen image a w)).lanes.channels pair) (waiting (chosen image a (chosen image b w)).lanes.channels pair)
-        (in_channel pair (posts image a w)) (in_channel pair (posts image b w)) (takes a w pair) (takes b w pair)
-        (stepped image a w can_a a_runs pair)
-        (ap (λ ps. waiting (chosen image a w).lanes.channels pair ++ in_channel pair ps) b_acts.posts
-        ∙ stepped image b (chosen image a w) b_enabled b_runs pair
-        ∙ ap (λ ss. ss ++ waiting (chosen image b (chosen image a w)).lanes.channels pair) (sym (takes_alike b w (chosen image a w) pair b_finds.signal)))
-        (stepped image b w can_b b_first pair)
-        (ap (λ ps. waiting (chosen image b w).lanes.channels pair ++ in_channel pair ps) sends
-        ∙ stepped image a (chosen image b w) a_enabled a_last pair
-        ∙ ap (λ ss. ss ++ waiting (chosen image a (chosen image b w)).lanes.channels pair) (sym (takes_alike a w (chosen image b w) pair heeded)))
-        (puts_case (cases_eq pair.0 (actor a))) (takes_case (cases_eq pair.1 (actor a)))
-      where
-        puts_case : (pair.0 ≡ actor a) ⊎ (pair.0 ≢ actor a) → (in_channel pair (posts image a w) ≡ []) ⊎ (in_channel pair (posts image b w) ≡ [])
-        puts_case (inl e) = inr (sends_none image b w pair (λ f. apart (sym e ∙ f)))
-        puts_case (inr other) = inl (sends_none image a w pair other)
+      b_count : length (chosen image b w).processes ≡ length (chosen image b (chosen image a w)).processes
+      b_count = after_count b w (chosen image a w) (coming image b w) (sym a_kept.count) ∙ ap (λ x. length (after b (chosen image a w) x).processes) b_again
 
-        takes_case : (pair.1 ≡ actor a) ⊎ (pair.1 ≢ actor a) → (takes a w pair ≡ []) ⊎ (takes b w pair ≡ [])
-        takes_case (inl e) = inr (takes_none b w pair (λ f. apart (sym e ∙ f)))
-        takes_case (inr other) = inl (takes_none a w pair other)
+      b_output : (chosen image b w).lanes.output ≡ (chosen image b (chosen image a w)).lanes.output
+      b_output = after_shows b w (chosen image a w) (coming image b w) (sym a_kept.output) ∙ ap (λ x. (after b (chosen image a w) x).lanes.output) b_again
 
-    commute : chosen image b (chosen image a w) ≡ chosen image a (chosen image b w)
-    commute =
-        same_state (chosen image b (chosen image a w)) (chosen image a (chosen image b w))
-        (same_everywhere (chosen image b (chosen image a w)).processes (chosen image a (chosen image b w)).processes as_many (λ k h. same_life k))
-        (same_channels (chosen image b (chosen image a w)).lanes.channels (chosen image a (chosen image b w)).lanes.channels same_row)
-        (sym b_acts.output ∙ sym (chosen_kept image a (chosen image b w) last_a).output)
-        (b_runs ∙ sym a_last)
+      -- channel by channel
+      same_row : (pair : ℕ × ℕ) → waiting (chosen image b (chosen image a w)).lanes.channels pair ≡ waiting (chosen image a (chosen image b w)).lanes.channels pair
+      same_row pair =
+          let x = coming image a w in
+          let y = coming image b w in
+          let va = chosen image a w in
+          let vb = chosen image b w in
+          both_rows (waiting w.lanes.channels pair) (waiting va.lanes.channels pair) (waiting vb.lanes.channels pair)
+          (waiting (chosen image b va).lanes.channels pair) (waiting (chosen image a vb).lanes.channels pair)
+          (put_by a pair x) (put_by b pair y) (taken_by a pair w.lanes.channels x) (taken_by b pair w.lanes.channels y)
+          (came a w pair x (able_of w a can_a))
+          (ap (λ z. waiting va.lanes.channels pair ++ put_by b pair z) b_again
+          ∙ came b va pair (coming image b va) (able_of va b b_enabled)
+          ∙ ap (λ ss. ss ++ waiting (chosen image b va).lanes.channels pair) (ap (taken_by b pair va.lanes.channels) (sym b_again) ∙ sym (takes_alike b pair w.lanes.channels va.lanes.channels y b_finds.signal)))
+          (came b w pair y (able_of w b can_b))
+          (ap (λ ss. waiting vb.lanes.channels pair ++ ss) (sends pair)
+          ∙ came a vb pair (coming image a vb) (able_of vb a a_enabled)
+          ∙ ap (λ ss. ss ++ waiting (chosen image a vb).lanes.channels pair) (sym (takes pair)))
+          (puts_case (cases_eq pair.0 (actor a))) (takes_case (cases_eq pair.1 (actor a)))
+        where
+          puts_case : (pair.0 ≡ actor a) ⊎ (pair.0 ≢ actor a) → (put_by a pair (coming image a w) ≡ []) ⊎ (put_by b pair (coming image b w) ≡ [])
+          puts_case (inl e) = inr (puts_none b pair (coming image b w) (λ f. apart (sym e ∙ f)))
+          puts_case (inr other) = inl (puts_none a pair (coming image a w) other)
 
-    no_run_is_local : (a b : Choice) → IsLocal image w a → one_is_local image w a b ≡ true
-    no_run_is_local (Run p) (Run q) idle = ap (λ t. t || runs_local image q w) idle
-    no_run_is_local (Run p) (Deliver q r) idle = refl
-    no_run_is_local (Run p) (Expire q) idle = refl
-    no_run_is_local (Deliver p q) b idle = refl
-    no_run_is_local (Expire p) b idle = refl
+          takes_case : (pair.1 ≡ actor a) ⊎ (pair.1 ≢ actor a) → (taken_by a pair w.lanes.channels (coming image a w) ≡ []) ⊎ (taken_by b pair w.lanes.channels (coming image b w) ≡ [])
+          takes_case (inl e) = inr (takes_none b pair w.lanes.channels (coming image b w) (λ f. apart (sym e ∙ f)))
+          takes_case (inr other) = inl (takes_none a pair w.lanes.channels (coming image a w) other)
 
-    pub may_exchange : AreIndependent image w a b
-    may_exchange = record {
-      first_enabled = can_a;
-      second_enabled = can_b;
-      first_runs = a_runs;
-      second_applied = b_enabled;
-      second_runs = b_runs;
-      apart = apart;
-      local = no_run_is_local a b no_a;
-      same = one_then image a b w can_a b_enabled ∙ commute ∙ sym (one_then image b a w can_b a_enabled);
-    }
+      commute : chosen image b (chosen image a w) ≡ chosen image a (chosen image b w)
+      commute =
+          same_state (chosen image b (chosen image a w)) (chosen image a (chosen image b w))
+          (same_everywhere (chosen image b (chosen image a w)).processes (chosen image a (chosen image b w)).processes (sym b_count ∙ sym a_after.count) (λ k h. same_life k))
+          (same_channels (chosen image b (chosen image a w)).lanes.channels (chosen image a (chosen image b w)).lanes.channels same_row)
+          (sym b_output ∙ sym a_after.output)
+          (b_runs ∙ sym a_last)
 
-  -- where the other leaves the process of the local one as it was
-  module _ (stays : (v : State) → length v.processes ≡ length w.processes → slice_get (chosen image b v).processes (actor a) ≡ slice_get v.processes (actor a)) where
-    a_finds : Finds a w (chosen image b w)
-    a_finds = finds_again image b a w (stays w refl) flipped can_b b_first can_a
+      is_local : (a b : Choice) → IsLocal image w a → one_is_local image w a b ≡ true
+      is_local (Run p) (Run q) idle = ap (λ t. t || runs_local image q w) idle
+      is_local (Run p) (Deliver q r) idle = refl
+      is_local (Run p) (Expire q) idle = refl
+      is_local (Deliver p q) b idle = refl
+      is_local (Expire p) b idle = refl
 
-    a_alike : EndsAlike (actor a) (chosen image a w) (chosen image a (chosen image b w))
-    a_alike = chosen_alike image a w (chosen image b w) no_a a_finds (able_of w a can_a)
+      pub may_exchange : AreIndependent image w a b
+      may_exchange = record {
+        first_enabled = can_a;
+        second_enabled = can_b;
+        first_runs = a_runs;
+        second_applied = b_enabled;
+        second_runs = b_runs;
+        apart = apart;
+        local = is_local a b no_a;
+        same = one_then image a b w can_a b_enabled ∙ commute ∙ sym (one_then image b a w can_b a_enabled);
+      }
 
-    pub unmoved : AreIndependent image w a b
-    unmoved =
-        may_exchange (local_again image a w (chosen image b w) a_finds no_a)
-        (can_from (chosen image b w) a b_first (sym (able_alike a w (chosen image b w) a_finds) ∙ able_of w a can_a))
-        (sym a_alike.trap ∙ a_runs)
-        (stays (chosen image a w) (chosen_kept image a w no_a).count ∙ a_alike.life)
-        (posts_alike image a w (chosen image b w) no_a a_finds) a_finds.signal
+    -- where the other leaves the process of the local one as it was
+    module _ (stays : (v : State) → length v.processes ≡ length w.processes → slice_get (chosen image b v).processes (actor a) ≡ slice_get v.processes (actor a)) where
+      a_finds : Finds a w (chosen image b w)
+      a_finds = finds_again image b a w (stays w refl) flipped can_b can_a
+
+      a_again : coming image a w ≡ coming image a (chosen image b w)
+      a_again = local_coming image a w (chosen image b w) no_a a_finds
+
+      pub unmoved : AreIndependent image w a b
+      unmoved =
+          may_exchange (local_again image a w (chosen image b w) a_finds no_a)
+          (can_from (chosen image b w) a b_first (sym (able_alike a w (chosen image b w) a_finds) ∙ able_of w a can_a))
+          (sym (trap_alike image a w (chosen image b w) can_a a_again) ∙ a_runs)
+          (stays (chosen image a w) a_kept.count ∙ calm_here a w (chosen image b w) (coming image a w) (local_calm image a w no_a) a_finds.life
+          ∙ ap (λ x. slice_get (after a (chosen image b w) x).processes (actor a)) a_again)
+          (λ pair. ap (put_by a pair) a_again)
+          (λ pair. takes_alike a pair w.lanes.channels (chosen image b w).lanes.channels (coming image a w) a_finds.signal ∙ ap (taken_by a pair (chosen image b w).lanes.channels) a_again)
 
 -- a choice that is no run is local
 pub no_run_local : (image : Loaded) (c : Choice) (w : State) → IsNoRun c → IsLocal image w c

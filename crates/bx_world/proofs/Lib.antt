@@ -9,7 +9,7 @@ pub mod Running
 pub mod Batches
 pub mod Many
 pub mod Undoing
-pub mod Keeping
+pub mod Deeds
 pub mod Applying
 pub mod Growing
 pub mod Halting
@@ -19,8 +19,6 @@ pub mod Arriving
 pub mod Confined
 pub mod Entering
 pub mod Own
-pub mod Alike
-pub mod Beside
 pub mod Commuting
 pub mod Orders
 pub mod Children

@@ -11,8 +11,7 @@ use Rattle.bx_world.specs.Choosing.{chosen}
 use Rattle.bx_world.specs.Posting.{behind, all_behind}
 use Rattle.bx_world.specs.Independent.{runs_local, one_is_local, AreIndependent, IsLocal}
 use Rattle.bx_world.proofs.Confined.{chosen_confined}
-use Rattle.bx_world.proofs.Commuting.{able_of, can_from, chosen_kept, first_stays, may_within, one_then, finds_again, acts, untouched, beside_any}
-use Rattle.bx_world.proofs.Alike.{chosen_alike}
+use Rattle.bx_world.proofs.Commuting.{able_of, can_from, local_coming, trap_alike, b_trap, first_stays, may_within, one_then, finds_again, untouched, beside_any}
 
 -- a choice stays enabled behind one of another actor that does not trap
 pub stays_enabled : (image : Loaded) (c d : Choice) (w : State) → actor c ≢ actor d → can w c ≡ true → (chosen image c w).trap ≡ None → can w d ≡ true → can (chosen image c w) d ≡ true
@@ -21,7 +20,7 @@ stays_enabled image c (Run p) w apart enabled runs also =
     can_from (chosen image c w) (Run p) runs (ap (may_at may_run) ((chosen_confined image c w).2 p (λ e. apart (sym e)) (may_within may_run w p may)) ∙ may)
 stays_enabled image c (Deliver p q) w apart enabled runs also =
     let may = able_of w (Deliver p q) also in
-    can_from (chosen image c w) (Deliver p q) runs (ap (λ o. is_some o) (first_stays image c w enabled runs (p, q) (λ e. apart (sym e)) may) ∙ may)
+    can_from (chosen image c w) (Deliver p q) runs (ap (λ o. is_some o) (first_stays image c w enabled (p, q) (λ e. apart (sym e)) may) ∙ may)
 stays_enabled image c (Expire p) w apart enabled runs also =
     let may = able_of w (Expire p) also in
     can_from (chosen image c w) (Expire p) runs (ap (may_at may_expire) ((chosen_confined image c w).2 p (λ e. apart (sym e)) (may_within may_expire w p may)) ∙ may)
@@ -84,9 +83,6 @@ module _ (image : Loaded) (w : State) (a b : Choice) (is : AreIndependent image 
 pub any_beside : (image : Loaded) (b a : Choice) (w : State) → IsLocal image w a → actor a < length w.processes → actor b ≢ actor a → can w b ≡ true → can w a ≡ true → (chosen image b w).trap ≡ None → (chosen image a (chosen image b w)).trap ≡ None → AreIndependent image w b a
 any_beside image b a w local there apart can_b can_a b_runs a_last =
     let flipped : actor a ≢ actor b = λ e. apart (sym e) in
-    let kept = chosen_kept image a w local in
-    let a_finds = finds_again image b a w (untouched image b w w (actor a) flipped there refl) apart can_b b_runs can_a in
-    let a_runs : (chosen image a w).trap ≡ None = (chosen_alike image a w (chosen image b w) local a_finds (able_of w a can_a)).trap ∙ a_last in
-    let b_finds = finds_again image a b w (kept.others (actor b) apart) flipped can_a a_runs can_b in
-    let b_acts = acts image b w (chosen image a w) b_finds (sym kept.count) (sym kept.output) can_b in
-    either_way image w a b (beside_any image a b w local there flipped can_a can_b a_runs (sym b_acts.trap ∙ b_runs))
+    let finds = finds_again image b a w (untouched image b w w (actor a) flipped there refl) apart can_b can_a in
+    let a_runs : (chosen image a w).trap ≡ None = trap_alike image a w (chosen image b w) can_a (local_coming image a w (chosen image b w) local finds) ∙ a_last in
+    either_way image w a b (beside_any image a b w local there flipped can_a can_b a_runs (sym (b_trap image a b w local flipped can_a can_b) ∙ b_runs))

@@ -10,9 +10,10 @@ use Rattle.bx_world.specs.declared.lanes.Lanes.{Lanes}
 use Rattle.bx_world.specs.declared.turns.Turn.{Turn}
 use Rattle.bx_world.specs.declared.turns.Turn.TheVariants as turns
 use Rattle.bx_world.specs.World.{Life, State}
-use Rattle.bx_world.specs.Enabled.{can, actor}
+use Rattle.bx_world.specs.Enabled.{can}
 use Rattle.bx_world.specs.Lifetimes.{Among, lives_run, lives_told, lives_expired}
 use Rattle.bx_world.specs.Spawning.{lives_spawned}
+use Rattle.bx_world.specs.Changes.{coming, after}
 
 -- a run may ask for a spawn
 abbrev pub spawned_too : Loaded → ℕ → Result Among Fault → Result Among Fault
@@ -32,13 +33,9 @@ trap_of p turn = None
 abbrev pub world_of : ℕ → Among → State
 world_of p (w, turn) = record { processes = w.0; lanes = w.1; trap = trap_of p turn }
 
--- an enabled choice; any other changes nothing
-abbrev pub made_or : ℕ → State → Result Among Fault → State
-made_or p w (Ok among) = world_of p among
-made_or p w (Err fault) = w
-
+-- an enabled choice is applied; any other changes nothing
 abbrev pub chosen : Loaded → Choice → State → State
-chosen image choice w = made_or (actor choice) w (made image choice w.processes w.lanes)
+chosen image choice w = after choice w (coming image choice w)
 
 -- why a choice is refused: the world has trapped, else the choice is not enabled
 abbrev pub refusal : State → Choice → Option Fault

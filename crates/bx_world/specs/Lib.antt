@@ -9,6 +9,8 @@ pub mod Enabled
 pub mod Lifetimes
 pub mod Spawning
 pub mod Acting
+pub mod Deeds
+pub mod Changes
 pub mod Choosing
 pub mod Batches
 pub mod Running

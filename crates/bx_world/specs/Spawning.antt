@@ -20,8 +20,8 @@ use Rattle.bx_world.specs.Asking.{Done, whole, closing}
 use Rattle.bx_world.specs.Lifetimes.{Lived, Among, lived, at_life}
 
 -- no more than 1,024 processes, those that have ended among them, and no more than 255 arguments
-abbrev pub past_limits : SpawnRequest → List Life → Bool
-past_limits spawn lives = nat_le 1024 (length lives) || nat_lt 255 (length spawn.arguments)
+abbrev pub past_limits : SpawnRequest → ℕ → Bool
+past_limits spawn count = nat_le 1024 count || nat_lt 255 (length spawn.arguments)
 
 abbrev pub system_limit : Answer
 system_limit = answers.Fault Error (atom SYSTEM_LIMIT.0)
@@ -59,4 +59,4 @@ lives_with_child image p spawn lanes lives =
     childless_at_trap lives lanes (lives_answered image p (other_if spawn.linked (length lives)) (answers.Value (pid (length lives))) lanes (lives ++ Live (new_child image p spawn) ∷ []))
 
 abbrev pub lives_spawned : Loaded → ℕ → SpawnRequest → Lanes → List Life → Result Among Fault
-lives_spawned image p spawn lanes lives = if past_limits spawn lives then lives_answered image p None system_limit lanes lives else lives_with_child image p spawn lanes lives
+lives_spawned image p spawn lanes lives = if past_limits spawn (length lives) then lives_answered image p None system_limit lanes lives else lives_with_child image p spawn lanes lives

@@ -12,7 +12,7 @@ use Rattle.bx_world.specs.Acting.{lives_acted}
 use Rattle.bx_world.specs.Spawning.{other_if, new_child, lives_answered, childless_at_trap, lives_with_child}
 use Rattle.bx_world.proofs.Acted.{spawned_is}
 use Rattle.bx_world.proofs.Changing.{err_through}
-use Rattle.bx_world.proofs.Keeping.{lives_answered_kept}
+use Rattle.bx_world.proofs.Applying.{answered_kept}
 use Rattle.bx_world.proofs.Growing.{popped, grown_trapped}
 use Rattle.bx_world.proofs.procs.Procs.add_child.Goals as goal
 
@@ -35,7 +35,7 @@ returns-in-Ok-Trapped g c =
     ap (λ (m : ℕ). childless_at_trap lives l (lives_answered image p (other_if spawn.linked m) (Value (pid m)) l (lives ++ Live child ∷ []))) (sym count)
     ∙ ap (λ (more : List Life). childless_at_trap lives l (lives_answered image p (other_if spawn.linked k) (Value (pid k)) l more)) (sym pushed) in
     whole
-    ∙ grown_trapped lives c.push.new.self c.act.new.self (Live child) l n kind r pushed (lives_answered_kept image p (other_if spawn.linked k) (Value (pid k)) l c.push.new.self)
+    ∙ grown_trapped lives c.push.new.self c.act.new.self (Live child) l n kind r pushed (answered_kept image p (other_if spawn.linked k) (Value (pid k)) l c.push.new.self)
     (sym (spawned_is image p k spawn.linked l c.push.new.self) ∙ c.in-Ok-Trapped.ensures ∙ ap (λ (t : Turn). Ok ((c.act.new.self, n), t)) c.in-Ok-Trapped.field-0-is)
     ∙ ap (λ (more : List Life). Ok ((more, n), Trapped kind)) (sym c.pop.ensures)
 
