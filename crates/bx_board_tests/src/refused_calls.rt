@@ -128,7 +128,7 @@ fn finished_again(alloc: Global, image: &Image, book: Book<'_>) -> Result<String
 }
 
 /// A book with chains that are not done, as it comes back where it is to end; none where it ended.
-fn unfinished<'a>(alloc: Global, book: Book<'a>) -> Result<Option<Book<'a>>, Fault> {
+pub fn unfinished<'a>(alloc: Global, book: Book<'a>) -> Result<Option<Book<'a>>, Fault> {
     match book.finish(alloc) {
         Ok(_) => Ok(None),
         Err((fault, book)) => match fault {
