@@ -207,20 +207,6 @@ fn ends_are_told_to_links(rt: HostRuntime) -> Result<(), Fail> {
     Ok(())
 }
 
-/// Process 0 gives up the link to process 1, which ends: the exit that comes is dropped, and the unlink finds nobody.
-#[test]
-fn an_exit_of_no_link_is_dropped(rt: HostRuntime) -> Result<(), Fail> {
-    let rest = "{call_ext,1,{extfunc,erlang,unlink,1}}. {label,5}. {wait,{f,5}}.";
-    let parent = spawning(rt.alloc(), "spawn_link", rest)?;
-    let child = "{move,{atom,kill},{x,0}}. {call_ext_only,1,{extfunc,erlang,exit,1}}.";
-    let report = report_of(rt.alloc(), parent.as_str(), child, "r0*6 r1*2 d1>0 d0>1")?;
-    assert!(rt;
-        report.as_str()
-            == "applied 10\nstate quiet\nprocess <0.0.0> waiting\nprocess <0.1.0> ended kill\nend\n"
-    );
-    Ok(())
-}
-
 /// A list as high as a term may be, so that none holds it beside a pid.
 fn highest(alloc: Global) -> Result<String, AllocError> {
     let mut list = String::from_str(alloc, "[a")?;

@@ -114,7 +114,13 @@ const TRAPPED: [Row<'static>; 8] = [
 ];
 
 /// Behind nine runs process 0 stands at item 12, and process 1 is there.
-const AT_12: Stop = Stop::Break(0, Place { module: 0, item: 12 });
+const AT_12: Stop = Stop::Break(
+    0,
+    Place {
+        module: 0,
+        item: 12,
+    },
+);
 
 /// Choices 10 to 12 are runs of 1, 0 and 0, each of an instruction that concerns its process alone; choice 9 spawns process 1.
 const SWAPPED: [Row<'static>; 12] = [
