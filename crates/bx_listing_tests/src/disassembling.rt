@@ -47,6 +47,33 @@ fn units_are_spelled_back(rt: HostRuntime) -> Result<(), Fail> {
     Ok(())
 }
 
+/// An annotation, a register with its type, and a line with its place, which no code has.
+const ANNOTATED: &str =
+    "{move,{tr,{x,0},{t_integer,{0,'+inf'}}},{x,1}}. {'%',{var_info,{x,0},#{a => 1.5}}}. {line,[{location,\"a.erl\",3}]}. return.";
+
+/// The same code, as it is written.
+const PLAIN: &str = "{move,{x,0},{x,1}}. {line,[]}. return.";
+
+/// Whether a module with the first items is spelled back to the code of one with the second, from its unit and from its image.
+fn is_spelled(alloc: Global, items: &str, want: &str) -> Result<bool, Fault> {
+    let (text, want) = (module(alloc, items)?, module(alloc, want)?);
+    let (_, plain) = read(alloc, want.as_str())?;
+    let code = code_of(alloc, &plain)?;
+    let (_, listing) = read(alloc, text.as_str())?;
+    let image = image(alloc, &[text.as_str()])?;
+    let Some(of_image) = disassemble_image(alloc, &image, atom(&image, "m"))? else {
+        return Ok(false);
+    };
+    Ok(spelled_back(alloc, &listing)?.same(&code) && of_image.same(&code))
+}
+
+#[test]
+fn units_and_images_are_spelled_alike(rt: HostRuntime) -> Result<(), Fail> {
+    assert!(rt; is_spelled(rt.alloc(), ANNOTATED, PLAIN)?);
+    assert!(rt; is_spelled(rt.alloc(), FORMS, FORMS)?);
+    Ok(())
+}
+
 /// How many functions, and how many items in all of them, the module of that name has in the image.
 fn counted(alloc: Global, image: &Image, name: &str) -> Result<Option<(usize, usize)>, Fault> {
     let Some(code) = disassemble_image(alloc, image, atom(image, name))? else {

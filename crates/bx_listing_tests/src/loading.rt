@@ -72,37 +72,52 @@ fn sameness_of_images(rt: HostRuntime) -> Result<(), Fail> {
     Ok(())
 }
 
-/// The number of the refusal of these modules, and how many were handed back; 0 where they are loaded.
-fn refusal(alloc: Global, texts: &[&str]) -> Result<(u8, usize), Fault> {
+/// The number of the refusal of these modules, how many were handed back, and whether this atom was; 0 where they are loaded.
+fn refusal(alloc: Global, texts: &[&str], atom: &str) -> Result<(u8, usize, bool), Fault> {
     match loaded(alloc, texts)? {
-        Ok(_) => Ok((0, 0)),
+        Ok(_) => Ok((0, 0, false)),
         Err(refused) => {
             let number = refused.fault.number().ok_or(Fault::Memory)?;
-            Ok((number, refused.units.len()))
+            let is_there = refused.atoms.find(atom).is_some();
+            Ok((number, refused.units.len(), is_there))
         }
     }
 }
 
-fn repeated(
-    alloc: Global,
-    text: &'static str,
-    times: usize,
-) -> Result<Vec<&'static str>, AllocError> {
+/// So many modules of different names, or all of one.
+fn modules(alloc: Global, count: u32, differ: bool) -> Result<Vec<String>, AllocError> {
     let mut texts = Vec::new(alloc);
-    for _ in 0..times {
-        texts.push(text)?;
+    for number in 0..count {
+        let number = if differ { number } else { 0 };
+        texts.push(format!(in alloc; "{{module,m{number}}}. {{exports,[]}}. {{labels,1}}.")?)?;
     }
     Ok(texts)
+}
+
+/// What is told of so many modules, as of rows.
+fn refusal_of(
+    alloc: Global,
+    count: u32,
+    differ: bool,
+    atom: &str,
+) -> Result<(u8, usize, bool), Fault> {
+    let texts = modules(alloc, count, differ)?;
+    let mut rows = Vec::new(alloc);
+    for text in &texts {
+        rows.push(text.as_str())?;
+    }
+    refusal(alloc, rows.as_slice(), atom)
 }
 
 #[test]
 fn modules_that_cannot_be_loaded(rt: HostRuntime) -> Result<(), Fail> {
     let missing = "{module,o}. {exports,[{f,1}]}. {labels,2}. {function,f,0,1}. {label,1}.";
-    assert!(rt; refusal(rt.alloc(), &[missing])? == (18, 1));
-    assert!(rt; refusal(rt.alloc(), &[missing, M, missing])? == (17, 3));
-    let most = repeated(rt.alloc(), M, 64)?;
-    assert!(rt; refusal(rt.alloc(), &most)? == (17, 64));
-    let over = repeated(rt.alloc(), M, 65)?;
-    assert!(rt; refusal(rt.alloc(), &over)? == (19, 65));
+    let alloc = rt.alloc();
+    assert!(rt; refusal(alloc, &[missing], "o")? == (18, 1, true));
+    assert!(rt; refusal(alloc, &[missing, M, missing], "m")? == (17, 3, true));
+    assert!(rt; refusal_of(alloc, 64, true, "m63")? == (0, 0, false));
+    assert!(rt; refusal_of(alloc, 65, true, "m64")? == (19, 65, true));
+    assert!(rt; refusal_of(alloc, 64, false, "m0")? == (17, 64, true));
+    assert!(rt; refusal_of(alloc, 65, false, "m0")? == (19, 65, true));
     Ok(())
 }

@@ -3,7 +3,18 @@
 use crate::samples::{HELLO, LOOP, QUOTED, Row, TRAPS, refused_lines, right_rows};
 use std::test::Fail;
 
-const IN_ORDER: [Row<'static>; 13] = [
+/// Module `m`, whose `f/0` adds 1 to the greatest integer.
+const ADDS: &str = "{module,m}. {exports,[{f,0}]}. {attributes,[]}. {labels,9}.
+{function,f,0,2}. {label,1}. {func_info,{atom,m},{atom,f},0}. {label,2}.
+{gc_bif,'+',{f,0},0,[{integer,9223372036854775807},{integer,1}],{x,0}}. return.";
+
+/// Module `m`, whose `f/0` waits for a message for no time, and shows `late` where none comes.
+const LATE: &str = "{module,m}. {exports,[{f,0}]}. {attributes,[]}. {labels,9}.
+{function,f,0,2}. {label,1}. {func_info,{atom,m},{atom,f},0}. {label,2}.
+{label,3}. {loop_rec,{f,4},{x,0}}. remove_message. {call_ext_only,1,{extfunc,erlang,display,1}}.
+{label,4}. {wait_timeout,{f,3},{integer,0}}. timeout. {move,{atom,late},{x,0}}. {call_ext_only,1,{extfunc,erlang,display,1}}.";
+
+const IN_ORDER: [Row<'static>; 16] = [
     (
         LOOP,
         "m:f",
@@ -16,6 +27,19 @@ const IN_ORDER: [Row<'static>; 13] = [
         "step r0\nbreak m:4\nstep r0\nstep r0\ngo r0\ngo\nshow\nback 1\nback 1\nforward 2\nback 1\nshow",
         "at 1 of 1\nok\nat 2 of 2\nrefused R21 Halted line 4\nat 2 of 2: trapped Unset <0.0.0>\nat 2 of 2: done\napplied 2\nstate trapped Unset <0.0.0>\nprocess <0.0.0> ready\nend\nat 1 of 2\nat 0 of 2\nat 2 of 2\nat 1 of 2\napplied 1\nstate open r0\nprocess <0.0.0> ready\nend\n",
     ),
+    (
+        ADDS,
+        "m:f",
+        "step r0\nstep r0\n",
+        "at 1 of 1\nrefused R21 Halted line 2\n",
+    ),
+    (
+        ADDS,
+        "m:f",
+        "step r0\ngo r0\nstep r0\ngo\n",
+        "at 1 of 1\nat 1 of 1: trapped IntegerRange <0.0.0>\nrefused R21 Halted line 3\nat 1 of 1: done\n",
+    ),
+    (LATE, "m:f", "go r0*2 e0\n", "at 3 of 3: done\n"),
     (
         QUOTED,
         "'k k':f",

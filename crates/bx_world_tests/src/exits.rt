@@ -2,7 +2,7 @@
 
 use crate::reports::{IDLE, TRAPS, WAITS, report_of, spawning};
 use bx_terms::Fault;
-use std::alloc::Global;
+use std::alloc::{AllocError, Global};
 use std::test::Fail;
 
 /// exit(Child, Reason) by process 0, as far as the six runs that every row begins with.
@@ -207,34 +207,71 @@ fn ends_are_told_to_links(rt: HostRuntime) -> Result<(), Fail> {
     Ok(())
 }
 
-/// Process 0 gives up the link to process 1, which ends: the exit that comes is dropped, and the unlink finds nobody.
+/// A list as high as a term may be, so that none holds it beside a pid.
+fn highest(alloc: Global) -> Result<String, AllocError> {
+    let mut list = String::from_str(alloc, "[a")?;
+    for _ in 1..10_000 {
+        list.push_str(",a")?;
+    }
+    list.push_str("]")?;
+    Ok(list)
+}
+
+/// The report of a caller that spawns a child which traps exits by that native, and whose items have the list in the middle.
+fn report_of_highest(
+    alloc: Global,
+    native: &str,
+    (before, behind): (&str, &str),
+    choices: &str,
+) -> Result<String, Fault> {
+    let list = highest(alloc)?;
+    let rest = format!(in alloc; "{before}{list}{behind}")?;
+    let parent = spawning(alloc, native, rest.as_str())?;
+    report_of(alloc, parent.as_str(), TRAPS, choices)
+}
+
+/// The delivery of an exit signal with such a reason to a process that traps exits is a trap.
 #[test]
-fn an_exit_of_no_link_is_dropped(rt: HostRuntime) -> Result<(), Fail> {
-    let rest = "{call_ext,1,{extfunc,erlang,unlink,1}}. {label,5}. {wait,{f,5}}.";
-    let parent = spawning(rt.alloc(), "spawn_link", rest)?;
-    let child = "{move,{atom,kill},{x,0}}. {call_ext_only,1,{extfunc,erlang,exit,1}}.";
-    let report = report_of(rt.alloc(), parent.as_str(), child, "r0*6 r1*2 d1>0 d0>1")?;
+fn a_reason_too_high_for_a_message(rt: HostRuntime) -> Result<(), Fail> {
+    let items = (
+        "{move,{literal,",
+        "},{x,1}}. {call_ext,2,{extfunc,erlang,exit,2}}. return.",
+    );
+    let report = report_of_highest(rt.alloc(), "spawn", items, "r0*6 r1*3 d0>1")?;
     assert!(rt;
         report.as_str()
-            == "applied 10\nstate quiet\nprocess <0.0.0> waiting\nprocess <0.1.0> ended kill\nend\n"
+            == "applied 10\nstate trapped TermHeight <0.1.0>\nprocess <0.0.0> ready\nprocess <0.1.0> ready\nend\n"
     );
     Ok(())
 }
 
-/// An exit signal whose reason is so high that no term holds it beside a pid: the delivery to a process that traps exits is a trap.
+/// So is that of the end of a process that is linked to it.
 #[test]
-fn a_reason_too_high_for_a_message(rt: HostRuntime) -> Result<(), Fail> {
-    let alloc = rt.alloc();
-    let mut rest = String::from_str(alloc, "{move,{literal,[a")?;
-    for _ in 1..10_000 {
-        rest.push_str(",a")?;
-    }
-    rest.push_str("]},{x,1}}. {call_ext,2,{extfunc,erlang,exit,2}}. return.")?;
-    let parent = spawning(alloc, "spawn", rest.as_str())?;
-    let report = report_of(alloc, parent.as_str(), TRAPS, "r0*6 r1*3 d0>1")?;
+fn an_end_too_high_for_a_message(rt: HostRuntime) -> Result<(), Fail> {
+    let items = (
+        "{move,{literal,",
+        "},{x,0}}. {call_ext_only,1,{extfunc,erlang,exit,1}}.",
+    );
+    let report = report_of_highest(rt.alloc(), "spawn_link", items, "r0*6 r1*3 d0>1")?;
+    let list = highest(rt.alloc())?;
+    let want = format!(in rt.alloc();
+        "applied 10\nstate trapped TermHeight <0.1.0>\nprocess <0.0.0> ended {list}\nprocess <0.1.0> ready\nend\n"
+    )?;
+    assert!(rt; report.as_str() == want.as_str());
+    Ok(())
+}
+
+/// And the run in which a process that traps exits tells itself of such an exit.
+#[test]
+fn an_exit_of_oneself_too_high_for_a_message(rt: HostRuntime) -> Result<(), Fail> {
+    let items = (
+        "{move,{atom,trap_exit},{x,0}}. {move,{atom,true},{x,1}}. {call_ext,2,{extfunc,erlang,process_flag,2}}. {bif,self,{f,0},[],{x,0}}. {move,{literal,",
+        "},{x,1}}. {call_ext,2,{extfunc,erlang,exit,2}}. return.",
+    );
+    let report = report_of_highest(rt.alloc(), "spawn", items, "r0*11")?;
     assert!(rt;
         report.as_str()
-            == "applied 10\nstate trapped TermHeight <0.1.0>\nprocess <0.0.0> ready\nprocess <0.1.0> ready\nend\n"
+            == "applied 10\nstate trapped TermHeight <0.0.0>\nprocess <0.0.0> ready\nprocess <0.1.0> ready\nend\n"
     );
     Ok(())
 }

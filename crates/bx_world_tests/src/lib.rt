@@ -8,7 +8,11 @@ mod arguments;
 #[cfg(test)]
 mod exits;
 #[cfg(test)]
+mod last_calls;
+#[cfg(test)]
 mod lines;
+#[cfg(test)]
+mod many;
 #[cfg(test)]
 mod memory;
 #[cfg(test)]

@@ -2,8 +2,10 @@
 
 use bx_load::Image;
 use bx_plan::read_choices;
+use bx_proc::Proc;
+use bx_share::RcHold;
 use bx_terms::Fault;
-use bx_world::{RcWorld, RunEnd, advance, outcome_text};
+use bx_world::{Lanes, RcWorld, RunEnd, advance, outcome_text};
 use bxemu_testkit::{atom, image};
 use std::alloc::Global;
 
@@ -44,11 +46,13 @@ pub fn image_of(alloc: Global, first: &str, second: &str) -> Result<Image, Fault
     image(alloc, &[text.as_str()])
 }
 
-/// The report's lines from `applied` to `end`, of these choices from the start of `f/0`.
-pub fn report_of(alloc: Global, first: &str, second: &str, choices: &str) -> Result<String, Fault> {
-    let image = image_of(alloc, first, second)?;
+/// What a run over one thread's holders comes to.
+pub type End = RunEnd<RcHold<Proc>, RcHold<Lanes>>;
+
+/// Where these choices lead from the start of `f/0` of a module.
+pub fn end_of(alloc: Global, image: &Image, module: &str, choices: &str) -> Result<End, Fault> {
     let mut end = RunEnd {
-        world: RcWorld::start(alloc, &image, atom(&image, "m"), atom(&image, "f"))?,
+        world: RcWorld::start(alloc, image, atom(image, module), atom(image, "f"))?,
         applied: 0,
         refused: None,
     };
@@ -56,9 +60,21 @@ pub fn report_of(alloc: Global, first: &str, second: &str, choices: &str) -> Res
     let choices = schedule.to_choices(alloc)?;
     for choice in &choices {
         if end.applied < u64::MAX {
-            advance(alloc, &mut end, &image, *choice)?;
+            advance(alloc, &mut end, image, *choice)?;
         }
     }
+    Ok(end)
+}
+
+/// The report's lines from `applied` to `end`.
+pub fn text_of(alloc: Global, image: &Image, end: &End) -> Result<String, Fault> {
     let outcome = end.world.outcome(alloc)?;
     outcome_text(alloc, image.atoms(), end.applied, end.refused, &outcome)
+}
+
+/// The same, of these choices from the start of `f/0`.
+pub fn report_of(alloc: Global, first: &str, second: &str, choices: &str) -> Result<String, Fault> {
+    let image = image_of(alloc, first, second)?;
+    let end = end_of(alloc, &image, "m", choices)?;
+    text_of(alloc, &image, &end)
 }

@@ -3,7 +3,7 @@
 //! A run of these tests in which one growth is refused shows besides that the session is as it was then, and that the call made again
 //! answers as its row says.
 
-use crate::samples::{LOOP, TRAPS, TWO};
+use crate::samples::{LOOP, TALK, TRAPS, TWO};
 use bx_debug::{Session, Stop};
 use bx_load::Image;
 use bx_plan::{Run, Schedule};
@@ -35,6 +35,7 @@ enum Act<'a> {
     GoOwn(usize),
     Set(u32),
     Clear(u32),
+    Swap(usize),
 }
 
 /// A call, the number of its refusal, why it stopped, and where the session stands then, of how many choices.
@@ -112,6 +113,31 @@ const TRAPPED: [Row<'static>; 8] = [
     (Act::Go(&[OWN]), 0, UNSET, 2, 2),
 ];
 
+/// Behind nine runs process 0 stands at item 12, and process 1 is there.
+const AT_12: Stop = Stop::Break(
+    0,
+    Place {
+        module: 0,
+        item: 12,
+    },
+);
+
+/// Choices 10 to 12 are runs of 1, 0 and 0, each of an instruction that concerns its process alone; choice 9 spawns process 1.
+const SWAPPED: [Row<'static>; 12] = [
+    (Act::Set(12), 0, Stop::Done, 0, 0),
+    (Act::GoOwn(9), 0, AT_12, 9, 9),
+    (Act::Step(Choice::Run(1)), 0, Stop::Done, 10, 10),
+    (Act::GoOwn(2), 0, Stop::Done, 12, 12),
+    (Act::Back(1), 0, Stop::Done, 11, 12),
+    (Act::Swap(10), 0, Stop::Done, 11, 12),
+    (Act::Swap(11), 27, Stop::Done, 11, 12),
+    (Act::Forward(1), 0, Stop::Done, 12, 12),
+    (Act::Swap(9), 27, Stop::Done, 12, 12),
+    (Act::Swap(11), 0, Stop::Done, 12, 12),
+    (Act::Swap(0), 27, Stop::Done, 12, 12),
+    (Act::Clear(12), 0, Stop::Done, 12, 12),
+];
+
 fn item(item: u32) -> Place {
     Place { module: 0, item }
 }
@@ -147,58 +173,63 @@ fn called(alloc: Global, session: &mut Session<'_>, act: Act<'_>) -> Result<(u8,
             session.clear_break(item(place));
             Ok(())
         }
+        Act::Swap(number) => session.swap(alloc, number),
     };
     Ok((number_of(done)?, Stop::Done))
 }
 
-/// Whether this is the world that so many runs of process 0 lead to.
-fn is_run(alloc: Global, image: &Image, world: &RcWorld, count: usize) -> Result<bool, Fault> {
+/// Whether a session shows the world that the choices before its position lead to.
+fn is_run(alloc: Global, image: &Image, session: &Session<'_>) -> Result<bool, Fault> {
+    let choices = session.schedule().to_choices(alloc)?;
     let mut other = RcWorld::start(alloc, image, atom(image, "m"), atom(image, "f"))?;
-    for _turn in 0..count {
-        other.apply(alloc, image, OWN)?;
+    for choice in choices.iter().take(session.at()) {
+        other.apply(alloc, image, *choice)?;
     }
-    Ok(world.same(&other))
+    Ok(session.world().same(&other))
 }
 
-/// Does a call, once more where memory ran out; and whether the session stood then as before.
+/// Does a call, once more where memory ran out; and whether the session stood then as one that has made just the calls before it.
 fn called_again(
     alloc: Global,
-    image: &Image,
     session: &mut Session<'_>,
+    before: &Session<'_>,
     act: Act<'_>,
 ) -> Result<((u8, Stop), bool), Fault> {
-    let (at, len) = (session.at(), session.len());
     match called(alloc, session, act) {
         Ok(answer) => Ok((answer, true)),
         Err(Fault::Memory) => {
-            let stayed = is_run(alloc, image, session.world(), at)?;
-            let stayed = stayed && session.at() == at && session.len() == len;
+            let stayed = session.same(before);
             Ok((called(alloc, session, act)?, stayed))
         }
         Err(fault) => Err(fault),
     }
 }
 
-/// Whether a row's call answers so, and the session shows the world of its choices behind it.
+/// Whether a row's call answers so, the session shows the world of its choices behind it, and another, which makes the same calls,
+/// is the same then.
 fn is_right(
     alloc: Global,
     image: &Image,
     session: &mut Session<'_>,
+    other: &mut Session<'_>,
     row: &Row<'_>,
 ) -> Result<bool, Fault> {
     let (act, number, stop, at, len) = *row;
-    let (answer, stayed) = called_again(alloc, image, session, act)?;
-    let shown = is_run(alloc, image, session.world(), at)?;
-    let stands = session.at() == at && session.len() == len;
-    Ok(answer == (number, stop) && stayed && stands && shown)
+    let (answer, stayed) = called_again(alloc, session, other, act)?;
+    let shown = is_run(alloc, image, session)?;
+    let again = called(alloc, other, act)?;
+    let stands = session.at() == at && session.len() == len && session.same(other);
+    Ok(answer == (number, stop) && again == answer && stayed && stands && shown)
 }
 
 /// How many rows, from the first on, are right.
 fn right_rows(alloc: Global, listing: &str, rows: &[Row<'_>]) -> Result<usize, Fault> {
     let image = image(alloc, &[listing])?;
-    let mut session = Session::new(alloc, &image, atom(&image, "m"), atom(&image, "f"))?;
+    let (module, function) = (atom(&image, "m"), atom(&image, "f"));
+    let mut session = Session::new(alloc, &image, module, function)?;
+    let mut other = Session::new(alloc, &image, module, function)?;
     for (number, row) in rows.iter().enumerate() {
-        if !is_right(alloc, &image, &mut session, row)? {
+        if !is_right(alloc, &image, &mut session, &mut other, row)? {
             return Ok(number);
         }
     }
@@ -235,5 +266,11 @@ fn an_ended_process_breaks_nowhere(rt: HostRuntime) -> Result<(), Fail> {
 #[test]
 fn a_trap_goes_before_a_break(rt: HostRuntime) -> Result<(), Fail> {
     assert_eq!(rt; right_rows(rt.alloc(), TRAPS, &TRAPPED)?, TRAPPED.len());
+    Ok(())
+}
+
+#[test]
+fn exchanges_leave_all_else(rt: HostRuntime) -> Result<(), Fail> {
+    assert_eq!(rt; right_rows(rt.alloc(), TALK, &SWAPPED)?, SWAPPED.len());
     Ok(())
 }

@@ -90,20 +90,15 @@ fn spawns_and_waits(rt: HostRuntime) -> Result<(), Fail> {
     Ok(())
 }
 
-/// The process of pid 1,023 is the last: a further spawn is the fault `system_limit`.
+/// The process of pid 1,023 is the last: behind it there is room for no other, and its spawner goes on.
 const SPAWNS_FOR_EVER: &str =
     "{label,5}. {move,{atom,m},{x,0}}. {move,{atom,g},{x,1}}. {move,nil,{x,2}}. {call_ext,3,{extfunc,erlang,spawn,3}}. {jump,{f,5}}.";
 
 #[test]
-fn no_more_than_1024_processes(rt: HostRuntime) -> Result<(), Fail> {
-    let alloc = rt.alloc();
-    let last = report_of(alloc, SPAWNS_FOR_EVER, "return.", "r0*5115")?;
+fn the_last_process_is_spawned(rt: HostRuntime) -> Result<(), Fail> {
+    let last = report_of(rt.alloc(), SPAWNS_FOR_EVER, "return.", "r0*5115")?;
     assert!(rt; last.as_str().contains("\nprocess <0.0.0> ready\n"));
-    let more = report_of(alloc, SPAWNS_FOR_EVER, "return.", "r0*5119")?;
-    assert!(rt;
-        more.as_str()
-            .contains("\nprocess <0.0.0> ended {system_limit,[]}\n")
-    );
+    assert!(rt; last.as_str().ends_with("\nprocess <0.1023.0> ready\nend\n"));
     Ok(())
 }
 
