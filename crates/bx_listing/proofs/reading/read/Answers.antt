@@ -13,23 +13,23 @@ use Rattle.bx_listing.proofs.Readings.{refuses_first, refuses_result, reads_same
 use Rattle.bx_listing.proofs.FormMemory.{refuses_wider, reads_wider}
 use Rattle.bx_listing.proofs.Heads.{listing-named, is_named}
 use Rattle.bx_listing.proofs.LocatedForms.{behind_first}
-use Rattle.bx_listing.proofs.reading.read_located.Goals as goal
+use Rattle.bx_listing.proofs.reading.read.Goals as goal
 
 pub returns-in_err-form-clause-read : goal.returns-in_err-form-clause-read
 returns-in_err-form-clause-read c =
     let p = err_from_is_err_and c.from_residual.result c.from_residual.ensures.1 in
-    let start = place_in c.args.text.now 0 in
-    let said = listings.taken (last_line c.args.text.now) (forms start) in
+    let start = place_in c.args.source.text.now 0 in
+    let said = listings.taken (last_line c.args.source.text.now) (forms start) in
     let takes : Type 0 = takes_memory start ⊎ listings.IsNamed (forms start) in
     let fault = c.in_err-form.field-0.0 in
-    let given : Gives {X = listings.Taken} (takes_memory start) (λ x. x) (Err fault) said = subst (λ q. Gives {X = listings.Taken} (takes_memory q) (λ x. x) (Err fault) (listings.taken (last_line c.args.text.now) (forms q))) c.at.ensures c.in_err-form.ensures in
-    rw (p.1, p.2) (refuses_first takes _ _ _ (from_result said) (listings.listing_from (last_line c.args.text.now)) (refuses_result (takes_memory start) takes _ _ said inl given))
+    let given : Gives {X = listings.Taken} (takes_memory start) (λ x. x) (Err fault) said = subst (λ q. Gives {X = listings.Taken} (takes_memory q) (λ x. x) (Err fault) (listings.taken (last_line c.args.source.text.now) (forms q))) c.at.ensures c.in_err-form.ensures in
+    rw (p.1, p.2) (refuses_first takes _ _ _ (from_result said) (listings.listing_from (last_line c.args.source.text.now)) (refuses_result (takes_memory start) takes _ _ said inl given))
 
 pub returns-in_err-name-clause-read : goal.returns-in_err-name-clause-read
 returns-in_err-name-clause-read c =
     let p = err_from_is_err_and c.from_residual-in_err-name.result c.from_residual-in_err-name.ensures.1 in
-    let start = place_in c.args.text.now 0 in
-    let last = last_line c.args.text.now in
+    let start = place_in c.args.source.text.now 0 in
+    let last = last_line c.args.source.text.now in
     let form = listings.taken_at c.in_ok-form.form (place c.in_ok-form.behind) in
     let taken : listings.taken last (forms start) ≡ Ok form = rw c.at.ensures at c.in_ok-form.ensures in
     let text = c.in-Some.«module».now in
@@ -41,8 +41,8 @@ returns-in_err-name-clause-read c =
 
 pub returns-clause-read : goal.returns-clause-read
 returns-clause-read c =
-    let start = place_in c.args.text.now 0 in
-    let last = last_line c.args.text.now in
+    let start = place_in c.args.source.text.now 0 in
+    let last = last_line c.args.source.text.now in
     let form = listings.taken_at c.in_ok-form.form (place c.in_ok-form.behind) in
     let taken : listings.taken last (forms start) ≡ Ok form = rw c.at.ensures at c.in_ok-form.ensures in
     let text = c.in-Some.«module».now in
@@ -53,9 +53,9 @@ returns-clause-read c =
     (reads_wider _ takes _ _ _ _ _ (λ h. inr (is_named last (forms start) form text taken is)) c.behind_name.ensures.read))
 
 pub returns-clause-located : goal.returns-clause-located
-returns-clause-located c =
-    let start = place_in c.args.text.now 0 in
-    let last = last_line c.args.text.now in
+returns-clause-located c asked =
+    let start = place_in c.args.source.text.now 0 in
+    let last = last_line c.args.source.text.now in
     let form = listings.taken_at c.in_ok-form.form (place c.in_ok-form.behind) in
     let taken : listings.taken last (forms start) ≡ Ok form = rw c.at.ensures at c.in_ok-form.ensures in
-    rw (behind_first last (forms start) form taken) c.behind_name.ensures.located
+    rw (behind_first last (forms start) form taken) (c.behind_name.ensures.located asked)
