@@ -25,7 +25,8 @@ use Rattle.bx_world.specs.declared.turns.Turn.{Turn}
 use Rattle.bx_world.specs.declared.turns.Turn.TheVariants as turns
 use Rattle.bx_world.specs.World.{Life, Live, Exited}
 use Rattle.bx_world.specs.Lifetimes.{Lived, lived, lived_if, exited_if, life_expired, put_back, at_life, told_at, lives_told, lives_expired, lost_if}
-use Rattle.bx_world.specs.Spawning.{other_if, system_limit, life_answered, lives_answered}
+use Rattle.bx_world.specs.Deeds.{other_if, system_limit}
+use Rattle.bx_world.specs.Spawning.{life_answered, lives_answered}
 use Rattle.bx_world.specs.Acting.{process_acted, exited_acted, missed, life_acted, acted_at, lives_acted, MayLack}
 use Rattle.bx_world.proofs.Changing.{does_through, err_through}
 
@@ -83,12 +84,6 @@ module _ (image : Loaded) (p : ℕ) where
       → life_acted image p act l (Live x) ≡ Ok ((Exited reason, m), turns.Ran)
   ended act x y l m reason is = of_live act l x ∙ ap lived_if is
 
-  pub live_refused : (act : Act) (x y : Process) (l m : Lanes) (takes : Type 0) (f : Fault) → Does {A = Turn} takes (x, l) (y, m) (Err f) (process_acted image p act l x)
-      → Does {A = Turn} takes (Live x, l) (Live y, m) (Err f) (life_acted image p act l (Live x))
-  live_refused act x y l m takes f h =
-      err_through takes takes (x, l) (y, m) (Live x, l) (Live y, m) f (process_acted image p act l x) (life_acted image p act l (Live x)) (λ t. t) (λ fault said. of_live act l x ∙ ap lived_if said)
-      (λ same. ap (λ (w : Process × Lanes). (Live w.0, w.1)) same) h
-
   pub exited_went : (act : Act) (reason : Tree) (l m : Lanes) → exited_acted act p l ≡ Ok (m, tt) → life_acted image p act l (Exited reason) ≡ Ok ((Exited reason, m), turns.Ran)
   exited_went act reason l m is = of_exited act l reason ∙ ap (exited_if reason) is
 
@@ -113,18 +108,6 @@ module _ (image : Loaded) (p : ℕ) where
       (λ same. let first = map-set_same f xs p y x (ap (λ (w : Life × Lanes). w.0) same ∙ ap f is) in let second = ap (λ (w : Life × Lanes). w.1) same in λ i. (first i, second i))
       did
 
-  -- and where there is none of that pid
-  pub missed_went : (act : Act) (lives : List Life) (l m : Lanes) → slice_get lives p ≡ None → missed act p l ≡ Ok (m, tt) → lives_acted image p act l lives ≡ Ok ((lives, m), turns.Ran)
-  missed_went act lives l m none is = ap (acted_at image p act l lives) none ∙ ap (lost_if lives) is
-
-  pub missed_refused : (act : Act) (lives : List Life) (l m : Lanes) (f : Fault) → slice_get lives p ≡ None → Does {A = Unit {0}} (MayLack act p l None) l m (Err f) (missed act p l)
-      → Does {A = Turn} (MayLack act p l (slice_get lives p)) (lives, l) (lives, m) (Err f) (lives_acted image p act l lives)
-  missed_refused act lives l m f none h =
-      err_through (MayLack act p l None) (MayLack act p l (slice_get lives p)) l m (lives, l) (lives, m) f (missed act p l) (lives_acted image p act l lives)
-      (λ takes. subst (λ o. MayLack act p l o) (sym none) takes)
-      (λ fault said. ap (acted_at image p act l lives) none ∙ ap (lost_if lives) said)
-      (λ same. ap (λ (n : Lanes). (lives, n)) same) h
-
   -- what each is among the others
   pub told_is : (q : ℕ) (l : Lanes) (lives : List Life) → lives_acted image p (Hear q) l lives ≡ lives_told q p l lives
   told_is q l lives = go (slice_get lives p)
@@ -144,12 +127,5 @@ module _ (image : Loaded) (p : ℕ) where
   spawned_is child linked l lives = go (slice_get lives p)
     where
       go : (o : Option Life) → acted_at image p (Spawned child linked) l lives o ≡ at_life (life_answered image p (other_if linked child) (Value (pid child)) l) p lives o
-      go None = refl
-      go (Some one) = refl
-
-  pub unspawned_is : (l : Lanes) (lives : List Life) → lives_acted image p Unspawned l lives ≡ lives_answered image p None system_limit l lives
-  unspawned_is l lives = go (slice_get lives p)
-    where
-      go : (o : Option Life) → acted_at image p Unspawned l lives o ≡ at_life (life_answered image p None system_limit l) p lives o
       go None = refl
       go (Some one) = refl

@@ -26,17 +26,17 @@ use Rattle.bx_world.specs.declared.requests.Request.TheVariants as requests
 use Rattle.bx_world.specs.declared.turns.Turn.{Turn}
 use Rattle.bx_world.specs.declared.turns.Turn.TheVariants as turns
 use Rattle.bx_world.specs.World.{Life, Live, Exited, State}
-use Rattle.bx_world.specs.Asking.{Done, whole, closing}
+use Rattle.bx_world.specs.Asking.{Done, whole, done}
 use Rattle.bx_world.specs.Turning.{runs}
 use Rattle.bx_world.specs.Delivering.{heard, exited_heard, lost}
 use Rattle.bx_world.specs.Enabled.{able, can, actor, may_at, may_run, may_expire}
 use Rattle.bx_world.specs.Lifetimes.{Among, lived, lived_if, exited_if, life_run, life_expired, put_back, at_life, lives_run, lost_if, told_at}
-use Rattle.bx_world.specs.Spawning.{past_limits, system_limit, other_if, linked_to, new_child, answering, life_answered, lives_answered, childless_at_trap, lives_with_child, lives_spawned}
+use Rattle.bx_world.specs.Spawning.{life_answered, lives_answered, childless_at_trap, lives_with_child, lives_spawned}
 use Rattle.bx_world.specs.Batches.{trap_in, tell, pinned, world_if}
 use Rattle.bx_world.specs.Choosing.{spawned_too, made, trap_of, world_of, unless_refused, chosen, applied}
-use Rattle.bx_world.specs.Deeds.{Deed, alone, closes, performs, instruction, signalled}
-use Rattle.bx_world.specs.Changes.{Coming, change, is_answered, spawned, run_turn, signal_change, run_coming, signal_coming, expire_coming, coming, after}
-use Rattle.bx_world.proofs.Deeds.{onto, closing_is, runs_is, heard_is, Spawns, asked, spawns, spawns_alone}
+use Rattle.bx_world.specs.Deeds.{Deed, alone, past_limits, system_limit, other_if, is_answered, new_child, instruction, signalled}
+use Rattle.bx_world.specs.Changes.{Coming, change, spawned, run_turn, signal_change, run_coming, signal_coming, expire_coming, coming, after}
+use Rattle.bx_world.proofs.Deeds.{Quiet, plain, Spawns, asked, spawns, spawns_alone}
 
 -- what stood at a place, put there again
 pub set_back : {A : Type 0} (xs : List A) (p : ℕ) (x : A) → slice_get xs p ≡ Some x → slice_set xs p x ≡ xs
@@ -55,16 +55,12 @@ Mirrors c w (Err fault) (Err none) = fault ≡ NotEnabled
 Mirrors c w (Ok among) (Err none) = ⊥
 Mirrors c w (Err fault) (Ok comes) = ⊥
 
-either : (c : Choice) (w : State) (b : Bool) (r s : Result Among Fault) (x y : Coming) → Mirrors c w r x → Mirrors c w s y → Mirrors c w (if b then r else s) (if b then x else y)
-either c w true r s x y h k = h
-either c w false r s x y h k = k
-
 -- a deed of a process that lives
 deed_mirrors : (c : Choice) (w : State) (x : Process) (d : Deed) → slice_get w.processes (actor c) ≡ Some (Live x)
-    → Mirrors c w (put_back (actor c) w.processes (Ok (lived (whole (x, w.lanes) (onto c w.lanes d))))) (Ok (change None d))
+    → Mirrors c w (put_back (actor c) w.processes (Ok (lived (whole (x, w.lanes) (done c w.lanes d))))) (Ok (change None d))
 deed_mirrors c w x d at = by_turn d.turn
   where
-    by_turn : (turn : Turn) → Mirrors c w (put_back (actor c) w.processes (Ok (lived (whole (x, w.lanes) (onto c w.lanes (record d { turn = turn })))))) (Ok (change None (record d { turn = turn })))
+    by_turn : (turn : Turn) → Mirrors c w (put_back (actor c) w.processes (Ok (lived (whole (x, w.lanes) (done c w.lanes (record d { turn = turn })))))) (Ok (change None (record d { turn = turn })))
     by_turn turns.Ran = refl
     by_turn (turns.Ended reason) = refl
     by_turn (turns.Trapped kind) = ap (λ (lives : List Life). record w { processes = lives; trap = Some (kind, actor c) }) (set_back w.processes (actor c) (Live x) at)
@@ -72,10 +68,10 @@ deed_mirrors c w x d at = by_turn d.turn
 
 -- the same with a child, which after a trap there is not
 child_mirrors : (p : ℕ) (w : State) (x child : Process) (d : Deed)
-    → Mirrors (Run p) w (childless_at_trap w.processes w.lanes (put_back p (w.processes ++ Live child ∷ []) (Ok (lived (whole (x, w.lanes) (onto (Run p) w.lanes d)))))) (Ok (change (Some child) d))
+    → Mirrors (Run p) w (childless_at_trap w.processes w.lanes (put_back p (w.processes ++ Live child ∷ []) (Ok (lived (whole (x, w.lanes) (done (Run p) w.lanes d)))))) (Ok (change (Some child) d))
 child_mirrors p w x child d = by_turn d.turn
   where
-    by_turn : (turn : Turn) → Mirrors (Run p) w (childless_at_trap w.processes w.lanes (put_back p (w.processes ++ Live child ∷ []) (Ok (lived (whole (x, w.lanes) (onto (Run p) w.lanes (record d { turn = turn })))))))
+    by_turn : (turn : Turn) → Mirrors (Run p) w (childless_at_trap w.processes w.lanes (put_back p (w.processes ++ Live child ∷ []) (Ok (lived (whole (x, w.lanes) (done (Run p) w.lanes (record d { turn = turn })))))))
         (Ok (change (Some child) (record d { turn = turn })))
     by_turn turns.Ran = refl
     by_turn (turns.Ended reason) = refl
@@ -83,9 +79,6 @@ child_mirrors p w x child d = by_turn d.turn
     by_turn (turns.Spawns spawn) = refl
 
 module _ (image : Loaded) (p : ℕ) (w : State) (x : Process) (at : slice_get w.processes p ≡ Some (Live x)) where
-  answered_done : (child : Option ℕ) (answer : Answer) → answering image p child answer x w.lanes ≡ whole (x, w.lanes) (onto (Run p) w.lanes (is_answered image child answer x))
-  answered_done child answer = ap (whole (x, w.lanes)) (closing_is image p w.lanes (settled image answer (linked_to child x)))
-
   spawned_mirrors : (spawn : SpawnRequest) → Mirrors (Run p) w (lives_spawned image p spawn w.lanes w.processes) (Ok (spawned image p (length w.processes) spawn x))
   spawned_mirrors spawn =
       let count = length w.processes in
@@ -96,12 +89,10 @@ module _ (image : Loaded) (p : ℕ) (w : State) (x : Process) (at : slice_get w.
       go (past_limits spawn count) (lives_answered image p None system_limit w.lanes w.processes) (lives_with_child image p spawn w.lanes w.processes)
       (is_answered image None system_limit x) (is_answered image other value x) (Some child)
       (subst (λ (o : Option Life). Mirrors (Run p) w (at_life (life_answered image p None system_limit w.lanes) p w.processes o) (Ok (change None (is_answered image None system_limit x)))) (sym at)
-      (subst (λ (d : Done). Mirrors (Run p) w (put_back p w.processes (Ok (lived d))) (Ok (change None (is_answered image None system_limit x)))) (sym (answered_done None system_limit))
-      (deed_mirrors (Run p) w x (is_answered image None system_limit x) at)))
+      (deed_mirrors (Run p) w x (is_answered image None system_limit x) at))
       (subst (λ (o : Option Life). Mirrors (Run p) w (childless_at_trap w.processes w.lanes (at_life (life_answered image p other value w.lanes) p more o)) (Ok (change (Some child) (is_answered image other value x))))
       (sym (got_before w.processes (Live child ∷ []) p (Live x) at))
-      (subst (λ (d : Done). Mirrors (Run p) w (childless_at_trap w.processes w.lanes (put_back p more (Ok (lived d)))) (Ok (change (Some child) (is_answered image other value x)))) (sym (answered_done other value))
-      (child_mirrors p w x child (is_answered image other value x))))
+      (child_mirrors p w x child (is_answered image other value x)))
     where
       go : (b : Bool) (r s : Result Among Fault) (d e : Deed) (child : Option Process) → Mirrors (Run p) w r (Ok (change None d)) → Mirrors (Run p) w s (Ok (change child e))
           → Mirrors (Run p) w (if b then r else s) (Ok (if b then change None d else change child e))
@@ -110,7 +101,7 @@ module _ (image : Loaded) (p : ℕ) (w : State) (x : Process) (at : slice_get w.
 
   -- what an instruction was, and then a child
   abbrev run_made : Deed → Result Among Fault
-  run_made d = spawned_too image p (put_back p w.processes (Ok (lived (whole (x, w.lanes) (onto (Run p) w.lanes d)))))
+  run_made d = spawned_too image p (put_back p w.processes (Ok (lived (whole (x, w.lanes) (done (Run p) w.lanes d)))))
 
   spawning_mirrors : (spawn : SpawnRequest) → Mirrors (Run p) w (run_made (alone x (turns.Spawns spawn))) (Ok (spawned image p (length w.processes) spawn x))
   spawning_mirrors spawn =
@@ -129,9 +120,14 @@ module _ (image : Loaded) (p : ℕ) (w : State) (x : Process) (at : slice_get w.
 
   instruction_mirrors : Mirrors (Run p) w (spawned_too image p (put_back p w.processes (Ok (lived (runs image p w.lanes x))))) (Ok (run_turn (instruction image p x).turn image p (length w.processes) x (instruction image p x)))
   instruction_mirrors =
-      let d = instruction image p x in
-      subst (λ (done : Done). Mirrors (Run p) w (spawned_too image p (put_back p w.processes (Ok (lived done)))) (Ok (run_turn d.turn image p (length w.processes) x d))) (sym (runs_is image p w.lanes x))
-      (ran_mirrors d d.turn refl (λ spawn is. asked_only d.turn spawn (spawns image p x) is))
+      let d = instruction image p x in ran_mirrors d d.turn refl (λ spawn is. asked_only d.turn spawn (spawns image p x) is)
+
+-- a signal that traps has changed nothing
+undone : (p q : ℕ) (x : Process) (l : Lanes) (d : Deed) (turn : Turn) → Quiet x turn d → whole (x, l) (done (Deliver p q) l (record d { turn = turn })) ≡ done (Deliver p q) l (record d { turn = turn })
+undone p q x l d turns.Ran quiet = refl
+undone p q x l d (turns.Ended reason) quiet = refl
+undone p q x l d (turns.Trapped kind) quiet = ap (λ (e : Deed). done (Deliver p q) l (record e { turn = turns.Trapped kind })) (sym quiet)
+undone p q x l d (turns.Spawns spawn) quiet = refl
 
 -- by choice
 module _ (image : Loaded) (w : State) where
@@ -161,8 +157,8 @@ module _ (image : Loaded) (w : State) where
   told_mirrors p q None (Some s) at = refl
   told_mirrors p q (Some (Live x)) None at = refl
   told_mirrors p q (Some (Live x)) (Some s) at =
-      subst (λ (r : Result Done Fault). Mirrors (Deliver p q) w (put_back q w.processes (lived_if r)) (Ok (change None (signalled p x s)))) (sym (heard_is p q w.lanes x s))
-      (deed_mirrors (Deliver p q) w x (signalled p x s) at)
+      let d = signalled p x s in
+      subst (λ (e : Done). Mirrors (Deliver p q) w (put_back q w.processes (Ok (lived e))) (Ok (change None d))) (undone p q x w.lanes d d.turn (plain p x s).quiet) (deed_mirrors (Deliver p q) w x d at)
   told_mirrors p q (Some (Exited reason)) None at = refl
   told_mirrors p q (Some (Exited reason)) (Some signals.Link) at = refl
   told_mirrors p q (Some (Exited reason)) (Some (signals.Message m)) at = refl
@@ -295,7 +291,7 @@ answered_kept image p child answer l lives = go (slice_get lives p) refl
     go : (o : Option Life) → slice_get lives p ≡ o → KeptIf is_trap (lives, l) (at_life (life_answered image p child answer l) p lives o)
     go None at = tt
     go (Some (Exited reason)) at = tt
-    go (Some (Live x)) at = let d = closing p l (settled image answer (linked_to child x)) in whole_kept p lives l x d.0 d.1 at
+    go (Some (Live x)) at = let d = done (Run p) l (is_answered image child answer x) in whole_kept p lives l x d.0 d.1 at
 
 -- and a run that asks for a spawn
 spawning_kept : (image : Loaded) (p : ℕ) (l : Lanes) (lives : List Life) (o : Option Life) → slice_get lives p ≡ o → KeptIf is_spawn (lives, l) (at_life (life_run image p l) p lives o)
@@ -304,18 +300,17 @@ spawning_kept image p l lives (Some (Exited reason)) at = tt
 spawning_kept image p l lives (Some (Live x)) at = go (can_run x)
   where
     by_turn : (d : Deed) (turn : Turn) → d.turn ≡ turn → ((spawn : SpawnRequest) → turn ≡ turns.Spawns spawn → d ≡ alone x (turns.Spawns spawn))
-        → KeptIf is_spawn (lives, l) (put_back p lives (Ok (lived (whole (x, l) (onto (Run p) l (record d { turn = turn }))))))
+        → KeptIf is_spawn (lives, l) (put_back p lives (Ok (lived (whole (x, l) (done (Run p) l (record d { turn = turn }))))))
     by_turn d turns.Ran is only = λ h. cc
     by_turn d (turns.Ended reason) is only = λ h. cc
     by_turn d (turns.Trapped kind) is only = λ h. cc
     by_turn d (turns.Spawns spawn) is only =
-        λ h. ap (λ (e : Deed). (slice_set lives p (Live e.process), (onto (Run p) l e).0.1)) (only spawn refl) ∙ ap (λ (more : List Life). (more, l)) (set_back lives p (Live x) at)
+        λ h. ap (λ (e : Deed). (slice_set lives p (Live e.process), (done (Run p) l e).0.1)) (only spawn refl) ∙ ap (λ (more : List Life). (more, l)) (set_back lives p (Live x) at)
 
     go : (b : Bool) → KeptIf is_spawn (lives, l) (put_back p lives (if b then Ok (lived (runs image p l x)) else Err NotEnabled))
     go true =
         let d = instruction image p x in
-        subst (λ (done : Done). KeptIf is_spawn (lives, l) (put_back p lives (Ok (lived done)))) (sym (runs_is image p l x))
-        (by_turn d d.turn refl (λ spawn is. spawns_alone image p x (requests.Spawn spawn) (subst (Spawns (asked image p x)) is (spawns image p x))))
+        by_turn d d.turn refl (λ spawn is. spawns_alone image p x (requests.Spawn spawn) (subst (Spawns (asked image p x)) is (spawns image p x)))
     go false = tt
 
 pub spawns_kept : (image : Loaded) (p : ℕ) (l : Lanes) (lives : List Life) (w : List Life × Lanes) (spawn : SpawnRequest) → lives_run image p l lives ≡ Ok (w, turns.Spawns spawn) → w ≡ (lives, l)

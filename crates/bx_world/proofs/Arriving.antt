@@ -12,7 +12,8 @@ use Rattle.bx_world.specs.declared.choices.Choice.TheVariants.{Run, Deliver, Exp
 use Rattle.bx_world.specs.World.{State, begun}
 use Rattle.bx_world.specs.Enabled.{able, can, actor}
 use Rattle.bx_world.specs.Deeds.{Posts}
-use Rattle.bx_world.specs.Changes.{Coming, all_posted, heeded, coming, after}
+use Rattle.bx_world.specs.Sharing.{all_posted, heeded}
+use Rattle.bx_world.specs.Changes.{Coming, coming, after}
 use Rattle.bx_world.specs.Choosing.{chosen}
 use Rattle.bx_world.specs.Posting.{same_pair, in_channel, as_row, first_of, put_by, taken_by, put_in, taken_from, behind, all_behind, all_put, all_taken}
 

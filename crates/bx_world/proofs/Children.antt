@@ -19,8 +19,9 @@ use Rattle.bx_world.specs.Changes.{turned_to, signal_coming, heeds, coming, afte
 use Rattle.bx_world.specs.Choosing.{chosen}
 use Rattle.bx_world.specs.Posting.{in_channel, first_of, put_by, taken_by}
 use Rattle.bx_world.specs.Independent.{AreIndependent, IsLocal}
+use Rattle.bx_world.proofs.Deeds.{Quiet, plain}
 use Rattle.bx_world.proofs.Confined.{IsNotExited, get_set_same, chosen_confined}
-use Rattle.bx_world.proofs.Commuting.{Quiet, signal_plain, able_of, may_within, chosen_kept, takes_alike, first_stays, b_alike, b_first, may_exchange, beside_any}
+use Rattle.bx_world.proofs.Commuting.{able_of, may_within, chosen_kept, takes_alike, first_stays, b_alike, b_first, may_exchange, beside_any}
 use Rattle.bx_world.proofs.Orders.{stays_enabled, either_way}
 
 -- a signal from p at q, whoever is there
@@ -30,9 +31,9 @@ module _ (p q : ℕ) (v : State) (pair : ℕ × ℕ) where
   sent_none o None there not stays = refl
   sent_none None (Some s) there not stays = refl
   sent_none (Some (Exited reason)) (Some s) there not stays = absurd not
-  sent_none (Some (Live x)) (Some s) there not stays = let d = signalled p x s in one d d.turn (signal_plain p x s).1 stays
+  sent_none (Some (Live x)) (Some s) there not stays = let d = signalled p x s in one d d.turn (plain p x s).quiet stays
     where
-      one : (d : Deed) (turn : Turn) → Quiet turn d.posts d.takes → slice_get (after (Deliver p q) v (Ok (turned_to turn None d))).processes q ≡ Some (Live x) → put_by (Deliver p q) pair (Ok (turned_to turn None d)) ≡ []
+      one : (d : Deed) (turn : Turn) → Quiet x turn d → slice_get (after (Deliver p q) v (Ok (turned_to turn None d))).processes q ≡ Some (Live x) → put_by (Deliver p q) pair (Ok (turned_to turn None d)) ≡ []
       one d turns.Ran quiet stays = ap (in_channel q pair) quiet.0
       one d (turns.Ended reason) quiet stays =
           let exited : Some (Exited reason) ≡ Some (Live x) = sym (get_set_same v.processes q (Exited reason) (slice_get_within v.processes q (Live x) there)) ∙ stays in cc
@@ -44,9 +45,9 @@ module _ (p q : ℕ) (v : State) (pair : ℕ × ℕ) where
   taken_same m o None free = refl
   taken_same m None (Some s) free = refl
   taken_same m (Some (Exited reason)) (Some s) free = refl
-  taken_same m (Some (Live x)) (Some s) free = let d = signalled p x s in one d d.turn (signal_plain p x s).1 free
+  taken_same m (Some (Live x)) (Some s) free = let d = signalled p x s in one d d.turn (plain p x s).quiet free
     where
-      one : (d : Deed) (turn : Turn) → Quiet turn d.posts d.takes → (after (Deliver p q) v (Ok (turned_to turn None d))).trap ≡ None → taken_by (Deliver p q) pair m (Ok (turned_to turn None d)) ≡ first_of (Deliver p q) true pair m
+      one : (d : Deed) (turn : Turn) → Quiet x turn d → (after (Deliver p q) v (Ok (turned_to turn None d))).trap ≡ None → taken_by (Deliver p q) pair m (Ok (turned_to turn None d)) ≡ first_of (Deliver p q) true pair m
       one d turns.Ran quiet free = ap (λ b. first_of (Deliver p q) b pair m) quiet.1
       one d (turns.Ended reason) quiet free = ap (λ b. first_of (Deliver p q) b pair m) quiet
       one d (turns.Trapped kind) quiet free = cc

@@ -28,15 +28,16 @@ use Rattle.bx_world.specs.declared.turns.Turn.TheVariants as turns
 use Rattle.bx_world.specs.World.{Life, Live, Exited, State}
 use Rattle.bx_world.specs.Enabled.{able, can, actor, may_at, may_run, may_expire}
 use Rattle.bx_world.specs.Seen.{place_at}
-use Rattle.bx_world.specs.Asking.{exit_message, is_kill, is_normal, low_enough}
-use Rattle.bx_world.specs.Deeds.{Posts, Deed, did, instruction, hears, dies, is_told, exit_comes, signalled}
-use Rattle.bx_world.specs.Changes.{Change, Coming, turned_to, run_turn, run_coming, signal_coming, expire_coming, change_of, heeds, coming, displayed, with_life, with_child, after}
+use Rattle.bx_world.specs.Sharing.{displayed}
+use Rattle.bx_world.specs.Deeds.{exit_message, is_kill, is_normal, low_enough, Posts, Deed, did, instruction, hears, dies, is_told, exit_comes, signalled}
+use Rattle.bx_world.specs.Changes.{Change, Coming, turned_to, run_turn, run_coming, signal_coming, expire_coming, change_of, heeds, coming, with_life, with_child, after}
 use Rattle.bx_world.specs.Choosing.{chosen}
 use Rattle.bx_world.specs.Posting.{same_pair, in_channel, as_row, first_of, put_by, taken_by, behind, all_behind}
 use Rattle.bx_world.specs.Independent.{is_local_at, runs_local, one_is_local, AreIndependent, IsNoRun, IsLocal}
 use Rattle.bx_world.proofs.Arriving.{came}
 use Rattle.bx_world.proofs.Applying.{ComesAs, comes_as}
 use Rattle.bx_world.proofs.Confined.{get_set_other, chosen_confined}
+use Rattle.bx_world.proofs.Deeds.{plain}
 use Rattle.bx_world.proofs.Own.{attempt_own}
 
 -- ---- two worlds in which a choice finds the same
@@ -73,53 +74,17 @@ calm_deed d (turns.Ended reason) h = (refl, h)
 calm_deed d (turns.Trapped kind) h = tt
 calm_deed d (turns.Spawns spawn) h = (refl, h)
 
-either : (P : Deed → Type 0) (b : Bool) (d e : Deed) → P d → P e → P (if b then d else e)
-either P true d e h k = h
-either P false d e h k = k
-
--- a signal displays nothing, is taken, and has something sent only where it ends its receiver
-abbrev pub Quiet : Turn → Posts → Bool → Type 0
-Quiet turns.Ran posts takes = (posts ≡ []) × (takes ≡ true)
-Quiet (turns.Ended reason) posts takes = takes ≡ true
-Quiet (turns.Trapped kind) posts takes = Unit {0}
-Quiet (turns.Spawns spawn) posts takes = (posts ≡ []) × (takes ≡ true)
-
-abbrev pub Plain : Deed → Type 0
-Plain d = (d.shows ≡ None) × Quiet d.turn d.posts d.takes
-
-told_plain : (old x : Process) (o : Option Tree) → Plain (is_told old x o)
-told_plain old x None = (refl, tt)
-told_plain old x (Some message) = (refl, (refl, refl))
-
-exit_plain : (p : ℕ) (old x : Process) (reason : Tree) → Plain (exit_comes p old x reason)
-exit_plain p old x reason =
-    let message = low_enough (exit_message p reason) in
-    either Plain old.trap_exit (is_told old x message) (if is_normal reason then hears x turns.Ran else dies x reason) (told_plain old x message)
-    (either Plain (is_normal reason) (hears x turns.Ran) (dies x reason) (refl, (refl, refl)) (refl, refl))
-
-pub signal_plain : (p : ℕ) (x : Process) (s : Signal) → Plain (signalled p x s)
-signal_plain p x (signals.Message message) = (refl, (refl, refl))
-signal_plain p x signals.Link = (refl, (refl, refl))
-signal_plain p x signals.Unlink = (refl, (refl, refl))
-signal_plain p x (signals.LinkExit reason) =
-    either Plain (holds p x.links) (exit_comes p x (without_link p x) reason) (hears x turns.Ran) (exit_plain p x (without_link p x) reason) (refl, (refl, refl))
-signal_plain p x (signals.Exit reason) =
-    either Plain (is_kill reason) (dies x (atom KILLED.0)) (exit_comes p x x reason) (refl, refl) (exit_plain p x x reason)
-
 module _ (image : Loaded) (p : ℕ) (x : Process) where
-  local_turn : (n m : ℕ) (y : Process) (e : Effect) → to_itself e ≡ true → run_turn (did image p x (y, e)).turn image p n x (did image p x (y, e)) ≡ run_turn (did image p x (y, e)).turn image p m x (did image p x (y, e))
-  local_turn n m y effects.Ran own = refl
-  local_turn n m y (effects.Ended reason) own = refl
-  local_turn n m y (effects.Trap kind) own = refl
+  abbrev turn_among : Deed → ℕ → Result Change Trap
+  turn_among d n = run_turn d.turn image p n x d
+
+  local_turn : (n m : ℕ) (y : Process) (e : Effect) → to_itself e ≡ true
+      → (turn_among (did image p x (y, e)) n ≡ turn_among (did image p x (y, e)) m) × Calm (Ok (turn_among (did image p x (y, e)) n))
+  local_turn n m y effects.Ran own = (refl, (refl, refl))
+  local_turn n m y (effects.Ended reason) own = (refl, (refl, refl))
+  local_turn n m y (effects.Trap kind) own = (refl, tt)
   local_turn n m y (effects.Send to message) own = absurd (cc)
   local_turn n m y (effects.Ask native arguments) own = absurd (cc)
-
-  calm_turn : (n : ℕ) (y : Process) (e : Effect) → to_itself e ≡ true → Calm (Ok (run_turn (did image p x (y, e)).turn image p n x (did image p x (y, e))))
-  calm_turn n y effects.Ran own = (refl, refl)
-  calm_turn n y (effects.Ended reason) own = (refl, refl)
-  calm_turn n y (effects.Trap kind) own = tt
-  calm_turn n y (effects.Send to message) own = absurd (cc)
-  calm_turn n y (effects.Ask native arguments) own = absurd (cc)
 
 calm_if : (b : Bool) (r : Result Change Trap) → Calm (Ok r) → Calm (if b then Ok r else Err NotEnabled)
 calm_if true r h = h
@@ -133,7 +98,7 @@ local_among image (Run p) w local n m = go (slice_get w.processes p) local
     go : (o : Option Life) → is_local_at image (place_at o) ≡ true → run_coming image p n o ≡ run_coming image p m o
     go None h = refl
     go (Some (Exited reason)) h = refl
-    go (Some (Live x)) h = ap (λ r. if can_run x then Ok r else Err NotEnabled) (local_turn image p x n m (attempted image p x).0 (attempted image p x).1 (attempt_own image p x h))
+    go (Some (Live x)) h = ap (λ r. if can_run x then Ok r else Err NotEnabled) (local_turn image p x n m (attempted image p x).0 (attempted image p x).1 (attempt_own image p x h)).0
 local_among image (Deliver p q) w local n m = refl
 local_among image (Expire p) w local n m = refl
 
@@ -145,14 +110,14 @@ local_calm image (Run p) w local = go (slice_get w.processes p) local
     go (Some (Exited reason)) h = tt
     go (Some (Live x)) h =
         calm_if (can_run x) (run_turn (instruction image p x).turn image p (length w.processes) x (instruction image p x))
-        (calm_turn image p x (length w.processes) (attempted image p x).0 (attempted image p x).1 (attempt_own image p x h))
+        (local_turn image p x (length w.processes) 0 (attempted image p x).0 (attempted image p x).1 (attempt_own image p x h)).1
 local_calm image (Deliver p q) w local = go (slice_get w.processes q) (heeds (Deliver p q) w.lanes.channels)
   where
     go : (o : Option Life) (s : Option Signal) → Calm (signal_coming p o s)
     go o None = tt
     go None (Some s) = (refl, refl)
     go (Some (Exited reason)) (Some s) = (refl, refl)
-    go (Some (Live x)) (Some s) = let d = signalled p x s in calm_deed d d.turn (signal_plain p x s).0
+    go (Some (Live x)) (Some s) = let d = signalled p x s in calm_deed d d.turn (plain p x s).shows
 local_calm image (Expire p) w local = go (slice_get w.processes p)
   where
     go : (o : Option Life) → Calm (expire_coming o)

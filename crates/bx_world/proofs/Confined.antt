@@ -80,6 +80,9 @@ confined c w (Err fault) = unchanged (actor c) w.processes
 pub chosen_confined : (image : Loaded) (choice : Choice) (w : State) → Confined (actor choice) w.processes (chosen image choice w).processes
 chosen_confined image choice w = confined choice w (coming image choice w)
 
+pub others_stay : (image : Loaded) (choice : Choice) (w : State) (p : ℕ) → p ≢ actor choice → p < length w.processes → slice_get (chosen image choice w).processes p ≡ slice_get w.processes p
+others_stay image choice w p other here = (chosen_confined image choice w).2 p other here
+
 -- one that has ended
 abbrev HasExited : State → ℕ → Tree → Type 0
 HasExited w p reason = slice_get w.processes p ≡ Some (Exited reason)

@@ -1,11 +1,10 @@
--- What an instruction or a signal makes of its process and of the lanes is its deed, done beside them.
-use Rattle.std.proofs.Common.{◌≡◌, ℕ, List, [], ◌∷◌, Bool, true, false, Option, Some, None, Result, Ok, refl, ap, ◌∙◌}
+-- What holds of all deeds of an instruction, and of all of a signal.
+use Rattle.std.proofs.Common.{◌≡◌, ℕ, [], Bool, true, false, Option, Some, None, refl, ap}
 use Rattle.std.specs.Prelude.{if◌then◌else◌, ◌==◌, ◌||◌, not}
 use Rattle.bx_terms.specs.Tree.{Tree, atom}
 use Rattle.bx_terms.specs.declared.fixed.TheConstants.{KILLED}
 use Rattle.bx_terms.specs.declared.kinds.Trap.TheVariants.{TermHeight}
 use Rattle.bx_load.specs.Image.{Loaded}
-use Rattle.bx_signals.specs.Channels.{Channels, taken, put_to_all}
 use Rattle.bx_signals.specs.declared.signal.Signal.{Signal}
 use Rattle.bx_signals.specs.declared.signal.Signal.TheVariants as signals
 use Rattle.bx_cells.specs.Links.{among}
@@ -16,123 +15,55 @@ use Rattle.bx_proc.specs.declared.parts.Answer.{Answer}
 use Rattle.bx_proc.specs.declared.parts.Answer.TheVariants.{Value}
 use Rattle.bx_proc.specs.declared.parts.Effect.{Effect}
 use Rattle.bx_proc.specs.declared.parts.Effect.TheVariants as effects
-use Rattle.bx_world.specs.declared.choices.Choice.{Choice}
-use Rattle.bx_world.specs.declared.choices.Choice.TheVariants.{Run, Deliver}
-use Rattle.bx_world.specs.declared.lanes.Lanes.{Lanes}
 use Rattle.bx_world.specs.declared.requests.SpawnRequest.{SpawnRequest}
 use Rattle.bx_world.specs.declared.requests.Request.{Request}
 use Rattle.bx_world.specs.declared.requests.Request.TheVariants as requests
 use Rattle.bx_world.specs.declared.turns.Turn.{Turn}
 use Rattle.bx_world.specs.declared.turns.Turn.TheVariants as turns
-use Rattle.bx_world.specs.Sharing.{telling, showing}
 use Rattle.bx_world.specs.Requests.{requested}
-use Rattle.bx_world.specs.Asking.{Done, whole, closing, leaving, yes, badarg, exit_message, is_kill, is_normal, low_enough, noted, exiting_oneself, unlinked_done, doing}
-use Rattle.bx_world.specs.Turning.{turned, runs}
-use Rattle.bx_world.specs.Delivering.{messaged, ending, exiting, heard}
-use Rattle.bx_world.specs.Enabled.{actor}
 use Rattle.bx_world.specs.Entering.{request_in}
-use Rattle.bx_world.specs.Deeds.{Deed, alone, exits, leaves, closes, puts, notes, exits_itself, performs, did, instruction, dies, is_told, exit_comes, signalled}
-use Rattle.bx_world.specs.Changes.{all_posted, heeded, displayed}
+use Rattle.bx_world.specs.Deeds.{Deed, alone, leaves, closes, puts, yes, badarg, exit_message, is_kill, is_normal, low_enough, unlinked_done, notes, exits_itself, performs, did, instruction, hears, dies, is_told, exit_comes, signalled}
 
-abbrev pub onto : Choice → Lanes → Deed → Done
-onto c l d = ((d.process, record { channels = heeded c d.takes (all_posted (actor c) d.posts l.channels); output = displayed (actor c) d.shows l.output }), d.turn)
+either : (P : Deed → Type 0) (b : Bool) (d e : Deed) → P d → P e → P (if b then d else e)
+either P true d e h k = h
+either P false d e h k = k
 
-all_told : (p : ℕ) (qs : List ℕ) (reason : Tree) (m : Channels Signal) → put_to_all p qs (signals.LinkExit reason) m ≡ all_posted p (exits qs reason) m
-all_told p [] reason m = refl
-all_told p (q ∷ qs) reason m = all_told p qs reason (all_posted p ((q, signals.LinkExit reason) ∷ []) m)
+-- ---- a signal
 
-either : (f : Deed → Done) (b : Bool) (d e : Done) (x y : Deed) → d ≡ f x → e ≡ f y → (if b then d else e) ≡ f (if b then x else y)
-either f true d e x y h k = h
-either f false d e x y h k = k
+-- it displays nothing, is taken, and has something sent only where it ends its receiver; at a trap it does nothing at all
+abbrev pub Quiet : Process → Turn → Deed → Type 0
+Quiet x turns.Ran d = (d.posts ≡ []) × (d.takes ≡ true)
+Quiet x (turns.Ended reason) d = d.takes ≡ true
+Quiet x (turns.Trapped kind) d = d ≡ alone x (turns.Trapped kind)
+Quiet x (turns.Spawns spawn) d = (d.posts ≡ []) × (d.takes ≡ true)
 
--- ---- an instruction
+pub record Plain (x : Process) (d : Deed) : Type 0 where
+  pub shows : d.shows ≡ None
+  pub quiet : Quiet x d.turn d
 
-module _ (image : Loaded) (p : ℕ) where
-  leaving_is : (x : Process) (reason : Tree) (l : Lanes) → leaving p x l reason ≡ onto (Run p) l (leaves x reason)
-  leaving_is x reason l = ap (λ (m : Channels Signal). ((x, record l { channels = m }), turns.Ended reason)) (all_told p x.links reason l.channels)
+module _ (p : ℕ) (x : Process) where
+  passes : (y : Process) → Plain x (hears y turns.Ran)
+  passes y = record { shows = refl; quiet = (refl, refl) }
 
-  pub closing_is : (l : Lanes) (d : Process × Effect) → closing p l d ≡ onto (Run p) l (closes d)
-  closing_is l (x, effects.Ran) = refl
-  closing_is l (x, effects.Ended reason) = leaving_is x reason l
-  closing_is l (x, effects.Trap kind) = refl
-  closing_is l (x, effects.Send to message) = refl
-  closing_is l (x, effects.Ask native arguments) = refl
+  ends : (y : Process) (reason : Tree) → Plain x (dies y reason)
+  ends y reason = record { shows = refl; quiet = refl }
 
-  showing_is : (term : Tree) (l : Lanes) (d : Process × Effect) → closing p (showing p term l) d ≡ onto (Run p) l (record (closes d) { shows = Some term })
-  showing_is term l (x, effects.Ran) = refl
-  showing_is term l (x, effects.Ended reason) = leaving_is x reason (showing p term l)
-  showing_is term l (x, effects.Trap kind) = refl
-  showing_is term l (x, effects.Send to message) = refl
-  showing_is term l (x, effects.Ask native arguments) = refl
-
-  module _ (l : Lanes) (x : Process) where
-    telling_is : (b : Bool) (q : ℕ) (signal : Signal) (own other : Process × Effect)
-        → (if b then closing p l own else closing p (telling (p, q) signal l) other) ≡ onto (Run p) l (if b then closes own else puts q signal (closes other))
-    telling_is b q signal own other =
-        either (onto (Run p) l) b (closing p l own) (closing p (telling (p, q) signal l) other) (closes own) (puts q signal (closes other)) (closing_is l own) (closing_is (telling (p, q) signal l) other)
-
-    noted_is : (answer : Answer) (o : Option Tree) → noted image p answer x l o ≡ onto (Run p) l (notes image answer x o)
-    noted_is answer None = refl
-    noted_is answer (Some message) = closing_is l (settled_with image answer message x)
-
-    oneself_is : (reason : Tree) → exiting_oneself image p reason x l ≡ onto (Run p) l (exits_itself image p reason x)
-    oneself_is reason =
-        let message = low_enough (exit_message p reason) in
-        either (onto (Run p) l) (is_kill reason) (leaving p x l (atom KILLED.0)) (if x.trap_exit then noted image p yes x l message else leaving p x l reason)
-        (leaves x (atom KILLED.0)) (if x.trap_exit then notes image yes x message else leaves x reason) (leaving_is x (atom KILLED.0) l)
-        (either (onto (Run p) l) x.trap_exit (noted image p yes x l message) (leaving p x l reason) (notes image yes x message) (leaves x reason) (noted_is yes message) (leaving_is x reason l))
-
-    doing_is : (r : Request) → doing image p r x l ≡ onto (Run p) l (performs image p r x)
-    doing_is requests.Refused = closing_is l (settled image badarg x)
-    doing_is (requests.Send q m) = telling_is (q == p) q (signals.Message m) (settled_with image (Value m) m x) (settled image (Value m) x)
-    doing_is (requests.Exit q reason) =
-        either (onto (Run p) l) (q == p) (exiting_oneself image p reason x l) (closing p (telling (p, q) (signals.Exit reason) l) (settled image yes x))
-        (exits_itself image p reason x) (puts q (signals.Exit reason) (closes (settled image yes x))) (oneself_is reason) (closing_is (telling (p, q) (signals.Exit reason) l) (settled image yes x))
-    doing_is (requests.Link q) = telling_is ((q == p) || among q x.links) q signals.Link (settled image yes x) (settled image yes (with_link q x))
-    doing_is (requests.Unlink q) = telling_is ((q == p) || not (among q x.links)) q signals.Unlink (settled image yes x) (unlinked_done q (settled image yes x))
-    doing_is (requests.Display term) = showing_is term l (settled image yes x)
-    doing_is (requests.Spawn spawn) = refl
-
-    turned_is : (d : Process × Effect) → turned image p l x d ≡ whole (x, l) (onto (Run p) l (did image p x d))
-    turned_is (y, effects.Ran) = refl
-    turned_is (y, effects.Send to message) = ap (whole (x, l)) (doing_is (requests.Send to message))
-    turned_is (y, effects.Ask native arguments) = ap (whole (x, l)) (doing_is (requested native arguments))
-    turned_is (y, effects.Ended reason) = leaving_is x reason l
-    turned_is (y, effects.Trap kind) = refl
-
-    pub runs_is : runs image p l x ≡ whole (x, l) (onto (Run p) l (instruction image p x))
-    runs_is = turned_is (attempted image p x)
-
--- ---- a signal from p at q
-
-module _ (p q : ℕ) (l : Lanes) where
-  abbrev heard_by : Process → Deed → Done
-  heard_by old d = whole (old, l) (onto (Deliver p q) l d)
-
-  ending_is : (old x : Process) (reason : Tree) → ending p q x reason l ≡ heard_by old (dies x reason)
-  ending_is old x reason = ap (λ (m : Channels Signal). ((x, record l { channels = taken (p, q) m }), turns.Ended reason)) (all_told q x.links reason l.channels)
-
-  messaged_is : (old x : Process) (o : Option Tree) → messaged p q old x l o ≡ heard_by old (is_told old x o)
-  messaged_is old x None = refl
-  messaged_is old x (Some message) = refl
-
-  exiting_is : (old x : Process) (reason : Tree) → exiting p q old x reason l ≡ heard_by old (exit_comes p old x reason)
-  exiting_is old x reason =
+  exits : (y : Process) (reason : Tree) → Plain x (exit_comes p x y reason)
+  exits y reason =
       let message = low_enough (exit_message p reason) in
-      let passed = heard_by old (record (alone x turns.Ran) { takes = true }) in
-      either (heard_by old) old.trap_exit (messaged p q old x l message) (if is_normal reason then passed else ending p q x reason l)
-      (is_told old x message) (if is_normal reason then record (alone x turns.Ran) { takes = true } else dies x reason) (messaged_is old x message)
-      (either (heard_by old) (is_normal reason) passed (ending p q x reason l) (record (alone x turns.Ran) { takes = true }) (dies x reason) refl (ending_is old x reason))
+      either (Plain x) x.trap_exit (is_told x y message) (if is_normal reason then hears y turns.Ran else dies y reason) (told message)
+      (either (Plain x) (is_normal reason) (hears y turns.Ran) (dies y reason) (passes y) (ends y reason))
+    where
+      told : (o : Option Tree) → Plain x (is_told x y o)
+      told None = record { shows = refl; quiet = refl }
+      told (Some message) = record { shows = refl; quiet = (refl, refl) }
 
-  pub heard_is : (x : Process) (signal : Signal) → heard p q x l (Some signal) ≡ Ok (heard_by x (signalled p x signal))
-  heard_is x (signals.Message message) = refl
-  heard_is x signals.Link = refl
-  heard_is x signals.Unlink = refl
-  heard_is x (signals.LinkExit reason) =
-      let passed = record (alone x turns.Ran) { takes = true } in
-      ap Ok (either (heard_by x) (among p x.links) (exiting p q x (without_link p x) reason l) (heard_by x passed) (exit_comes p x (without_link p x) reason) passed (exiting_is x (without_link p x) reason) refl)
-  heard_is x (signals.Exit reason) =
-      ap Ok (either (heard_by x) (is_kill reason) (ending p q x (atom KILLED.0) l) (exiting p q x x reason l) (dies x (atom KILLED.0)) (exit_comes p x x reason) (ending_is x x (atom KILLED.0)) (exiting_is x x reason))
+  pub plain : (s : Signal) → Plain x (signalled p x s)
+  plain (signals.Message message) = record { shows = refl; quiet = (refl, refl) }
+  plain signals.Link = record { shows = refl; quiet = (refl, refl) }
+  plain signals.Unlink = record { shows = refl; quiet = (refl, refl) }
+  plain (signals.LinkExit reason) = either (Plain x) (among p x.links) (exit_comes p x (without_link p x) reason) (hears x turns.Ran) (exits (without_link p x) reason) (passes x)
+  plain (signals.Exit reason) = either (Plain x) (is_kill reason) (dies x (atom KILLED.0)) (exit_comes p x x reason) (ends x (atom KILLED.0)) (exits x reason)
 
 -- ---- what holds of all that a request does
 
@@ -140,8 +71,7 @@ module _ (image : Loaded) (p : ℕ) (x : Process) (P : Deed → Type 0) (closed 
     (left : (reason : Tree) → P (leaves x reason)) (trapped : P (alone x (turns.Trapped TermHeight))) (put : (q : ℕ) (s : Signal) (d : Deed) → P d → P (puts q s d))
     (shown : (term : Tree) (d : Deed) → P d → P (record d { shows = Some term })) where
   both : (b : Bool) (d e : Deed) → P d → P e → P (if b then d else e)
-  both true d e h k = h
-  both false d e h k = k
+  both = either P
 
   itself : (reason : Tree) → P (exits_itself image p reason x)
   itself reason =

@@ -30,11 +30,9 @@ use Rattle.bx_world.specs.declared.turns.Turn.{Turn}
 use Rattle.bx_world.specs.declared.turns.Turn.TheVariants as turns
 use Rattle.bx_world.specs.World.{Life, Live, Exited, State, begun}
 use Rattle.bx_world.specs.Requests.{requested}
-use Rattle.bx_world.specs.Asking.{yes, exit_message, is_kill, is_normal, low_enough}
-use Rattle.bx_world.specs.Spawning.{past_limits, system_limit, other_if, linked_to, new_child}
 use Rattle.bx_world.specs.Enabled.{can, actor}
-use Rattle.bx_world.specs.Deeds.{Deed, closes, performs, did, instruction, hears, dies, is_told, exit_comes, signalled}
-use Rattle.bx_world.specs.Changes.{Change, Coming, change, turned_to, is_answered, spawned, run_turn, run_coming, signal_coming, expire_coming, coming, with_life, with_child, after}
+use Rattle.bx_world.specs.Deeds.{Deed, closes, yes, exit_message, is_kill, is_normal, low_enough, past_limits, system_limit, other_if, linked_to, is_answered, new_child, performs, did, instruction, hears, dies, is_told, exit_comes, signalled}
+use Rattle.bx_world.specs.Changes.{Change, Coming, change, turned_to, spawned, run_turn, run_coming, signal_coming, expire_coming, coming, with_life, with_child, after}
 use Rattle.bx_world.specs.Choosing.{chosen}
 use Rattle.bx_world.specs.Posting.{behind, all_behind}
 use Rattle.bx_world.specs.Entering.{holds, is_linked, request_in, request_of, asks, SpawnsLinked, EntersByRun, Enters, Entered}

@@ -3,7 +3,7 @@ use Rattle.std.proofs.Common.{◌≡◌, ◌≢◌, ◌≤◌, ◌+◌, ℕ, Boo
 use Rattle.std.specs.Prelude.{Result, Ok, Err, OnErr, IsSome, nat_le, if◌then◌else◌}
 use Rattle.std.proofs.lemmas.Bool.Decides.{nat_tests}
 use Rattle.bx_terms.specs.Tree.{Tree, height}
-use Rattle.bx_world.specs.Asking.{exit_message, low_enough}
+use Rattle.bx_world.specs.Deeds.{exit_message, low_enough}
 
 message_height : (p : ℕ) (reason : Tree) → height (exit_message p reason) ≡ 1 + height reason
 message_height p reason = omega arith

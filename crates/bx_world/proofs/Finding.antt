@@ -10,11 +10,6 @@ use Rattle.bx_world.proofs.Viewed.{rest_seen}
 pub goes_on_behind : {A : Type 0} (old xs : List A) (y : A) (ys zs : List A) → length old ≤ length xs → xs ++ y ∷ ys ≡ old ++ zs → zs ≢ []
 goes_on_behind old xs y ys zs long e nothing = absurd (omega (arith, length-append xs (y ∷ ys), length-append old zs, ap length e, ap length nothing))
 
--- what is before a choice that is not nothing is not nothing
-pub some_first : {A : Type 0} (xs ys : List A) → xs ≢ [] → xs ++ ys ≢ []
-some_first [] ys some e = absurd (some refl)
-some_first (x ∷ xs) ys some e = cc
-
 pub some_last : {A : Type 0} (xs ys : List A) → ys ≢ [] → xs ++ ys ≢ []
 some_last [] ys some e = some e
 some_last (x ∷ xs) ys some e = cc

@@ -22,12 +22,3 @@ grown_trapped lives pushed after one l n kind r is kept said =
     let first : front after ≡ lives = popped lives pushed after one is (ap (λ (v : List Life × Lanes). v.0) same) in
     let second : n ≡ l = ap (λ (v : List Life × Lanes). v.1) same in
     ap (childless_at_trap lives l) said ∙ (λ i. Ok ((sym first i, sym second i), turns.Trapped kind))
-
-standing : (lives : List Life) (l : Lanes) (w : List Life × Lanes) (turn : Turn) → ((kind : Trap) → turn ≢ turns.Trapped kind) → childless_at_trap lives l (Ok (w, turn)) ≡ Ok (w, turn)
-standing lives l w turns.Ran free = refl
-standing lives l w (turns.Ended reason) free = refl
-standing lives l w (turns.Trapped kind) free = absurd (free kind refl)
-standing lives l w (turns.Spawns spawn) free = refl
-
-pub grown_stands : (lives : List Life) (l : Lanes) (w : List Life × Lanes) (turn : Turn) (r : Result Among Fault) → ((kind : Trap) → turn ≢ turns.Trapped kind) → r ≡ Ok (w, turn) → childless_at_trap lives l r ≡ Ok (w, turn)
-grown_stands lives l w turn r free said = ap (childless_at_trap lives l) said ∙ standing lives l w turn free

@@ -45,15 +45,22 @@ module _ {A : Type 0} where
   in_right [] ys x h = h
   in_right (first ∷ xs) ys x h = inr (in_right xs ys x h)
 
-  in_either : (xs ys : List A) (x : A) → In (xs ++ ys) x → In xs x ⊎ In ys x
-  unfolding In
-  in_either [] ys x h = inr h
-  in_either (first ∷ xs) ys x (inl e) = inl (inl e)
-  in_either (first ∷ xs) ys x (inr h) = one (in_either xs ys x h)
-    where
-      one : In xs x ⊎ In ys x → ((first ≡ x) ⊎ In xs x) ⊎ In ys x
-      one (inl l) = inl (inr l)
-      one (inr r) = inr r
+-- what holds of each
+AllIn : (Choice → Type 0) → List Choice → Type 0
+AllIn P [] = Unit {0}
+AllIn P (first ∷ more) = P first × AllIn P more
+
+module _ (P : Choice → Type 0) where
+  each : (xs : List Choice) (x : Choice) → AllIn P xs → In xs x → P x
+  unfolding AllIn In
+  each [] x all h = absurd h
+  each (first ∷ more) x all (inl e) = subst P e all.0
+  each (first ∷ more) x all (inr h) = each more x all.1 h
+
+  both : (xs ys : List Choice) → AllIn P xs → AllIn P ys → AllIn P (xs ++ ys)
+  unfolding AllIn
+  both [] ys h k = k
+  both (first ∷ more) ys h k = (h.0, both more ys h.1 k)
 
 -- the choices of processes that pass a test
 module _ (may : Life → Bool) (choice : ℕ → Choice) where
@@ -74,28 +81,20 @@ module _ (may : Life → Bool) (choice : ℕ → Choice) where
       let same : n + 1 + k ≡ n + suc k = omega arith in
       found_behind (choice n) (choice (n + suc k)) (choices_from may choice (n + 1) more) (may one) (subst (λ p. In (choices_from may choice (n + 1) more) (choice p)) same (passes_in (n + 1) more k can))
 
-  abbrev Passes : ℕ → List Life → Choice → Type 0
-  Passes n lives it = (k : ℕ) × (it ≡ choice (n + k)) × (may_at may (slice_get lives k) ≡ true)
+  one_passes : (P : Choice → Type 0) (b : Bool) (it : Choice) (rest : List Choice) → (b ≡ true → P it) → AllIn P rest → AllIn P (if b then it ∷ rest else rest)
+  unfolding AllIn
+  one_passes P true it rest h k = (h refl, k)
+  one_passes P false it rest h k = k
 
-  further : (n : ℕ) (one : Life) (more : List Life) (it : Choice) → Passes (n + 1) more it → Passes n (one ∷ more) it
-  further n one more it h = let same : n + 1 + h.0 ≡ n + suc h.0 = omega arith in (suc h.0, h.1 ∙ ap choice same, h.2)
-
-  split : (n : ℕ) (one : Life) (more : List Life) (it : Choice) (b : Bool) → may one ≡ b → (In (choices_from may choice (n + 1) more) it → Passes (n + 1) more it)
-      → In (if b then choice n ∷ choices_from may choice (n + 1) more else choices_from may choice (n + 1) more) it → Passes n (one ∷ more) it
-  unfolding In
-  split n one more it true can rest (inl e) = let same : n ≡ n + 0 = omega arith in (0, sym e ∙ ap choice same, can)
-  split n one more it true can rest (inr h) = further n one more it (rest h)
-  split n one more it false can rest h = further n one more it (rest h)
-
-  in_passes : (n : ℕ) (lives : List Life) (it : Choice) → In (choices_from may choice n lives) it → Passes n lives it
-  in_passes n [] it h = unfold In in absurd h
-  in_passes n (one ∷ more) it h = split n one more it (may one) refl (in_passes (n + 1) more it) h
+  each_passes : (P : Choice → Type 0) (n : ℕ) (lives : List Life) → ((k : ℕ) → may_at may (slice_get lives k) ≡ true → P (choice (n + k))) → AllIn P (choices_from may choice n lives)
+  each_passes P n [] h = unfold AllIn in tt
+  each_passes P n (one ∷ more) h =
+      let here : n + 0 ≡ n = omega arith in
+      one_passes P (may one) (choice n) (choices_from may choice (n + 1) more) (λ can. subst (λ m. P (choice m)) here (h 0 can))
+      (each_passes P (n + 1) more (λ k can. let same : n + suc k ≡ n + 1 + k = omega arith in subst (λ m. P (choice m)) same (h (suc k) can)))
 
   passes : (lives : List Life) (p : ℕ) → may_at may (slice_get lives p) ≡ true → In (choices_from may choice 0 lives) (choice p)
   passes lives p can = let same : 0 + p ≡ p = omega arith in subst (λ n. In (choices_from may choice 0 lives) (choice n)) same (passes_in 0 lives p can)
-
-  passed : (lives : List Life) (it : Choice) → In (choices_from may choice 0 lives) it → (p : ℕ) × (it ≡ choice p) × (may_at may (slice_get lives p) ≡ true)
-  passed lives it h = let found = in_passes 0 lives it h in let same : 0 + found.0 ≡ found.0 = omega arith in (found.0, found.1 ∙ ap choice same, found.2)
 
 -- the channels in which something waits
 delivered_in : (ks : List (ℕ × ℕ)) (p q : ℕ) → In ks (p, q) → In (map delivery ks) (Deliver p q)
@@ -104,11 +103,10 @@ delivered_in [] p q h = absurd h
 delivered_in (k ∷ ks) p q (inl e) = inl (ap delivery e)
 delivered_in (k ∷ ks) p q (inr h) = inr (delivered_in ks p q h)
 
-in_delivered : (ks : List (ℕ × ℕ)) (it : Choice) → In (map delivery ks) it → (k : ℕ × ℕ) × (it ≡ Deliver k.0 k.1) × In ks k
-unfolding In
-in_delivered [] it h = absurd h
-in_delivered (k ∷ ks) it (inl e) = (k, sym e, inl refl)
-in_delivered (k ∷ ks) it (inr h) = let there = in_delivered ks it h in (there.0, there.1, inr there.2)
+each_delivered : (P : Choice → Type 0) (ks : List (ℕ × ℕ)) → ((k : ℕ × ℕ) → In ks k → P (delivery k)) → AllIn P (map delivery ks)
+unfolding AllIn In
+each_delivered P [] h = tt
+each_delivered P (k ∷ ks) h = (h k (inl refl), each_delivered P ks (λ r there. h r (inr there)))
 
 tells : (x y : ℕ × ℕ) → eq_by_cmp pair_cmp x y ≡ true → x ≡ y
 tells x y e = equal_pair x y (sym (tied x y) ∙ e)
@@ -125,9 +123,6 @@ waits_in m p q waits =
 pair_waits : (m : Channels Signal) (k : ℕ × ℕ) → In (pairs m) k → is_some (first (waiting m k)) ≡ true
 pair_waits m k h = first_some (finite.get m k) ∙ contains_key-keys m k ∙ list_any-from_Contains (eq_by_cmp_equiv pair_cmp_total) k (pairs m) (in_contains (pairs m) k h)
 
-in_waits : (m : Channels Signal) (it : Choice) → In (deliveries m) it → (k : ℕ × ℕ) × (it ≡ Deliver k.0 k.1) × (is_some (first (waiting m k)) ≡ true)
-in_waits m it h = let there = in_delivered (pairs m) it h in (there.0, there.1, pair_waits m there.0 there.2)
-
 -- all that are open
 module _ (lives : List Life) (l : Lanes) where
   abbrev Runs : List Choice
@@ -141,25 +136,14 @@ module _ (lives : List Life) (l : Lanes) where
   able_in (Deliver p q) can = in_right Runs (deliveries l.channels ++ Expirations) (Deliver p q) (in_left (deliveries l.channels) Expirations (Deliver p q) (waits_in l.channels p q can))
   able_in (Expire p) can = in_right Runs (deliveries l.channels ++ Expirations) (Expire p) (in_right (deliveries l.channels) Expirations (Expire p) (passes may_expire Expire lives p can))
 
-  run_able : (choice : Choice) → (p : ℕ) × (choice ≡ Run p) × (may_at may_run (slice_get lives p) ≡ true) → able choice lives l ≡ true
-  run_able choice h = ap (λ c. able c lives l) h.1 ∙ h.2
-
-  delivery_able : (choice : Choice) → (k : ℕ × ℕ) × (choice ≡ Deliver k.0 k.1) × (is_some (first (waiting l.channels k)) ≡ true) → able choice lives l ≡ true
-  delivery_able choice h = ap (λ c. able c lives l) h.1 ∙ h.2
-
-  expiration_able : (choice : Choice) → (p : ℕ) × (choice ≡ Expire p) × (may_at may_expire (slice_get lives p) ≡ true) → able choice lives l ≡ true
-  expiration_able choice h = ap (λ c. able c lives l) h.1 ∙ h.2
-
   in_able : (choice : Choice) → In (open_choices lives l) choice → able choice lives l ≡ true
-  in_able choice h = one (in_either Runs (deliveries l.channels ++ Expirations) choice h)
-    where
-      two : In (deliveries l.channels) choice ⊎ In Expirations choice → able choice lives l ≡ true
-      two (inl d) = delivery_able choice (in_waits l.channels choice d)
-      two (inr e) = expiration_able choice (passed may_expire Expire lives choice e)
-
-      one : In Runs choice ⊎ In (deliveries l.channels ++ Expirations) choice → able choice lives l ≡ true
-      one (inl r) = run_able choice (passed may_run Run lives choice r)
-      one (inr more) = two (in_either (deliveries l.channels) Expirations choice more)
+  in_able choice h =
+      let P : Choice → Type 0 = λ c. able c lives l ≡ true in
+      each P (open_choices lives l) choice
+      (both P Runs (deliveries l.channels ++ Expirations) (each_passes may_run Run P 0 lives (λ k can. let same : k ≡ 0 + k = omega arith in subst (λ n. may_at may_run (slice_get lives n) ≡ true) same can))
+      (both P (deliveries l.channels) Expirations (each_delivered P (pairs l.channels) (λ k there. pair_waits l.channels k there))
+      (each_passes may_expire Expire P 0 lives (λ k can. let same : k ≡ 0 + k = omega arith in subst (λ n. may_at may_expire (slice_get lives n) ≡ true) same can))))
+      h
 
   enabled_in : (t : Option (Trap × ℕ)) (choice : Choice) → (is_none t && able choice lives l) ≡ true → In (unless_trapped t (open_choices lives l)) choice
   enabled_in None choice can = able_in choice can

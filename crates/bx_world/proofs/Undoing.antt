@@ -1,5 +1,5 @@
 -- What was put is taken back, and then nothing has changed.
-use Rattle.std.proofs.Common.{◌≡◌, ◌≢◌, ℕ, ◌-◌, ◌∷◌, ◌++◌, [], List, true, false, arith, length, take, Result, Ok, Err, refl, sym, ap, ◌∙◌}
+use Rattle.std.proofs.Common.{◌≡◌, ◌≢◌, ℕ, ◌-◌, ◌∷◌, ◌++◌, [], List, true, false, arith, length, take, Option, Some, Result, Ok, Err, refl, sym, ap, ◌∙◌}
 use Rattle.std.specs.Prelude.{◌==◌, ◌||◌, if◌then◌else◌}
 use Rattle.std.proofs.lemmas.List.{length-append}
 use Rattle.std.proofs.Math.Seq.{take-append_seam}
@@ -11,7 +11,7 @@ use Rattle.bx_terms.specs.declared.kinds.Trap.{Trap}
 use Rattle.bx_terms.specs.declared.kinds.Trap.TheVariants.{BadPlace}
 use Rattle.bx_load.specs.Image.{Loaded}
 use Rattle.bx_signals.specs.Waiting.{front}
-use Rattle.bx_signals.specs.Channels.{taken_back}
+use Rattle.bx_signals.specs.Channels.{Channels, put, taken_back, put_to_all}
 use Rattle.bx_signals.specs.declared.signal.Signal.{Signal}
 use Rattle.bx_signals.specs.declared.signal.Signal.TheVariants as signals
 use Rattle.bx_signals.proofs.Maps.{taken_back_put}
@@ -24,17 +24,24 @@ use Rattle.bx_proc.specs.declared.parts.Effect.{Effect}
 use Rattle.bx_proc.specs.declared.parts.Effect.TheVariants as effects
 use Rattle.bx_proc.proofs.Attempts.{settled_whole, settled_with_whole}
 use Rattle.bx_proc.proofs.Linking.{link_undone, linked_there}
+use Rattle.bx_world.specs.declared.choices.Choice.TheVariants.{Run}
 use Rattle.bx_world.specs.declared.lanes.Lanes.{Lanes}
 use Rattle.bx_world.specs.declared.turns.Turn.{Turn}
 use Rattle.bx_world.specs.declared.turns.Turn.TheVariants as turns
-use Rattle.bx_world.specs.Sharing.{telling, showing}
-use Rattle.bx_world.specs.Asking.{Done, whole, closing, linking, yes}
+use Rattle.bx_world.specs.Sharing.{telling, showing, all_posted}
+use Rattle.bx_world.specs.Deeds.{closes, exits, puts, yes}
+use Rattle.bx_world.specs.Asking.{Done, whole, done, closing, linking}
 
 abbrev Answered : Type 0
 Answered = Result Done Fault
 
 same_done : (d e : Done) → ◌≡◌ {A = Answered} (Ok d) (Ok e) → d ≡ e
 same_done d e is = cc
+
+-- the exit signals of a process that ends
+pub all_told : (p : ℕ) (qs : List ℕ) (reason : Tree) (m : Channels Signal) → put_to_all p qs (signals.LinkExit reason) m ≡ all_posted p (exits qs reason) m
+all_told p [] reason m = refl
+all_told p (q ∷ qs) reason m = all_told p qs reason (put (p, q) (signals.LinkExit reason) m)
 
 -- where nothing was put, a trap leaves nothing to take back
 alone : (p : ℕ) (l : Lanes) (x y : Process) (e : Effect) → Whole x y e → whole (x, l) (closing p l (y, e)) ≡ closing p l (y, e)
@@ -140,14 +147,29 @@ front_last xs x = let one : length (xs ++ x ∷ []) - 1 ≡ length xs = omega (a
 pub unshown : (p : ℕ) (t : Tree) (l : Lanes) → record (showing p t l) { output = front (showing p t l).output } ≡ l
 unshown p t l = ap (λ output. record l { output = output }) (front_last l.output (p, t))
 
+abbrev shows_at : ℕ → Tree → Lanes → Process × Effect → Done
+shows_at p t l said = done (Run p) l (record (closes said) { shows = Some t })
+
+shows_is : (p : ℕ) (t : Tree) (l : Lanes) (said : Process × Effect) → shows_at p t l said ≡ closing p (showing p t l) said
+shows_is p t l (x, effects.Ran) = refl
+shows_is p t l (x, effects.Ended reason) = refl
+shows_is p t l (x, effects.Trap kind) = refl
+shows_is p t l (x, effects.Send to m) = refl
+shows_is p t l (x, effects.Ask n ts) = refl
+
+pub shown_stood : (image : Loaded) (p : ℕ) (t : Tree) (a : Answer) (l : Lanes) (x : Process) (after : Process × Lanes) (turn : Turn) → ((kind : Trap) → turn ≢ turns.Trapped kind)
+    → ◌≡◌ {A = Answered} (Ok (closing p (showing p t l) (settled image a x))) (Ok (after, turn)) → ◌≡◌ {A = Answered} (Ok (whole (x, l) (shows_at p t l (settled image a x)))) (Ok (after, turn))
+shown_stood image p t a l x after turn free is =
+    ap (λ (e : Done). Ok (whole (x, l) e)) (shows_is p t l (settled image a x)) ∙ stood (x, l) after (closing p (showing p t l) (settled image a x)) turn free is
+
 pub shown_trapped : (image : Loaded) (p : ℕ) (t : Tree) (a : Answer) (l m : Lanes) (x y : Process) (kind : Trap)
     → ◌≡◌ {A = Answered} (Ok (closing p (showing p t l) (settled image a x))) (Ok ((y, m), turns.Trapped kind))
-    → ◌≡◌ {A = Answered} (Ok (whole (x, l) (closing p (showing p t l) (settled image a x)))) (Ok ((y, record m { output = front m.output }), turns.Trapped kind))
+    → ◌≡◌ {A = Answered} (Ok (whole (x, l) (shows_at p t l (settled image a x)))) (Ok ((y, record m { output = front m.output }), turns.Trapped kind))
 shown_trapped image p t a l m x y kind is =
     let d = same_done (closing p (showing p t l) (settled image a x)) ((y, m), turns.Trapped kind) is in
     let kept = trap_kept image p a (showing p t l) m x y kind d in
     let lanes : record m { output = front m.output } ≡ l = ap (λ (n : Lanes). record n { output = front n.output }) kept.1 ∙ unshown p t l in
-    ap Ok (whole_trapped (x, l) (y, m) (closing p (showing p t l) (settled image a x)) kind d)
+    ap (λ (e : Done). Ok (whole (x, l) e)) (shows_is p t l (settled image a x)) ∙ ap Ok (whole_trapped (x, l) (y, m) (closing p (showing p t l) (settled image a x)) kind d)
     ∙ ap (λ (w : Process × Lanes). Ok (w, turns.Trapped kind)) (let one = sym kept.0 in let two = sym lanes in λ i. (one i, two i))
 
 -- what a change made
@@ -161,12 +183,6 @@ no_refusal d f e = cc
 pub refused_back : (old mid new after : Process × Lanes) (f : Fault) (said told : Done) → (new ≡ mid → after ≡ old) → Does {A = Turn} (Unit {0}) mid new (Err f) (Ok said) → Does {A = Turn} (Unit {0}) old after (Err f) (Ok told)
 refused_back old mid new after Memory said told back h = (h.0, back h.1)
 refused_back old mid new after fault said told back h = absurd (no_refusal said fault h.0)
-
--- a link to another process that is not there yet
-pub linking_new : (image : Loaded) (p q : ℕ) (x : Process) (l : Lanes) → (q == p) ≡ false → among q x.links ≡ false
-    → linking image p q x l ≡ closing p (telling (p, q) signals.Link l) (settled image yes (with_link q x))
-linking_new image p q x l other new =
-    ap (λ b. if b then closing p l (settled image yes x) else closing p (telling (p, q) signals.Link l) (settled image yes (with_link q x))) (ap (λ b. b || among q x.links) other ∙ new)
 
 -- a link that is there already changes nothing
 pub linked_already : (q : ℕ) (x : Process) → among q x.links ≡ true → with_link q x ≡ x

@@ -18,7 +18,8 @@ use Rattle.bx_world.specs.Asking.{Done}
 use Rattle.bx_world.specs.Delivering.{received, exited_received, lost}
 use Rattle.bx_world.specs.Enabled.{may_at, may_expire}
 use Rattle.bx_world.specs.Lifetimes.{Lived, Among, life_told, life_expired, put_back, lost_if, Waits}
-use Rattle.bx_world.specs.Spawning.{answering, life_answered, other_if, system_limit}
+use Rattle.bx_world.specs.Deeds.{other_if, system_limit}
+use Rattle.bx_world.specs.Spawning.{answering, life_answered}
 
 -- a wait that can expire is over
 abbrev pub expiring : Lanes → Process → Result Done Fault

@@ -24,8 +24,8 @@ use Rattle.bx_world.specs.declared.turns.Turn.{Turn}
 use Rattle.bx_world.specs.declared.turns.Turn.TheVariants as turns
 use Rattle.bx_world.specs.World.{Life, Live, Exited, State}
 use Rattle.bx_world.specs.Enabled.{actor}
-use Rattle.bx_world.specs.Deeds.{Posts, Deed, closes, instruction, signalled}
-use Rattle.bx_world.specs.Spawning.{past_limits, system_limit, linked_to, other_if, new_child}
+use Rattle.bx_world.specs.Sharing.{all_posted, heeded, displayed}
+use Rattle.bx_world.specs.Deeds.{Posts, Deed, instruction, past_limits, system_limit, other_if, is_answered, new_child, signalled}
 
 pub record Change : Type 0 where
   -- what the life of the choice's process becomes; none where there is no such process
@@ -53,10 +53,6 @@ turned_to (turns.Spawns spawn) child deed = Ok (by_deed (Live deed.process) chil
 
 abbrev pub change : Option Process → Deed → Result Change Trap
 change child deed = turned_to deed.turn child deed
-
--- a process that asked for a spawn enters its child into its set, where they are linked, and is answered
-abbrev pub is_answered : Loaded → Option ℕ → Answer → Process → Deed
-is_answered image child answer x = closes (settled image answer (linked_to child x))
 
 -- among so many processes
 abbrev pub spawned : Loaded → ℕ → ℕ → SpawnRequest → Process → Result Change Trap
@@ -116,20 +112,6 @@ abbrev pub coming : Loaded → Choice → State → Coming
 coming image choice w = change_of image choice (slice_get w.processes (actor choice)) (length w.processes) (heeds choice w.lanes.channels)
 
 -- ---- a change is applied
-
-abbrev pub all_posted : ℕ → Posts → Channels Signal → Channels Signal
-all_posted p [] channels = channels
-all_posted p (post ∷ more) channels = all_posted p more (put (p, post.0) post.1 channels)
-
-abbrev pub heeded : Choice → Bool → Channels Signal → Channels Signal
-heeded (Deliver p q) true channels = taken (p, q) channels
-heeded (Deliver p q) false channels = channels
-heeded (Run p) takes channels = channels
-heeded (Expire p) takes channels = channels
-
-abbrev pub displayed : ℕ → Option Tree → List (ℕ × Tree) → List (ℕ × Tree)
-displayed p None output = output
-displayed p (Some term) output = output ++ (p, term) ∷ []
 
 abbrev pub with_life : ℕ → Option Life → List Life → List Life
 with_life p None lives = lives

@@ -1,26 +1,28 @@
 -- What an instruction, or a signal, does at one process: what becomes of the process, and what it sends, displays and takes.
 -- Source: module `erlang` of the ERTS Reference Manual; Erlang Reference Manual, "Processes".
-use Rattle.std.specs.Prelude.{ℕ, ◌==◌, ◌||◌, List, [], ◌∷◌, Bool, true, false, not, Option, Some, None, if◌then◌else◌}
-use Rattle.bx_terms.specs.Tree.{Tree, atom}
-use Rattle.bx_terms.specs.declared.fixed.TheConstants.{KILLED}
+use Rattle.std.specs.Prelude.{ℕ, ◌==◌, ◌||◌, List, [], ◌∷◌, Bool, true, false, not, Option, Some, None, length, nat_le, nat_lt, if◌then◌else◌}
+use Rattle.bx_terms.specs.Tree.{Tree, atom, pid, tuple, listed, height}
+use Rattle.bx_terms.specs.declared.fixed.TheConstants.{TRUE, NORMAL, KILL, KILLED, BADARG, EXIT_TAG, SYSTEM_LIMIT}
+use Rattle.bx_terms.specs.declared.kinds.Class.TheVariants.{Error}
 use Rattle.bx_terms.specs.declared.kinds.Trap.TheVariants.{TermHeight, BadPlace}
-use Rattle.bx_load.specs.Image.{Loaded}
+use Rattle.bx_bifs.specs.Kinds.{is_the_atom}
+use Rattle.bx_load.specs.Image.{Loaded, export}
 use Rattle.bx_signals.specs.declared.signal.Signal.{Signal}
 use Rattle.bx_signals.specs.declared.signal.Signal.TheVariants as signals
 use Rattle.bx_cells.specs.Links.{among}
-use Rattle.bx_proc.specs.Process.{Process}
+use Rattle.bx_proc.specs.Process.{Process, new_process}
 use Rattle.bx_proc.specs.Signals.{with_message, with_link, without_link}
 use Rattle.bx_proc.specs.Stepping.{attempted, settled, settled_with}
 use Rattle.bx_proc.specs.declared.parts.Answer.{Answer}
-use Rattle.bx_proc.specs.declared.parts.Answer.TheVariants.{Value}
+use Rattle.bx_proc.specs.declared.parts.Answer.TheVariants.{Value, Fault}
 use Rattle.bx_proc.specs.declared.parts.Effect.{Effect}
 use Rattle.bx_proc.specs.declared.parts.Effect.TheVariants as effects
+use Rattle.bx_world.specs.declared.requests.SpawnRequest.{SpawnRequest}
 use Rattle.bx_world.specs.declared.requests.Request.{Request}
 use Rattle.bx_world.specs.declared.requests.Request.TheVariants as requests
 use Rattle.bx_world.specs.declared.turns.Turn.{Turn}
 use Rattle.bx_world.specs.declared.turns.Turn.TheVariants.{Ran, Ended, Trapped, Spawns}
 use Rattle.bx_world.specs.Requests.{requested}
-use Rattle.bx_world.specs.Asking.{yes, badarg, exit_message, is_kill, is_normal, low_enough, unlinked_done}
 
 -- signals in order, each behind its receiver
 abbrev pub Posts : Type 0
@@ -60,6 +62,30 @@ abbrev pub puts : ℕ → Signal → Deed → Deed
 puts q signal deed = record deed { posts = (q, signal) ∷ deed.posts }
 
 -- ---- what a process asks of the world
+
+abbrev pub yes : Answer
+yes = Value (atom TRUE.0)
+
+abbrev pub badarg : Answer
+badarg = Fault Error (atom BADARG.0)
+
+-- the message that an exit signal from process p becomes
+abbrev pub exit_message : ℕ → Tree → Tree
+exit_message p reason = tuple (listed (atom EXIT_TAG.0 ∷ pid p ∷ reason ∷ []))
+
+abbrev pub is_kill : Tree → Bool
+is_kill = is_the_atom KILL
+
+abbrev pub is_normal : Tree → Bool
+is_normal = is_the_atom NORMAL
+
+-- where no term may be so high, there is none
+abbrev pub low_enough : Tree → Option Tree
+low_enough term = if nat_le (height term) 10000 then Some term else None
+
+-- a link is taken away
+abbrev pub unlinked_done : ℕ → Process × Effect → Process × Effect
+unlinked_done q done = (without_link q done.0, done.1)
 
 -- a message to oneself is added at once
 abbrev pub notes : Loaded → Answer → Process → Option Tree → Deed
@@ -104,6 +130,31 @@ did image p x (y, effects.Trap kind) = alone x (Trapped kind)
 
 abbrev pub instruction : Loaded → ℕ → Process → Deed
 instruction image p x = did image p x (attempted image p x)
+
+-- ---- a spawn
+
+-- no more than 1,024 processes, those that have ended among them, and no more than 255 arguments
+abbrev pub past_limits : SpawnRequest → ℕ → Bool
+past_limits spawn count = nat_le 1024 count || nat_lt 255 (length spawn.arguments)
+
+abbrev pub system_limit : Answer
+system_limit = Fault Error (atom SYSTEM_LIMIT.0)
+
+abbrev pub linked_to : Option ℕ → Process → Process
+linked_to None x = x
+linked_to (Some q) x = with_link q x
+
+abbrev pub other_if : Bool → ℕ → Option ℕ
+other_if true q = Some q
+other_if false q = None
+
+-- a process that asked for a spawn enters its child into its set, where they are linked, and is answered
+abbrev pub is_answered : Loaded → Option ℕ → Answer → Process → Deed
+is_answered image child answer x = closes (settled image answer (linked_to child x))
+
+-- the child stands at the entry of its function, where its module exports one of that name and that many arguments
+abbrev pub new_child : Loaded → ℕ → SpawnRequest → Process
+new_child image p spawn = linked_to (other_if spawn.linked p) (new_process (export image spawn.«module» spawn.function (length spawn.arguments)) spawn.arguments)
 
 -- ---- a signal from process p
 

@@ -11,7 +11,8 @@ ghost use Rattle.bx_proc.specs.Telling.{Settles};
 ghost use Rattle.bx_proc.specs.declared.parts.Effect.{Effect};
 ghost use Rattle.bx_world.specs.declared.requests.Request.TheVariants as requests;
 ghost use Rattle.bx_world.specs.declared.turns.Turn.TheVariants as turns;
-ghost use Rattle.bx_world.specs.Asking.{whole, closing, sending, exiting_oneself, linking, unlinking, done_by, unlinked_done, exit_message, low_enough, yes, leaving, ExitTakes};
+ghost use Rattle.bx_world.specs.Deeds.{exit_message, low_enough, unlinked_done, yes};
+ghost use Rattle.bx_world.specs.Asking.{whole, closing, sending, exiting_oneself, linking, unlinking, done_by, leaving, ExitTakes};
 
 use crate::actors::Actor;
 use crate::lanes::Lanes;
@@ -80,6 +81,7 @@ impl Actor<'_> {
     }
 
     /// Tells the links of a process that it has ended.
+    #[tactic(auto, using(crate::proofs::Undoing::all_told))]
     pub(crate) fn leave(
         self,
         process: &Proc,
@@ -243,7 +245,7 @@ impl Actor<'_> {
         self.note(process, lanes, &yes(), message)
     }
 
-    #[tactic(auto, using(crate::proofs::Undoing::link_trapped, crate::proofs::Undoing::rewhole, crate::proofs::Undoing::unlinked_back))]
+    #[tactic(auto, using(crate::proofs::Undoing::back_trapped, crate::proofs::Undoing::rewhole, crate::proofs::Undoing::untold))]
     fn link(self, process: &mut Proc, lanes: &mut Lanes, to: u32) -> Result<Turn, Fault>
         ensures { Does (Unit {0}) (process.old, lanes.old) (process.new, lanes.new) result
             (Ok (whole (process.old, lanes.old) (linking self.entry.image.now self.entry.pid to process.old lanes.old))) }
@@ -251,17 +253,18 @@ impl Actor<'_> {
         if to == self.pid || process.is_linked(to) {
             return self.close_whole(process, lanes, &yes());
         }
-        process.add_link(to)?;
-        let signal = Signal::Link;
-        let turn = match self.tell(process, lanes, to, signal, &yes()) {
+        if let Err(_signal) = lanes.channels.put(self.alloc, self.pid, to, Signal::Link) {
+            return Err(Fault::Memory);
+        }
+        let turn = match self.close_linked(process, lanes, to, &yes()) {
             Ok(turn) => turn,
             Err(refused) => {
-                process.drop_link(to);
+                lanes.channels.take_back(self.pid, to);
                 return Err(refused);
             }
         };
         if let Turn::Trapped(_) = &turn {
-            process.drop_link(to);
+            lanes.channels.take_back(self.pid, to);
         }
         Ok(turn)
     }
@@ -329,6 +332,7 @@ impl Actor<'_> {
     }
 
     /// Tells the links of a process but one that it has ended.
+    #[tactic(auto, using(crate::proofs::Undoing::all_told))]
     fn leave_without(
         self,
         process: &mut Proc,
@@ -347,7 +351,7 @@ impl Actor<'_> {
         Ok(Turn::Ended(reason))
     }
 
-    #[tactic(auto, using(crate::proofs::Undoing::shown_trapped, crate::proofs::Undoing::stood, crate::proofs::Undoing::unshown))]
+    #[tactic(auto, using(crate::proofs::Undoing::shown_trapped, crate::proofs::Undoing::shown_stood, crate::proofs::Undoing::unshown))]
     fn display(self, process: &mut Proc, lanes: &mut Lanes, term: Term) -> Result<Turn, Fault>
         ensures { Does (Unit {0}) (process.old, lanes.old) (process.new, lanes.new) result
             (Ok (done_by self.entry.image.now self.entry.pid (requests.Display term) process.old lanes.old)) }

@@ -71,6 +71,7 @@ fn receive_other(
 
 impl Lanes {
     /// A process that may be linked has ended.
+    #[tactic(auto, using(crate::proofs::Undoing::all_told))]
     fn hear_link_exit(
         &mut self,
         alloc: Global,
@@ -142,6 +143,7 @@ impl Lanes {
     }
 
     /// The process ends, and its links hear of it.
+    #[tactic(auto, using(crate::proofs::Undoing::all_told))]
     fn end(
         &mut self,
         alloc: Global,

@@ -9,7 +9,8 @@ use Rattle.bx_world.specs.World.{Life, Live}
 use Rattle.bx_world.specs.Lives.{life}
 use Rattle.bx_world.specs.declared.acts.Act.TheVariants.{Spawned}
 use Rattle.bx_world.specs.Acting.{lives_acted}
-use Rattle.bx_world.specs.Spawning.{other_if, new_child, lives_answered, childless_at_trap, lives_with_child}
+use Rattle.bx_world.specs.Deeds.{other_if, new_child}
+use Rattle.bx_world.specs.Spawning.{lives_answered, childless_at_trap, lives_with_child}
 use Rattle.bx_world.proofs.Acted.{spawned_is}
 use Rattle.bx_world.proofs.Changing.{err_through}
 use Rattle.bx_world.proofs.Applying.{answered_kept}
