@@ -2,6 +2,8 @@ pub mod Places
 pub mod Going
 pub mod Leading
 pub mod Sessions
+pub mod Meeting
+pub mod Pausing
 pub mod Calls
 pub mod Stopping
 pub mod Swapping

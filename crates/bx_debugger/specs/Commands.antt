@@ -19,6 +19,9 @@ pub data Ordered : Type 0 where
   Back : ℕ → Ordered
   Forward : ℕ → Ordered
   Go : List Choice → Ordered
+  -- a process up to its next event, and behind where it next meets others
+  Until : ℕ → Ordered
+  Run : ℕ → Ordered
   Swap : ℕ → Ordered
   Break : Place → Ordered
   Clear : Place → Ordered
@@ -26,6 +29,7 @@ pub data Ordered : Type 0 where
   Where : Ordered
   Look : ℕ → Ordered
   Signals : Ordered
+  Open : Ordered
   -- the items of a function: the address of the first, and the number behind the last
   Items : Place → ℕ → Ordered
   -- how many of the last choices
@@ -118,6 +122,7 @@ alone word =
     else if bytes_eq word (codes "show") then Some Show
     else if bytes_eq word (codes "where") then Some Where
     else if bytes_eq word (codes "signals") then Some Signals
+    else if bytes_eq word (codes "open") then Some Open
     else if bytes_eq word (codes "help") then Some Help
     else None
 
@@ -128,6 +133,8 @@ about image parts =
     else if bytes_eq parts.0 (codes "back") then option_map Back (number_of most_number parts.1)
     else if bytes_eq parts.0 (codes "forward") then option_map Forward (number_of most_number parts.1)
     else if bytes_eq parts.0 (codes "go") then option_map (λ entries. Go (spread entries)) (entries_of parts.1)
+    else if bytes_eq parts.0 (codes "until") then option_map Until (number_of most_pid parts.1)
+    else if bytes_eq parts.0 (codes "run") then option_map Run (number_of most_pid parts.1)
     else if bytes_eq parts.0 (codes "swap") then option_map Swap (number_of most_number parts.1)
     else if bytes_eq parts.0 (codes "break") then option_map Break (place_named image parts.1)
     else if bytes_eq parts.0 (codes "clear") then option_map Clear (place_named image parts.1)

@@ -29,6 +29,10 @@ pub(crate) enum Command {
     Forward(u32),
     /// Makes choices in order, up to the first that stops it.
     Go(Schedule),
+    /// Runs a process up to its next event.
+    Until(u32),
+    /// Runs a process until it has met others.
+    Run(u32),
     /// Exchanges the choice of that number, from 1 on, and the one behind it.
     Swap(u32),
     /// Sets a breakpoint.
@@ -43,6 +47,8 @@ pub(crate) enum Command {
     Look(u32),
     /// Shows the signals that wait.
     Signals,
+    /// Shows the choices that are enabled.
+    Open,
     /// Shows the items of a function: from an address up to a number.
     Items(Place, u32),
     /// Shows so many of the last choices, and what each met.
@@ -86,6 +92,9 @@ fn alone(alloc: Global, word: &[u8]) -> Option<Command>
     if word == b"signals".as_slice() {
         return Some(Command::Signals);
     }
+    if word == b"open".as_slice() {
+        return Some(Command::Open);
+    }
     if word == b"help".as_slice() {
         return Some(Command::Help);
     }
@@ -108,6 +117,12 @@ fn about(alloc: Global, image: &Image, word: &[u8], rest: &[u8]) -> Result<Optio
     }
     if word == b"go".as_slice() {
         return Ok(read_choices(alloc, rest)?.map(Command::Go));
+    }
+    if word == b"until".as_slice() {
+        return Ok(number_of(rest, MOST_PID).map(Command::Until));
+    }
+    if word == b"run".as_slice() {
+        return Ok(number_of(rest, MOST_PID).map(Command::Run));
     }
     if word == b"swap".as_slice() {
         return Ok(number_of(rest, u32::MAX).map(Command::Swap));
