@@ -10,3 +10,5 @@ pub mod Stopped
 pub mod Stretches
 pub mod Unbroken
 pub mod Swapping
+pub mod Pausing
+pub mod Runs

@@ -1,6 +1,6 @@
 //! How far a process runs by itself, and why no further.
 
-ghost use Rattle.std.specs.Prelude.{◌≡◌, ◌×◌, None, IfOk, OnOk, IsTrue};
+ghost use Rattle.std.specs.Prelude.{◌≡◌, ◌<◌, None, IfOk, OnOk};
 ghost use Rattle.bx_world.specs.declared.choices.Choice.TheVariants.{Run};
 ghost use Rattle.bx_world.specs.Choosing.{chosen};
 ghost use Rattle.bx_debug.specs.Pausing.{before_event, behind_meeting, idle, pause_before, pause_behind, pause_of, runs_to};
@@ -100,6 +100,7 @@ impl Runner<'_> {
     /// How often it runs from there on, and why no further, where it runs at all.
     pub(crate) fn runs(self, alloc: Global, world: &RcWorld) -> Result<(usize, Pause), AllocError>
         requires { pause_before self.entry.bound self.entry.image.now self.entry.places.now self.entry.pid world.now ≡ None }
+        ensures some { IfOk result (λ found. 0 < found.0) }
         ensures times { IfOk result (λ found. found.0 ≡ runs_to self.entry.bound self.entry.image.now self.entry.places.now self.entry.pid world.now) }
         ensures pause { IfOk result (λ found. found.1 ≡ pause_of self.entry.bound self.entry.image.now self.entry.places.now self.entry.pid world.now) }
     {

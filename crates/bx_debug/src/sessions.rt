@@ -239,7 +239,7 @@ impl<'a> Session<'a> {
         let (times, pause) = runner.runs(alloc, &self.world)?;
         let mut choices = Schedule::new(alloc);
         choices.push(Choice::Run(pid), times)?;
-        self.go(alloc, &choices)?;
+        self.make(alloc, &choices)?;
         Ok(pause)
     }
 
