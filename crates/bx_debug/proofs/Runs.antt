@@ -7,10 +7,11 @@ use Rattle.bx_world.specs.declared.choices.Choice.TheVariants.{Run}
 use Rattle.bx_world.specs.Choosing.{chosen}
 use Rattle.bx_world.specs.World.{State}
 use Rattle.bx_debug.specs.Going.{behind_choice, stop_before, stop_behind, unless_stopped, walked}
-use Rattle.bx_debug.specs.Pausing.{after_runs, pause_at, run_of, runs_to}
+use Rattle.bx_debug.specs.Pausing.{after_runs, least, pause_at, run_of, runs_to}
 use Rattle.bx_debug.specs.Places.{PlaceSet}
 use Rattle.bx_debug.specs.Sessions.{History, gone, with_made, world_of}
 use Rattle.bx_debug.specs.declared.pauses.Bound.{Bound}
+use Rattle.bx_debug.specs.declared.pauses.Pause.{Pause}
 use Rattle.bx_debug.specs.declared.stops.Stop.{Stop}
 use Rattle.bx_debug.specs.declared.stops.Stop.TheVariants.{Done}
 use Rattle.bx_debug.proofs.Pausing.{goes_at_once, goes_on, least_before, least_there, least_within}
@@ -40,6 +41,9 @@ all_made image places p (suc (suc n)) w before behind =
     (λ k less. subst (λ (v : State). stop_before (Run p) v ≡ None) (sym (shifted image p w k)) (before (suc k) (omega (arith, less))))
     (λ k less. subst (λ (v : State). stop_behind places (Run p) v ≡ None) (sym (shifted image p w (suc k))) (behind (suc k) (omega (arith, less)))))
 
+there_of : (why : ℕ → Option Pause) (most n : ℕ) → n ≡ least why most → n < most → is_some (why n) ≡ true
+there_of why most n is less = subst (λ k. is_some (why k) ≡ true) (sym is) (least_there why most (subst (λ k. k < most) is less))
+
 module _ (bound : Bound) (image : Loaded) (places : PlaceSet) (p : ℕ) (w : State) where
   pub no_reason_before : (k : ℕ) → k < runs_to bound image places p w → pause_at bound image places p w k ≡ None
   unfolding runs_to
@@ -49,9 +53,12 @@ module _ (bound : Bound) (image : Loaded) (places : PlaceSet) (p : ℕ) (w : Sta
   unfolding runs_to
   most_runs = least_within (pause_at bound image places p w) 100000
 
-  pub reason_there : runs_to bound image places p w < 100000 → is_some (pause_at bound image places p w (runs_to bound image places p w)) ≡ true
+  runs_are : runs_to bound image places p w ≡ least (pause_at bound image places p w) 100000
   unfolding runs_to
-  reason_there less = least_there (pause_at bound image places p w) 100000 less
+  runs_are = refl
+
+  pub reason_there : runs_to bound image places p w < 100000 → is_some (pause_at bound image places p w (runs_to bound image places p w)) ≡ true
+  reason_there less = there_of (pause_at bound image places p w) 100000 (runs_to bound image places p w) runs_are less
 
   free_at : (k : ℕ) → pause_at bound image places p w k ≡ None → stop_before (Run p) (after_runs image p w k) ≡ None
   free_at zero is = goes_at_once bound image places p w is

@@ -99,7 +99,7 @@ impl Runner<'_> {
 
     /// How often it runs from there on, and why no further, where it runs at all.
     pub(crate) fn runs(self, alloc: Global, world: &RcWorld) -> Result<(usize, Pause), AllocError>
-        requires { pause_before self.entry.bound self.entry.image.now self.entry.places.now self.entry.pid world.now ≡ None }
+        requires { pause_before self.bound self.image.now self.places.now self.pid world.now ≡ None }
         ensures some { IfOk result (λ found. 0 < found.0) }
         ensures times { IfOk result (λ found. found.0 ≡ runs_to self.entry.bound self.entry.image.now self.entry.places.now self.entry.pid world.now) }
         ensures pause { IfOk result (λ found. found.1 ≡ pause_of self.entry.bound self.entry.image.now self.entry.places.now self.entry.pid world.now) }

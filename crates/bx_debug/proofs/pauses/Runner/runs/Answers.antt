@@ -1,5 +1,5 @@
-use Rattle.std.proofs.Common.{sym, ◌∙◌, arith}
-use Rattle.bx_debug.proofs.Pausing.{pause_found, pause_most, ran_none, ran_on, times_found, times_most}
+use Rattle.std.proofs.Common.{◌≡◌, ℕ, subst, arith}
+use Rattle.bx_debug.proofs.Pausing.{Ran, pause_found, pause_most, ran_none, ran_on, times_found, times_most}
 use Rattle.bx_debug.proofs.pauses.Runner.runs.Goals as goal
 
 pub loop-made-init : goal.loop-made-init
@@ -22,3 +22,19 @@ returns-in-Some-clause-pause c =
     let r = c.args.self in
     pause_found r.bound r.image.now r.places.now r.pid c.args.world.now c.loop-made.made c.loop-made.here c.run_once.new.world c.meeting-met.result c.pause_behind.result c.loop-made.invariant
     c.meeting-met.ensures c.in_ok-run_once.ensures c.pause_behind.ensures c.in-Some.pause c.in-Some.is (omega arith)
+
+pub returns-clause-times : goal.returns-clause-times
+returns-clause-times c =
+    let r = c.args.self in
+    let all : c.loop-made.made ≡ 100000 = omega arith in
+    let ran : Ran r.bound r.image.now r.places.now r.pid c.args.world.now 100000 c.loop-made.here =
+    subst (λ (n : ℕ). Ran r.bound r.image.now r.places.now r.pid c.args.world.now n c.loop-made.here) all c.loop-made.invariant in
+    times_most r.bound r.image.now r.places.now r.pid c.args.world.now c.loop-made.here ran
+
+pub returns-clause-pause : goal.returns-clause-pause
+returns-clause-pause c =
+    let r = c.args.self in
+    let all : c.loop-made.made ≡ 100000 = omega arith in
+    let ran : Ran r.bound r.image.now r.places.now r.pid c.args.world.now 100000 c.loop-made.here =
+    subst (λ (n : ℕ). Ran r.bound r.image.now r.places.now r.pid c.args.world.now n c.loop-made.here) all c.loop-made.invariant in
+    pause_most r.bound r.image.now r.places.now r.pid c.args.world.now c.loop-made.here ran
