@@ -4,6 +4,7 @@ pub mod Leading
 pub mod Sessions
 pub mod Meeting
 pub mod Pausing
-pub mod Calls
 pub mod Stopping
 pub mod Swapping
+pub mod Exchanging
+pub mod Calls

@@ -1,12 +1,13 @@
 //! Laws of the definitions: the functions do nothing, and their clauses are the laws.
 
-ghost use Rattle.std.specs.Prelude.{◌≡◌, ◌≢◌, ◌<◌, ◌≤◌, ◌++◌, ◌∷◌, ℕ, List, [], length, replicate, true, IsSome, None, Ok};
+ghost use Rattle.std.specs.Prelude.{◌≡◌, ◌≢◌, ◌↔◌, ◌<◌, ◌≤◌, ◌++◌, ◌∷◌, ℕ, List, [], length, replicate, true, IsSome, None, Ok};
 ghost use Rattle.bx_load.specs.Image.{Loaded};
 ghost use Rattle.bx_terms.specs.declared.atom_table.AtomId.{AtomId};
 ghost use Rattle.bx_world.specs.declared.choices.Choice.{Choice};
 ghost use Rattle.bx_world.specs.declared.choices.Choice.TheVariants.{Run};
 ghost use Rattle.bx_world.specs.World.{State};
 ghost use Rattle.bx_debug.specs.Calls.{Call, after_calls};
+ghost use Rattle.bx_debug.specs.Exchanging.{may_swap};
 ghost use Rattle.bx_debug.specs.Going.{stop_behind, walked};
 ghost use Rattle.bx_debug.specs.Leading.{led, all_enabled};
 ghost use Rattle.bx_debug.specs.Pausing.{pause_at, run_of, runs_to};
@@ -14,6 +15,7 @@ ghost use Rattle.bx_debug.specs.Places.{PlaceSet};
 ghost use Rattle.bx_debug.specs.declared.pauses.Bound.{Bound};
 ghost use Rattle.bx_debug.specs.Sessions.{History, back, forward, opened, stepped, with_made, world_of};
 ghost use Rattle.bx_debug.specs.Stopping.{IsRunOf, TellsWhy};
+ghost use Rattle.bx_debug.specs.Swapping.{MaySwap};
 
 /// Whatever the calls on a session were, the world that it shows is the run of the choices before its position, from the start
 /// at which it was opened, and that run applied each of them.
@@ -68,4 +70,9 @@ pub fn a_process_runs_up_to_the_first_reason()
 pub fn each_of_its_runs_is_made()
     ensures { (bound : Bound) (p : ℕ) (s : History) → (run_of bound p s).0
         ≡ with_made (replicate (runs_to bound s.image s.places p (world_of s)) (Run p)) s }
+{}
+
+/// The test that an exchange is told by tells exactly whether two choices stand before the position and are independent.
+pub fn swaps_are_told_by_a_test()
+    ensures { (k : ℕ) (s : History) → (may_swap k s ≡ true) ↔ MaySwap k s }
 {}

@@ -10,6 +10,7 @@ use Rattle.bx_world.specs.Seen.{seen}
 use Rattle.bx_world.specs.declared.choices.Choice.{Choice}
 use Rattle.bx_world.specs.World.{Life}
 use Rattle.bx_debug.specs.Sessions.{History, behind, world_of, stepped, back, forward, gone, with_break, without_break}
+use Rattle.bx_debug.specs.Exchanging.{swap_of}
 use Rattle.bx_debug.specs.Pausing.{run_of}
 use Rattle.bx_debug.specs.declared.pauses.Bound.{Bound}
 use Rattle.bx_debug.specs.declared.pauses.Bound.TheVariants.{Event, Meeting}
@@ -24,7 +25,6 @@ use Rattle.bx_debugger.specs.Plan.{plan_line}
 use Rattle.bx_debugger.specs.Program.{Program, program_of}
 use Rattle.bx_debugger.specs.Signals.{signals_answer}
 use Rattle.bx_debugger.specs.Stops.{paused_line, standing, stop_words, stopped_line}
-use Rattle.bx_debugger.specs.Swap.{swap_of}
 use Rattle.bx_debugger.specs.Trace.{trace_answer}
 use Rattle.bx_debugger.specs.Where.{where_answer}
 

@@ -9,7 +9,6 @@ pub mod Open
 pub mod Stops
 pub mod Help
 pub mod Plan
-pub mod Swap
 pub mod Commands
 pub mod CommandView
 pub mod Answers

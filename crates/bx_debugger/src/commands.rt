@@ -10,7 +10,7 @@ ghost use Rattle.bx_debugger.specs.CommandView.{ordered};
 use bx_asm::Head;
 use bx_engine::token_at;
 use bx_load::Image;
-use bx_plan::{Schedule, choice_of, cut, number_of, read_choices, read_plan};
+use bx_plan::{Schedule, choice_of, cut, name_of, number_of, read_choices};
 use bx_terms::{Fault, Place};
 use bx_world::Choice;
 use std::alloc::{AllocError, Global};
@@ -248,18 +248,11 @@ fn items_named(alloc: Global, image: &Image, text: &[u8]) -> Result<Option<Comma
 fn plan_named(alloc: Global, name: &[u8]) -> Result<Option<Command>, Fault>
     ensures { Gives ⊤ (λ command. option_map ordered command) result (Ok (plan_named name.now)) }
 {
-    let mut line = Vec::from_slice(alloc, name)?;
-    line.push(b':')?;
-    let plan = match read_plan(alloc, &line) {
-        Ok(plan) => plan,
-        Err(Fault::Memory) => return Err(Fault::Memory),
-        Err(_) => return Ok(None),
-    };
-    match plan.label(0) {
-        Some(label) if label.as_bytes() == name => {
-            let label = String::from_str(alloc, label)?;
-            Ok(Some(Command::Plan(label)))
+    match name_of(name) {
+        Some(name) => {
+            let name = String::from_str(alloc, name)?;
+            Ok(Some(Command::Plan(name)))
         }
-        _ => Ok(None),
+        None => Ok(None),
     }
 }
