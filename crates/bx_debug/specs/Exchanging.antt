@@ -1,4 +1,4 @@
--- `swap K`: whether two choices that are next to each other may be exchanged, by tests. Worlds are compared by their codes.
+-- Whether two choices of a session that are next to each other may be exchanged, by tests. Worlds are compared by their codes.
 use Rattle.std.specs.Prelude.{ℕ, ◌-◌, ◌==◌, Bool, true, false, ◌&&◌, not, nat_lt, List, [], ◌∷◌, drop, take, is_none, Result, Ok, Err}
 use Rattle.std.specs.Coded.{Coded}
 use base.Stored.{Gv, gnil, gnum, gcons}
