@@ -16,3 +16,4 @@ pub mod Order
 pub mod AtomText
 pub mod Printed
 pub mod Options
+pub mod Texts

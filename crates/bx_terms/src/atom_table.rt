@@ -1,13 +1,13 @@
 //! Atoms by number, in order of first use.
 
-ghost use Rattle.std.specs.Prelude.{◌≡◌, ◌↔◌, None, Ok, length, fold, map, option_map, slice_get, string_bytes, OnOk, IfOk, IsTrue};
+ghost use Rattle.std.specs.Prelude.{◌≡◌, ◌↔◌, None, Ok, length, fold, option_map, slice_get, OnOk, IfOk, IsTrue};
 ghost use Rattle.bx_terms.specs.AtomTable.{is_short, number_of, used};
 ghost use Rattle.bx_terms.specs.FixedAtoms.{fixed_atoms};
 
 use crate::faults::Fault;
 use crate::fixed;
+use crate::texts::Texts;
 use bx_share::Same;
-use indexmap::IndexSet;
 use std::alloc::{AllocError, Global};
 use std::marker::Model;
 
@@ -20,19 +20,19 @@ pub struct AtomId(pub u32);
 /// It holds at most 65,536 atoms of at most 255 characters each, no text twice, and begins with the fixed atoms.
 #[derive(Drop)]
 pub struct Atoms {
-    names: IndexSet<String>,
+    names: Texts,
 }
 
 impl Model for Atoms {
-    ghost use Rattle.std.specs.Prelude.{List, ℕ, map, string_bytes};
+    ghost use Rattle.std.specs.Prelude.{List, ℕ};
 
     ghost Value = { List (List ℕ) };
 
     ghost use Rattle.bx_terms.specs.AtomTable.{IsAtomTable};
 
-    ghost view = { λ a. map string_bytes a.names.keys };
+    ghost view = { λ a. a.names };
 
-    ghost invariant = { λ a. IsAtomTable (map string_bytes a.names.keys) };
+    ghost invariant = { λ a. IsAtomTable a.names };
 }
 
 /// The longest atom, in characters.
@@ -66,13 +66,12 @@ impl Atoms {
     }
 
     /// The number of the atom that `text` spells, or `None` where the table does not hold it.
-    #[tactic(auto, using(crate::proofs::AtomTables::number_among))]
     pub fn find(&self, text: &str) -> Option<AtomId>
         ensures number { option_map (λ atom. atom.0) result ≡ number_of self.now text.now }
         ensures table { IsAtomTable self.now }
     {
-        let number = self.names.get_index_of(text)?;
-        Some(AtomId(number as u32))
+        let number = self.names.number(text)?;
+        Some(AtomId(number))
     }
 
     /// The text of an atom, or `None` where the table has no such number.
@@ -80,8 +79,7 @@ impl Atoms {
         ensures text { option_map (λ text. text.now) result ≡ slice_get self.now atom.0 }
         ensures table { IsAtomTable self.now }
     {
-        let name = self.names.get_index(atom.0 as usize)?;
-        Some(name.as_str())
+        self.names.text(atom.0)
     }
 
     /// The number of the atom that `text` spells: its old one, or the next one where the table does not hold it yet.
@@ -99,11 +97,10 @@ impl Atoms {
     }
 
     /// Whether both tables hold the same atoms under the same numbers.
-    #[tactic(auto, using(crate::proofs::AtomLists::strings_decide))]
     pub fn same(&self, other: &Atoms) -> bool
         ensures { IsTrue result ↔ (self.now ≡ other.now) }
     {
-        self.names.as_slice() == other.names.as_slice()
+        self.names.same(&other.names)
     }
 
     // A new text goes last.
@@ -118,8 +115,7 @@ impl Atoms {
         if number >= MOST_ATOMS {
             return Err(Fault::TooManyAtoms { line: None });
         }
-        let text = String::from_str(alloc, text)?;
-        self.names.insert(text)?;
+        self.names.push(alloc, text)?;
         Ok(AtomId(number as u32))
     }
 }
@@ -136,23 +132,31 @@ impl Same for AtomId {
     }
 }
 
-fn fixed_names(alloc: Global) -> Result<IndexSet<String>, AllocError>
-    ensures { IfOk result (λ names. map string_bytes names.keys ≡ fixed_atoms) }
+fn fixed_names(alloc: Global) -> Result<Texts, AllocError>
+    ensures { IfOk result (λ names. names ≡ fixed_atoms) }
 {
-    let mut names = IndexSet::new(alloc);
+    let mut names = Texts::new(alloc);
     add_all(alloc, &mut names, &fixed::TEXTS)?;
     Ok(names)
 }
 
 // Puts each text last that is not there yet, in turn.
-fn add_all(alloc: Global, names: &mut IndexSet<String>, texts: &[&str]) -> Result<(), AllocError>
-    ensures { OnOk result (map string_bytes names.new.keys ≡ fold (λ held text. used held text.now) (map string_bytes names.old.keys) texts.now) }
+fn add_all(alloc: Global, names: &mut Texts, texts: &[&str]) -> Result<(), AllocError>
+    ensures { OnOk result (names.new ≡ fold (λ held text. used held text.now) names.old texts.now) }
 {
     for text in texts {
-        let text = String::from_str(alloc, *text)?;
-        names.insert(text)?;
+        use_text(alloc, names, *text)?;
     }
     Ok(())
+}
+
+fn use_text(alloc: Global, names: &mut Texts, text: &str) -> Result<(), AllocError>
+    ensures { OnOk result (names.new ≡ used names.old text.now) }
+{
+    match names.number(text) {
+        Some(_) => Ok(()),
+        None => names.push(alloc, text),
+    }
 }
 
 // A text of at most 255 bytes has no more characters than that, and they need no counting.

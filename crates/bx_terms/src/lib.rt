@@ -14,6 +14,7 @@ mod ordering;
 mod places;
 mod printing;
 mod terms;
+mod texts;
 
 pub use atom_table::{AtomId, Atoms};
 pub use atom_text::push_atom;

@@ -1,10 +1,9 @@
 use Rattle.std.proofs.Common.{◌∙◌, sym}
 use Rattle.std.proofs.lemmas.List.Sums.{fold_more}
 use Rattle.bx_terms.specs.AtomTable.{used}
-use Rattle.bx_terms.proofs.AtomTables.{inserted}
 use Rattle.bx_terms.proofs.atom_table.add_all.Goals as goal
 
 pub loop-text-preserved : goal.loop-text-preserved
 loop-text-preserved c =
-    inserted _ _ _ _ _ c.loop-text.invariant c.in_ok-text.ensures.ok c.in_ok-insert.ensures.keys
-    ∙ sym (fold_more (λ held text. used held text.now) _ c.args.texts.now c.loop-text.text-index _ c.loop-text-test.true)
+    let put = rw c.loop-text.invariant at c.in_ok-use_text.ensures in
+    put ∙ sym (fold_more (λ held text. used held text.now) _ c.args.texts.now c.loop-text.text-index _ c.loop-text-test.true)

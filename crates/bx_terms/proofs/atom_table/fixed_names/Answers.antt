@@ -1,4 +1,4 @@
-use Rattle.std.proofs.Common.{fold, map, string_bytes, ◌∙◌, ap}
+use Rattle.std.proofs.Common.{fold, ◌∙◌, ap}
 use Rattle.bx_terms.specs.declared.fixed.TheConstants.{TEXTS}
 use Rattle.bx_terms.specs.AtomTable.{used}
 use Rattle.bx_terms.proofs.AtomTables.{fixed_by_use}
@@ -7,5 +7,5 @@ use Rattle.bx_terms.proofs.atom_table.fixed_names.Goals as goal
 pub returns : goal.returns
 returns c =
     c.in_ok-add_all.ensures
-    ∙ ap (λ names. fold (λ held text. used held text.now) (map string_bytes names) TEXTS) c.new-names.ensures.empty
+    ∙ ap (λ names. fold (λ held text. used held text.now) names TEXTS) c.new-names.ensures
     ∙ fixed_by_use
