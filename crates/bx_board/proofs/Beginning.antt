@@ -10,9 +10,8 @@ use Rattle.bx_load.specs.Image.{Loaded}
 use Rattle.bx_world.specs.World.{State, started}
 use Rattle.bx_world.specs.Running.{Ended, ran, unchosen}
 use Rattle.bx_plan.specs.Planned.{Planned}
-use Rattle.bx_plan.specs.Trees.{IsTree, path}
-use Rattle.bx_chains.specs.Chains.{AreChains, Chained, above, chain_count, is_kid, kids, one_if}
-use Rattle.bx_chains.proofs.Counting.{below_or_past, both_true, mid_false, not_eq}
+use Rattle.bx_plan.specs.Chains.{AreChains, Chained, above, chain_count, is_kid, kids, one_if, path_at}
+use Rattle.bx_plan.proofs.Times.{below_or_past, both_true, mid_false, not_eq}
 use Rattle.bx_board.specs.declared.slots.Slot.{Slot}
 use Rattle.bx_board.specs.declared.slots.Slot.TheVariants.{Waiting, Leased, Done}
 use Rattle.bx_board.specs.declared.slots.Event.{Event}
@@ -22,20 +21,19 @@ use Rattle.bx_board.specs.Alone.{IsIdle}
 use Rattle.bx_board.specs.Kept.{IsOpening, Kept, begun_with}
 use Rattle.bx_board.specs.Tended.{IsTended, kept_view}
 use Rattle.bx_board.proofs.Histories.{initial_kept, initial_waits, none_finished}
-use Rattle.bx_board.proofs.Places.{root_last}
 use Rattle.bx_board.proofs.RowLengths.{how_many_low, length_many}
 use Rattle.bx_board.proofs.Tending.{free_waits}
 
 -- the root's chain ends at the start
-pub root_end : (image : Loaded) (start : Entry) (plan : Planned) (chains : Chained) (world : State) → IsTree plan.tree → AreChains plan chains → started image start.0 start.1 ≡ Ok world
+pub root_end : (image : Loaded) (start : Entry) (plan : Planned) (chains : Chained) (world : State) → AreChains plan chains → started image start.0 start.1 ≡ Ok world
     → unchosen world ≡ end_of (work_of (record { image = image; start = start; plan = plan; chains = chains }) 0)
-root_end image start plan chains world tree are is =
+root_end image start plan chains world are is =
     ap (λ r. unchosen (world_or_none r)) (sym is)
-    ∙ ap (λ choices. ran image choices (origin image start)) (sym (ap (path plan.tree) (root_last plan chains are) ∙ tree.root))
+    ∙ ap (λ choices. ran image choices (origin image start)) (sym (ap (λ h. path_at plan h h.past) are.forest.root))
 
-module _ (job : Job) (tree : IsTree job.plan.tree) (are : AreChains job.plan job.chains) where
+module _ (job : Job) (are : AreChains job.plan job.chains) where
   pub long : length (initial job).slots ≡ length job.chains.heads
-  long = omega (arith, length-replicate {A = Slot} (chain_count job.chains - 1) Waiting, are.chains.some)
+  long = omega (arith, length-replicate {A = Slot} (chain_count job.chains - 1) Waiting, are.forest.some)
 
   -- what stands on the root is free
   first_free : (n : ℕ) → one_if (is_kid job.chains 0 n) ≡ one_if (is_free job (initial job) n)
@@ -63,7 +61,7 @@ module _ (job : Job) (tree : IsTree job.plan.tree) (are : AreChains job.plan job
 
   -- there are no more of them than chains
   pub kids_low : length (kids job.chains 0) ≤ length job.chains.heads
-  kids_low = omega (arith, long, how_many_low (is_free job (initial job)) (length (initial job).slots), length_many (is_free job (initial job)) (kids job.chains 0) (length (initial job).slots) (λ n. are.chains.kids 0 n ∙ first_free n) past) where
+  kids_low = omega (arith, long, how_many_low (is_free job (initial job)) (length (initial job).slots), length_many (is_free job (initial job)) (kids job.chains 0) (length (initial job).slots) (λ n. are.forest.kids 0 n ∙ first_free n) past) where
     past : (n : ℕ) → length (initial job).slots ≤ n → is_free job (initial job) n ≡ false
     past n h = ap (λ t. t && is_waiting (standing (initial job) n) && is_done (standing (initial job) (above job.chains n))) (le-ltb n (length (initial job).slots) h)
 
@@ -78,8 +76,8 @@ module _ (job : Job) (tree : IsTree job.plan.tree) (are : AreChains job.plan job
 
   pub initial_tended : (holders : BTreeMap ℕ ℕ) → holders.entries ≡ [] → IsTended (begun_with job) (kids job.chains 0) holders 0 1
   initial_tended holders none = record {
-    kept = initial_kept job tree are;
-    free = λ n. are.chains.kids 0 n ∙ first_free n;
+    kept = initial_kept job are;
+    free = λ n. are.forest.kids 0 n ∙ first_free n;
     held = λ k n. (λ h. let empty : None ≡ Some n = sym (ap (lookup (is_at (nat_cmp k))) none) ∙ h in cc, λ h. absurd (unheld n k h));
     some_leased = sym (none_held (length (initial job).slots));
     some_done = sym (none_finished job (length (replicate (chain_count job.chains - 1) Waiting)));

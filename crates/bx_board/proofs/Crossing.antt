@@ -11,7 +11,7 @@ use Rattle.bx_board.specs.contracts.slots.Slot as slot
 use Rattle.bx_terms.proofs.atom_table.AtomId.TheSendSync as ids
 use Rattle.bx_load.proofs.Crossing.{image_sync}
 use Rattle.bx_plan.proofs.plans.Plan.TheSendSync as plans
-use Rattle.bx_chains.proofs.chains.Chains.TheSendSync as chains
+use Rattle.bx_plan.proofs.chains.Chains.TheSendSync as chains
 use Rattle.bx_board.proofs.slots.Event.TheSendSync as events
 use Rattle.bx_board.proofs.working.Crew.TheSendSync as crews
 

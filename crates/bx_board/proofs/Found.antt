@@ -4,10 +4,8 @@ use Rattle.std.specs.Prelude.{Result, Ok, Err, IfErr}
 use Rattle.bx_load.specs.Image.{Loaded}
 use Rattle.bx_world.specs.declared.choices.Choice.{Choice}
 use Rattle.bx_world.specs.Running.{Ended}
-use Rattle.bx_plan.specs.Planned.{Planned, schedule_at, schedules}
+use Rattle.bx_plan.specs.Planned.{choices_at}
 use Rattle.bx_plan.specs.Plans.{Named}
-use Rattle.bx_plan.specs.Trees.{Tree, path}
-use Rattle.bx_plan.proofs.Looking.{slice_get-map}
 use Rattle.bx_board.specs.declared.reports.Scheduled.{Scheduled}
 use Rattle.bx_board.specs.declared.slots.Slot.{Slot}
 use Rattle.bx_board.specs.declared.slots.Slot.TheVariants.{Waiting, Leased, Done}
@@ -65,16 +63,11 @@ done_is (Done e) h = (e, refl)
 
 -- ---- schedules
 
-some_same : {A : Type 0} (x y : A) → Some x ≡ Some y → x ≡ y
-some_same x y h = cc
-
-path_found : (tree : Tree) (found : Option (List ℕ × ℕ)) (node : ℕ) (name : List ℕ) (choices : List Choice) → option_map (λ line. line.1) found ≡ Some node → option_map (schedule_at tree) found ≡ Some (name, choices) → path tree node ≡ choices
-path_found tree None node name choices e h = cc
-path_found tree (Some line) node name choices e h = let same : line.1 ≡ node = cc in let leads : path tree line.1 ≡ choices = ap (λ (s : Named). s.1) (some_same (schedule_at tree line) (name, choices) h) in ap (path tree) (sym same) ∙ leads
-
--- the schedule of a line is the path to its end
-pub path_at : (plan : Planned) (i node : ℕ) (name : List ℕ) (choices : List Choice) → option_map (λ line. line.1) (slice_get plan.lines i) ≡ Some node → slice_get (schedules plan) i ≡ Some (name, choices) → path plan.tree node ≡ choices
-path_at plan i node name choices e h = path_found plan.tree (slice_get plan.lines i) node name choices e (sym (slice_get-map (schedule_at plan.tree) plan.lines i) ∙ h)
+-- the choices of a schedule that was found
+pub choices_found : (plan : List Named) (i : ℕ) (name : List ℕ) (choices : List Choice) → slice_get plan i ≡ Some (name, choices) → choices_at plan i ≡ choices
+choices_found [] i name choices h = cc
+choices_found (s ∷ plan) zero name choices h = let same : s ≡ (name, choices) = cc in ap (λ (s : Named). s.1) same
+choices_found (s ∷ plan) (suc i) name choices h = choices_found plan i name choices h
 
 -- what is told of a schedule that was found
 pub told_at : (image : Loaded) (start : Entry) (found : Option Named) (name : List ℕ) (end : Ended) (one : Scheduled) → Some name ≡ option_map (λ schedule. schedule.0) found

@@ -3,9 +3,8 @@ use Rattle.std.proofs.Common.{◌≡◌, ◌≢◌, ◌⊎◌, inl, inr, ℕ, ze
 use Rattle.std.proofs.lemmas.List.{get_or-replicate, get_or_past, length-replicate, append-nil, length-set}
 use Rattle.std.proofs.lemmas.Bool.{cases_eq, eq-eqb}
 use Rattle.bx_world.specs.Running.{Ended}
-use Rattle.bx_plan.specs.Trees.{IsTree}
-use Rattle.bx_chains.specs.Chains.{AreChains, chain_count, one_if}
-use Rattle.bx_chains.proofs.Counting.{not_eq}
+use Rattle.bx_plan.specs.Chains.{AreChains, chain_count, one_if}
+use Rattle.bx_plan.proofs.Times.{not_eq}
 use Rattle.bx_board.specs.declared.slots.Slot.{Slot}
 use Rattle.bx_board.specs.declared.slots.Slot.TheVariants.{Waiting, Leased, Done}
 use Rattle.bx_board.specs.declared.slots.Event.{Event}
@@ -30,13 +29,12 @@ root_or_more : (n : ℕ) → (n ≡ 0) ⊎ (0 < n)
 root_or_more zero = inl refl
 root_or_more (suc n) = inr (omega arith)
 
-pub initial_kept : (job : Job) → IsTree job.plan.tree → AreChains job.plan job.chains → IsKept (begun_with job)
-initial_kept job tree chains = record {
-  tree = tree;
+pub initial_kept : (job : Job) → AreChains job.plan job.chains → IsKept (begun_with job)
+initial_kept job chains = record {
   chains = chains;
   replayed = refl;
   legal = tt;
-  count = omega (arith, length-replicate {A = Slot} (chain_count job.chains - 1) Waiting, chains.chains.some);
+  count = omega (arith, length-replicate {A = Slot} (chain_count job.chains - 1) Waiting, chains.forest.some);
   root = refl;
   born = λ n p h. let waits = ap is_waiting (initial_waits job n p) in cc;
   sound = sound;
@@ -128,8 +126,8 @@ ends_well b (e ∷ es) is so legal =
     subst Q (append_assoc b.events (e ∷ []) es) (ends_well (then b e) es (kept_then b e is legal.0) (counted_then b e legal.0 so) legal.1)
 
 pub every_history : EveryHistoryIsSound
-every_history job events tree chains legal =
-    let end = ends_well (begun_with job) events (initial_kept job tree chains) (initial_counted job) legal in
+every_history job events chains legal =
+    let end = ends_well (begun_with job) events (initial_kept job chains) (initial_counted job) legal in
     record {
       ends = end.0.sound;
       one = end.0.one;

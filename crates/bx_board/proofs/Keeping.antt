@@ -8,7 +8,7 @@ use Rattle.std.proofs.lemmas.List.{length-set}
 use Rattle.std.proofs.lemmas.Bool.{eq-eqb, eqb-true, le-ltb, lt-ltb, true_from_ne_false}
 use Rattle.bx_load.specs.Image.{Loaded}
 use Rattle.bx_plan.specs.Planned.{Planned}
-use Rattle.bx_chains.specs.Chains.{Chained, above, kids, chain_count, one_if}
+use Rattle.bx_plan.specs.Chains.{Chained, above, kids, chain_count, one_if}
 use Rattle.bx_board.specs.declared.slots.Slot.{Slot}
 use Rattle.bx_board.specs.declared.slots.Slot.TheVariants.{Waiting, Leased, Done}
 use Rattle.bx_board.specs.declared.slots.Event.{Event}
@@ -38,7 +38,7 @@ module _ (b : Kept) (ready : List ℕ) (holders : BTreeMap ℕ ℕ) (leased done
 
   -- and it leaves room for one more, as the root is not free
   pub room_one : length ready < length b.state.slots
-  room_one = omega (arith, ready_many, how_many_less (is_free b.job b.state) (length b.state.slots) 0 (omega (arith, is.kept.count, is.kept.chains.chains.some)) (free_waits b.job b.state 0 (done_waits _ (is_true _ is.kept.root))))
+  room_one = omega (arith, ready_many, how_many_less (is_free b.job b.state) (length b.state.slots) 0 (omega (arith, is.kept.count, is.kept.chains.forest.some)) (free_waits b.job b.state 0 (done_waits _ (is_true _ is.kept.root))))
 
   pub done_low : done ≤ length b.state.slots
   done_low = omega (arith, is.some_done, how_many_low (is_finished b.state) (length b.state.slots))

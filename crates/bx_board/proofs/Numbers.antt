@@ -1,7 +1,7 @@
 -- Numbers below a bound that pass a test.
 use Rattle.std.proofs.Common.{◌≡◌, ◌≢◌, ◌⊎◌, inl, inr, ℕ, zero, suc, ◌+◌, ◌<◌, Bool, refl, sym, ap, arith}
 use Rattle.std.proofs.lemmas.Bool.{cases_eq}
-use Rattle.bx_chains.specs.Chains.{one_if}
+use Rattle.bx_plan.specs.Chains.{one_if}
 use Rattle.bx_board.specs.Machine.{how_many}
 
 -- tests that agree below the bound

@@ -2,8 +2,8 @@
 use Rattle.std.proofs.Common.{◌≡◌, ◌⊎◌, inl, inr, ℕ, zero, suc, ◌+◌, ◌<◌, ◌≤◌, ◌==◌, cond, Bool, true, false, List, [], ◌∷◌, length, refl, sym, ap, ◌∙◌, arith}
 use Rattle.std.proofs.lemmas.Bool.{eq-eqb}
 use Rattle.std.proofs.lemmas.List.Sums.{sum_by-cons}
-use Rattle.bx_chains.specs.Chains.{one_if, times}
-use Rattle.bx_chains.proofs.Counting.{not_eq, below_or_past}
+use Rattle.bx_plan.specs.Chains.{one_if, times}
+use Rattle.bx_plan.proofs.Times.{not_eq, below_or_past}
 use Rattle.bx_board.specs.Machine.{how_many}
 
 -- how often the numbers below a bound stand in a row, in all

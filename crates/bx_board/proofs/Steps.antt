@@ -4,7 +4,7 @@ use Rattle.std.specs.Prelude.{IsTrue}
 use Rattle.std.proofs.lemmas.List.{get_or-set_same, get_or-set_other, length-set, get_or_past}
 use Rattle.std.proofs.lemmas.Bool.{cases_eq, both_ways, and_parts, and_from, ltb-true, lt-ltb, ltb-false, cases_Bool}
 use Rattle.bx_world.specs.Running.{Ended}
-use Rattle.bx_chains.specs.Chains.{above}
+use Rattle.bx_plan.specs.Chains.{above}
 use Rattle.bx_board.specs.declared.slots.Slot.{Slot}
 use Rattle.bx_board.specs.declared.slots.Slot.TheVariants.{Waiting, Leased, Done}
 use Rattle.bx_board.specs.declared.slots.Event.{Event}
@@ -95,7 +95,7 @@ module _ (b : Kept) (is : IsKept b) (n : ℕ) (x : Slot) (within : n < length b.
     one (inr e) = omega (arith, e)
 
   pub above_other : above b.job.chains n ≢ n
-  above_other e = absurd (omega (arith, e, (is.chains.chains.begins n not_root (omega (arith, within, is.count))).below))
+  above_other e = absurd (omega (arith, e, (is.chains.forest.begins n not_root (omega (arith, within, is.count))).below))
 
   root_set : IsTrue (is_done (standing (with_slot b.state n x) 0))
   root_set = let apart : 0 ≢ n = λ e. absurd (omega (arith, e, not_root)) in subst (λ y. IsTrue (is_done y)) (sym (slot_kept b.state n 0 x apart)) is.root
@@ -131,7 +131,6 @@ module _ (b : Kept) (is : IsKept b) (n : ℕ) (x : Slot) (within : n < length b.
 
         pub set_kept : (e : Event) → May b.job b.state e → after b.job b.state e ≡ with_slot b.state n x → IsKept (then b e)
         set_kept e may is_set = subst (λ s. IsKept (record { job = b.job; state = s; events = b.events ++ e ∷ [] })) (sym is_set) (record {
-          tree = is.tree;
           chains = is.chains;
           replayed = sym is_set ∙ ap (λ s. after b.job s e) is.replayed ∙ sym (replay-push b.job (initial b.job) b.events e);
           legal = legal-push b.job (initial b.job) b.events e is.legal (subst (λ s. May b.job s e) is.replayed may);
@@ -144,7 +143,6 @@ module _ (b : Kept) (is : IsKept b) (n : ℕ) (x : Slot) (within : n < length b.
 
 stop_kept : (b : Kept) → IsKept b → b.state.stopped ≡ false → IsKept (then b Stop)
 stop_kept b is may = record {
-  tree = is.tree;
   chains = is.chains;
   replayed = ap (λ s. after b.job s Stop) is.replayed ∙ sym (replay-push b.job (initial b.job) b.events Stop);
   legal = legal-push b.job (initial b.job) b.events Stop is.legal (subst (λ s. May b.job s Stop) is.replayed may);

@@ -8,8 +8,8 @@ use Rattle.std.specs.BTreeMap.{BTreeMap, get, is_at, Updates}
 use Rattle.std.proofs.lemmas.Map.Lookups.{exact_unsigned}
 use Rattle.std.proofs.lemmas.List.{length-set}
 use Rattle.std.proofs.lemmas.Bool.{cases_eq, both_ways, eq-eqb, lt-ltb, le-ltb, false_from_ne_true, true_from_ne_false, cases_Bool}
-use Rattle.bx_chains.specs.Chains.{above, kids, is_kid, one_if, times}
-use Rattle.bx_chains.proofs.Counting.{not_eq, times-append, mid_false, both_true, and_false}
+use Rattle.bx_plan.specs.Chains.{above, kids, is_kid, one_if, times}
+use Rattle.bx_plan.proofs.Times.{not_eq, times-append, mid_false, both_true, and_false}
 use Rattle.bx_board.specs.declared.slots.Slot.{Slot}
 use Rattle.bx_board.specs.declared.slots.Slot.TheVariants.{Waiting, Leased, Done}
 use Rattle.bx_board.specs.declared.slots.Event.TheVariants.{Lease, Submit, GiveBack, Stop}
@@ -225,7 +225,7 @@ module _ (b : Kept) (ready : List ℕ) (holders : BTreeMap ℕ ℕ) (leased done
     free : (m : ℕ) → times m more ≡ one_if (is_free b.job (with_slot b.state n (finished b n)) m)
     free m = one (cases_eq m n) (cases_eq (above b.job.chains m) n) where
       all : times m more ≡ one_if (is_free b.job b.state m) + one_if (is_kid b.job.chains n m)
-      all = omega (arith, is.free m, ap (times m) e, times-append m ready (kids b.job.chains n), is.kept.chains.chains.kids n m)
+      all = omega (arith, is.free m, ap (times m) e, times-append m ready (kids b.job.chains n), is.kept.chains.forest.kids n m)
 
       no_kid : above b.job.chains m ≢ n → is_kid b.job.chains n m ≡ false
       no_kid f = ap (λ t. nat_lt 0 m && nat_lt m (length b.job.chains.heads) && t) (not_eq (above b.job.chains m) n f) ∙ and_false (nat_lt 0 m && nat_lt m (length b.job.chains.heads))

@@ -1,8 +1,7 @@
 -- What holds after every list of events that may happen one after another, by any workers.
 use Rattle.std.specs.Prelude.{◌≡◌, ℕ, ◌+◌, ◌<◌, ◌==◌, List, [], ◌∷◌, length}
 use Rattle.bx_world.specs.Running.{Ended}
-use Rattle.bx_plan.specs.Trees.{IsTree}
-use Rattle.bx_chains.specs.Chains.{AreChains, one_if}
+use Rattle.bx_plan.specs.Chains.{AreChains, one_if}
 use Rattle.bx_board.specs.declared.slots.Slot.TheVariants.{Leased, Done}
 use Rattle.bx_board.specs.declared.slots.Event.{Event}
 use Rattle.bx_board.specs.declared.slots.Event.TheVariants.{Lease, Submit, GiveBack, Stop}
@@ -44,5 +43,5 @@ pub record IsSound (job : Job) (s : Frontier) (events : List Event) : Type 0 whe
 
 abbrev pub EveryHistoryIsSound : Type 0
 EveryHistoryIsSound =
-    (job : Job) (events : List Event) → IsTree job.plan.tree → AreChains job.plan job.chains → IsLegal job (initial job) events
+    (job : Job) (events : List Event) → AreChains job.plan job.chains → IsLegal job (initial job) events
     → IsSound job (replay job (initial job) events) events

@@ -1,4 +1,4 @@
--- What a campaign runs: loaded code from its start, along the chains of a plan's tree.
+-- What a campaign runs: loaded code from its start, along the chains of a plan.
 use Rattle.std.specs.Prelude.{◌≡◌, ℕ, ◌+◌, ◌-◌, List, [], None, Result, Ok, Err, refl}
 use Rattle.std.specs.FinMap as map
 use Rattle.std.specs.Coded.{Coded, code_by, coded×, coded_ℕ, coded_list}
@@ -9,7 +9,7 @@ use Rattle.bx_world.specs.declared.choices.Choice.{Choice}
 use Rattle.bx_world.specs.World.{State, started}
 use Rattle.bx_world.specs.Running.{Ended, ran, unchosen}
 use Rattle.bx_plan.specs.Planned.{Planned}
-use Rattle.bx_chains.specs.Chains.{Chained, chain_path, first, last}
+use Rattle.bx_plan.specs.Chains.{Chained, chain_length, chain_path}
 
 -- the names of the module and of the function of no arguments that the first process begins with
 abbrev pub Entry : Type 0
@@ -28,8 +28,8 @@ no_job =
     record {
       image = record { atoms = []; modules = [] };
       start = (nobody, nobody);
-      plan = record { lines = []; tree = record { steps = []; paths = [] } };
-      chains = record { heads = []; kids = []; nodes = 0 };
+      plan = [];
+      chains = record { heads = []; kids = []; ends = [] };
     }
 
 -- the world at the start; none of a start that is not exported
@@ -44,7 +44,7 @@ origin image start = unchosen (world_or_none (started image start.0 start.1))
 abbrev pub run_alone : Loaded → Entry → List Choice → Ended
 run_alone image start choices = ran image choices (origin image start)
 
--- what is to be run: the code, the start, and the choices up to the chain's last node
+-- what is to be run: the code, the start, and the choices up to the chain's end
 pub record Work : Type 0 where
   pub image : Loaded
   pub start : Entry
@@ -60,10 +60,6 @@ pub record IsSameRun (work other : Work) : Type 0 where
 
 abbrev pub end_of : Work → Ended
 end_of work = run_alone work.image work.start work.path
-
--- how many nodes a chain below the root has
-abbrev pub chain_length : Chained → ℕ → ℕ
-chain_length all c = last all c - first all c + 1
 
 abbrev pub work_of : Job → ℕ → Work
 work_of job n = record { image = job.image; start = job.start; path = chain_path job.plan job.chains n; own = chain_length job.chains n }

@@ -8,8 +8,7 @@ use Rattle.bx_load.specs.Image.{Loaded, export}
 use Rattle.bx_world.specs.World.{started}
 use Rattle.bx_world.specs.Running.{Ended}
 use Rattle.bx_plan.specs.Planned.{Planned}
-use Rattle.bx_plan.specs.Trees.{IsTree}
-use Rattle.bx_chains.specs.Chains.{AreChains, Chained, above, chain_count}
+use Rattle.bx_plan.specs.Chains.{AreChains, Chained, above, chain_count}
 use Rattle.bx_board.specs.declared.slots.Slot.{Slot}
 use Rattle.bx_board.specs.declared.slots.Slot.TheVariants.{Leased, Done}
 use Rattle.bx_board.specs.declared.slots.Event.{Event}
@@ -31,7 +30,6 @@ abbrev pub then : Kept → Event → Kept
 then b e = record { job = b.job; state = after b.job b.state e; events = b.events ++ e ∷ [] }
 
 pub record IsKept (b : Kept) : Type 0 where
-  pub tree : IsTree b.job.plan.tree
   pub chains : AreChains b.job.plan b.job.chains
   -- the events, each of which might happen, lead to the state
   pub replayed : b.state ≡ replay b.job (initial b.job) b.events

@@ -1,7 +1,7 @@
 -- The machine that workers share: how each chain stands, which events may happen, and what each changes. Chain 0, the
 -- root, is done from the start. A chain that waits is free once the chain that it stands on is done, and unborn until then.
 use Rattle.std.specs.Prelude.{◌≡◌, ℕ, zero, suc, ◌+◌, ◌-◌, ◌&&◌, not, nat_lt, Bool, true, false, IsTrue, List, [], ◌∷◌, length, replicate, slice_index_or, slice_set}
-use Rattle.bx_chains.specs.Chains.{above, chain_count, one_if}
+use Rattle.bx_plan.specs.Chains.{above, chain_count, one_if}
 use Rattle.bx_board.specs.declared.slots.Slot.{Slot}
 use Rattle.bx_board.specs.declared.slots.Slot.TheVariants.{Waiting, Leased, Done}
 use Rattle.bx_board.specs.declared.slots.Event.{Event}

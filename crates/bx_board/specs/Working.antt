@@ -1,22 +1,21 @@
--- What a lease and a piece hold: a chain of a plan's tree, and an end.
-use Rattle.std.specs.Prelude.{◌≡◌, ℕ, ◌+◌, ◌-◌, ◌<◌, ◌≤◌, length}
+-- What a lease and a piece hold: a chain of a plan, and an end.
+use Rattle.std.specs.Prelude.{◌≡◌, ℕ, ◌-◌, ◌<◌, ◌≤◌, length, take}
 use Rattle.bx_load.specs.Image.{Loaded}
-use Rattle.bx_plan.specs.Planned.{Planned}
-use Rattle.bx_plan.specs.Trees.{Tree, parent, path}
+use Rattle.bx_plan.specs.Planned.{Planned, choices_at}
 use Rattle.bx_world.specs.Running.{Ended}
+use Rattle.bx_board.specs.declared.working.Span.{Span}
 use Rattle.bx_board.specs.Jobs.{Entry, Work, run_alone}
 
--- nodes in a row below the root, each the child of the one before it
-pub record IsSpan (tree : Tree) (first last : ℕ) : Type 0 where
-  pub positive : 0 < first
-  pub ordered : first ≤ last
-  pub within : last < length tree.paths
-  pub row : (node : ℕ) → first < node → node ≤ last → parent tree node + 1 ≡ node
+-- choices of a schedule, one at least
+pub record IsSpan (plan : Planned) (span : Span) : Type 0 where
+  pub line : span.line < length plan
+  pub some : span.first < span.past
+  pub within : span.past ≤ length (choices_at plan span.line)
 
--- the run up to a node, alone
-abbrev pub run_up_to : Loaded → Entry → Tree → ℕ → Ended
-run_up_to image start tree node = run_alone image start (path tree node)
+-- the run of the first so many choices of a schedule, alone
+abbrev pub run_up_to : Loaded → Entry → Planned → ℕ → ℕ → Ended
+run_up_to image start plan line past = run_alone image start (take past (choices_at plan line))
 
--- the run up to a chain's last node, of which the chain's nodes are the last
-abbrev pub work_at : Loaded → Entry → Planned → ℕ → ℕ → Work
-work_at image start plan first last = record { image = image; start = start; path = path plan.tree last; own = last - first + 1 }
+-- the run up to a chain's end, of which the chain's choices are the last
+abbrev pub work_at : Loaded → Entry → Planned → Span → Work
+work_at image start plan span = record { image = image; start = start; path = take span.past (choices_at plan span.line); own = span.past - span.first }

@@ -69,7 +69,7 @@ impl<'a, J: Campaign> Model for Shelf<'a, J> {
     ghost use Rattle.bx_asm.specs.contracts.unit.Unit as unit;
     ghost use Rattle.bx_load.specs.Image.{loaded_code};
     ghost use Rattle.bx_plan.specs.contracts.plans.Plan as plans;
-    ghost use Rattle.bx_chains.specs.contracts.chains.Chains as chained;
+    ghost use Rattle.bx_plan.specs.contracts.chains.Chains as chained;
     ghost use Rattle.bx_board.specs.contracts.slots.Slot as slot;
     ghost use Rattle.bx_board.specs.contracts.slots.Event as event;
     ghost use Rattle.bx_board.specs.Kept.{Kept, kept_code};

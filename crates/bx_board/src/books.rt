@@ -13,9 +13,8 @@ mod reporting;
 
 use crate::slots::{Counts, Event, Slot};
 pub use alone::report_alone;
-use bx_chains::Chains;
 use bx_load::Image;
-use bx_plan::Plan;
+use bx_plan::{Chains, Plan};
 use bx_terms::AtomId;
 use std::collections::BTreeMap;
 use std::marker::Model;
@@ -44,7 +43,7 @@ impl<'a> Model for Book<'a> {
     ghost use Rattle.bx_asm.specs.contracts.unit.Unit as unit;
     ghost use Rattle.bx_load.specs.Image.{loaded_code};
     ghost use Rattle.bx_plan.specs.contracts.plans.Plan as plans;
-    ghost use Rattle.bx_chains.specs.contracts.chains.Chains as chained;
+    ghost use Rattle.bx_plan.specs.contracts.chains.Chains as chained;
     ghost use Rattle.bx_board.specs.contracts.slots.Slot as slot;
     ghost use Rattle.bx_board.specs.contracts.slots.Event as event;
     ghost use Rattle.bx_board.specs.Kept.{Kept, kept_code};

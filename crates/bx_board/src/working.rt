@@ -1,12 +1,13 @@
 //! A chain on its way: leased with the end that it goes on from, and worked.
 
-ghost use Rattle.std.specs.Prelude.{⊤, ◌≡◌, ◌<◌, IfOk, IfErr, Ok};
+ghost use Rattle.std.specs.Prelude.{⊤, ◌≡◌, ◌<◌, ◌≤◌, length, take, IfOk, IfErr, Ok};
 ghost use Rattle.bx_terms.specs.Outcomes.{Gives};
+ghost use Rattle.bx_plan.specs.Planned.{choices_at};
 ghost use Rattle.bx_board.specs.Jobs.{end_of};
 
 use crate::slots::ArcEnd;
 use bx_load::Image;
-use bx_plan::{Plan, Schedule, edge_to};
+use bx_plan::{Plan, Schedule};
 use bx_share::{ArcHold, Hold};
 use bx_terms::{AtomId, Fault};
 use bx_world::advance_many;
@@ -25,12 +26,13 @@ pub(crate) enum Crew {
     Several,
 }
 
-/// A chain of a plan's tree: nodes in a row, and the chain's number.
+/// A chain of a plan: its number, and its choices, those of a schedule from one position up to the one before another.
 #[derive(Clone, Copy, Debug, PartialEq, Eq)]
 pub(crate) struct Span {
     pub(crate) chain: usize,
+    pub(crate) line: usize,
     pub(crate) first: usize,
-    pub(crate) last: usize,
+    pub(crate) past: usize,
 }
 
 /// A chain to be run, with the end of the run that it goes on from.
@@ -45,7 +47,6 @@ pub struct Lease<'a> {
 
 impl<'a> Model for Lease<'a> {
     ghost use Rattle.std.specs.Prelude.{◌≡◌};
-    ghost use Rattle.bx_plan.specs.Trees.{parent};
     ghost use Rattle.bx_terms.specs.contracts.atom_table.AtomId as ids;
     ghost use Rattle.bx_asm.specs.contracts.unit.Unit as unit;
     ghost use Rattle.bx_load.specs.Image.{loaded_code};
@@ -59,11 +60,10 @@ impl<'a> Model for Lease<'a> {
 
     ghost use Rattle.bx_board.specs.Working.{run_up_to, work_at, IsSpan};
 
-    ghost view = { λ l. work_at l.image.now l.start l.plan.now l.span.first l.span.last };
+    ghost view = { λ l. work_at l.image.now l.start l.plan.now l.span };
 
-    ghost invariant = { λ l. IsSpan l.plan.now.tree l.span.first l.span.last ×
-        (l.from ≡ run_up_to l.image.now l.start l.plan.now.tree
-        (parent l.plan.now.tree l.span.first)) };
+    ghost invariant = { λ l. IsSpan l.plan.now l.span ×
+        (l.from ≡ run_up_to l.image.now l.start l.plan.now l.span.line l.span.first) };
 }
 
 /// A chain that was run, with its end.
@@ -91,10 +91,10 @@ impl<'a> Model for Piece<'a> {
 
     ghost use Rattle.bx_board.specs.Working.{run_up_to, work_at, IsSpan};
 
-    ghost view = { λ p. work_at p.image.now p.start p.plan.now p.span.first p.span.last };
+    ghost view = { λ p. work_at p.image.now p.start p.plan.now p.span };
 
-    ghost invariant = { λ p. IsSpan p.plan.now.tree p.span.first p.span.last ×
-        (p.end ≡ run_up_to p.image.now p.start p.plan.now.tree p.span.last) };
+    ghost invariant = { λ p. IsSpan p.plan.now p.span ×
+        (p.end ≡ run_up_to p.image.now p.start p.plan.now p.span.line p.span.past) };
 }
 
 impl<'a> Lease<'a> {
@@ -112,29 +112,23 @@ impl<'a> Lease<'a> {
         self.start
     }
 
-    /// All the choices from the start to the chain's last node.
+    /// All the choices from the start to the chain's end.
     pub fn path(&self, alloc: Global) -> Result<Schedule, AllocError>
         ensures { IfOk result (λ path. path ≡ self.now.path) }
     {
-        self.plan.path(alloc, self.span.last)
+        path_of(alloc, self.plan, self.span)
     }
 
-    /// Runs the chain from the end that the lease holds, an edge of the plan's tree at a time.
+    /// Runs the chain from the end that the lease holds, a run of its choices at a time.
     fn run(&self, alloc: Global, code: &Image, crew: Crew) -> Result<ArcEnd, Fault>
         requires { code.now ≡ self.now.image }
         ensures { Gives ⊤ (λ end. end) result (Ok (end_of self.now)) }
     {
         let span = self.span;
-        let edges = self.plan.edges();
-        let mut end = branch(alloc, self.from.see(), span.last - span.first + 1, crew)?;
-        let mut number = edge_to(edges, span.first);
-        let mut node = span.first;
-        while node <= span.last {
-            let edge = edges[number];
-            let past = (edge.first + edge.times).min(span.last + 1);
-            advance_many(alloc, &mut end, code, edge.choice, (past - node) as u64)?;
-            number += 1;
-            node = past;
+        let mut end = branch(alloc, self.from.see(), span.past - span.first, crew)?;
+        let mut left = self.plan.part(span.line, span.first, span.past);
+        while let Some(run) = left.next_run() {
+            advance_many(alloc, &mut end, code, run.choice, run.times as u64)?;
         }
         Ok(end)
     }
@@ -155,11 +149,11 @@ impl<'a> Piece<'a> {
         self.start
     }
 
-    /// All the choices from the start to the chain's last node.
+    /// All the choices from the start to the chain's end.
     pub fn path(&self, alloc: Global) -> Result<Schedule, AllocError>
         ensures { IfOk result (λ path. path ≡ self.now.path) }
     {
-        self.plan.path(alloc, self.span.last)
+        path_of(alloc, self.plan, self.span)
     }
 
     /// How many of those choices are the chain's own, the last ones.
@@ -167,7 +161,7 @@ impl<'a> Piece<'a> {
         ensures own { result ≡ self.now.own }
         ensures some { 0 < result }
     {
-        self.span.last - self.span.first + 1
+        self.span.past - self.span.first
     }
 
     /// Where those choices lead.
@@ -190,6 +184,17 @@ impl<'a> Piece<'a> {
         } = self;
         end
     }
+}
+
+/// The choices that lead to a chain's end.
+fn path_of(alloc: Global, plan: &Plan, span: Span) -> Result<Schedule, AllocError>
+    requires line { span.line < length plan.now }
+    requires within { span.past ≤ length (choices_at plan.now span.line) }
+    ensures { IfOk result (λ path. path ≡ take span.past (choices_at plan.now span.line)) }
+{
+    let mut path = Schedule::new(alloc);
+    path.append(plan.part(span.line, 0, span.past))?;
+    Ok(path)
 }
 
 /// An end that goes on independently of that one. What one of several workers runs shares nothing counted with that one where the

@@ -1,6 +1,6 @@
 //! Plans and their readings, worked out by hand.
 
-use bx_plan::{Plan, Run as Repeat, Schedule, read_choices, read_plan};
+use bx_plan::{Plan, Run as Repeat, Schedule, chains_of, read_choices, read_plan};
 use bx_terms::Fault;
 use bx_world::Choice;
 use bx_world::Choice::{Deliver, Expire, Run};
@@ -96,25 +96,79 @@ fn texts_and_their_outcomes(rt: HostRuntime) -> Result<(), Fail> {
     Ok(())
 }
 
+/// The chains of a plan below the root: by chain the one that it stands on, and its choices as runs; and by line the one with which its
+/// schedule ends.
+type Tree<'a> = (&'a [(usize, &'a [(Choice, usize)])], &'a [usize]);
+
+/// Whether the chains of the plan are these.
+fn has_chains(rt: &HostRuntime, text: &[u8], tree: &Tree<'_>) -> Result<bool, Fail> {
+    let plan = read_plan(rt.alloc(), text)?;
+    let chains = chains_of(rt.alloc(), &plan)?;
+    if chains.len() != tree.0.len() + 1 {
+        return Ok(false);
+    }
+    for (number, (above, runs)) in tree.0.iter().enumerate() {
+        let head = chains.head(number + 1);
+        let mut left = plan.part(head.line, head.first, head.past);
+        for (choice, times) in runs.iter() {
+            let run = Repeat {
+                choice: *choice,
+                times: *times,
+            };
+            if left.next_run() != Some(run) {
+                return Ok(false);
+            }
+        }
+        if head.above != *above || !left.is_empty() {
+            return Ok(false);
+        }
+    }
+    for (number, end) in tree.1.iter().enumerate() {
+        if chains.end(number) != *end {
+            return Ok(false);
+        }
+    }
+    Ok(true)
+}
+
 #[test]
-fn the_tree_shares_prefixes(rt: HostRuntime) -> Result<(), Fail> {
-    let plan = read_plan(
-        rt.alloc(),
-        b"a: r0 r1\nb: r0 d0>1\nc: r0 r1 r1\nd:\ne: r0 r1",
-    )?;
-    // Nodes in the order of their first use: r0, r0 r1, r0 d0>1, r0 r1 r1.
-    assert_eq!(rt; plan.nodes(), 5);
-    let nodes: [(usize, Choice); 4] = [(0, Run(0)), (1, Run(1)), (1, Deliver(0, 1)), (2, Run(1))];
-    for (k, (parent, choice)) in nodes.iter().enumerate() {
-        assert_eq!(rt; plan.parent(k + 1), *parent, "node {k}");
-        assert!(rt; plan.choice(k + 1) == *choice, "node {k}");
+fn schedules_end_and_part(rt: HostRuntime) -> Result<(), Fail> {
+    let rows: [(&[u8], Tree<'_>); 4] = [
+        (b"", (&[], &[])),
+        (b"a:\nb:", (&[], &[0, 0])),
+        // r0; r1 behind it, where two schedules end; r1 behind that; d0>1 behind r0
+        (
+            b"a: r0 r1\nb: r0 d0>1\nc: r0 r1 r1\nd:\ne: r0 r1",
+            (
+                &[
+                    (0, &[(Run(0), 1)]),
+                    (1, &[(Run(1), 1)]),
+                    (2, &[(Run(1), 1)]),
+                    (1, &[(Deliver(0, 1), 1)]),
+                ],
+                &[2, 4, 3, 0, 2],
+            ),
+        ),
+        // within runs: schedules end or part behind r0*3, r0*5, r0*8, r0*5 r1
+        (
+            b"a: r0*5 r1*2\nb: r0*3\nc: r0*3 r1*2\nd: r0*8\ne: r0 r0*4 r1\nf: r0*9",
+            (
+                &[
+                    (0, &[(Run(0), 3)]),
+                    (1, &[(Run(0), 2)]),
+                    (2, &[(Run(0), 3)]),
+                    (3, &[(Run(0), 1)]),
+                    (2, &[(Run(1), 1)]),
+                    (5, &[(Run(1), 1)]),
+                    (1, &[(Run(1), 2)]),
+                ],
+                &[6, 1, 7, 3, 5, 4],
+            ),
+        ),
+    ];
+    for (number, (text, tree)) in rows.iter().enumerate() {
+        assert!(rt; has_chains(&rt, text, tree)?, "row {number}");
     }
-    for (number, end) in [2, 3, 4, 0, 2].iter().enumerate() {
-        assert!(rt; plan.end(number) == Some(*end), "line {number}");
-    }
-    let path = plan.path(rt.alloc(), 2)?;
-    let schedule = plan.schedule(rt.alloc(), 4).ok_or("no line")??;
-    assert!(rt; path.same(&schedule));
     Ok(())
 }
 
@@ -129,6 +183,13 @@ fn a_million_nodes_and_no_more(rt: HostRuntime) -> Result<(), Fail> {
         ("t: r10", (26, 11)),
         ("t: r9*99999 r8", (26, 11)),
         ("", (0, 10)),
+        ("t: r10\nbad", (26, 11)),
+        ("t: r10\ns0: r1", (26, 11)),
+        ("t: r10\nu: r11*100000 r11", (26, 11)),
+        ("bad\nt: r10", (24, 11)),
+        ("s0: r1\nt: r10", (25, 11)),
+        ("u: r9*100000 r9\nt: r10", (26, 11)),
+        ("\nu: r9\n#\nt: r10\nv: r11", (26, 14)),
     ] {
         let whole = format!(in rt.alloc(); "{}{last}", text.as_str())?;
         let got = outcome(&rt, whole.as_bytes())?;
@@ -146,7 +207,7 @@ fn same_plans(rt: &HostRuntime, one: &[u8], other: &[u8]) -> Result<bool, Fault>
 }
 
 #[test]
-fn plans_are_compared_by_names_ends_and_nodes(rt: HostRuntime) -> Result<(), Fail> {
+fn plans_are_compared_by_names_and_choices(rt: HostRuntime) -> Result<(), Fail> {
     let rows: [(&[u8], &[u8], bool); 5] = [
         (b"a: r0*2\nb:", b"# again\na: r0 r0\n\nb:\n", true),
         (b"a: r0", b"b: r0", false),
@@ -157,36 +218,6 @@ fn plans_are_compared_by_names_ends_and_nodes(rt: HostRuntime) -> Result<(), Fai
     for (number, (one, other, same)) in rows.iter().enumerate() {
         assert!(rt; same_plans(&rt, one, other)? == *same, "row {number}");
     }
-    Ok(())
-}
-
-#[test]
-fn schedules_end_and_part_within_a_run(rt: HostRuntime) -> Result<(), Fail> {
-    let text = b"a: r0*5 r1*2\nb: r0*3\nc: r0*3 r1*2\nd: r0*8\ne: r0 r0*4 r1\nf: r0*9";
-    let plan = read_plan(rt.alloc(), text)?;
-    // Nodes in the order of their first use: r0 five times and r1 twice, then r1 twice behind the third r0, then r0 four times
-    // behind the fifth.
-    let parents = [0, 1, 2, 3, 4, 5, 6, 3, 8, 5, 10, 11, 12];
-    let choices = [0, 0, 0, 0, 0, 1, 1, 1, 1, 0, 0, 0, 0];
-    assert_eq!(rt; plan.nodes(), 14);
-    for k in 0..13 {
-        assert_eq!(rt; plan.parent(k + 1), parents[k], "node {k}");
-        assert!(rt; plan.choice(k + 1) == Run(choices[k]), "node {k}");
-    }
-    for (number, end) in [7, 3, 9, 12, 6, 13].iter().enumerate() {
-        assert!(rt; plan.end(number) == Some(*end), "line {number}");
-    }
-    // The last line only makes the last edge longer, though the fifth stands between.
-    assert_eq!(rt; plan.edges().len(), 4);
-    let nine = plan.schedule(rt.alloc(), 5).ok_or("no line")??;
-    assert_eq!(rt; nine.len(), 9);
-    let mut left = nine.all();
-    let run = Repeat {
-        choice: Run(0),
-        times: 9,
-    };
-    assert!(rt; left.next_run() == Some(run));
-    assert!(rt; left.is_empty());
     Ok(())
 }
 
@@ -223,14 +254,15 @@ fn neighbours_of_one_choice_are_one_run(rt: HostRuntime) -> Result<(), Fail> {
 }
 
 #[test]
-fn a_million_nodes_are_a_thousand_edges(rt: HostRuntime) -> Result<(), Fail> {
+fn a_million_nodes_are_a_thousand_chains(rt: HostRuntime) -> Result<(), Fail> {
     let mut text = String::new(rt.alloc());
     for k in 0..1000 {
         write!(text, "s{k}: r{k}*1000\n")?;
     }
     let plan = read_plan(rt.alloc(), text.as_bytes())?;
-    assert_eq!(rt; plan.nodes(), 1_000_001);
-    assert_eq!(rt; plan.edges().len(), 1000);
+    let chains = chains_of(rt.alloc(), &plan)?;
+    assert_eq!(rt; chains.len(), 1001);
+    assert_eq!(rt; chains.head(1000).past, 1000);
     for (last, want) in [("t: r999*999", (0, 1001)), ("t: r999*1001", (26, 1001))] {
         let whole = format!(in rt.alloc(); "{}{last}", text.as_str())?;
         assert!(rt; outcome(&rt, whole.as_bytes())? == want, "{last}");

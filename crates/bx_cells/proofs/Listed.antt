@@ -1,5 +1,5 @@
 -- The registers that hold something, listed by rising number.
-use Rattle.std.proofs.Common.{◌≡◌, ℕ, ◌+◌, ◌<◌, ◌==◌, List, [], ◌∷◌, length, refl, ap, sym, ◌∙◌, arith, cond, true}
+use Rattle.std.proofs.Common.{◌≡◌, ℕ, ◌+◌, ◌<◌, ◌≤◌, ◌==◌, List, [], ◌∷◌, length, refl, ap, sym, ◌∙◌, arith, cond, true}
 use Rattle.std.specs.Prelude.{Option, Some, None, nat_lt}
 use Rattle.std.specs.declared.cmp.Ordering.TheVariants.{Less, Equal, Greater}
 use Rattle.std.specs.Ordering.{nat_cmp}
@@ -40,3 +40,12 @@ entries_listed n (None ∷ cells) = entries_listed (n + 1) cells
 entries_listed n (Some v ∷ cells) =
     entries-insert nat_cmp_total (indexed (n + 1) cells) n v ∙ ap (put nat_cmp n v) (entries_listed (n + 1) cells)
     ∙ put_first n v (listed (n + 1) cells) (above_row n (n + 1) cells (omega arith))
+
+-- no more are listed than lie in the row
+listed_within : {A : Type 0} (n : ℕ) (cells : List (Option A)) → length (listed n cells) ≤ length cells
+listed_within n [] = omega arith
+listed_within n (None ∷ cells) = let rest = listed_within (n + 1) cells in omega (arith, rest)
+listed_within n (Some v ∷ cells) = let rest = listed_within (n + 1) cells in omega (arith, rest)
+
+pub within_row : {A : Type 0} (cells : List (Option A)) → length (map.entries (indexed 0 cells)) ≤ length cells
+within_row cells = let rest = listed_within 0 cells in omega (arith, rest, ap length (entries_listed 0 cells))

@@ -1,6 +1,7 @@
 -- Frames whose y registers lie in one row.
-use Rattle.std.proofs.Common.{◌≡◌, ℕ, zero, suc, ◌+◌, ◌-◌, ◌<◌, ◌≤◌, List, [], ◌∷◌, ◌++◌, length, get_or, take, drop, reverse, refl, ap, min, sym, ◌∙◌, subst, arith, cond, Bool, true, false, length-drop, length-take-le}
+use Rattle.std.proofs.Common.{◌≡◌, ℕ, zero, suc, ◌+◌, ◌-◌, ◌<◌, ◌≤◌, List, [], ◌∷◌, ◌++◌, length, get_or, take, drop, reverse, refl, ap, min, sym, ◌∙◌, subst, arith, cond, Bool, true, false, sum_by, length-drop, length-take-le}
 use Rattle.std.proofs.lemmas.List.{reverse-append, reverse-reverse, length-reverse, get_or-reverse, take_at, drop_at, drop-drop, take-take, take_all, drop_all, drop_min, drop_more, take-append-drop, drop-set-add, take-set-le}
+use Rattle.std.proofs.lemmas.List.Sums.{sum_by-cons}
 use Rattle.std.proofs.lemmas.Bool.Decides.{nat_tests}
 use Rattle.std.proofs.lemmas.Option.{slice_get_past}
 use Rattle.std.specs.Prelude.{Option, Some, None, Ok, Err, nat_lt, slice_get, slice_set}
@@ -12,6 +13,7 @@ use Rattle.bx_cells.specs.StackFrame.{StackFrame}
 use Rattle.bx_cells.specs.Stack.{unwound, lowest_tag, caught}
 use Rattle.bx_cells.specs.TopFrame.{with_y, with_cell, on_top}
 use Rattle.bx_cells.specs.StackRow.{frames_of, Fits, index_of}
+use Rattle.bx_cells.specs.Weights.{frame_cells, stack_cells}
 
 -- one frame more on top, whose registers are the row's last
 pub pushed : (heads : List Head) (cells more : List (Option Value)) (h : Head) → h.first ≡ length cells → frames_of (reverse (heads ++ h ∷ [])) (cells ++ more) ≡ record { cells = more; return_to = h.return_to } ∷ frames_of (reverse heads) cells
@@ -213,3 +215,18 @@ pub same_frames : (hs ks : List Head) (xs ys : List (Option Value)) → Fits (re
 same_frames hs ks xs ys f g e =
     let s = same_stack (reverse hs) (reverse ks) xs ys f g e in
     (sym (reverse-reverse hs) ∙ ap reverse s.0 ∙ reverse-reverse ks, s.1)
+
+-- how much the frames of a row hold
+stacked : (hs : List Head) (cells : List (Option Value)) → Fits hs (length cells) → sum_by frame_cells (frames_of hs cells) ≡ length hs + length cells
+stacked [] cells fits = omega (arith, fits)
+stacked (h ∷ hs) cells fits =
+    let below : List (Option Value) = take h.first cells in
+    let short : length below ≡ h.first = length-take-le h.first cells fits.0 in
+    let frame : StackFrame = record { cells = drop h.first cells; return_to = h.return_to } in
+    let rest : sum_by frame_cells (frames_of hs below) ≡ length hs + length below = stacked hs below (subst (Fits hs) (sym short) fits.1) in
+    let all : sum_by frame_cells (frame ∷ frames_of hs below) ≡ frame_cells frame + sum_by frame_cells (frames_of hs below) = sum_by-cons frame_cells frame (frames_of hs below) in
+    let own : length (drop h.first cells) ≡ length cells - h.first = length-drop h.first cells in
+    omega (arith, rest, short, all, own, fits.0)
+
+pub cells_of : (heads : List Head) (cells : List (Option Value)) → Fits (reverse heads) (length cells) → stack_cells (frames_of (reverse heads) cells) ≡ length heads + length cells
+cells_of heads cells fits = let rest = stacked (reverse heads) cells fits in omega (arith, rest, length-reverse heads)

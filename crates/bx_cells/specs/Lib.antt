@@ -6,3 +6,4 @@ pub mod TopFrame
 pub mod StackRow
 pub mod Links
 pub mod Tags
+pub mod Weights

@@ -3,6 +3,7 @@
 ghost use Rattle.std.specs.Prelude.{◌≡◌, ◌≢◌, ◌↔◌, ◌++◌, ◌∷◌, [], ◌<◌, ◌≤◌, length, take, drop, reverse, replicate, slice_set, IfOk, IfSome, OnOk, OnErr, IsTrue, None, Some, Ok, Err, MatchOption, MatchResult, option_map};
 ghost use Rattle.bx_cells.specs.StackRow.{frames_of, Fits, index_of, Catches};
 ghost use Rattle.bx_cells.specs.Stack.{unwound, lowest_tag};
+ghost use Rattle.bx_cells.specs.Weights.{stack_cells};
 ghost use Rattle.bx_cells.specs.TopFrame.{y_cell, with_y, empty_frame, top_of, top_cells, trimmed};
 
 use crate::deep_copies::deep_copy_cells;
@@ -104,6 +105,14 @@ impl Frames {
             return &[];
         }
         &self.cells[self.heads[count - 1].first..]
+    }
+
+    /// How much the stack holds: one for each frame and for each y register.
+    #[tactic(auto, using(crate::proofs::StackRows::cells_of))]
+    pub fn cells(&self) -> usize
+        ensures { result ≡ stack_cells self.now }
+    {
+        self.heads.len() + self.cells.len()
     }
 
     /// Takes the topmost frame away, where there is one.

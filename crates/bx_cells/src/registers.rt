@@ -139,6 +139,14 @@ impl Registers {
         Ok(())
     }
 
+    /// How many registers lie in the row, those below the last one that hold nothing too: what a copy takes.
+    #[tactic(auto, using(crate::proofs::Listed::within_row))]
+    pub fn cells(&self) -> usize
+        ensures { length (map.entries self.now) ≤ result }
+    {
+        self.cells.len()
+    }
+
     /// What the registers hold, by their numbers from 0 on; those past the end hold nothing.
     #[tactic(auto, using(crate::proofs::Listed::entries_listed))]
     pub fn as_slice(&self) -> &[Option<Value>]

@@ -1,5 +1,5 @@
 -- What is true of every session.
-use Rattle.std.proofs.Common.{◌≡◌, ℕ, ◌+◌, ◌-◌, ◌≤◌, List, [], ◌∷◌, ◌++◌, length, take, Bool, true, false, Option, Some, None, Result, Ok, Err, refl, sym, ap, ◌∙◌, subst, arith, length-append}
+use Rattle.std.proofs.Common.{◌≡◌, ℕ, ◌+◌, ◌-◌, ◌<◌, ◌≤◌, List, [], ◌∷◌, ◌++◌, length, replicate, take, Bool, true, false, Option, Some, None, Result, Ok, Err, refl, sym, ap, ◌∙◌, subst, arith, length-append}
 use Rattle.std.specs.Prelude.{is_some, if◌then◌else◌, nat_lt}
 use Rattle.std.proofs.lemmas.List.{take_at, length-take-le}
 use Rattle.std.proofs.lemmas.Bool.{le-ltb, ltb-false}
@@ -9,15 +9,22 @@ use Rattle.bx_terms.specs.declared.faults.Fault.{Fault}
 use Rattle.bx_terms.specs.declared.faults.Fault.TheVariants as faults
 use Rattle.bx_load.specs.Image.{Loaded}
 use Rattle.bx_world.specs.declared.choices.Choice.{Choice}
+use Rattle.bx_world.specs.declared.choices.Choice.TheVariants as choices
 use Rattle.bx_world.specs.World.{State, started}
 use Rattle.bx_world.specs.Enabled.{can}
 use Rattle.bx_world.specs.Choosing.{refusal}
 use Rattle.bx_world.specs.Running.{Ended, ran, unchosen}
-use Rattle.bx_debug.specs.Calls.{Call, Step, Back, Forward, Go, SetBreak, ClearBreak, kept_unless, called, after_calls}
+use Rattle.bx_debug.specs.Calls.{Call, Step, Back, Forward, Go, Run, Swap, SetBreak, ClearBreak, kept_unless, called, after_calls}
+use Rattle.bx_replay.specs.Exchanges.{with_exchange}
+use Rattle.bx_debug.specs.Exchanging.{may_swap, swap_by}
 use Rattle.bx_debug.specs.Going.{walked}
-use Rattle.bx_debug.specs.Leading.{led, all_enabled}
+use Rattle.bx_debug.specs.Leading.{led, all_enabled, IsSession}
+use Rattle.bx_debug.specs.Pausing.{runs_to}
 use Rattle.bx_debug.specs.Sessions.{History, behind, world_of, begun, opened, with_made, or_refused, stepped, back, forward}
 use Rattle.bx_debug.specs.Stopping.{IsRunOf}
+use Rattle.bx_debug.specs.Swapping.{course_of}
+use Rattle.bx_debug.proofs.Exchanging.{may_so}
+use Rattle.bx_debug.proofs.Swapping.{session_swapped}
 use Rattle.bx_debug.proofs.Leads.{enabled_both, enabled_take, ran_all}
 use Rattle.bx_debug.proofs.Stopped.{walked_enabled, and_true}
 
@@ -68,11 +75,26 @@ forward_made image start n s false is m =
     let few : n ≤ length s.choices - s.at = ltb-false (length s.choices - s.at) n is in
     moved image start s (s.at + n) m (omega arith)
 
+-- an exchange that may be made
+swap_made : (image : Loaded) (start : State) (k : ℕ) (s : History) (may : Bool) → may_swap k s ≡ may → Made image start s → Made image start (kept_unless s (swap_by may k s))
+swap_made image start k s false is m = m
+swap_made image start k s true is m =
+    let may = may_so k s is in
+    let trail = course_of s in
+    let before : k - 1 + 1 < s.at = let some = may.0 in let short = may.1 in omega (arith, some, short) in
+    let here : IsSession trail s.at (led s.image (behind s) s.start) = record { begins = refl; within = m.within; made = m.made; shown = refl } in
+    let new = session_swapped trail (with_exchange (k - 1) trail) s.at (k - 1) (led s.image (behind s) s.start) here before may.2 refl in
+    record { code = m.code; begins = m.begins; within = new.within; made = new.made }
+
 called_made : (image : Loaded) (start : State) (call : Call) (s : History) → Made image start s → Made image start (called call s)
 called_made image start (Step choice) s m = step_made image start choice s (refusal (world_of s) choice) refl m
 called_made image start (Back n) s m = back_made image start n s (nat_lt s.at n) m
 called_made image start (Forward n) s m = forward_made image start n s (nat_lt (length s.choices - s.at) n) refl m
 called_made image start (Go choices) s m = made_more image start (walked s.image s.places choices (world_of s)).0 s m (walked_enabled s.image s.places choices (world_of s))
+called_made image start (Run bound p) s m =
+    let runs = replicate (runs_to bound s.image s.places p (world_of s)) (choices.Run p) in
+    made_more image start (walked s.image s.places runs (world_of s)).0 s m (walked_enabled s.image s.places runs (world_of s))
+called_made image start (Swap k) s m = swap_made image start k s (may_swap k s) refl m
 called_made image start (SetBreak place) s m = record { code = m.code; begins = m.begins; within = m.within; made = m.made }
 called_made image start (ClearBreak place) s m = record { code = m.code; begins = m.begins; within = m.within; made = m.made }
 

@@ -10,3 +10,6 @@ pub mod Stopped
 pub mod Stretches
 pub mod Unbroken
 pub mod Swapping
+pub mod Exchanging
+pub mod Pausing
+pub mod Runs

@@ -1,6 +1,7 @@
 -- Sessions whose position moves, and to which choices are added.
 use Rattle.std.proofs.Common.{◌≡◌, ◌≢◌, ℕ, ◌+◌, ◌≤◌, List, [], ◌∷◌, ◌++◌, length, take, true, Option, None, refl, sym, ap, ◌∙◌, subst, arith, Some, Ok, length-append}
 use Rattle.std.proofs.lemmas.List.{take_all, length-take-le}
+use Rattle.bx_load.specs.Image.{Loaded}
 use Rattle.bx_world.specs.declared.choices.Choice.{Choice}
 use Rattle.bx_world.specs.World.{State}
 use Rattle.bx_world.specs.Choosing.{refusal}
@@ -115,3 +116,9 @@ stepped_is h new choice stop free is =
     let one : walk.0 ≡ choice ∷ [] = one_applied h.image h.places choice (world_of h) walk.0 walk.1 free refl in
     let made : with_made (choice ∷ []) h ≡ new = sym (ap (λ cs. with_made cs h) one) ∙ ap (λ (k : History × Stop). k.0) is in
     ap (λ why. or_refused why (with_made (choice ∷ []) h)) free ∙ (λ i. Ok (made i, tt))
+
+-- what is so of its code, its breakpoints and its world
+pub seen_there : {A : Type 0} (f : Loaded → PlaceSet → State → A) (h : History) (trail : Course) (at : ℕ) (here : State) (places : PlaceSet) (image : Loaded) → image ≡ trail.image → history trail at places ≡ h
+    → IsSession trail at here → f image places here ≡ f h.image h.places (world_of h)
+seen_there f h trail at here places image code view_is s =
+    λ i. f ((code ∙ ap (λ (g : History). g.image) view_is) i) (ap (λ (g : History). g.places) view_is i) (shown_there h trail at here places view_is s i)

@@ -3,6 +3,9 @@ use Rattle.std.specs.Prelude.{ℕ, List, [], ◌∷◌, Result, Ok, Err}
 use Rattle.bx_terms.specs.declared.faults.Fault.{Fault}
 use Rattle.bx_terms.specs.declared.places.Place.{Place}
 use Rattle.bx_world.specs.declared.choices.Choice.{Choice}
+use Rattle.bx_debug.specs.Exchanging.{swap_of}
+use Rattle.bx_debug.specs.Pausing.{run_of}
+use Rattle.bx_debug.specs.declared.pauses.Bound.{Bound}
 use Rattle.bx_debug.specs.Sessions.{History, stepped, back, forward, gone, with_break, without_break}
 
 pub data Call : Type 0 where
@@ -10,6 +13,8 @@ pub data Call : Type 0 where
   Back : ℕ → Call
   Forward : ℕ → Call
   Go : List Choice → Call
+  Run : Bound → ℕ → Call
+  Swap : ℕ → Call
   SetBreak : Place → Call
   ClearBreak : Place → Call
 
@@ -23,6 +28,8 @@ called (Step choice) s = kept_unless s (stepped choice s)
 called (Back n) s = kept_unless s (back n s)
 called (Forward n) s = kept_unless s (forward n s)
 called (Go choices) s = (gone choices s).0
+called (Run bound p) s = (run_of bound p s).0
+called (Swap number) s = kept_unless s (swap_of number s)
 called (SetBreak place) s = with_break place s
 called (ClearBreak place) s = without_break place s
 

@@ -2,6 +2,9 @@ pub mod Places
 pub mod Going
 pub mod Leading
 pub mod Sessions
-pub mod Calls
+pub mod Meeting
+pub mod Pausing
 pub mod Stopping
 pub mod Swapping
+pub mod Exchanging
+pub mod Calls

@@ -1,16 +1,21 @@
 //! Laws of the definitions: the functions do nothing, and their clauses are the laws.
 
-ghost use Rattle.std.specs.Prelude.{◌≡◌, ◌≢◌, ◌≤◌, ◌++◌, ◌∷◌, ℕ, List, [], length, true, None, Ok};
+ghost use Rattle.std.specs.Prelude.{◌≡◌, ◌≢◌, ◌↔◌, ◌<◌, ◌≤◌, ◌++◌, ◌∷◌, ℕ, List, [], length, replicate, true, IsSome, None, Ok};
 ghost use Rattle.bx_load.specs.Image.{Loaded};
 ghost use Rattle.bx_terms.specs.declared.atom_table.AtomId.{AtomId};
 ghost use Rattle.bx_world.specs.declared.choices.Choice.{Choice};
+ghost use Rattle.bx_world.specs.declared.choices.Choice.TheVariants.{Run};
 ghost use Rattle.bx_world.specs.World.{State};
 ghost use Rattle.bx_debug.specs.Calls.{Call, after_calls};
+ghost use Rattle.bx_debug.specs.Exchanging.{may_swap};
 ghost use Rattle.bx_debug.specs.Going.{stop_behind, walked};
 ghost use Rattle.bx_debug.specs.Leading.{led, all_enabled};
+ghost use Rattle.bx_debug.specs.Pausing.{pause_at, run_of, runs_to};
 ghost use Rattle.bx_debug.specs.Places.{PlaceSet};
-ghost use Rattle.bx_debug.specs.Sessions.{History, back, forward, opened, stepped, world_of};
+ghost use Rattle.bx_debug.specs.declared.pauses.Bound.{Bound};
+ghost use Rattle.bx_debug.specs.Sessions.{History, back, forward, opened, stepped, with_made, world_of};
 ghost use Rattle.bx_debug.specs.Stopping.{IsRunOf, TellsWhy};
+ghost use Rattle.bx_debug.specs.Swapping.{MaySwap};
 
 /// Whatever the calls on a session were, the world that it shows is the run of the choices before its position, from the start
 /// at which it was opened, and that run applied each of them.
@@ -49,4 +54,25 @@ pub fn nothing_stops_it_earlier()
 pub fn it_tells_why_it_stopped()
     ensures { (image : Loaded) (places : PlaceSet) (choices : List Choice) (w : State) → TellsWhy
         image places choices w (walked image places choices w) }
+{}
+
+/// A process runs by itself as long as there is no reason to stop, and 100,000 times at most: there is none behind fewer runs, and one
+/// behind the last, unless that is the 100,000th.
+pub fn a_process_runs_up_to_the_first_reason()
+    ensures before { (bound : Bound) (image : Loaded) (places : PlaceSet) (p : ℕ) (w : State) (k : ℕ) → k < runs_to bound image places p w
+        → pause_at bound image places p w k ≡ None }
+    ensures most { (bound : Bound) (image : Loaded) (places : PlaceSet) (p : ℕ) (w : State) → runs_to bound image places p w ≤ 100000 }
+    ensures there { (bound : Bound) (image : Loaded) (places : PlaceSet) (p : ℕ) (w : State) → runs_to bound image places p w < 100000
+        → IsSome (pause_at bound image places p w (runs_to bound image places p w)) }
+{}
+
+/// Of a process that runs by itself each run is made: none is refused, and nothing stops them before the last.
+pub fn each_of_its_runs_is_made()
+    ensures { (bound : Bound) (p : ℕ) (s : History) → (run_of bound p s).0
+        ≡ with_made (replicate (runs_to bound s.image s.places p (world_of s)) (Run p)) s }
+{}
+
+/// The test that an exchange is told by tells exactly whether two choices stand before the position and are independent.
+pub fn swaps_are_told_by_a_test()
+    ensures { (k : ℕ) (s : History) → (may_swap k s ≡ true) ↔ MaySwap k s }
 {}

@@ -2,10 +2,13 @@
 #![tactic(auto)]
 
 pub mod laws;
+mod meetings;
+mod pauses;
 mod places;
 mod sessions;
 mod stops;
 mod walks;
 
+pub use pauses::{Bound, Pause};
 pub use sessions::Session;
 pub use stops::Stop;

@@ -6,10 +6,12 @@ ghost use Rattle.bx_load.specs.Image.{export};
 ghost use Rattle.bx_world.specs.Choosing.{refusal};
 ghost use Rattle.bx_world.specs.Running.{ran, unchosen};
 ghost use Rattle.bx_debug.specs.Leading.{led};
+ghost use Rattle.bx_debug.specs.Pausing.{run_of, RunTakes};
 ghost use Rattle.bx_debug.specs.Places.{is_set};
 ghost use Rattle.bx_debug.specs.Sessions.{back, behind, forward, gone, GoTakes, opened, stepped, with_break, without_break, world_of};
 ghost use Rattle.bx_debug.specs.Swapping.{Swaps};
 
+use crate::pauses::{Bound, Pause, Runner};
 use crate::places::Places;
 use crate::stops::{Stop, refusal, stop_at_once};
 use crate::walks::{Walk, into_world};
@@ -215,6 +217,30 @@ impl<'a> Session<'a> {
             return Ok(stop);
         }
         Ok(self.make(alloc, choices)?)
+    }
+
+    /// Runs a process by itself, up to that bound, and tells why it goes no further. That is a `go` of so many runs of it: the least
+    /// number behind which there is a reason, and at most 100,000.
+    ///
+    /// It can only run out of memory, which is taken only where it runs.
+    pub fn run(&mut self, alloc: Global, pid: u32, bound: Bound) -> Result<Pause, Fault>
+        ensures { Does (RunTakes bound pid self.old) self.old self.new result
+            (Ok (run_of bound pid self.old)) }
+    {
+        let runner = Runner {
+            image: self.trail.image(),
+            places: &self.places,
+            pid,
+            bound,
+        };
+        if let Some(pause) = runner.pause_before(&self.world) {
+            return Ok(pause);
+        }
+        let (times, pause) = runner.runs(alloc, &self.world)?;
+        let mut choices = Schedule::new(alloc);
+        choices.push(Choice::Run(pid), times)?;
+        self.make(alloc, &choices)?;
+        Ok(pause)
     }
 
     /// Exchanges the choice of that number, counted from 1, and the one behind it, where both stand before the position and are

@@ -1,29 +1,30 @@
 -- What each line of a debugger is answered, and what it makes of the session.
 use Rattle.std.specs.Prelude.{◌≡◌, ℕ, ◌+◌, nat_lt, Bool, false, ◌||◌, if◌then◌else◌, List, [], ◌∷◌, ◌++◌, Option, Some, None, Result, Ok, Err, length, codes, decimal, slice_get, ◌-◌}
 use Rattle.std.specs.Str.{bytes_eq}
-use Rattle.bx_terms.specs.Kinds.{trap_name}
-use Rattle.bx_terms.specs.Printed.{printed_pid}
 use Rattle.bx_terms.specs.Refusals.{refusal}
 use Rattle.bx_terms.specs.declared.faults.Fault.{Fault}
 use Rattle.bx_terms.specs.declared.faults.Fault.TheVariants.{BadCommand, BeforeStart, Memory, TooLong}
 use Rattle.bx_load.specs.Image.{Loaded}
-use Rattle.bx_load.specs.Names.{place_text}
-use Rattle.bx_world.specs.Texts.{outcome_lines, spelling}
+use Rattle.bx_world.specs.Texts.{outcome_lines}
 use Rattle.bx_world.specs.Seen.{seen}
 use Rattle.bx_world.specs.declared.choices.Choice.{Choice}
 use Rattle.bx_world.specs.World.{Life}
 use Rattle.bx_debug.specs.Sessions.{History, behind, world_of, stepped, back, forward, gone, with_break, without_break}
+use Rattle.bx_debug.specs.Exchanging.{swap_of}
+use Rattle.bx_debug.specs.Pausing.{run_of}
+use Rattle.bx_debug.specs.declared.pauses.Bound.{Bound}
+use Rattle.bx_debug.specs.declared.pauses.Bound.TheVariants.{Event, Meeting}
 use Rattle.bx_debug.specs.declared.stops.Stop.{Stop}
-use Rattle.bx_debug.specs.declared.stops.Stop.TheVariants as stops
 use Rattle.bx_engine.specs.Sources.{Sources}
-use Rattle.bx_debugger.specs.Commands.{Ordered, Step, Back, Forward, Go, Swap, Break, Clear, Show, Where, Look, Signals, Items, Trace, Plan, Help, ordered_by}
+use Rattle.bx_debugger.specs.Commands.{Ordered, Step, Back, Forward, Go, Until, Run, Swap, Break, Clear, Show, Where, Look, Signals, Open, Items, Trace, Plan, Help, ordered_by}
 use Rattle.bx_debugger.specs.Functions.{list_answer}
 use Rattle.bx_debugger.specs.Help.{help_answer}
 use Rattle.bx_debugger.specs.Look.{look_answer}
+use Rattle.bx_debugger.specs.Open.{open_answer}
 use Rattle.bx_debugger.specs.Plan.{plan_line}
 use Rattle.bx_debugger.specs.Program.{Program, program_of}
 use Rattle.bx_debugger.specs.Signals.{signals_answer}
-use Rattle.bx_debugger.specs.Swap.{swap_of}
+use Rattle.bx_debugger.specs.Stops.{paused_line, standing, stop_words, stopped_line}
 use Rattle.bx_debugger.specs.Trace.{trace_answer}
 use Rattle.bx_debugger.specs.Where.{where_answer}
 
@@ -33,10 +34,6 @@ Moves old new (Ok done) said = said ≡ Ok (new, done)
 Moves old new (Err Memory) said = Unit {0}
 Moves old new (Err fault) said = (said ≡ Err fault) × (new ≡ old)
 
--- where the session stands: how many choices lead there, of how many
-abbrev pub standing : History → List ℕ
-standing s = codes "at " ++ decimal s.at ++ codes " of " ++ decimal (length s.choices)
-
 -- a refusal by number and name, and the line that was refused: `refused R22 BeforeStart line 5`
 abbrev pub refused_text : ℕ → Option (ℕ × List ℕ) → List ℕ
 refused_text n None = []
@@ -45,20 +42,21 @@ refused_text n (Some title) = codes "refused R" ++ decimal title.0 ++ codes " " 
 abbrev pub refused_line : ℕ → Fault → List ℕ
 refused_line n fault = refused_text n (refusal fault)
 
--- why `go` stopped
-abbrev pub stop_words : Loaded → Stop → List ℕ
-stop_words image stops.Done = codes "done"
-stop_words image (stops.Break p place) = codes "break " ++ printed_pid p ++ codes " " ++ place_text image place
-stop_words image (stops.NotEnabled choice) = codes "stopped " ++ spelling choice
-stop_words image (stops.Trapped kind p) = codes "trapped " ++ trap_name kind ++ codes " " ++ printed_pid p
-
 -- a move of the session: where it stands then, or why it is refused
 abbrev pub moved : ℕ → History → Result (History × Unit {0}) Fault → List ℕ × History
 moved n s (Ok after) = (standing after.0 ++ codes "\n", after.0)
 moved n s (Err fault) = (refused_line n fault, s)
 
 abbrev pub went_line : History × Stop → List ℕ
-went_line went = standing went.0 ++ codes ": " ++ stop_words went.0.image went.1 ++ codes "\n"
+went_line went = stopped_line went.0 (stop_words went.0.image went.1)
+
+-- a process that is not there is refused
+abbrev pub ran_if : Sources → ℕ → Bound → ℕ → History → Option Life → List ℕ × History
+ran_if sources n bound p s None = (refused_line n (BadCommand n), s)
+ran_if sources n bound p s (Some life) = (paused_line sources bound p (run_of bound p s), (run_of bound p s).0)
+
+abbrev pub ran_line : Sources → ℕ → Bound → ℕ → History → List ℕ × History
+ran_line sources n bound p s = ran_if sources n bound p s (slice_get (world_of s).processes p)
 
 -- the outcome of the choices before the position
 abbrev pub shown_lines : History → List ℕ
@@ -85,6 +83,8 @@ replied sources n (Step choice) s = moved n s (stepped choice s)
 replied sources n (Back count) s = moved n s (back count s)
 replied sources n (Forward count) s = moved n s (forward count s)
 replied sources n (Go choices) s = (went_line (gone choices s), (gone choices s).0)
+replied sources n (Until p) s = ran_line sources n Event p s
+replied sources n (Run p) s = ran_line sources n Meeting p s
 replied sources n (Swap number) s = moved n s (swap_of number s)
 replied sources n (Break place) s = (codes "ok\n", with_break place s)
 replied sources n (Clear place) s = (codes "ok\n", without_break place s)
@@ -92,6 +92,7 @@ replied sources n Show s = (shown_lines s, s)
 replied sources n Where s = (where_answer (program_of sources s) (world_of s).processes, s)
 replied sources n (Look p) s = (looked n (program_of sources s) p (slice_get (world_of s).processes p), s)
 replied sources n Signals s = (signals_answer s.image.atoms (world_of s).lanes.channels, s)
+replied sources n Open s = (open_answer (program_of sources s) (world_of s), s)
 replied sources n (Items first past) s = (list_answer (program_of sources s) first.«module» first.item past, s)
 replied sources n (Trace count) s = (traced n (program_of sources s) count s, s)
 replied sources n (Plan name) s = (planned n name (behind s), s)

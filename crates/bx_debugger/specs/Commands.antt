@@ -4,14 +4,12 @@ use Rattle.std.specs.Option.{option_map_or}
 use Rattle.std.specs.Str.{bytes_eq}
 use Rattle.bx_terms.specs.AtomTable as atoms
 use Rattle.bx_terms.specs.Options.{◌>>=◌}
-use Rattle.bx_terms.specs.declared.faults.Fault.{Fault}
 use Rattle.bx_terms.specs.declared.places.Place.{Place}
 use Rattle.bx_asm.specs.declared.unit.Head.{Head}
 use Rattle.bx_load.specs.Functions.{function_of}
 use Rattle.bx_load.specs.Image.{Loaded, item_at, place_of, target, there}
 use Rattle.bx_world.specs.declared.choices.Choice.{Choice}
-use Rattle.bx_plan.specs.Plans.{Named, plan_of}
-use Rattle.bx_plan.specs.Reading.{cut, choice_of, entries_of, number_of, spread}
+use Rattle.bx_plan.specs.Reading.{cut, choice_of, entries_of, is_name, number_of, spread}
 use Rattle.bx_engine.specs.Starts.{has_colon, token_in}
 
 pub data Ordered : Type 0 where
@@ -19,6 +17,9 @@ pub data Ordered : Type 0 where
   Back : ℕ → Ordered
   Forward : ℕ → Ordered
   Go : List Choice → Ordered
+  -- a process up to its next event, and behind where it next meets others
+  Until : ℕ → Ordered
+  Run : ℕ → Ordered
   Swap : ℕ → Ordered
   Break : Place → Ordered
   Clear : Place → Ordered
@@ -26,6 +27,7 @@ pub data Ordered : Type 0 where
   Where : Ordered
   Look : ℕ → Ordered
   Signals : Ordered
+  Open : Ordered
   -- the items of a function: the address of the first, and the number behind the last
   Items : Place → ℕ → Ordered
   -- how many of the last choices
@@ -101,15 +103,9 @@ place_named image text = or_place (place_in image text) (beginning image (functi
 abbrev pub items_of : Place × Head → Ordered
 items_of f = Items f.0 (f.0.item + f.1.count)
 
--- the first schedule that was read has this name
-abbrev pub takes_name : List ℕ → Result (List Named) Fault → Bool
-takes_name name (Ok (schedule ∷ more)) = bytes_eq schedule.0 name
-takes_name name (Ok []) = false
-takes_name name (Err fault) = false
-
--- a line of a plan with a name that a plan takes
+-- a name that a plan takes
 abbrev pub plan_named : List ℕ → Option Ordered
-plan_named name = if takes_name name (plan_of (name ++ codes ":")) then Some (Plan name) else None
+plan_named name = if is_name name then Some (Plan name) else None
 
 -- a command that is a word alone; `go` alone makes no choice
 abbrev pub alone : List ℕ → Option Ordered
@@ -118,6 +114,7 @@ alone word =
     else if bytes_eq word (codes "show") then Some Show
     else if bytes_eq word (codes "where") then Some Where
     else if bytes_eq word (codes "signals") then Some Signals
+    else if bytes_eq word (codes "open") then Some Open
     else if bytes_eq word (codes "help") then Some Help
     else None
 
@@ -128,6 +125,8 @@ about image parts =
     else if bytes_eq parts.0 (codes "back") then option_map Back (number_of most_number parts.1)
     else if bytes_eq parts.0 (codes "forward") then option_map Forward (number_of most_number parts.1)
     else if bytes_eq parts.0 (codes "go") then option_map (λ entries. Go (spread entries)) (entries_of parts.1)
+    else if bytes_eq parts.0 (codes "until") then option_map Until (number_of most_pid parts.1)
+    else if bytes_eq parts.0 (codes "run") then option_map Run (number_of most_pid parts.1)
     else if bytes_eq parts.0 (codes "swap") then option_map Swap (number_of most_number parts.1)
     else if bytes_eq parts.0 (codes "break") then option_map Break (place_named image parts.1)
     else if bytes_eq parts.0 (codes "clear") then option_map Clear (place_named image parts.1)

@@ -5,9 +5,10 @@ pub mod Signals
 pub mod Look
 pub mod Functions
 pub mod Trace
+pub mod Open
+pub mod Stops
 pub mod Help
 pub mod Plan
-pub mod Swap
 pub mod Commands
 pub mod CommandView
 pub mod Answers

@@ -10,7 +10,7 @@ ghost use Rattle.bx_debugger.specs.CommandView.{ordered};
 use bx_asm::Head;
 use bx_engine::token_at;
 use bx_load::Image;
-use bx_plan::{Schedule, choice_of, cut, number_of, read_choices, read_plan};
+use bx_plan::{Schedule, choice_of, cut, name_of, number_of, read_choices};
 use bx_terms::{Fault, Place};
 use bx_world::Choice;
 use std::alloc::{AllocError, Global};
@@ -29,6 +29,10 @@ pub(crate) enum Command {
     Forward(u32),
     /// Makes choices in order, up to the first that stops it.
     Go(Schedule),
+    /// Runs a process up to its next event.
+    Until(u32),
+    /// Runs a process until it has met others.
+    Run(u32),
     /// Exchanges the choice of that number, from 1 on, and the one behind it.
     Swap(u32),
     /// Sets a breakpoint.
@@ -43,6 +47,8 @@ pub(crate) enum Command {
     Look(u32),
     /// Shows the signals that wait.
     Signals,
+    /// Shows the choices that are enabled.
+    Open,
     /// Shows the items of a function: from an address up to a number.
     Items(Place, u32),
     /// Shows so many of the last choices, and what each met.
@@ -86,6 +92,9 @@ fn alone(alloc: Global, word: &[u8]) -> Option<Command>
     if word == b"signals".as_slice() {
         return Some(Command::Signals);
     }
+    if word == b"open".as_slice() {
+        return Some(Command::Open);
+    }
     if word == b"help".as_slice() {
         return Some(Command::Help);
     }
@@ -108,6 +117,12 @@ fn about(alloc: Global, image: &Image, word: &[u8], rest: &[u8]) -> Result<Optio
     }
     if word == b"go".as_slice() {
         return Ok(read_choices(alloc, rest)?.map(Command::Go));
+    }
+    if word == b"until".as_slice() {
+        return Ok(number_of(rest, MOST_PID).map(Command::Until));
+    }
+    if word == b"run".as_slice() {
+        return Ok(number_of(rest, MOST_PID).map(Command::Run));
     }
     if word == b"swap".as_slice() {
         return Ok(number_of(rest, u32::MAX).map(Command::Swap));
@@ -233,18 +248,11 @@ fn items_named(alloc: Global, image: &Image, text: &[u8]) -> Result<Option<Comma
 fn plan_named(alloc: Global, name: &[u8]) -> Result<Option<Command>, Fault>
     ensures { Gives ⊤ (λ command. option_map ordered command) result (Ok (plan_named name.now)) }
 {
-    let mut line = Vec::from_slice(alloc, name)?;
-    line.push(b':')?;
-    let plan = match read_plan(alloc, &line) {
-        Ok(plan) => plan,
-        Err(Fault::Memory) => return Err(Fault::Memory),
-        Err(_) => return Ok(None),
-    };
-    match plan.label(0) {
-        Some(label) if label.as_bytes() == name => {
-            let label = String::from_str(alloc, label)?;
-            Ok(Some(Command::Plan(label)))
+    match name_of(name) {
+        Some(name) => {
+            let name = String::from_str(alloc, name)?;
+            Ok(Some(Command::Plan(name)))
         }
-        _ => Ok(None),
+        None => Ok(None),
     }
 }

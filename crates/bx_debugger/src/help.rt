@@ -12,6 +12,8 @@ macro_rules! commands {
   back N       Goes back over N choices
   forward N    Goes forward over N choices
   go C C ..    Makes choices in order, up to the first that stops it; C*N makes C N times
+  until P      Runs process P up to before it next sends, asks for something, times out or sets a flag, or to its wait or end
+  run P        Runs process P until it has sent or asked for something, or to its wait or end
   swap K       Exchanges choices K and K+1 where they are independent
   break M:I    Lets go stop behind a run that leaves its process at item I of module M
   break M:F/A  Lets go stop where a call of that function begins
@@ -20,6 +22,7 @@ macro_rules! commands {
   where        Shows for each process where it goes on, and the item there
   look P       Shows all that process P holds
   signals      Shows the signals that wait
+  open         Shows the choices that are enabled, each with what it would meet
   list M:F/A   Shows the items of a function
   trace N      Shows the last N choices, each with what it met
   plan NAME    Shows the choices so far as a line of a plan

@@ -1,19 +1,11 @@
 //! Laws of the definitions: the functions do nothing, and their clauses are the laws.
 
-ghost use Rattle.std.specs.Prelude.{◌≡◌, ◌↔◌, ◌++◌, ◌∷◌, true, ℕ, ◌≤◌, List, [], Ok, codes, length};
+ghost use Rattle.std.specs.Prelude.{◌≡◌, ◌++◌, ◌∷◌, ℕ, ◌≤◌, List, [], Ok, codes, length};
 ghost use Rattle.std.specs.List.{AllByRecursion};
 ghost use Rattle.bx_world.specs.declared.choices.Choice.{Choice};
 ghost use Rattle.bx_plan.specs.Grammar.{HasPids, IsName};
 ghost use Rattle.bx_plan.specs.Plans.{plan_of};
-ghost use Rattle.bx_debug.specs.Sessions.{History};
-ghost use Rattle.bx_debug.specs.Swapping.{MaySwap};
 ghost use Rattle.bx_debugger.specs.Plan.{plan_line};
-ghost use Rattle.bx_debugger.specs.Swap.{may_swap};
-
-/// The test that `swap` is answered by tells exactly whether two choices stand before the position and are independent.
-pub fn swaps_are_told_by_a_test()
-    ensures { (k : ℕ) (s : History) → (may_swap k s ≡ true) ↔ MaySwap k s }
-{}
 
 /// The line that `plan` answers is read back as a schedule of this name with just these choices.
 pub fn a_plan_is_read_back()

@@ -7,6 +7,8 @@ mod help;
 mod holdings;
 pub mod laws;
 mod listings;
+mod open_lines;
+mod pauses;
 mod plan_lines;
 mod programs;
 mod prompts;

@@ -4,28 +4,31 @@ ghost use Rattle.std.specs.Prelude.{◌≡◌, ◌++◌, IfOk, IsSome, Result, S
 ghost use Rattle.bx_terms.specs.Refusals.{refusal};
 ghost use Rattle.bx_terms.specs.declared.faults.Fault.{Fault};
 ghost use Rattle.bx_debug.specs.Sessions.{History, behind, world_of};
-ghost use Rattle.bx_debugger.specs.Answers.{Moves, answered, looked, moved, planned, refused_line, refused_text, replied, standing, stop_words, traced, went_line, shown_lines};
+ghost use Rattle.bx_debugger.specs.Answers.{Moves, answered, looked, moved, planned, ran_line, refused_line, refused_text, replied, traced, went_line, shown_lines};
 ghost use Rattle.bx_debugger.specs.CommandView.{ordered};
 ghost use Rattle.bx_debugger.specs.Functions.{list_answer};
 ghost use Rattle.bx_debugger.specs.Help.{help_answer};
+ghost use Rattle.bx_debugger.specs.Open.{open_answer};
 ghost use Rattle.bx_debugger.specs.Program.{program_of};
 ghost use Rattle.bx_debugger.specs.Signals.{signals_answer};
+ghost use Rattle.bx_debugger.specs.Stops.{standing, stopped_line};
 ghost use Rattle.bx_debugger.specs.Where.{where_answer};
 
 use crate::commands::{Command, command_of};
 use crate::help::push_help;
 use crate::holdings::push_look;
 use crate::listings::push_list;
+use crate::open_lines::push_open;
+use crate::pauses::{pause_words, stop_words};
 use crate::plan_lines::push_plan;
 use crate::programs::Program;
 use crate::signal_lines::push_signals;
 use crate::standings::push_where;
 use crate::traces::push_trace;
-use bx_debug::{Session, Stop};
+use bx_debug::{Bound, Session, Stop};
 use bx_engine::Sources;
-use bx_load::Image;
 use bx_terms::{Fault, Place};
-use bx_world::{choice_text, outcome_text};
+use bx_world::outcome_text;
 use std::alloc::{AllocError, Global};
 
 /// How many choices a line of a plan makes at most.
@@ -79,6 +82,8 @@ fn reply(
             let stop = session.go(alloc, choices)?;
             went_line(alloc, session, &stop)
         }
+        Command::Until(pid) => ran_line(alloc, session, sources, number, (*pid, Bound::Event)),
+        Command::Run(pid) => ran_line(alloc, session, sources, number, (*pid, Bound::Meeting)),
         Command::Swap(choice) => {
             let done = session.swap(alloc, *choice as usize);
             moved_line(alloc, session, number, done)
@@ -95,6 +100,7 @@ fn reply(
         Command::Look(pid) => looked(alloc, session, sources, number, *pid),
         Command::Where => Ok(standings(alloc, session, sources)?),
         Command::Signals => Ok(signal_lines(alloc, session)?),
+        Command::Open => Ok(open_lines(alloc, session, sources)?),
         Command::Items(first, past) => {
             let program = Program::new(session.image(), sources);
             Ok(item_lines(alloc, &program, *first, *past)?)
@@ -176,35 +182,39 @@ fn titled_line(alloc: Global, number: usize, refusal: u8, name: &str) -> Result<
 fn went_line(alloc: Global, session: &Session<'_>, stop: &Stop) -> Result<String, Fault>
     ensures { IfOk result (λ text. string_bytes text ≡ went_line (session.now, stop.now)) }
 {
+    let words = stop_words(alloc, session.image(), stop)?;
+    Ok(stopped_line(alloc, session, words.as_str())?)
+}
+
+/// Where the session stands, and why: `at K of N: WHY`.
+fn stopped_line(alloc: Global, session: &Session<'_>, why: &str) -> Result<String, AllocError>
+    ensures { IfOk result (λ text. string_bytes text ≡ stopped_line session.now why.now) }
+{
     let at = session.at();
     let len = session.len();
-    let words = stop_words(alloc, session.image(), stop)?;
-    let why = words.as_str();
     let text = format!(in alloc; "at {at} of {len}: {why}\n")?;
     Ok(text)
 }
 
-/// Why `go` stopped.
-fn stop_words(alloc: Global, image: &Image, stop: &Stop) -> Result<String, Fault>
-    ensures { IfOk result (λ text. string_bytes text ≡ stop_words image.now stop.now) }
+/// Runs a process up to that bound, and gives the answer: where the session stands and why it went no further, or that there is no
+/// such process.
+fn ran_line(
+    alloc: Global,
+    session: &mut Session<'_>,
+    sources: &Sources,
+    number: usize,
+    order: (u32, Bound),
+) -> Result<String, Fault>
+    ensures { IfOk result (λ text. (string_bytes text, session.new)
+        ≡ ran_line sources.now number order.1 order.0 session.old) }
 {
-    match stop {
-        Stop::Done => Ok(String::from_str(alloc, "done")?),
-        Stop::Break(pid, place) => {
-            let place = image.place_name(alloc, *place)?;
-            let name = place.as_str();
-            Ok(format!(in alloc; "break <0.{pid}.0> {name}")?)
-        }
-        Stop::NotEnabled(choice) => {
-            let choice = choice_text(alloc, *choice)?;
-            let name = choice.as_str();
-            Ok(format!(in alloc; "stopped {name}")?)
-        }
-        Stop::Trapped(kind, pid) => {
-            let name = kind.name();
-            Ok(format!(in alloc; "trapped {name} <0.{pid}.0>")?)
-        }
+    let (pid, bound) = order;
+    if session.world().process(pid).is_none() {
+        return refusal_line(alloc, number, &Fault::BadCommand { line: number });
     }
+    let pause = session.run(alloc, pid, bound)?;
+    let words = pause_words(alloc, session, sources, order, &pause)?;
+    Ok(stopped_line(alloc, session, words.as_str())?)
 }
 
 /// The outcome of the choices before the position.
@@ -240,6 +250,17 @@ fn signal_lines(alloc: Global, session: &Session<'_>) -> Result<String, AllocErr
     let mut out = String::new(alloc);
     let channels = session.world().channels();
     push_signals(alloc, &mut out, session.image().atoms(), channels)?;
+    Ok(out)
+}
+
+/// The choices that are enabled, each with what it would meet.
+fn open_lines(alloc: Global, session: &Session<'_>, sources: &Sources) -> Result<String, AllocError>
+    ensures { IfOk result (λ text. string_bytes text
+        ≡ open_answer (program_of sources.now session.now) (world_of session.now)) }
+{
+    let program = Program::new(session.image(), sources);
+    let mut out = String::new(alloc);
+    push_open(alloc, &mut out, &program, session.world())?;
     Ok(out)
 }
 

@@ -1,6 +1,7 @@
 //! `trace N`: the last choices before the position, each with what it met.
 
-ghost use Rattle.std.specs.Prelude.{◌≡◌, ◌+◌, ◌^◌, ◌<◌, ◌≤◌, ◌++◌, List, OnOk, option_map, replicate, string_bytes};
+ghost use Rattle.std.specs.Prelude.{◌≡◌, ◌+◌, ◌^◌, ◌<◌, ◌≤◌, ◌++◌, List, OnOk, codes, option_map, replicate, string_bytes};
+ghost use Rattle.bx_world.specs.Texts.{spelling};
 ghost use Rattle.bx_world.specs.declared.choices.Choice.{Choice};
 ghost use Rattle.bx_debugger.specs.Trace.{choice_words, expires_in, made, met_words, signal_or_dash, trace_answer, trace_line, trace_lines};
 
@@ -42,7 +43,7 @@ fn push_signal_or_dash(
 }
 
 /// Adds what a choice meets in a world.
-fn push_met(
+pub(crate) fn push_met(
     alloc: Global,
     out: &mut String,
     program: &Program<'_>,
@@ -62,6 +63,22 @@ fn push_met(
     }
 }
 
+/// Adds a choice, and a space behind it.
+pub(crate) fn push_spelled(
+    alloc: Global,
+    out: &mut String,
+    choice: Choice,
+) -> Result<(), AllocError>
+    ensures { OnOk result
+        (string_bytes out.new ≡ string_bytes out.old ++ (spelling choice ++ codes " ")) }
+{
+    let Ok(text) = choice_text(alloc, choice) else {
+        return Err(AllocError);
+    };
+    out.push_str(text.as_str())?;
+    out.push_str(" ")
+}
+
 /// Adds a choice behind its number.
 fn push_choice(
     alloc: Global,
@@ -72,12 +89,8 @@ fn push_choice(
     ensures { OnOk result
         (string_bytes out.new ≡ string_bytes out.old ++ choice_words number choice) }
 {
-    let Ok(text) = choice_text(alloc, choice) else {
-        return Err(AllocError);
-    };
     write!(out, "{number} ")?;
-    out.push_str(text.as_str())?;
-    out.push_str(" ")
+    push_spelled(alloc, out, choice)
 }
 
 /// Adds the line of a choice, before which its number stands, in the world where it is made.

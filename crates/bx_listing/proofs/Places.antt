@@ -1,13 +1,14 @@
 -- Places in files: what is kept of those that were there when one is added, and what is found.
-use Rattle.std.proofs.Common.{◌≡◌, ℕ, zero, suc, ◌+◌, ◌<◌, Bool, true, false, cond, List, [], ◌∷◌, ◌++◌, length, get_or, map, Option, Some, String, string_bytes, refl, sym, ap, ◌∙◌, add-one, arith}
+use Rattle.std.proofs.Common.{◌≡◌, ℕ, zero, suc, ◌+◌, ◌-◌, ◌<◌, true, List, [], ◌∷◌, ◌++◌, length, get_or, map, Option, Some, String, string_bytes, refl, sym, ap, subst, ◌∙◌, add-one, arith}
 use Rattle.std.specs.Prelude.{option_map, slice_get}
-use Rattle.std.specs.List.{All, list_any}
+use Rattle.std.specs.List.{All}
 use Rattle.std.specs.String.{string_eq}
-use Rattle.std.proofs.lemmas.List.{map-append, length-append}
-use Rattle.std.proofs.lemmas.Option.{slice_get-map, get_or_from_slice_get}
+use Rattle.std.proofs.lemmas.List.{map-append, length-append, length-map}
+use Rattle.std.proofs.lemmas.List.Elements.{All-push}
+use Rattle.std.proofs.lemmas.Option.{slice_get-map, slice_get-get_or, slice_get_within, get_or_from_slice_get}
 use Rattle.std.proofs.lemmas.Slice.Eq.{bytes_eq-Decides}
 use Rattle.std.proofs.Math.ListN.{get_or-append}
-use Rattle.indexmap.specs.IndexSet.{insert_key}
+use Rattle.bx_listing.specs.Reading.{Begins, Begins-refl}
 use Rattle.bx_listing.specs.declared.locations.Mark.{Mark}
 use Rattle.bx_listing.specs.Locations.{Location, Located}
 use Rattle.bx_listing.specs.Marks.{marked, AreMarks, place, IsPlace}
@@ -20,29 +21,49 @@ marked_more names more (m ∷ marks) are =
     let rest : map (marked (names ++ more)) marks ≡ map (marked names) marks = marked_more names more marks (λ k d h. are (suc k) d (omega arith)) in
     rw (here, rest)
 
-pub marked_inserted : {Z : Type 0} (keys : List (String Z)) (name : String Z) (marks : List Mark) → AreMarks (map string_bytes keys) marks
-    → map (marked (map string_bytes (insert_key string_eq keys name))) marks ≡ map (marked (map string_bytes keys)) marks
-marked_inserted keys name marks are = by (list_any (string_eq name) keys)
-  where
-    by : (b : Bool) → map (marked (map string_bytes (cond b keys (keys ++ name ∷ [])))) marks ≡ map (marked (map string_bytes keys)) marks
-    by true = refl
-    by false = rw (map-append string_bytes keys (name ∷ [])) (marked_more (map string_bytes keys) (string_bytes name ∷ []) marks are)
+-- all of them, once names follow
+pub marks_kept : (names after : List (List ℕ)) (marks : List Mark) → AreMarks names marks → Begins names after → map (marked after) marks ≡ map (marked names) marks
+marks_kept names after marks are more = ap (λ ns. map (marked ns) marks) more.1 ∙ marked_more names more.0 marks are
 
--- the name that a key found by a test is
-pub name_at : {Z : Type 0} (keys : List (String Z)) (name k : String Z) (i : ℕ) → slice_get keys i ≡ Some k → string_eq name k ≡ true → get_or (map string_bytes keys) i [] ≡ string_bytes name
-name_at keys name k i at same =
-    let there : slice_get (map string_bytes keys) i ≡ Some (string_bytes k) = slice_get-map string_bytes keys i ∙ ap (option_map string_bytes) at in
-    get_or_from_slice_get (map string_bytes keys) i (string_bytes k) [] there ∙ sym ((bytes_eq-Decides (string_bytes name) (string_bytes k)).0 same)
+pub marks_stay : (names after : List (List ℕ)) (marks : List Mark) → AreMarks names marks → Begins names after → AreMarks after marks
+marks_stay names after marks are more k d h =
+    let fits = are k d h in
+    omega (arith, fits, ap length more.1, length-append names more.0)
+
+last_there : {A : Type 0} (xs : List A) (x : A) → slice_get (xs ++ x ∷ []) (length xs) ≡ Some x
+last_there [] x = refl
+last_there (y ∷ xs) x = last_there xs x
+
+-- a name more has the number of those before it
+pub named_last : {Z : Type 0} (files after : List (String Z)) (file : String Z) (n : ℕ) → n ≡ length files → after ≡ files ++ file ∷ []
+    → slice_get (map string_bytes after) n ≡ Some (string_bytes file)
+named_last files after file n counted put =
+    rw (put, counted) (slice_get-map string_bytes (files ++ file ∷ []) (length files) ∙ ap (option_map string_bytes) (last_there files file))
+
+pub names_more : {Z : Type 0} (files : List (String Z)) (file : String Z) → Begins (map string_bytes files) (map string_bytes (files ++ file ∷ []))
+names_more files file = (string_bytes file ∷ [], map-append string_bytes files (file ∷ []))
+
+-- a file that is there under the name
+pub named_there : {Z : Type 0} (files : List (String Z)) (file : String Z) (i : ℕ) (d : String Z) → i < length files → string_eq (get_or files i d) file ≡ true
+    → slice_get (map string_bytes files) i ≡ Some (string_bytes file)
+named_there files file i d within same =
+    slice_get-map string_bytes files i ∙ ap (option_map string_bytes) (slice_get-get_or files i d within)
+    ∙ ap Some ((bytes_eq-Decides (string_bytes (get_or files i d)) (string_bytes file)).0 same)
 
 -- a place more
-pub place_added : {Z : Type 0} (keys after : List (String Z)) (name k : String Z) (marks longer : List Mark) (i line : ℕ) → AreMarks (map string_bytes keys) marks
-    → after ≡ insert_key string_eq keys name → slice_get after i ≡ Some k → string_eq name k ≡ true → longer ≡ marks ++ record { file = i; line = line } ∷ []
-    → map (marked (map string_bytes after)) longer ≡ map (marked (map string_bytes keys)) marks ++ (string_bytes name, line) ∷ []
-place_added keys after name k marks longer i line are put at same more =
+pub place_added : (names after : List (List ℕ)) (name : List ℕ) (marks longer : List Mark) (i line : ℕ) → AreMarks names marks → Begins names after
+    → slice_get after i ≡ Some name → longer ≡ marks ++ record { file = i; line = line } ∷ []
+    → map (marked after) longer ≡ map (marked names) marks ++ (name, line) ∷ []
+place_added names after name marks longer i line are more at put =
     let m : Mark = record { file = i; line = line } in
-    let before : map (marked (map string_bytes after)) marks ≡ map (marked (map string_bytes keys)) marks = rw put (marked_inserted keys name marks are) in
-    let last : marked (map string_bytes after) m ≡ (string_bytes name, line) = ap (λ n. (n, line)) (name_at after name k i at same) in
-    rw (more, map-append (marked (map string_bytes after)) marks (m ∷ []), before, last)
+    let last : marked after m ≡ (name, line) = ap (λ n. (n, line)) (get_or_from_slice_get after i name [] at) in
+    rw (put, map-append (marked after) marks (m ∷ []), marks_kept names after marks are more, last)
+
+pub marks_more : (names after : List (List ℕ)) (name : List ℕ) (marks longer : List Mark) (i line : ℕ) → AreMarks names marks → Begins names after
+    → slice_get after i ≡ Some name → longer ≡ marks ++ record { file = i; line = line } ∷ [] → AreMarks after longer
+marks_more names after name marks longer i line are more at put =
+    let m : Mark = record { file = i; line = line } in
+    rw put (All-push (λ (m : Mark). m.file < length after) marks m (marks_stay names after marks are more) (slice_get_within after i name at))
 
 pub place_found : {Z : Type 0} (keys : List (String Z)) (marks : List Mark) (at : ℕ) (m : Mark) (s : String Z) → slice_get marks at ≡ Some m → slice_get keys m.file ≡ Some s
     → place (map (marked (map string_bytes keys)) marks) (suc at) ≡ Some (string_bytes s, m.line)

@@ -1,14 +1,14 @@
 //! Where the items of a listing stand in its sources.
 
-ghost use Rattle.std.specs.Prelude.{◌≡◌, ◌++◌, ◌∷◌, [], Some, None, length, map, option_map, option_and_then, slice_get, string_bytes, IfOk, OnOk, OnErr};
+ghost use Rattle.std.specs.Prelude.{◌≡◌, ◌<◌, ◌^◌, ◌++◌, ◌∷◌, [], Some, None, length, map, option_map, option_and_then, slice_get, string_bytes, IfOk, OnOk, OnErr};
 ghost use Rattle.bx_text.specs.View.{elements_seen};
 ghost use Rattle.bx_listing.specs.Locations.{spelled, string, character, line_number, location, first_location, said_by, passed, Located};
+ghost use Rattle.bx_listing.specs.Reading.{Begins};
 ghost use Rattle.bx_listing.specs.Seen.{seen};
 
 use crate::shapes::{Shape, list_elements, number, shape_of};
 use crate::words::{FormWord, form_word};
 use bx_text::{Elements, Node};
-use indexmap::IndexSet;
 use std::alloc::{AllocError, Global};
 use std::marker::Model;
 
@@ -19,10 +19,10 @@ struct Mark {
     line: u32,
 }
 
-/// The places in files that are named, by number from 0. The name of each file is kept once.
+/// The places in files that are named, by number from 0. A file's name is kept once for all places in a row that are in it.
 #[derive(Debug, Drop)]
 struct Places {
-    files: IndexSet<String>,
+    files: Vec<String>,
     marks: Vec<Mark>,
 }
 
@@ -33,9 +33,9 @@ impl Model for Places {
 
     ghost Value = { List Location };
 
-    ghost view = { λ p. map (marked (map string_bytes p.files.keys)) p.marks.items };
+    ghost view = { λ p. map (marked (map string_bytes p.files.items)) p.marks.items };
 
-    ghost invariant = { λ p. AreMarks (map string_bytes p.files.keys) p.marks.items };
+    ghost invariant = { λ p. AreMarks (map string_bytes p.files.items) p.marks.items };
 }
 
 impl Places {
@@ -45,7 +45,7 @@ impl Places {
         ensures { result ≡ [] }
     {
         Places {
-            files: IndexSet::new(alloc),
+            files: Vec::new(alloc),
             marks: Vec::new(alloc),
         }
     }
@@ -57,11 +57,10 @@ impl Places {
         ensures kept { OnErr result (self.new ≡ self.old) }
     {
         let count = self.marks.len();
-        let (file, _) = self.files.insert_full(file)?;
-        if count >= u32::MAX as usize || file > u32::MAX as usize {
+        if count >= u32::MAX as usize || self.files.len() >= u32::MAX as usize {
             return Err(AllocError);
         }
-        let file = file as u32;
+        let file = number_of(&mut self.files, file)?;
         self.marks.push(Mark { file, line })?;
         Ok(count as u32 + 1)
     }
@@ -72,14 +71,28 @@ impl Places {
     {
         let at = (number as usize).checked_sub(1)?;
         let mark = self.marks.get(at)?;
-        let file = self.files.get_index(mark.file as usize)?;
+        let file = self.files.get(mark.file as usize)?;
         Some((file.as_str(), mark.line))
     }
 }
 
+/// The number of a file of that name: the last one, where that has it, or one more.
+fn number_of(files: &mut Vec<String>, file: String) -> Result<u32, AllocError>
+    requires { length files.old.items < 2 ^ 32 }
+    ensures named { IfOk result (λ n. slice_get (map string_bytes files.new.items) n ≡ Some (string_bytes file)) }
+    ensures kept { Begins (map string_bytes files.old.items) (map string_bytes files.new.items) }
+{
+    let count = files.len();
+    if count > 0 && files[count - 1] == file {
+        return Ok((count - 1) as u32);
+    }
+    files.push(file)?;
+    Ok(count as u32)
+}
+
 /// Where the items of a listing stand in its sources, as its lines say.
 ///
-/// It takes four bytes an item, eight a line that names a place, and the name of each file once.
+/// It takes four bytes an item, eight a line that names a place, and the name of a file once for all such lines in a row.
 #[derive(Debug, Drop)]
 pub struct Locations {
     places: Places,
@@ -105,7 +118,7 @@ impl Model for Locations {
 
 impl Locations {
     /// Of no items.
-    pub(crate) fn new(alloc: Global) -> Locations
+    pub fn new(alloc: Global) -> Locations
         ensures { result ≡ record { items = []; here = None } }
     {
         Locations {

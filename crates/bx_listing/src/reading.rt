@@ -1,6 +1,6 @@
 //! Listings, read form by form.
 
-ghost use Rattle.std.specs.Prelude.{◌≡◌, ◌≤◌, ◌<◌, ◌⊎◌, [], None, length, option_map, IfOk, IfSome, OnOk};
+ghost use Rattle.std.specs.Prelude.{◌≡◌, ◌≤◌, ◌<◌, ◌⊎◌, [], None, length, option_map, IfOk, IfSome, IsTrue, OnOk};
 ghost use Rattle.bx_terms.specs.Outcomes.{Gives};
 ghost use Rattle.bx_text.specs.Place.{place, place_in};
 ghost use Rattle.bx_text.specs.Forms.{takes_memory};
@@ -22,6 +22,13 @@ use crate::shapes::shape_of;
 use bx_terms::{AtomId, Atoms, Fault};
 use bx_text::{Node, Reader};
 use std::alloc::{AllocError, Global};
+
+/// The text of a listing, and whether it is asked where its items stand in its sources.
+#[derive(Clone, Copy)]
+struct Source<'a> {
+    text: &'a [u8],
+    located: bool,
+}
 
 /// The next form and a reader behind it; `None` where only blanks follow.
 #[tactic(auto, unfolding(crate::specs::Forms::next_form))]
@@ -129,15 +136,17 @@ fn behind_labels<'a>(form: Node<'a>, behind: Reader<'a>) -> Result<Reader<'a>, F
     }
 }
 
-/// The functions, each with its items, up to the end of the text, and where the items stand in its sources.
+/// The functions, each with its items, up to the end of the text, and, where that is asked, where the items stand in its sources.
 fn functions(
     alloc: Global,
     atoms: &mut Atoms,
     reader: Reader,
+    asked: bool,
 ) -> Result<(Vec<Function>, Locations), Fault>
     ensures read { Reads (ReadsForms (place reader.entry)) (λ r. r.0.items) atoms.old atoms.new result
         (listings.functions [] (forms (place reader.entry))) }
-    ensures located { IfOk result (λ r. r.1.items ≡ located None (forms (place reader.entry))) }
+    ensures located { IsTrue asked → IfOk result
+        (λ r. r.1.items ≡ located None (forms (place reader.entry))) }
 {
     let mut functions = Vec::new(alloc);
     let mut operands = Vec::new(alloc);
@@ -145,7 +154,7 @@ fn functions(
     let mut here = reader;
     while let Some((form, behind)) = next_form(alloc, here)? {
         take_form(alloc, atoms, &mut functions, &mut operands, &form)?;
-        place_form(alloc, &mut locations, form)?;
+        place_form(alloc, asked, &mut locations, form)?;
         here = behind_annotations(behind);
     }
     Ok((functions, locations.fitted()))
@@ -165,10 +174,21 @@ fn take_form(
     reader.part(atoms, functions, operands, shape_of(form))
 }
 
-fn place_form(alloc: Global, locations: &mut Locations, form: Node) -> Result<(), AllocError>
-    ensures { OnOk result (locations.new ≡ passed locations.old (shape form.entry)) }
+/// Where the items stand is asked: one form more.
+fn place_form(
+    alloc: Global,
+    asked: bool,
+    locations: &mut Locations,
+    form: Node,
+) -> Result<(), AllocError>
+    ensures { IsTrue asked → OnOk result
+        (locations.new ≡ passed locations.old (shape form.entry)) }
 {
-    locations.pass(alloc, shape_of(&form))
+    if asked {
+        locations.pass(alloc, shape_of(&form))
+    } else {
+        Ok(())
+    }
 }
 
 /// Reads a listing: the forms `{module,M}`, `{exports,[{F,A},..]}`, `{attributes,T}` (which may be missing) and
@@ -188,7 +208,11 @@ pub fn read_listing(alloc: Global, atoms: &mut Atoms, text: &[u8]) -> Result<Lis
         (λ listing. listing) atoms.old atoms.new result
         (listings.listing (last_line text.now) (forms (place_in text.now 0))) }
 {
-    match read_located(alloc, atoms, text) {
+    let source = Source {
+        text,
+        located: false,
+    };
+    match read(alloc, atoms, source) {
         Ok((listing, _)) => Ok(listing),
         Err(fault) => Err(fault),
     }
@@ -208,32 +232,48 @@ pub fn read_located(
     ensures located { IfOk result
         (λ r. r.1.items ≡ locations (last_line text.now) (forms (place_in text.now 0))) }
 {
-    let (form, behind) = head_form(alloc, text, Reader::at(text, 0))?;
+    let source = Source {
+        text,
+        located: true,
+    };
+    read(alloc, atoms, source)
+}
+
+/// The listing of that text, and, where that is asked, where its items stand in its sources.
+fn read(alloc: Global, atoms: &mut Atoms, source: Source<'_>) -> Result<(Listing, Locations), Fault>
+    ensures read { Reads
+        (takes_memory (place_in source.entry.text.now 0) ⊎ listings.IsNamed (forms (place_in source.entry.text.now 0)))
+        (λ r. r.0) atoms.old atoms.new result
+        (listings.listing (last_line source.entry.text.now) (forms (place_in source.entry.text.now 0))) }
+    ensures located { IsTrue source.entry.located → IfOk result (λ r. r.1.items ≡ locations
+        (last_line source.entry.text.now) (forms (place_in source.entry.text.now 0))) }
+{
+    let (form, behind) = head_form(alloc, source.text, Reader::at(source.text, 0))?;
     let reader = FormReader::new(alloc, &form);
     let Some(module) = module_name(shape_of(&form)) else {
         return Err(reader.bad_form());
     };
     let name = reader.name_atom(atoms, module)?;
-    behind_name(alloc, atoms, text, name, behind)
+    behind_name(alloc, atoms, source, name, behind)
 }
 
 /// The listing of that name, of which the exports come next.
 fn behind_name(
     alloc: Global,
     atoms: &mut Atoms,
-    text: &[u8],
+    source: Source<'_>,
     name: AtomId,
     behind: Reader,
 ) -> Result<(Listing, Locations), Fault>
     ensures read { Reads (ReadsForms (place behind.entry)) (λ r. r.0) atoms.old atoms.new result
-        (listings.behind_name (last_line text.now) (forms (place behind.entry)) name) }
-    ensures located { IfOk result (λ r. r.1.items ≡ located_exports (last_line text.now)
-        (forms (place behind.entry))) }
+        (listings.behind_name (last_line source.entry.text.now) (forms (place behind.entry)) name) }
+    ensures located { IsTrue source.entry.located → IfOk result (λ r. r.1.items ≡ located_exports
+        (last_line source.entry.text.now) (forms (place behind.entry))) }
 {
-    let (form, behind) = head_form(alloc, text, behind)?;
+    let (form, behind) = head_form(alloc, source.text, behind)?;
     let reader = FormReader::new(alloc, &form);
     let exports = reader.exports_form(atoms, shape_of(&form))?;
-    let (functions, locations) = functions_behind(alloc, atoms, text, behind)?;
+    let (functions, locations) = functions_behind(alloc, atoms, source, behind)?;
     Ok((Listing::new(name, exports, functions), locations))
 }
 
@@ -241,14 +281,14 @@ fn behind_name(
 fn functions_behind(
     alloc: Global,
     atoms: &mut Atoms,
-    text: &[u8],
+    source: Source<'_>,
     behind: Reader,
 ) -> Result<(Vec<Function>, Locations), Fault>
     ensures read { Reads (ReadsForms (place behind.entry)) (λ r. r.0.items) atoms.old atoms.new
-        result (listings.functions_behind (last_line text.now) (forms (place behind.entry))) }
-    ensures located { IfOk result (λ r. r.1.items ≡ located_behind
-        (listings.behind_head (last_line text.now) (forms (place behind.entry)))) }
+        result (listings.functions_behind (last_line source.entry.text.now) (forms (place behind.entry))) }
+    ensures located { IsTrue source.entry.located → IfOk result (λ r. r.1.items ≡ located_behind
+        (listings.behind_head (last_line source.entry.text.now) (forms (place behind.entry)))) }
 {
-    let behind = behind_head(alloc, text, behind)?;
-    functions(alloc, atoms, behind)
+    let behind = behind_head(alloc, source.text, behind)?;
+    functions(alloc, atoms, behind, source.located)
 }

@@ -1,6 +1,6 @@
 //! The mailbox of a process.
 
-ghost use Rattle.std.specs.Prelude.{◌≡◌, ◌≢◌, ◌↔◌, ◌+◌, ◌++◌, [], length, IfOk, OnOk, IfErr, OnErr, IsTrue, IsSome, option_map};
+ghost use Rattle.std.specs.Prelude.{◌≡◌, ◌≢◌, ◌↔◌, ◌≤◌, ◌+◌, ◌++◌, [], length, IfOk, OnOk, IfErr, OnErr, IsTrue, IsSome, option_map};
 ghost use Rattle.bx_mail.specs.Mail.{Mail, empty, added, current, passed_over, taken, reset};
 
 use crate::slots::{Slots, last_behind, same_row};
@@ -126,6 +126,13 @@ impl Mailbox {
         ensures { result ≡ length self.now.passed + length self.now.rest }
     {
         self.len
+    }
+
+    /// How many slots there are, each with a message or free: what a copy takes where there is a message.
+    pub fn slots(&self) -> usize
+        ensures { length self.now.passed + length self.now.rest ≤ result }
+    {
+        self.slots.len()
     }
 
     /// How many messages are passed over.

@@ -76,6 +76,12 @@ impl Slots {
         }
     }
 
+    pub(crate) fn len(&self) -> usize
+        ensures { result ≡ length self.now }
+    {
+        self.slots.len()
+    }
+
     /// The message in the slot that `link` names.
     pub(crate) fn message_of(&self, link: Option<u32>) -> Option<&Term>
         ensures { option_map (λ m. m.now) result ≡ message_of self.now link }

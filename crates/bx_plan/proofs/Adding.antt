@@ -1,26 +1,28 @@
 -- One schedule more in a plan that is read.
-use Rattle.std.proofs.Common.{◌≡◌, ℕ, ◌+◌, ◌-◌, ◌^◌, ◌<◌, ◌≤◌, min, Bool, true, false, cond, ◌||◌, ◌&&◌, List, [], ◌∷◌, ◌++◌, Ok, Err, length, replicate, refl, sym, ap, ◌∙◌, arith, length-append, Bor}
-use Rattle.std.proofs.lemmas.List.{length-replicate}
+use Rattle.std.proofs.Common.{◌≡◌, ◌⊎◌, inl, inr, ℕ, zero, suc, ◌+◌, ◌-◌, ◌^◌, ◌<◌, ◌≤◌, min, Bool, true, false, cond, ◌||◌, List, [], ◌∷◌, ◌++◌, Option, None, Some, Result, Ok, Err, length, get_or, map, replicate, take, refl, sym, ap, subst, ◌∙◌, arith, length-append, Bor}
+use Rattle.std.proofs.Math.ListN.{get_or-append}
+use Rattle.std.proofs.Math.Seq.{get_or-append_seam}
+use Rattle.std.proofs.lemmas.List.{length-map, length-replicate, length_push, map-append, take_all, take-append-le}
 use Rattle.std.proofs.lemmas.Bool.Decides.{same_from_decides}
 use Rattle.std.proofs.lemmas.List.Folds.{list_any-append}
 use Rattle.std.proofs.lemmas.Slice.Eq.{bytes_eq-Decides}
 use Rattle.std.specs.Prelude.{nat_lt}
-use Rattle.std.specs.declared.cmp.Ordering.{Ordering}
-use Rattle.std.specs.declared.cmp.Ordering.TheVariants.{Less, Equal, Greater}
-use Rattle.std.specs.Ordering.{nat_cmp, is_eq, ordering_reverse, ordering_then}
-use Rattle.std.proofs.lemmas.Cmp.{nat_cmp_total}
 use Rattle.std.specs.Str.{bytes_eq}
-use Rattle.std.specs.Cmp.Lexicographic.{slice_cmp}
 use Rattle.std.specs.BTreeSet.{BTreeSet, contains, Updates}
-use Rattle.std.proofs.lemmas.Bool.{lt-ltb, le-ltb, or_left, or_right, or_from}
+use Rattle.std.proofs.lemmas.Bool.{both_ways, cases_lt, lt-ltb, le-ltb, ltb-true, ltb-false}
 use Rattle.std.proofs.lemmas.Map.Text.{is_eq-slice_cmp}
-use Rattle.bx_terms.specs.declared.faults.Fault.TheVariants.{NameTwice, TooLong}
-use Rattle.bx_plan.specs.declared.plans.keys.NameKey.{NameKey}
-use Rattle.bx_plan.specs.Building.{key_cmp, mark_of, name_key}
+use Rattle.bx_terms.specs.Outcomes.{◌>>=◌}
+use Rattle.bx_terms.specs.declared.faults.Fault.{Fault}
+use Rattle.bx_terms.specs.declared.faults.Fault.TheVariants.{BadLine, NameTwice, TooLong}
+use Rattle.bx_world.specs.declared.choices.Choice.{Choice}
+use Rattle.bx_plan.specs.Building.{read_loose, text_cmp, with_loose, Overfull, Stands}
 use Rattle.bx_plan.specs.Entry.{Entry}
 use Rattle.bx_plan.specs.Reading.{count_of, spread}
-use Rattle.bx_plan.specs.Plans.{Named, choices_of, has_name, is_too_long, with_schedule}
+use Rattle.bx_plan.specs.declared.plans.Line.{Line}
+use Rattle.bx_plan.specs.Plans.{Named, choices_of, has_name, is_too_long, named, with_lines, with_read, with_schedule, TakesFirst}
+use Rattle.bx_plan.specs.View.{line_view, lines_view}
 use Rattle.bx_plan.specs.Nodes.{node_count}
+use Rattle.bx_plan.proofs.Counting.{no_more}
 
 pub length-spread : (entries : List Entry) → length (spread entries) ≡ count_of entries
 length-spread [] = refl
@@ -34,20 +36,7 @@ module _ (entries : List Entry) (count : ℕ) (counted : count ≡ min (count_of
   pub is_short : count ≤ 100000 → length (spread entries) ≤ 100000
   is_short h = omega (arith, length-spread entries)
 
-module _ (n : ℕ) (plan : List Named) (schedule : Named) where
-  by_tests : (twice long : Bool) → has_name schedule.0 plan ≡ twice → is_too_long plan schedule ≡ long → with_schedule n plan schedule ≡ cond twice (Err (NameTwice n)) (cond long (Err (TooLong n)) (Ok (plan ++ schedule ∷ [])))
-  by_tests twice long p q =
-      ap (λ x. cond x (Err (NameTwice n)) (cond (is_too_long plan schedule) (Err (TooLong n)) (Ok (plan ++ schedule ∷ [])))) p
-      ∙ ap (λ y. cond twice (Err (NameTwice n)) (cond y (Err (TooLong n)) (Ok (plan ++ schedule ∷ [])))) q
-
-  pub too_many_choices : has_name schedule.0 plan ≡ false → 100000 < length schedule.1 → with_schedule n plan schedule ≡ Err (TooLong n)
-  too_many_choices p q = by_tests false true p (or_left (nat_lt 100000 (length schedule.1)) (nat_lt 1000000 (node_count (choices_of (plan ++ schedule ∷ [])))) (lt-ltb _ _ q))
-
-  pub too_many_nodes : has_name schedule.0 plan ≡ false → 1000000 < node_count (choices_of (plan ++ schedule ∷ [])) → with_schedule n plan schedule ≡ Err (TooLong n)
-  too_many_nodes p q = by_tests false true p (or_right (nat_lt 100000 (length schedule.1)) (nat_lt 1000000 (node_count (choices_of (plan ++ schedule ∷ [])))) (lt-ltb _ _ q))
-
-  pub added : has_name schedule.0 plan ≡ false → length schedule.1 ≤ 100000 → node_count (choices_of (plan ++ schedule ∷ [])) ≤ 1000000 → with_schedule n plan schedule ≡ Ok (plan ++ schedule ∷ [])
-  added p q r = by_tests false false p (or_from (nat_lt 100000 (length schedule.1)) (nat_lt 1000000 (node_count (choices_of (plan ++ schedule ∷ [])))) (le-ltb _ _ q) (le-ltb _ _ r))
+-- ---- names
 
 bytes_eq_turned : (xs ys : List ℕ) → bytes_eq xs ys ≡ bytes_eq ys xs
 bytes_eq_turned xs ys =
@@ -60,42 +49,178 @@ either true false = refl
 either false true = refl
 either false false = refl
 
-self_reversed : (o : Ordering) → o ≡ ordering_reverse o → o ≡ Equal
-self_reversed Less h = cc
-self_reversed Equal h = refl
-self_reversed Greater h = cc
-
-and_false : (b : Bool) → (b && false) ≡ false
-and_false true = refl
-and_false false = refl
-
-both_equal : (a b : Ordering) → is_eq (ordering_then a b) ≡ (is_eq a && is_eq b)
-both_equal Less b = refl
-both_equal Equal b = refl
-both_equal Greater b = refl
-
--- keys are equal as their names are
-same_keys : (x y : Bor (List ℕ)) → is_eq (key_cmp (name_key x) (name_key y)) ≡ bytes_eq y.now x.now
-same_keys x y = both_equal (nat_cmp (mark_of x.now) (mark_of y.now)) (slice_cmp nat_cmp x.now y.now) ∙ ap (λ b. is_eq (nat_cmp (mark_of x.now) (mark_of y.now)) && b) (is_eq-slice_cmp x.now y.now ∙ bytes_eq_turned x.now y.now)
-    ∙ one (bytes_eq y.now x.now) refl where
-      one : (b : Bool) → bytes_eq y.now x.now ≡ b → (is_eq (nat_cmp (mark_of x.now) (mark_of y.now)) && b) ≡ b
-      one true e =
-          let same : y.now ≡ x.now = (bytes_eq-Decides y.now x.now).0 e in
-          ap (λ (name : List ℕ). is_eq (nat_cmp (mark_of x.now) (mark_of name)) && true) same ∙ ap (λ (o : Ordering). is_eq o && true) (self_reversed (nat_cmp (mark_of x.now) (mark_of x.now)) (nat_cmp_total.antisymm (mark_of x.now) (mark_of x.now)))
-      one false e = and_false (is_eq (nat_cmp (mark_of x.now) (mark_of y.now)))
-
 -- the names, with one more
-pub knows_more : (plan after : List Named) (schedule : Named) (names more : BTreeSet NameKey) (key : Bor (List ℕ))
-    → ((name : Bor (List ℕ)) → contains key_cmp names (name_key name) ≡ has_name name.now plan)
-    → Updates key_cmp names more (name_key key) true
+pub knows_more : (plan after : List Named) (schedule : Named) (names more : BTreeSet (Bor (List ℕ))) (key : Bor (List ℕ))
+    → ((name : Bor (List ℕ)) → contains text_cmp names name ≡ has_name name.now plan)
+    → Updates text_cmp names more key true
     → schedule.0 ≡ key.now
     → after ≡ plan ++ schedule ∷ []
-    → (name : Bor (List ℕ)) → contains key_cmp more (name_key name) ≡ has_name name.now after
+    → (name : Bor (List ℕ)) → contains text_cmp more name ≡ has_name name.now after
 knows_more plan after schedule names more key knows updates same is_after name =
-    let test : is_eq (key_cmp (name_key key) (name_key name)) ≡ bytes_eq name.now schedule.0 = same_keys key name ∙ ap (bytes_eq name.now) (sym same) in
-    updates.0 (name_key name)
-    ∙ ap (λ b. cond b true (contains key_cmp names (name_key name))) test
+    updates.0 name
+    ∙ ap (λ b. cond b true (contains text_cmp names name)) (is_eq-slice_cmp key.now name.now ∙ bytes_eq_turned key.now name.now ∙ ap (bytes_eq name.now) (sym same))
     ∙ ap (cond (bytes_eq name.now schedule.0) true) (knows name)
     ∙ either (bytes_eq name.now schedule.0) (has_name name.now plan)
     ∙ sym (list_any-append (λ s. bytes_eq name.now s.0) plan (schedule ∷ []))
     ∙ ap (has_name name.now) (sym is_after)
+
+-- ---- one schedule more, by the tests
+
+module _ (n : ℕ) (plan : List Named) (schedule : Named) where
+  by_loose : (twice long : Bool) → has_name schedule.0 plan ≡ twice → nat_lt 100000 (length schedule.1) ≡ long → with_loose n plan schedule ≡ cond twice (Err (NameTwice n)) (cond long (Err (TooLong n)) (Ok (plan ++ schedule ∷ [])))
+  by_loose twice long p q =
+      ap (λ x. cond x (Err (NameTwice n)) (cond (nat_lt 100000 (length schedule.1)) (Err (TooLong n)) (Ok (plan ++ schedule ∷ [])))) p
+      ∙ ap (λ y. cond twice (Err (NameTwice n)) (cond y (Err (TooLong n)) (Ok (plan ++ schedule ∷ [])))) q
+
+  pub loose_twice : has_name schedule.0 plan ≡ true → with_loose n plan schedule ≡ Err (NameTwice n)
+  loose_twice p = by_loose true (nat_lt 100000 (length schedule.1)) p refl
+
+  pub loose_long : has_name schedule.0 plan ≡ false → 100000 < length schedule.1 → with_loose n plan schedule ≡ Err (TooLong n)
+  loose_long p q = by_loose false true p (lt-ltb _ _ q)
+
+  pub loose_added : has_name schedule.0 plan ≡ false → length schedule.1 ≤ 100000 → with_loose n plan schedule ≡ Ok (plan ++ schedule ∷ [])
+  loose_added p q = by_loose false false p (le-ltb _ _ q)
+
+  -- the prefixes are counted besides
+  abbrev Also : Bool → Bool → Type 0
+  Also twice long = with_schedule n plan schedule ≡ cond twice (Err (NameTwice n)) (cond (long || nat_lt 1000000 (node_count (choices_of (plan ++ schedule ∷ [])))) (Err (TooLong n)) (Ok (plan ++ schedule ∷ [])))
+
+  also : (twice long : Bool) → has_name schedule.0 plan ≡ twice → nat_lt 100000 (length schedule.1) ≡ long → Also twice long
+  also twice long p q =
+      ap (λ x. cond x (Err (NameTwice n)) (cond (is_too_long plan schedule) (Err (TooLong n)) (Ok (plan ++ schedule ∷ [])))) p
+      ∙ ap (λ y. cond twice (Err (NameTwice n)) (cond (y || nat_lt 1000000 (node_count (choices_of (plan ++ schedule ∷ [])))) (Err (TooLong n)) (Ok (plan ++ schedule ∷ [])))) q
+
+  -- refused in both ways, or added where there are not too many prefixes
+  abbrev Loose : Result (List Named) Fault → Type 0
+  Loose said =
+      ((fault : Fault) × (said ≡ Err fault) × (with_schedule n plan schedule ≡ Err fault))
+      ⊎ ((said ≡ Ok (plan ++ schedule ∷ [])) × (with_schedule n plan schedule ≡ cond (nat_lt 1000000 (node_count (choices_of (plan ++ schedule ∷ [])))) (Err (TooLong n)) (Ok (plan ++ schedule ∷ []))))
+
+  pub loose : Loose (with_loose n plan schedule)
+  loose = one (has_name schedule.0 plan) (nat_lt 100000 (length schedule.1)) refl refl where
+    one : (twice long : Bool) → has_name schedule.0 plan ≡ twice → nat_lt 100000 (length schedule.1) ≡ long → Loose (with_loose n plan schedule)
+    one true long p q = inl (NameTwice n, by_loose true long p q, also true long p q)
+    one false true p q = inl (TooLong n, by_loose false true p q, also false true p q)
+    one false false p q = inr (by_loose false false p q, also false false p q)
+
+-- ---- whether there are too many prefixes so far
+
+-- too many with one of the schedules stay too many
+overfull_more : (plan more : List Named) (numbers others : List ℕ) (answer : Result (List Named) Fault) → length numbers ≡ length plan → Overfull plan numbers answer → Overfull (plan ++ more) (numbers ++ others) answer
+overfull_more plan more numbers others answer long (i, h, fits, full, is) = (
+  i,
+  omega (arith, h, length-append plan more),
+  subst (λ ss. node_count ss ≤ 1000000) (sym (front i (omega (arith, h)))) fits,
+  subst (λ ss. 1000000 < node_count ss) (sym (front (i + 1) (omega (arith, h)))) full,
+  is ∙ ap (λ m. Err (TooLong m)) (sym (get_or-append numbers others 0 i (omega (arith, h, long)))),
+) where
+  front : (k : ℕ) → k ≤ length plan → take k (choices_of (plan ++ more)) ≡ take k (choices_of plan)
+  front k l = ap (take k) (map-append (λ (s : Named). s.1) plan more) ∙ take-append-le k (choices_of plan) (choices_of more) (omega (arith, l, length-map plan (λ (s : Named). s.1)))
+
+front_is : (plan : List Named) (schedule : Named) → take (length plan) (choices_of (plan ++ schedule ∷ [])) ≡ choices_of plan
+front_is plan schedule =
+    let long = length-map plan (λ (s : Named). s.1) in
+    ap (take (length plan)) (map-append (λ (s : Named). s.1) plan (schedule ∷ [])) ∙ take-append-le (length plan) (choices_of plan) (choices_of (schedule ∷ [])) (omega (arith, long)) ∙ take_all (length plan) (choices_of plan) (omega (arith, long))
+
+-- a schedule was added, and there may be too many prefixes with it
+stands_more : (n : ℕ) (plan : List Named) (schedule : Named) (numbers : List ℕ) (lines : List (List ℕ)) (answer : Result (List Named) Fault) (full : Bool)
+    → length numbers ≡ length plan → nat_lt 1000000 (node_count (choices_of (plan ++ schedule ∷ []))) ≡ full
+    → with_schedule n plan schedule ≡ cond full (Err (TooLong n)) (Ok (plan ++ schedule ∷ []))
+    → Stands plan numbers (with_schedule n plan schedule >>= λ next. with_lines (n + 1) next lines) answer
+    → Stands (plan ++ schedule ∷ []) (numbers ++ n ∷ []) (with_lines (n + 1) (plan ++ schedule ∷ []) lines) answer
+stands_more n plan schedule numbers lines answer full long t strictly (inr over) = inr (overfull_more plan (schedule ∷ []) numbers (n ∷ []) answer long over)
+stands_more n plan schedule numbers lines answer false long t strictly (inl (few, said)) =
+    inl (ltb-false 1000000 (node_count (choices_of (plan ++ schedule ∷ []))) t, sym (ap (λ r. r >>= λ next. with_lines (n + 1) next lines) strictly) ∙ said)
+stands_more n plan schedule numbers lines answer true long t strictly (inl (few, said)) = inr (
+  length plan,
+  omega (arith, length-append plan (schedule ∷ [])),
+  subst (λ ss. node_count ss ≤ 1000000) (sym (front_is plan schedule)) few,
+  subst (λ ss. 1000000 < node_count ss) (sym (take_all (length plan + 1) (choices_of (plan ++ schedule ∷ [])) (omega (arith, length-map (plan ++ schedule ∷ []) (λ (s : Named). s.1), length-append plan (schedule ∷ []))))) (ltb-true 1000000 (node_count (choices_of (plan ++ schedule ∷ []))) t),
+  sym said ∙ ap (λ r. r >>= λ next. with_lines (n + 1) next lines) strictly ∙ ap (λ m. Err (TooLong m)) (sym (ap (λ i. get_or (numbers ++ n ∷ []) i 0) (sym long) ∙ get_or-append_seam numbers n [] 0)),
+)
+
+-- a line that is read in both ways
+pub stands_read : (n : ℕ) (plan more : List Named) (numbers after : List ℕ) (lines : List (List ℕ)) (read : Option (Option (List ℕ × List Entry))) (answer : Result (List Named) Fault)
+    → length numbers ≡ length plan → read_loose n plan read ≡ Ok more
+    → (((after ≡ numbers) × (more ≡ plan)) ⊎ ((after ≡ numbers ++ n ∷ []) × (length more ≡ length plan + 1)))
+    → Stands plan numbers (with_read n plan read >>= λ next. with_lines (n + 1) next lines) answer → Stands more after (with_lines (n + 1) more lines) answer
+stands_read n plan more numbers after lines None answer long e noted stands = cc
+stands_read n plan more numbers after lines (Some None) answer long e (inl (same, kept)) stands =
+    subst (λ p. Stands p after (with_lines (n + 1) p lines) answer) (sym kept) (subst (λ ns. Stands plan ns (with_lines (n + 1) plan lines) answer) (sym same) stands)
+stands_read n plan more numbers after lines (Some None) answer long e (inr (same, longer)) stands = let kept : plan ≡ more = cc in absurd (omega (arith, longer, ap length kept))
+stands_read n plan more numbers after lines (Some (Some line)) answer long e noted stands = one (loose n plan (named line)) where
+  two : more ≡ plan ++ named line ∷ [] → ((after ≡ numbers) × (more ≡ plan)) ⊎ ((after ≡ numbers ++ n ∷ []) × (length more ≡ length plan + 1))
+      → with_schedule n plan (named line) ≡ cond (nat_lt 1000000 (node_count (choices_of (plan ++ named line ∷ [])))) (Err (TooLong n)) (Ok (plan ++ named line ∷ [])) → Stands more after (with_lines (n + 1) more lines) answer
+  two is (inl (same, kept)) strictly = absurd (omega (arith, ap length kept, ap length is, length-append plan (named line ∷ [])))
+  two is (inr (same, longer)) strictly =
+      subst (λ p. Stands p after (with_lines (n + 1) p lines) answer) (sym is) (subst (λ ns. Stands (plan ++ named line ∷ []) ns (with_lines (n + 1) (plan ++ named line ∷ []) lines) answer) (sym same)
+      (stands_more n plan (named line) numbers lines answer (nat_lt 1000000 (node_count (choices_of (plan ++ named line ∷ [])))) long refl strictly stands))
+
+  one : ((fault : Fault) × (with_loose n plan (named line) ≡ Err fault) × (with_schedule n plan (named line) ≡ Err fault))
+      ⊎ ((with_loose n plan (named line) ≡ Ok (plan ++ named line ∷ [])) × (with_schedule n plan (named line) ≡ cond (nat_lt 1000000 (node_count (choices_of (plan ++ named line ∷ [])))) (Err (TooLong n)) (Ok (plan ++ named line ∷ []))))
+      → Stands more after (with_lines (n + 1) more lines) answer
+  one (inl (fault, loosely, strictly)) = let clash : Err fault ≡ Ok more = sym loosely ∙ e in cc
+  one (inr (loosely, strictly)) = let both : Ok more ≡ Ok (plan ++ named line ∷ []) = sym e ∙ loosely in let is : more ≡ plan ++ named line ∷ [] = cc in two is noted strictly
+
+-- a line that is at fault in both ways
+pub stands_refused : (n : ℕ) (plan : List Named) (numbers : List ℕ) (lines : List (List ℕ)) (read : Option (Option (List ℕ × List Entry))) (fault : Fault) (answer : Result (List Named) Fault)
+    → read_loose n plan read ≡ Err fault
+    → Stands plan numbers (with_read n plan read >>= λ next. with_lines (n + 1) next lines) answer → Stands plan numbers (Err fault) answer
+stands_refused n plan numbers lines read fault answer e (inr over) = inr over
+stands_refused n plan numbers lines None fault answer e (inl (few, said)) = inl (few, sym e ∙ said)
+stands_refused n plan numbers lines (Some None) fault answer e (inl (few, said)) = cc
+stands_refused n plan numbers lines (Some (Some line)) fault answer e (inl (few, said)) = inl (few, one (loose n plan (named line))) where
+  one : ((fault : Fault) × (with_loose n plan (named line) ≡ Err fault) × (with_schedule n plan (named line) ≡ Err fault))
+      ⊎ ((with_loose n plan (named line) ≡ Ok (plan ++ named line ∷ [])) × (with_schedule n plan (named line) ≡ cond (nat_lt 1000000 (node_count (choices_of (plan ++ named line ∷ [])))) (Err (TooLong n)) (Ok (plan ++ named line ∷ []))))
+      → Err fault ≡ answer
+  one (inl (other, loosely, strictly)) = let same : Err fault ≡ Err other = sym e ∙ loosely in same ∙ sym (ap (λ r. r >>= λ next. with_lines (n + 1) next lines) strictly) ∙ said
+  one (inr (loosely, strictly)) = let clash : Err fault ≡ Ok (plan ++ named line ∷ []) = sym e ∙ loosely in cc
+
+-- ---- the answer, where it is known whether there are too many prefixes
+
+pub stands_few : (plan : List Named) (numbers : List ℕ) (said answer : Result (List Named) Fault) → node_count (choices_of plan) ≤ 1000000 → Stands plan numbers said answer → said ≡ answer
+stands_few plan numbers said answer few (inl (_, is)) = is
+stands_few plan numbers said answer few (inr (i, h, fits, full, is)) =
+    let all = no_more (choices_of plan) (i + 1) (length plan) (omega (arith, h)) in
+    absurd (omega (arith, few, full, all, ap node_count (take_all (length plan) (choices_of plan) (omega (arith, length-map plan (λ (s : Named). s.1))))))
+
+pub stands_full : (plan : List Named) (numbers : List ℕ) (said answer : Result (List Named) Fault) (k : ℕ) → node_count (take k (choices_of plan)) ≤ 1000000 → 1000000 < node_count (take (k + 1) (choices_of plan))
+    → k < length plan → Stands plan numbers said answer → answer ≡ Err (TooLong (get_or numbers k 0))
+stands_full plan numbers said answer k fits full h (inl (few, is)) =
+    let all = no_more (choices_of plan) (k + 1) (length plan) (omega (arith, h)) in
+    absurd (omega (arith, few, full, all, ap node_count (take_all (length plan) (choices_of plan) (omega (arith, length-map plan (λ (s : Named). s.1))))))
+stands_full plan numbers said answer k fits full h (inr (i, l, low, high, is)) = is ∙ ap (λ j. Err (TooLong (get_or numbers j 0))) (one (cases_lt i k) (cases_lt k i)) where
+  one : (i < k) ⊎ (k ≤ i) → (k < i) ⊎ (i ≤ k) → i ≡ k
+  one (inl a) _ = let up = no_more (choices_of plan) (i + 1) k (omega (arith, a)) in absurd (omega (arith, up, fits, high))
+  one (inr a) (inl b) = let up = no_more (choices_of plan) (k + 1) i (omega (arith, b)) in absurd (omega (arith, up, low, full))
+  one (inr a) (inr b) = omega (arith, a, b)
+
+-- ---- memory
+
+-- a schedule that was added is not too long
+short_of : (n : ℕ) (plan more : List Named) (schedule : Named) → with_loose n plan schedule ≡ Ok more → length schedule.1 ≤ 100000
+short_of n plan more schedule e = one (cases_lt 100000 (length schedule.1)) (has_name schedule.0 plan) refl where
+  one : (100000 < length schedule.1) ⊎ (length schedule.1 ≤ 100000) → (twice : Bool) → has_name schedule.0 plan ≡ twice → length schedule.1 ≤ 100000
+  one (inr l) twice p = l
+  one (inl l) true p = let clash : Err (NameTwice n) ≡ Ok more = sym (loose_twice n plan schedule p) ∙ e in cc
+  one (inl l) false p = let clash : Err (TooLong n) ≡ Ok more = sym (loose_long n plan schedule p l) ∙ e in cc
+
+pub takes_more : (n : ℕ) (plan more : List Named) (read : Option (Option (List ℕ × List Entry))) (later : Type 0) → read_loose n plan read ≡ Ok more → later → TakesFirst read later
+takes_more n plan more None later e t = cc
+takes_more n plan more (Some None) later e t = t
+takes_more n plan more (Some (Some line)) later e t = short_of n plan more (named line) e
+
+pub takes_added : (n : ℕ) (plan more : List Named) (read : Option (Option (List ℕ × List Entry))) (later : Type 0) → read_loose n plan read ≡ Ok more → length more ≡ length plan + 1 → TakesFirst read later
+takes_added n plan more None later e l = cc
+takes_added n plan more (Some None) later e l = let kept : plan ≡ more = cc in absurd (omega (arith, l, ap length kept))
+takes_added n plan more (Some (Some line)) later e l = short_of n plan more (named line) e
+
+-- the test on all schedules failed
+pub few_all : (lines items : List Line) (n : ℕ) (b : Bool) → lines ≡ items → n ≡ length items → (1000000 < node_count (take n (choices_of (lines_view lines))) → b ≡ true) → b ≡ false → node_count (choices_of (lines_view items)) ≤ 1000000
+few_all lines items n b e f told failed = one (cases_lt 1000000 (node_count (choices_of (lines_view items)))) where
+  whole : take n (choices_of (lines_view lines)) ≡ choices_of (lines_view items)
+  whole = ap (λ (ls : List Line). take n (choices_of (lines_view ls))) e ∙ take_all n (choices_of (lines_view items)) (omega (arith, f, length-map (lines_view items) (λ (s : Named). s.1), length-map items line_view))
+
+  one : (1000000 < node_count (choices_of (lines_view items))) ⊎ (node_count (choices_of (lines_view items)) ≤ 1000000) → node_count (choices_of (lines_view items)) ≤ 1000000
+  one (inr l) = l
+  one (inl l) = absurd (both_ways b failed (told (subst (λ ss. 1000000 < node_count ss) (sym whole) l)))

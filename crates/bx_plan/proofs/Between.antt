@@ -112,7 +112,7 @@ one_less n c h =
     let split : n ≡ n - 1 + 1 = omega (arith, h) in
     ap (λ i. replicate i c) split ∙ sym (replicate-append-replicate (n - 1) 1 c)
 
-one_first : (n : ℕ) (c : Choice) → 0 < n → replicate n c ≡ c ∷ replicate (n - 1) c
+pub one_first : (n : ℕ) (c : Choice) → 0 < n → replicate n c ≡ c ∷ replicate (n - 1) c
 one_first zero c h = absurd (omega (arith, h))
 one_first (suc n) c h = let same : n ≡ suc n - 1 = omega arith in ap (λ i. c ∷ replicate i c) same
 

@@ -12,6 +12,9 @@ pub mod Building
 pub mod Grammar
 pub mod Texts
 pub mod Nodes
-pub mod Trees
-pub mod Edges
-pub mod Walks
+pub mod Gathered
+pub mod Ordered
+pub mod Counting
+pub mod Chains
+pub mod Cuts
+pub mod Growing

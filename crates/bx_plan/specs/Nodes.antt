@@ -70,8 +70,3 @@ pub record AreNodes (schedules nodes : List (List Choice)) : Type 0 where
 abbrev pub EndsThere : List (List Choice) → List Choice → Type 0
 EndsThere [] path = ⊥
 EndsThere (schedule ∷ schedules) path = (path ≡ schedule) ⊎ EndsThere schedules path
-
--- the node right behind this one is a child of it
-abbrev pub HasChildNext : List (List Choice) → ℕ → Type 0
-HasChildNext nodes node =
-    (choice : Choice) × (node + 1 < length nodes) × (slice_index_or nodes (node + 1) [] ≡ slice_index_or nodes node [] ++ choice ∷ [])

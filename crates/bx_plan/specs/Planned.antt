@@ -1,23 +1,18 @@
--- A plan as its lines and its tree.
-use Rattle.std.specs.Prelude.{◌≡◌, ℕ, ◌<◌, List, map, length}
-use Rattle.std.specs.List.{AllByRecursion}
-use Rattle.bx_plan.specs.Nodes.{nodes_of}
-use Rattle.bx_plan.specs.Plans.{Named, choices_of}
-use Rattle.bx_plan.specs.Trees.{Tree, path}
+-- A plan: its named schedules, in the order of their lines.
+use Rattle.std.specs.Prelude.{ℕ, ◌-◌, List, [], drop, slice_index_or, take}
+use Rattle.bx_world.specs.declared.choices.Choice.{Choice}
+use Rattle.bx_plan.specs.Plans.{Named}
 
--- for each schedule its name and the node at which it ends, and the tree
-pub record Planned : Type 0 where
-  pub lines : List (List ℕ × ℕ)
-  pub tree : Tree
-
--- the names, and the choices that lead to the ends
-abbrev pub schedule_at : Tree → List ℕ × ℕ → Named
-schedule_at tree line = (line.0, path tree line.1)
+abbrev pub Planned : Type 0
+Planned = List Named
 
 abbrev pub schedules : Planned → List Named
-schedules plan = map (schedule_at plan.tree) plan.lines
+schedules plan = plan
 
--- each end is a node, and the nodes are the distinct prefixes of the schedules
-pub record IsPlanned (plan : Planned) : Type 0 where
-  pub within : AllByRecursion (λ line. line.1 < length plan.tree.paths) plan.lines
-  pub nodes : plan.tree.paths ≡ nodes_of (choices_of (schedules plan))
+-- the choices of the schedule of that number
+abbrev pub choices_at : Planned → ℕ → List Choice
+choices_at plan number = (slice_index_or plan number ([], [])).1
+
+-- the choices from one position up to the one before another
+abbrev pub part_of : ℕ → ℕ → List Choice → List Choice
+part_of first past choices = take (past - first) (drop first choices)

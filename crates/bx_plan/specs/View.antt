@@ -1,15 +1,10 @@
 -- What a plan holds.
-use Rattle.std.specs.Prelude.{ℕ, List, map}
-use Rattle.bx_plan.specs.declared.plans.NamedEnd.{NamedEnd}
-use Rattle.bx_plan.specs.declared.trees.Edge.{Edge}
-use Rattle.bx_plan.specs.Edges.{tree_by}
-use Rattle.bx_plan.specs.Planned.{Planned}
+use Rattle.std.specs.Prelude.{List, map}
+use Rattle.bx_plan.specs.declared.plans.Line.{Line}
+use Rattle.bx_plan.specs.Plans.{Named}
 
-abbrev pub line_view : NamedEnd → List ℕ × ℕ
-line_view line = (line.name, line.end)
+abbrev pub line_view : Line → Named
+line_view line = (line.name, line.schedule)
 
-abbrev pub lines_view : List NamedEnd → List (List ℕ × ℕ)
+abbrev pub lines_view : List Line → List Named
 lines_view lines = map line_view lines
-
-abbrev pub plan_view : List NamedEnd → List Edge → Planned
-plan_view lines edges = record { lines = lines_view lines; tree = tree_by edges }

@@ -1,12 +1,12 @@
 //! Laws of the definitions: the functions do nothing, and their clauses are the laws.
 
-ghost use Rattle.std.specs.Prelude.{◌≡◌, ◌↔◌, ◌⊎◌, ℕ, ◌<◌, ◌≤◌, ◌^◌, List, [], None, Some, Ok, Err, length, slice_index_or};
+ghost use Rattle.std.specs.Prelude.{◌≡◌, ◌↔◌, ℕ, ◌<◌, ◌≤◌, ◌^◌, List, None, Some, Ok, Err};
 ghost use Rattle.std.specs.Fmt.{decimal};
 ghost use Rattle.bx_terms.specs.declared.faults.Fault.{Fault};
 ghost use Rattle.bx_world.specs.declared.choices.Choice.{Choice};
 ghost use Rattle.bx_plan.specs.Entry.{Entry};
 ghost use Rattle.bx_plan.specs.Grammar.{AreEntries, IsEntry, IsNothing, IsSchedule};
-ghost use Rattle.bx_plan.specs.Nodes.{nodes_of, AreNodes, EndsThere, HasChildNext};
+ghost use Rattle.bx_plan.specs.Nodes.{nodes_of, AreNodes};
 ghost use Rattle.bx_plan.specs.Plans.{Named, plan_of};
 ghost use Rattle.bx_plan.specs.Reading.{entry_of, line_of, number_of, tail_of};
 ghost use Rattle.bx_plan.specs.Texts.{IsFirstFault, IsPlan};
@@ -53,11 +53,4 @@ pub fn the_first_line_at_fault_is_named()
 /// The nodes of a plan's tree are the prefixes of its schedules, each once.
 pub fn nodes_are_the_distinct_prefixes()
     ensures { (schedules : List (List Choice)) → AreNodes schedules (nodes_of schedules) }
-{}
-
-/// A node at which no schedule ends has a child, and its first child is the node right behind it.
-pub fn a_first_child_stands_right_behind_its_parent()
-    ensures { (schedules : List (List Choice)) (node : ℕ) → 0 < length schedules → node < length
-        (nodes_of schedules) → EndsThere schedules (slice_index_or (nodes_of schedules) node []) ⊎
-        HasChildNext (nodes_of schedules) node }
 {}

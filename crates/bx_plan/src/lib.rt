@@ -1,6 +1,7 @@
-//! Plans: named schedules of choices, read from their text.
+//! Plans: named schedules of choices, read from their text, and the tree of what they share.
 #![tactic(auto)]
 
+mod chains;
 mod entries;
 pub mod laws;
 mod lines;
@@ -8,13 +9,12 @@ mod numbers;
 mod parts;
 mod plans;
 mod schedules;
-mod trees;
 
+pub use chains::Chains;
+pub use chains::building::chains_of;
 pub use entries::{choice_of, read_choices};
 pub use lines::name_of;
 pub use numbers::number_of;
 pub use parts::cut;
 pub use plans::{Plan, read_plan};
 pub use schedules::{Part, Run, Schedule};
-pub use trees::Edge;
-pub use trees::edges::edge_to;

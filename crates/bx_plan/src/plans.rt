@@ -1,49 +1,62 @@
 //! Plans, and the reading of their texts.
 
-ghost use Rattle.std.specs.Prelude.{◌≡◌, length, option_map, slice_get};
+ghost use Rattle.std.specs.Prelude.{◌≡◌, ◌↔◌, ◌^◌, ◌≤◌, ◌<◌, length, option_map, slice_get, take, IsTrue, MatchOption, None, Ok};
 ghost use Rattle.bx_terms.specs.Outcomes.{Gives};
-ghost use Rattle.bx_plan.specs.Planned.{schedules};
-ghost use Rattle.bx_plan.specs.Plans.{plan_of, TakesMemory};
+ghost use Rattle.bx_plan.specs.Planned.{choices_at, part_of, schedules};
+ghost use Rattle.bx_plan.specs.Plans.{plan_of, Shows, TakesMemory};
 ghost use Rattle.bx_plan.specs.Reading.{parts_of};
 
 mod building;
-mod keys;
-mod readers;
-mod sameness;
+mod counting;
+mod ordering;
 
 use crate::parts::Parts;
-use crate::trees::{Edge, Growing};
+use crate::schedules::{Part, Schedule};
+use building::Builder;
+use bx_share::{Same, same_rows};
 use bx_terms::{Fault, Name};
-use keys::NameKey;
-use std::alloc::{AllocError, Global};
-use std::collections::BTreeSet;
+use std::alloc::Global;
 use std::marker::Model;
 
-/// A line that names a schedule: its name, and the node at which it ends.
+/// A line that names a schedule.
 #[derive(Drop)]
-struct NamedEnd {
+pub(crate) struct Line {
     name: Name,
-    end: usize,
+    pub(crate) schedule: Schedule,
 }
 
-/// Named schedules, in the order of their lines, as a prefix tree.
+/// The number of a line, and how many choices its schedule begins with as the one before it in a row of such does.
+#[derive(Clone, Copy, Debug, PartialEq, Eq)]
+pub(crate) struct Row {
+    pub(crate) line: usize,
+    pub(crate) common: usize,
+}
+
+/// Named schedules, in the order of their lines, and a row of all of them in which those stand together that begin alike.
 #[derive(Drop)]
 pub struct Plan {
-    lines: Vec<NamedEnd>,
-    edges: Vec<Edge>,
+    pub(crate) lines: Vec<Line>,
+    pub(crate) rows: Vec<Row>,
 }
 
 impl Model for Plan {
-    ghost use Rattle.bx_plan.specs.Planned.{Planned, IsPlanned};
+    ghost use Rattle.bx_plan.specs.Planned.{Planned};
 
     ghost Value = { Planned };
 
-    ghost use Rattle.bx_plan.specs.Edges.{AreFew};
-    ghost use Rattle.bx_plan.specs.View.{plan_view};
+    ghost use Rattle.bx_plan.specs.Gathered.{AreRows};
+    ghost use Rattle.bx_plan.specs.Plans.{choices_of};
+    ghost use Rattle.bx_plan.specs.View.{lines_view};
 
-    ghost view = { λ p. plan_view p.lines.items p.edges.items };
+    ghost view = { λ p. lines_view p.lines.items };
 
-    ghost invariant = { λ p. AreFew p.edges.items × IsPlanned (plan_view p.lines.items p.edges.items) };
+    ghost invariant = { λ p. AreRows (choices_of (lines_view p.lines.items)) p.rows.items };
+}
+
+impl Same for Line {
+    fn same(&self, other: &Line) -> bool {
+        self.name.same(&other.name) && self.schedule.same(&other.schedule)
+    }
 }
 
 impl Plan {
@@ -54,32 +67,73 @@ impl Plan {
         self.lines.len()
     }
 
-    /// The name on the line of this number.
-    fn name(&self, number: usize) -> Option<&str>
-        ensures { option_map (λ name. name.now) result ≡ option_map (λ line. line.0)
-            (slice_get self.now.lines number) }
+    /// The name of the schedule of this number, from 0; none past the last.
+    pub fn label(&self, number: usize) -> Option<&str>
+        ensures { option_map (λ name. name.now) result ≡ option_map (λ schedule. schedule.0)
+            (slice_get (schedules self.now) number) }
     {
         let line = self.lines.get(number)?;
         Some(line.name.as_str())
     }
 
-    /// The name of the schedule of this number, from 0; none past the last.
-    #[tactic(auto, using(crate::proofs::Looking::name_at))]
-    pub fn label(&self, number: usize) -> Option<&str>
-        ensures { option_map (λ name. name.now) result ≡ option_map (λ schedule. schedule.0)
-            (slice_get (schedules self.now) number) }
+    /// The schedule of this number, from 0, each entry spread; none past the last.
+    ///
+    /// It takes time and memory in proportion to its runs.
+    pub fn schedule(&self, alloc: Global, number: usize) -> Option<Result<Schedule, Fault>>
+        ensures { MatchOption result (slice_get (schedules self.now) number ≡ None)
+            (Shows (slice_get (schedules self.now) number)) }
     {
-        self.name(number)
+        let line = self.lines.get(number)?;
+        Some(copy_of(alloc, line.schedule.all()))
+    }
+
+    /// The choices of the schedule of this number from one position up to the one before another.
+    pub fn part(&self, number: usize, first: usize, past: usize) -> Part<'_>
+        requires there { number < length (schedules self.now) }
+        requires order { first ≤ past }
+        requires within { past ≤ length (choices_at self.now number) }
+        ensures part { result ≡ part_of first past (choices_at self.now number) }
+        ensures few { past < 2 ^ 63 }
+    {
+        let schedule = &self.lines[number].schedule;
+        let _length = schedule.len();
+        schedule.part(first, past)
+    }
+
+    /// Whether the first so many choices of a schedule are so many of one of another plan. It takes time in proportion to their runs.
+    pub fn same_front(
+        &self,
+        number: usize,
+        past: usize,
+        other: &Plan,
+        line: usize,
+        upto: usize,
+    ) -> bool
+        requires there { number < length self.now }
+        requires past { past ≤ length (choices_at self.now number) }
+        requires line { line < length other.now }
+        requires upto { upto ≤ length (choices_at other.now line) }
+        ensures { IsTrue result ↔ (take past (choices_at self.now number) ≡ take upto (choices_at other.now line)) }
+    {
+        let schedule = &self.lines[number].schedule;
+        schedule.same_front(past, &other.lines[line].schedule, upto)
+    }
+
+    /// Whether both name the same schedules in the same order.
+    pub fn same(&self, other: &Plan) -> bool
+        ensures { IsTrue result ↔ (self.now ≡ other.now) }
+    {
+        same_rows(&self.lines, &other.lines)
     }
 }
 
-/// A plan while its lines are read.
-#[derive(Drop)]
-struct Builder<'a> {
-    alloc: Global,
-    lines: Vec<NamedEnd>,
-    tree: Growing,
-    names: BTreeSet<NameKey<'a>>,
+/// The schedule that makes these choices.
+fn copy_of(alloc: Global, choices: Part<'_>) -> Result<Schedule, Fault>
+    ensures { Gives (0 < length choices.entry) (λ schedule. schedule) result (Ok choices.entry) }
+{
+    let mut copy = Schedule::new(alloc);
+    copy.append(choices)?;
+    Ok(copy)
 }
 
 /// Reads a plan: UTF-8 lines, each ended by a line feed, which the last may lack.
@@ -100,13 +154,6 @@ pub fn read_plan(alloc: Global, text: &[u8]) -> Result<Plan, Fault>
         (plan_of text.now) }
 {
     let mut builder = Builder::new(alloc);
-    let mut number = 0;
-    for line in Parts::new(text, b'\n') {
-        number += 1;
-        match builder.read_line(number, line) {
-            Ok(()) => {}
-            Err(fault) => return Err(fault),
-        }
-    }
-    Ok(builder.finish())
+    let refusal = builder.read_all(text)?;
+    builder.finish(refusal)
 }

@@ -6,6 +6,7 @@ ghost use Rattle.bx_plan.specs.Runs.{spread_runs, AreLoose};
 ghost use Rattle.bx_plan.specs.Stretches.{choices_from, AreStretches};
 
 mod part;
+mod parting;
 mod stretches;
 
 use bx_share::{Same, same_rows};

@@ -5,3 +5,4 @@ pub mod Maps
 pub mod Listed
 pub mod Paired
 pub mod Crossing
+pub mod Weights

@@ -32,7 +32,7 @@ below : (p n r m : ℕ) → p < r → pair_cmp (p, n) (r, m) ≡ Less
 below p n r m h = ap (λ o. ordering_then o (nat_cmp n m)) (less p r h)
 
 -- the key of a channel, and what waits there
-abbrev Entry : Type 0 → Type 0
+abbrev pub Entry : Type 0 → Type 0
 Entry S = (ℕ × ℕ) × (S × List S)
 
 -- the first key, where there is one, is above k
@@ -41,15 +41,15 @@ Above k [] = Unit {0}
 Above k (e ∷ es) = pair_cmp k e.0 ≡ Less
 
 module _ {S : Type 0} where
-  abbrev entry_if : ℕ → ℕ → List S → List (Entry S)
+  abbrev pub entry_if : ℕ → ℕ → List S → List (Entry S)
   entry_if p q [] = []
   entry_if p q (s ∷ ss) = ((p, q), (s, ss)) ∷ []
 
-  abbrev row_entries : ℕ → Row S → List (Entry S)
+  abbrev pub row_entries : ℕ → Row S → List (Entry S)
   row_entries p [] = []
   row_entries p (line ∷ more) = entry_if p line.0 line.1 ++ row_entries p more
 
-  abbrev rows_entries : ℕ → List (Row S) → List (Entry S)
+  abbrev pub rows_entries : ℕ → List (Row S) → List (Entry S)
   rows_entries p [] = []
   rows_entries p (row ∷ rows) = row_entries p row ++ rows_entries (p + 1) rows
 
@@ -116,7 +116,7 @@ module _ {S : Type 0} where
   all_rest row rows rising p here = rising (suc p) (omega (arith, here))
 
   -- the channels of rows are listed by rising pair
-  rows_listed : (p : ℕ) (rows : List (Row S)) → AllRising rows → map.entries (rows_map p rows) ≡ rows_entries p rows
+  pub rows_listed : (p : ℕ) (rows : List (Row S)) → AllRising rows → map.entries (rows_map p rows) ≡ rows_entries p rows
   rows_listed p [] rising = entries_none
   rows_listed p (row ∷ rows) rising =
       row_listed p row (rows_map (p + 1) rows) (rows_entries (p + 1) rows) (rising 0 (omega arith)) (rows_listed (p + 1) rows (all_rest row rows rising))

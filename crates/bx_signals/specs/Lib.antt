@@ -3,3 +3,4 @@ pub mod Turns
 pub mod Channels
 pub mod Handing
 pub mod Rows
+pub mod Weights

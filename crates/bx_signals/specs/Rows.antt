@@ -1,5 +1,5 @@
 -- Channels that lie in rows: a row for each sender, in it a queue for each receiver, behind its pid, by rising pid.
-use Rattle.std.specs.Prelude.{◌≡◌, ◌≢◌, ℕ, ◌+◌, ◌==◌, ◌<◌, ◌≤◌, List, [], ◌∷◌, ◌++◌, Option, Some, None, if◌then◌else◌, length, slice_get, slice_index_or}
+use Rattle.std.specs.Prelude.{◌≡◌, ◌≢◌, ℕ, ◌+◌, ◌==◌, ◌<◌, ◌≤◌, List, [], ◌∷◌, ◌++◌, Option, Some, None, if◌then◌else◌, length, slice_get, slice_index_or, sum_by}
 use Rattle.std.specs.FinMap as map
 use Rattle.bx_signals.specs.Channels.{Channels, with_waiting}
 
@@ -74,3 +74,10 @@ row_pairs p (line ∷ more) = pair_if p line.0 line.1 ++ row_pairs p more
 abbrev pub rows_pairs : {S : Type 0} → ℕ → List (Row S) → List (ℕ × ℕ)
 rows_pairs p [] = []
 rows_pairs p (row ∷ rows) = row_pairs p row ++ rows_pairs (p + 1) rows
+
+-- one for each queue of a row, and one for each signal in it
+abbrev pub line_cells : {S : Type 0} → ℕ × List S → ℕ
+line_cells line = 1 + length line.1
+
+abbrev pub lines_cells : {S : Type 0} → Row S → ℕ
+lines_cells row = sum_by line_cells row

@@ -1,12 +1,13 @@
 //! The channels between the processes of a world.
 
-ghost use Rattle.std.specs.Prelude.{◌≡◌, ◌≢◌, ◌↔◌, ◌++◌, ◌<◌, ◌≤◌, [], length, IfErr, IfOk, IsTrue, OnOk, OnErr, option_map};
+ghost use Rattle.std.specs.Prelude.{◌≡◌, ◌≢◌, ◌↔◌, ◌++◌, ◌<◌, ◌≤◌, min, sum_by, [], length, IfErr, IfOk, IsTrue, OnOk, OnErr, option_map};
 ghost use Rattle.std.specs.FinMap as map;
 ghost use Rattle.bx_mail.specs.Mail.{added};
 ghost use Rattle.bx_signals.specs.Handing.{message_of, Hands};
 ghost use Rattle.bx_signals.specs.Waiting.{first};
 ghost use Rattle.bx_signals.specs.Channels.{waiting, put, taken, taken_back, put_to_all, taken_back_all, pairs};
-ghost use Rattle.bx_signals.specs.Rows.{rows_map, queue_at, rows_pairs, AllRising, CoversAll};
+ghost use Rattle.bx_signals.specs.Weights.{channel_cells};
+ghost use Rattle.bx_signals.specs.Rows.{lines_cells, rows_map, queue_at, rows_pairs, AllRising, CoversAll};
 
 use crate::row::{Row, covers, lines_of};
 use crate::signal::Signal;
@@ -77,6 +78,14 @@ impl Channels {
         let mut found = Vec::new(alloc);
         push_all_pairs(&self.rows, &mut found)?;
         Ok(found)
+    }
+
+    /// How much a copy takes: one for each signal, and one for each queue that lies in a row, an empty one too.
+    #[tactic(auto, using(crate::proofs::Weights::held))]
+    pub fn cells(&self) -> u64
+        ensures { min (channel_cells self.now) 18446744073709551615 ≤ result }
+    {
+        rows_cells(&self.rows)
     }
 
     /// The same channels. Terms are shared.
@@ -216,6 +225,16 @@ fn push_all_pairs(rows: &[Row], found: &mut Vec<(u32, u32)>) -> Result<(), Alloc
         rows[from].push_pairs(from as u32, found)?;
     }
     Ok(())
+}
+
+fn rows_cells(rows: &[Row]) -> u64
+    ensures { min (sum_by lines_cells rows.now) 18446744073709551615 ≤ result }
+{
+    let mut cells: u64 = 0;
+    for row in rows {
+        cells = cells.saturating_add(row.cells());
+    }
+    cells
 }
 
 /// Whether whatever waits in the one waits in the other too.

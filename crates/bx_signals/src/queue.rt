@@ -278,7 +278,7 @@ impl Queue {
     }
 
     /// How many signals wait.
-    fn len(&self) -> usize
+    pub(crate) fn len(&self) -> usize
         ensures { result ≡ length self.now }
     {
         match &self.held {

@@ -1,10 +1,10 @@
 //! The channels of one sender.
 
-ghost use Rattle.std.specs.Prelude.{◌≡◌, ◌≢◌, ◌↔◌, ◌++◌, ◌∷◌, [], IfOk, IfErr, OnOk, OnErr, IsTrue, option_map, slice_get};
+ghost use Rattle.std.specs.Prelude.{◌≡◌, ◌≢◌, ◌↔◌, ◌++◌, ◌∷◌, ◌≤◌, [], min, IfOk, IfErr, OnOk, OnErr, IsTrue, option_map, slice_get};
 ghost use Rattle.bx_mail.specs.Mail.{added};
 ghost use Rattle.bx_signals.specs.Handing.{message_of, Hands};
 ghost use Rattle.bx_signals.specs.Waiting.{first, rest, front};
-ghost use Rattle.bx_signals.specs.Rows.{queue_in, IsRising, IsPlaceOf, IsGapOf, Replaced, SameRow, Covers, or_empty, row_pairs};
+ghost use Rattle.bx_signals.specs.Rows.{queue_in, IsRising, IsPlaceOf, IsGapOf, Replaced, SameRow, Covers, lines_cells, or_empty, row_pairs};
 
 use crate::queue::Queue;
 use crate::signal::Signal;
@@ -169,12 +169,30 @@ impl Row {
         push_pairs_of(&self.lines, from, pairs)
     }
 
+    /// How much a copy takes: one for each queue and for each signal.
+    pub(crate) fn cells(&self) -> u64
+        ensures { min (lines_cells self.now) 18446744073709551615 ≤ result }
+    {
+        cells_of(&self.lines)
+    }
+
     /// Has the signals share nothing counted with others, as far as room and memory go.
     pub(crate) fn unshare(&mut self, alloc: Global, room: &mut usize) -> Result<(), AllocError>
         ensures { self.new ≡ self.old }
     {
         unshare_each(alloc, room, &mut self.lines)
     }
+}
+
+fn cells_of(lines: &[(u32, Queue)]) -> u64
+    ensures { min (lines_cells lines.now) 18446744073709551615 ≤ result }
+{
+    let mut cells: u64 = 0;
+    for at in 0..lines.len() {
+        let (_, queue) = &lines[at];
+        cells = cells.saturating_add(1).saturating_add(queue.len() as u64);
+    }
+    cells
 }
 
 #[tactic(auto, using(bx_terms::proofs::Rows::set_own))]

@@ -24,6 +24,8 @@ mod reports;
 #[cfg(test)]
 mod rooms;
 #[cfg(test)]
+mod runs;
+#[cfg(test)]
 mod samples;
 #[cfg(test)]
 mod sends;

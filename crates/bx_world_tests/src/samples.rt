@@ -152,6 +152,13 @@ pub const TALK: &str = "{module,m}. {exports,[{f,0},{g,0}]}. {labels,11}.
 {get_tuple_element,{x,0},1,{x,0}}. remove_message. {allocate,1,1}. {move,{x,0},{y,0}}. {move,{atom,a},{x,1}}. send.
 {move,{y,0},{x,0}}. {move,{atom,b},{x,1}}. send. {deallocate,1}. return. {label,10}. {wait,{f,9}}.";
 
+/// `f/0` calls by name: a loaded function, a native that is its own affair, `display/1`, a guard, and at last `'!'/2` with its own pid.
+pub const CALLS: &str = "{module,m}. {exports,[{f,0},{g,0}]}. {attributes,[]}. {labels,5}.
+{function,f,0,2}. {label,1}. {func_info,{atom,m},{atom,f},0}. {label,2}. {allocate,0,0}.
+{call_ext,0,{extfunc,m,g,0}}. {call_ext,2,{extfunc,erlang,'++',2}}. {call_ext,1,{extfunc,erlang,display,1}}.
+{call_ext,0,{extfunc,erlang,self,0}}. {move,{atom,late},{x,1}}. {call_ext_last,2,{extfunc,erlang,'!',2},0}.
+{function,g,0,4}. {label,3}. {func_info,{atom,m},{atom,g},0}. {label,4}. {move,nil,{x,0}}. {move,nil,{x,1}}. return.";
+
 /// What stands behind the number of choices, whatever the order.
 pub const TALKED: &str =
     "\nstate quiet\nprocess <0.0.0> ended normal\nprocess <0.1.0> ended normal\noutput <0.0.0> b\nend\n";

@@ -3,6 +3,7 @@
 
 mod commands;
 mod laws;
+mod opened;
 mod program;
 mod progress;
 mod prompt;

@@ -9,6 +9,7 @@ ghost use Rattle.bxemu.specs.CommandLines.{IsMistaken, NamesSession, RefusesWord
 ghost use Rattle.bxemu.specs.Statuses.{EndsByKind, status_after};
 
 use crate::commands::{Order, command_of};
+use crate::opened::{Opened, open_all, open_with_plan};
 use crate::progress::Progress;
 use crate::prompt::Asking;
 use bx_board::{FreeGate, Gate};
@@ -23,9 +24,9 @@ use std::rt::{Env, Files};
 use std::sync::Wait;
 use std::thread::Threads;
 use std::time::Clock;
-use std::{env, fs, io};
+use std::{env, io};
 
-/// Where a session's lines come from, and where its answers go.
+/// Standard input, from where a session's lines or a plan may come, and standard output, to where texts go.
 #[derive(Drop)]
 struct Talk<'t, I, O> {
     input: &'t mut I,
@@ -33,7 +34,7 @@ struct Talk<'t, I, O> {
 }
 
 /// Does what the command line orders, with its text on `output` and lines on `errors`, and gives the status to end with,
-/// 0 to 4. `input` is read for a session alone.
+/// 0 to 4. `input` is read for a session, and for a plan whose file is `-`.
 pub fn status_of_program<R, I, O, W>(rt: &R, input: &mut I, output: &mut O, errors: &mut W) -> u8
 where
     R: Files + Env + Print + Eprint + Clock + AllocGlobal + Threads + Wait + Sync,
@@ -104,15 +105,20 @@ where
     };
     let names = names.as_slice();
     match order {
-        Order::Run { start, .. } => told(&run(rt, start, names, output), names, errors),
+        Order::Run { start, .. } => {
+            let ended = run(rt, start, names, Talk { input, output });
+            told(&ended, names, errors)
+        }
         Order::Campaign { start, workers, .. } if errors.is_terminal() => {
             let gate = Progress::new(rt);
             let workers = Workers::new(rt, *workers, &gate);
-            told(&campaign(rt, &workers, start, names, output), names, errors)
+            let ended = campaign(rt, &workers, start, names, Talk { input, output });
+            told(&ended, names, errors)
         }
         Order::Campaign { start, workers, .. } => {
             let workers = Workers::new(rt, *workers, &FreeGate);
-            told(&campaign(rt, &workers, start, names, output), names, errors)
+            let ended = campaign(rt, &workers, start, names, Talk { input, output });
+            told(&ended, names, errors)
         }
         Order::Debug { start, .. } => {
             let asks = input.is_terminal() && errors.is_terminal();
@@ -191,7 +197,7 @@ fn explain<R: Print + Eprint, W: Write>(rt: &R, error: &Error, errors: &mut W) -
 }
 
 /// Out of memory, which is no file's fault.
-fn memory() -> Failure
+pub(crate) fn memory() -> Failure
     ensures { result ≡ Failure.Refused Memory None }
 {
     Failure::Refused(Fault::Memory, None)
@@ -211,40 +217,49 @@ fn names_of(alloc: Global, files: &[&str], last: &str) -> Result<Vec<String>, Al
 }
 
 /// Looks at the start, opens all the files, the plan last, and then writes the report of the run.
-fn run<R, W>(rt: &R, start: &str, names: &[String], writer: &mut W) -> Result<(), Failure>
+fn run<R, I, O>(
+    rt: &R,
+    start: &str,
+    names: &[String],
+    talk: Talk<'_, I, O>,
+) -> Result<(), Failure>
 where
     R: Files + AllocGlobal,
-    W: Write,
-    ensures { IfErr result (λ failure. (failure ≡ Failure.Write) ⊎ Keeps (W.contents writer.old)
-        (W.contents writer.new)) }
+    I: Read,
+    O: Write,
+    ensures { IfErr result (λ failure. (failure ≡ Failure.Write) ⊎ Keeps
+        (O.contents talk.output.old) (O.contents talk.output.new)) }
 {
+    let Talk { input, output } = talk;
     let _ = start_of(rt.alloc(), start)?;
-    let mut inputs = open_all(rt, names)?;
+    let mut inputs = open_with_plan(rt, names, input)?;
     match inputs.split_last_mut() {
-        Some((plan, listings)) => run_text(rt.alloc(), listings, start, plan, writer),
+        Some((plan, listings)) => run_text(rt.alloc(), listings, start, plan, output),
         None => Ok(()),
     }
 }
 
 /// Looks at the start, opens all the files, the plan last, and then writes the report of the workers' campaign.
-fn campaign<R, G, W>(
+fn campaign<R, G, I, O>(
     rt: &R,
     workers: &Workers<'_, R, G>,
     start: &str,
     names: &[String],
-    writer: &mut W,
+    talk: Talk<'_, I, O>,
 ) -> Result<(), Failure>
 where
     R: Files + AllocGlobal + Threads + Wait + Sync,
     G: Gate,
-    W: Write,
-    ensures { IfErr result (λ failure. (failure ≡ Failure.Write) ⊎ Keeps (W.contents writer.old)
-        (W.contents writer.new)) }
+    I: Read,
+    O: Write,
+    ensures { IfErr result (λ failure. (failure ≡ Failure.Write) ⊎ Keeps
+        (O.contents talk.output.old) (O.contents talk.output.new)) }
 {
+    let Talk { input, output } = talk;
     let _ = start_of(rt.alloc(), start)?;
-    let mut inputs = open_all(rt, names)?;
+    let mut inputs = open_with_plan(rt, names, input)?;
     match inputs.split_last_mut() {
-        Some((plan, listings)) => workers.campaign_text(rt.alloc(), listings, start, plan, writer),
+        Some((plan, listings)) => workers.campaign_text(rt.alloc(), listings, start, plan, output),
         None => Ok(()),
     }
 }
@@ -290,23 +305,6 @@ where
         return Prompted { prompt }.debug_text(rt.alloc(), listings, start, input, output);
     }
     debug_text(rt.alloc(), listings, start, input, output)
-}
-
-/// Opens each file, the first that can't be opened being the failure.
-fn open_all<R>(rt: &R, names: &[String]) -> Result<Vec<R::File>, Failure>
-where
-    R: Files + AllocGlobal,
-{
-    let mut opened = Vec::new(rt.alloc());
-    for (i, name) in names.iter().enumerate() {
-        let Ok(file) = fs::open(rt, name.as_str()) else {
-            return Err(Failure::Read(i));
-        };
-        if opened.push(file).is_err() {
-            return Err(memory());
-        }
-    }
-    Ok(opened)
 }
 
 #[cfg(test)]

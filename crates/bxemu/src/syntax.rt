@@ -100,7 +100,7 @@ fn plan_option<'a>(alloc: Global) -> Arg<'a>
     Arg::new(alloc, "plan")
         .long("plan")
         .value_name("FILE")
-        .help("The schedules to run")
+        .help("The schedules to run; - is standard input")
         .action(ArgAction::Set)
         .required(true)
 }

@@ -1,7 +1,7 @@
 //! Which chain of a campaign a piece is of.
 
 ghost use Rattle.std.specs.Prelude.{◌≡◌, ◌↔◌, ◌<◌, ℕ, IsTrue, MatchOption};
-ghost use Rattle.bx_chains.specs.Chains.{chain_count, chain_path};
+ghost use Rattle.bx_plan.specs.Chains.{chain_count, chain_path};
 ghost use Rattle.bx_board.specs.Kept.{IsOf};
 
 use crate::books::Book;
@@ -15,8 +15,11 @@ impl<'a> Book<'a> {
         ensures { IsTrue result ↔ (chain_path self.now.job.plan self.now.job.chains chain ≡
             piece.now.path) }
     {
-        let node = self.chains.last(chain);
-        self.plan.same_path(node, piece.plan, piece.span.last)
+        let head = self.chains.head(chain);
+        let span = piece.span;
+        let plan = piece.plan;
+        self.plan
+            .same_front(head.line, head.past, plan, span.line, span.past)
     }
 
     /// Whether a piece is of this campaign's code and start.

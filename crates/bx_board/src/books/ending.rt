@@ -1,7 +1,7 @@
 //! How a lease ends: its piece is handed in, or it is given back; and the end of all leasing.
 
 ghost use Rattle.std.specs.Prelude.{◌≡◌, ◌≢◌, ◌⊎◌, ◌+◌, ◌++◌, ◌≤◌, ◌<◌, false, length, vec_len, vec_capacity, IfErr, OnOk, MatchBool, MatchOption, IsTrue};
-ghost use Rattle.bx_chains.specs.Chains.{chain_count};
+ghost use Rattle.bx_plan.specs.Chains.{chain_count};
 ghost use Rattle.bx_board.specs.Jobs.{end_of, work_of};
 ghost use Rattle.bx_board.specs.Kept.{GivesBack, Happens, IsOf, RefusesPiece, Submits};
 ghost use Rattle.bx_board.specs.Machine.{standing, is_done, Holds};

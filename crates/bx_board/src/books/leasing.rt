@@ -18,16 +18,16 @@ impl<'a> Book<'a> {
         requires { IsTrue (is_free self.now.job self.now.state chain) }
         ensures { IfOk result (λ lease. lease ≡ work_of self.now.job chain) }
     {
-        let _nodes = self.plan.nodes();
-        let above = self.chains.above(chain);
-        let Slot::Done(end) = &self.slots[above] else {
+        let head = self.chains.head(chain);
+        let Slot::Done(end) = &self.slots[head.above] else {
             unreachable!()
         };
         let from = end.share(alloc)?;
         let span = Span {
             chain,
-            first: self.chains.first(chain),
-            last: self.chains.last(chain),
+            line: head.line,
+            first: head.first,
+            past: head.past,
         };
         Ok(Lease {
             image: self.image,

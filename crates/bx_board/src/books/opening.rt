@@ -7,9 +7,8 @@ ghost use Rattle.bx_world.specs.World.{started};
 use crate::books::Book;
 use crate::books::ending::push_all;
 use crate::slots::{ArcEnd, Slot};
-use bx_chains::chains_of;
 use bx_load::Image;
-use bx_plan::Plan;
+use bx_plan::{Plan, chains_of};
 use bx_share::{ArcHold, Hold};
 use bx_terms::{AtomId, Fault};
 use bx_world::ArcWorld;
@@ -53,7 +52,6 @@ impl<'a> Book<'a> {
         requires { started image.now start.0 start.1 ≡ Ok world }
         ensures { IfOk result (IsOpening image.now start plan.now) }
     {
-        let _nodes = plan.nodes();
         let chains = chains_of(alloc, plan)?;
         let end = ArcEnd {
             world,

@@ -46,10 +46,7 @@ impl<'a> Book<'a> {
         ensures { (name : List ℕ) → (path : List Choice) → slice_get (schedules self.now.job.plan) number ≡ Some (name, path)
             → result.now ≡ run_alone self.now.job.image self.now.job.start path }
     {
-        let Some(node) = self.plan.end(number) else {
-            unreachable!()
-        };
-        let chain = self.chains.owner(node);
+        let chain = self.chains.end(number);
         let Slot::Done(end) = &self.slots[chain] else {
             unreachable!()
         };

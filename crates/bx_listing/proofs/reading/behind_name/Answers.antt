@@ -18,13 +18,13 @@ use Rattle.bx_listing.proofs.reading.behind_name.Goals as goal
 pub returns-in_err-form-clause-read : goal.returns-in_err-form-clause-read
 returns-in_err-form-clause-read c =
     let p = err_from_is_err_and c.from_residual.result c.from_residual.ensures.1 in
-    let said = listings.taken (last_line c.args.text.now) (forms (place c.args.behind)) in
-    rw (p.1, p.2) (refuses_first (ReadsForms (place c.args.behind)) _ _ _ (from_result said) (listings.exported (last_line c.args.text.now) c.args.name) (refuses_result (takes_memory (place c.args.behind)) (ReadsForms (place c.args.behind)) _ _ said inl c.in_err-form.ensures))
+    let said = listings.taken (last_line c.args.source.text.now) (forms (place c.args.behind)) in
+    rw (p.1, p.2) (refuses_first (ReadsForms (place c.args.behind)) _ _ _ (from_result said) (listings.exported (last_line c.args.source.text.now) c.args.name) (refuses_result (takes_memory (place c.args.behind)) (ReadsForms (place c.args.behind)) _ _ said inl c.in_err-form.ensures))
 
 pub returns-in_err-exports-clause-read : goal.returns-in_err-exports-clause-read
 returns-in_err-exports-clause-read c =
     let p = err_from_is_err_and c.from_residual-in_err-exports.result c.from_residual-in_err-exports.ensures.1 in
-    let last = last_line c.args.text.now in
+    let last = last_line c.args.source.text.now in
     let f = listings.taken_at c.in_ok-form.form (place c.in_ok-form.behind) in
     let here : ReadsForms (place c.args.behind) = inr (taken_form last (forms (place c.args.behind)) f c.in_ok-form.ensures) in
     let exports = exports_form f.line (shape f.tree) in
@@ -35,7 +35,7 @@ returns-in_err-exports-clause-read c =
 pub returns-in_err-functions-clause-read : goal.returns-in_err-functions-clause-read
 returns-in_err-functions-clause-read c =
     let p = err_from_is_err_and c.from_residual-in_err-functions.result c.from_residual-in_err-functions.ensures.1 in
-    let last = last_line c.args.text.now in
+    let last = last_line c.args.source.text.now in
     let f = listings.taken_at c.in_ok-form.form (place c.in_ok-form.behind) in
     let here : ReadsForms (place c.args.behind) = inr (taken_form last (forms (place c.args.behind)) f c.in_ok-form.ensures) in
     rw (p.1, p.2) (listing-reads {X = List ListedFunction} (ReadsForms (place c.args.behind)) (λ x. x) _ _ _ (Err _) last (forms (place c.args.behind)) f c.args.name _ c.in_ok-form.ensures
@@ -44,12 +44,12 @@ returns-in_err-functions-clause-read c =
 
 pub returns-clause-read : goal.returns-clause-read
 returns-clause-read c =
-    let last = last_line c.args.text.now in
+    let last = last_line c.args.source.text.now in
     let f = listings.taken_at c.in_ok-form.form (place c.in_ok-form.behind) in
     rw c.new.ensures (listing-reads {X = List ListedFunction} (ReadsForms (place c.args.behind)) (λ x. x) _ _ _ (Ok _) last (forms (place c.args.behind)) f c.args.name _ c.in_ok-form.ensures
     (rw (c.new-reader.ensures, c.shape_of.ensures) at c.in_ok-exports.ensures)
     c.in_ok-functions.ensures.read)
 
 pub returns-clause-located : goal.returns-clause-located
-returns-clause-located c =
-    rw (behind_exports (last_line c.args.text.now) (forms (place c.args.behind)) (listings.taken_at c.in_ok-form.form (place c.in_ok-form.behind)) c.in_ok-form.ensures) c.in_ok-functions.ensures.located
+returns-clause-located c asked =
+    rw (behind_exports (last_line c.args.source.text.now) (forms (place c.args.behind)) (listings.taken_at c.in_ok-form.form (place c.in_ok-form.behind)) c.in_ok-form.ensures) (c.in_ok-functions.ensures.located asked)

@@ -41,11 +41,11 @@ loop-locations-preserved c =
       so_far = sym (same.0 _ _ some) ∙ form_read (place c.loop-locations.here) (c.in-Some.form, place c.in-Some.behind) _ _ _ _ _ (rw c.in-Some.is at c.in_ok-form.ensures.form) c.loop-locations.invariant.so_far c.in_ok-take_form.ensures;
       grown = grown_after (listings.part (span_of c.in-Some.form).line c.loop-locations.functions.items (shape c.in-Some.form)) _ _ _ _ c.loop-locations.invariant.grown c.in_ok-take_form.ensures;
       begun = inr begun;
-      placed = ap (λ more. c.place_form.new.locations.items ++ more) (sym (same.1 c.place_form.new.locations.here)) ∙ located_next (place c.loop-locations.here) (c.in-Some.form, place c.in-Some.behind) c.loop-locations.locations _ _ (rw c.in-Some.is at c.in_ok-form.ensures.form) c.in_ok-place_form.ensures c.loop-locations.invariant.placed;
+      placed = λ asked. ap (λ more. c.place_form.new.locations.items ++ more) (sym (same.1 c.place_form.new.locations.here)) ∙ located_next (place c.loop-locations.here) (c.in-Some.form, place c.in-Some.behind) c.loop-locations.locations _ _ (rw c.in-Some.is at c.in_ok-form.ensures.form) (c.in_ok-place_form.ensures asked) (c.loop-locations.invariant.placed asked);
     }
 
 pub returns-clause-read : goal.returns-clause-read
 returns-clause-read c = forms_end (place c.loop-locations.here) _ _ _ (rw c.in_default.is at c.in_ok-form.ensures.form) c.loop-locations.invariant.so_far
 
 pub returns-clause-located : goal.returns-clause-located
-returns-clause-located c = rw c.fitted.ensures (located_end (place c.loop-locations.here) c.loop-locations.locations _ (rw c.in_default.is at c.in_ok-form.ensures.form) c.loop-locations.invariant.placed)
+returns-clause-located c asked = rw c.fitted.ensures (located_end (place c.loop-locations.here) c.loop-locations.locations _ (rw c.in_default.is at c.in_ok-form.ensures.form) (c.loop-locations.invariant.placed asked))

@@ -1,4 +1,4 @@
-use Rattle.std.proofs.Common.{◌≡◌, [], ◌++◌, ◌⊎◌, None, length}
+use Rattle.std.proofs.Common.{◌≡◌, [], ◌++◌, ◌⊎◌, None, IsTrue, length}
 use Rattle.bx_text.specs.Place.{place}
 use Rattle.bx_listing.specs.Reading.{Begins}
 use Rattle.bx_listing.specs.Forms.{forms}
@@ -12,7 +12,7 @@ invariant-loop-locations l = record {
   so_far : (listings.functions l.functions.items (forms (place l.here))).run l.atoms ≡ (listings.functions [] (forms (place l.fn.reader))).run l.fn.atoms;
   grown : Begins l.fn.atoms l.atoms;
   begun : (place l.here ≡ place l.fn.reader) ⊎ IsForm (forms (place l.fn.reader));
-  placed : l.locations.items ++ located l.locations.here (forms (place l.here)) ≡ located None (forms (place l.fn.reader));
+  placed : IsTrue l.fn.asked → l.locations.items ++ located l.locations.here (forms (place l.here)) ≡ located None (forms (place l.fn.reader));
 }
 
 abbrev pub decreases-loop-locations : goal.decreases-loop-locations

@@ -174,8 +174,35 @@ fn orders_are_done(rt: HostRuntime) -> Result<(), Fail> {
 }
 
 #[test]
+fn a_plan_may_come_from_standard_input(rt: HostRuntime) -> Result<(), Fail> {
+    let lines = [
+        "bxemu run --start m:f --plan - m.S n.S",
+        "bxemu campaign --start m:f --plan - --workers 2 m.S n.S",
+        "bxemu run --start m:f --plan - m.S -",
+    ];
+    for line in lines {
+        let ended = ended(&rt, rt.alloc(), line.as_bytes(), PLAN, WIDE);
+        assert!(rt; ended.output.as_slice() == REPORT.as_bytes(), "{line}");
+        assert!(rt; ended.status == 0 && ended.errors.is_empty(), "{line}");
+    }
+    Ok(())
+}
+
+#[test]
 fn the_first_failure_ends_an_order(rt: HostRuntime) -> Result<(), Fail> {
     let rows = [
+        (
+            "bxemu run --start m:f --plan - m.S n.S",
+            "",
+            "bxemu: R24 BadLine line 1 in -\n",
+            1,
+        ),
+        (
+            "bxemu run --start m:f --plan - m.S away.S",
+            "",
+            "bxemu: read away.S\n",
+            4,
+        ),
         (
             "bxemu run --start m --plan away away.S",
             "",

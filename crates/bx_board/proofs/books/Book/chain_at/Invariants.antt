@@ -1,5 +1,5 @@
 use Rattle.std.proofs.Common.{◌≡◌, ℕ, ◌<◌}
-use Rattle.bx_chains.specs.Chains.{chain_path}
+use Rattle.bx_plan.specs.Chains.{chain_path}
 use Rattle.bx_board.proofs.books.Book.chain_at.Given as goal
 
 -- the chains so far have other paths

@@ -1,16 +1,14 @@
-use Rattle.std.proofs.Common.{◌+◌, ◌-◌, ◌≤◌}
-use Rattle.bx_plan.specs.Edges.{tree_by, IsOn}
-use Rattle.bx_board.proofs.Running.{RunSoFar}
+use Rattle.std.proofs.Common.{◌≡◌, ◌+◌, ◌<◌, ◌^◌, length}
+use Rattle.bx_world.specs.Running.{ran}
+use Rattle.bx_board.specs.Jobs.{end_of}
 use Rattle.bx_board.proofs.working.Lease.run.Given as goal
 
--- the run so far is before this node, which is on this edge
-abbrev pub invariant-loop-node : goal.invariant-loop-node
-invariant-loop-node l = record {
-  run : RunSoFar l.code l.self.start (tree_by l.edges) l.span.last l.node l.end;
-  low : l.span.first ≤ l.node;
-  high : l.node ≤ l.span.last + 1;
-  on : l.node ≤ l.span.last → IsOn l.edges l.number l.node;
+-- what is left leads where the chain leads
+abbrev pub invariant-loop-run : goal.invariant-loop-run
+invariant-loop-run l = record {
+  leads : ran l.code l.left l.end ≡ end_of l.self;
+  few : l.end.applied + length l.left < 2 ^ 63;
 }
 
-abbrev pub decreases-loop-node : goal.decreases-loop-node
-decreases-loop-node l = l.span.last + 1 - l.node
+abbrev pub decreases-loop-run : goal.decreases-loop-run
+decreases-loop-run l = length l.left

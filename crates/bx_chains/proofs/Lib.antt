@@ -1,4 +1,0 @@
-pub mod Growing
-pub mod Counting
-pub mod Following
-pub mod Cutting

@@ -1,0 +1,399 @@
+-- The chains of the schedules of a row so far, with one more.
+use Rattle.std.proofs.Common.{◌≡◌, ◌≢◌, ◌⊎◌, inl, inr, ℕ, zero, suc, ◌+◌, ◌-◌, ◌<◌, ◌≤◌, ◌==◌, ◌&&◌, nat_lt, false, List, [], ◌∷◌, ◌++◌, length, get_or, set, take, drop, refl, sym, ap, subst, ◌∙◌, arith, add-one, append_assoc, append-nil, length-append}
+use Rattle.std.proofs.lemmas.Bool.{cases_eq, cases_lt, le-ltb}
+use Rattle.std.proofs.Math.ListN.{get_or-map}
+use Rattle.std.proofs.lemmas.List.{get_or-set_other, get_or-set_same, length-map, length-set, length-take, length-take-le, take-append-drop, take-append-le, take-take, take_all}
+use Rattle.bx_world.specs.declared.choices.Choice.{Choice}
+use Rattle.bx_plan.specs.declared.chains.Head.{Head}
+use Rattle.bx_plan.specs.declared.plans.Row.{Row}
+use Rattle.bx_plan.specs.Chains.{above, begun, chain_path, head, is_kid, no_head, one_if, path_at, times, AreChains, AreForest, Begins, Chained, IsCut, Owns}
+use Rattle.bx_plan.specs.Gathered.{common, common_before, placed, row_at, AreRows}
+use Rattle.bx_plan.specs.Growing.{Grown}
+use Rattle.bx_plan.specs.Nodes.{EndsThere, IsPrefix}
+use Rattle.bx_plan.specs.Planned.{choices_at}
+use Rattle.bx_plan.specs.Plans.{Named, choices_of}
+use Rattle.bx_plan.proofs.Counting.{begins_common, common_least, common_same, common_short, prefix_at, prefix_of, taken_alike}
+use Rattle.bx_plan.proofs.Kids.{kids_more, more_heads, more_kids, new_head, old_head}
+use Rattle.bx_plan.proofs.Ordering.{common_append, common_apart, common_turned, same_or_not}
+use Rattle.bx_plan.proofs.Times.{mid_false}
+
+-- ---- where no chain goes on
+
+-- a schedule ends there
+pub ends_there : (ss : List (List Choice)) (i : ℕ) (path : List Choice) → i < length ss → path ≡ get_or ss i [] → EndsThere ss path
+ends_there [] i path h e = absurd (omega (arith, h))
+ends_there (s ∷ ss) zero path h e = inl e
+ends_there (s ∷ ss) (suc i) path h e = inr (ends_there ss i path (omega (arith, h)) e)
+
+ends_of : (ss : List (List Choice)) (path : List Choice) → EndsThere ss path → (i : ℕ) × (i < length ss) × (path ≡ get_or ss i [])
+ends_of [] path h = absurd h
+ends_of (s ∷ ss) path (inl e) = (0, omega arith, e)
+ends_of (s ∷ ss) path (inr h) = let at = ends_of ss path h in (suc at.0, omega (arith, at.1), at.2)
+
+-- a list that goes on behind what both begin with alike
+abbrev GoesOn : List Choice → ℕ → Type 0
+GoesOn s n = (c : Choice) × (rest : List Choice) × (s ≡ (take n s ++ c ∷ []) ++ rest)
+
+goes_on : (s : List Choice) (n : ℕ) → n < length s → GoesOn s n
+goes_on [] n h = absurd (omega (arith, h))
+goes_on (c ∷ s) zero h = (c, s, refl)
+goes_on (c ∷ s) (suc n) h = let more = goes_on s n (omega (arith, h)) in (more.0, more.1, ap (λ cs. c ∷ cs) more.2)
+
+-- both go on by different choices
+common_stops : (a b : List Choice) (c : Choice) (xs ys : List Choice) (n : ℕ) → n ≡ common a b → a ≡ (take n a ++ c ∷ []) ++ xs → b ≡ (take n b ++ c ∷ []) ++ ys → ⊥
+common_stops a b c xs ys n e f g =
+    let same : take n a ≡ take n b = taken_alike a b n (omega (arith, e)) in
+    let whole : common a b ≡ length (take n b ++ c ∷ []) + common xs ys =
+    ap (λ s. common s b) (f ∙ ap (λ p. (p ++ c ∷ []) ++ xs) same) ∙ ap (common ((take n b ++ c ∷ []) ++ xs)) g ∙ common_append (take n b ++ c ∷ []) xs ys in
+    omega (arith, whole, e, length-append (take n b) (c ∷ []), length-take n b, (common_short a b).1)
+
+pub cut_where_parted : (ss : List (List Choice)) (i j n : ℕ) → i < length ss → j < length ss → n ≡ common (get_or ss i []) (get_or ss j []) → n < length (get_or ss j []) → IsCut ss (take n (get_or ss j []))
+cut_where_parted ss i j n h l e long = one (cases_lt n (length (get_or ss i []))) where
+  a : List Choice
+  a = get_or ss i []
+
+  same : take n (get_or ss i []) ≡ take n (get_or ss j [])
+  same = taken_alike (get_or ss i []) (get_or ss j []) n (omega (arith, e))
+
+  one : (n < length (get_or ss i [])) ⊎ (length (get_or ss i []) ≤ n) → IsCut ss (take n (get_or ss j []))
+  one (inr p) = inr (inl (ends_there ss i (take n (get_or ss j [])) h (sym same ∙ take_all n (get_or ss i []) p)))
+  one (inl p) =
+      let left = goes_on (get_or ss i []) n p in
+      let right = goes_on (get_or ss j []) n long in
+      inr (inr (
+        left.0,
+        right.0,
+        (λ q. common_stops (get_or ss i []) (get_or ss j []) right.0 left.1 right.1 n e (subst (λ c. get_or ss i [] ≡ (take n (get_or ss i []) ++ c ∷ []) ++ left.1) q left.2) right.2),
+        prefix_at ss i (take n (get_or ss j []) ++ left.0 ∷ []) left.1 h (left.2 ∙ ap (λ p. (p ++ left.0 ∷ []) ++ left.1) same),
+        prefix_at ss j (take n (get_or ss j []) ++ right.0 ∷ []) right.1 l right.2,
+      ))
+
+-- another schedule parts there from one that goes on
+parts_from : (t s : List Choice) (n : ℕ) (c : Choice) (rest : List Choice) → n < length s → t ≡ (take n s ++ c ∷ []) ++ rest → (d : Choice) (more : List Choice) → s ≡ (take n s ++ d ∷ []) ++ more → c ≢ d → common t s ≡ n
+parts_from t s n c rest h e d more f apart =
+    ap (λ x. common x s) (e ∙ append_assoc (take n s) (c ∷ []) rest) ∙ ap (common (take n s ++ c ∷ rest)) (f ∙ append_assoc (take n s) (d ∷ []) more) ∙ common_append (take n s) (c ∷ rest) (d ∷ more)
+    ∙ omega (arith, common_apart c d rest more apart, length-take-le n s (omega (arith, h)))
+
+pub parted_at_cut : (ss : List (List Choice)) (j n : ℕ) → 0 < n → n < length (get_or ss j []) → IsCut ss (take n (get_or ss j [])) → (i : ℕ) × (i < length ss) × (common (get_or ss i []) (get_or ss j []) ≡ n)
+parted_at_cut ss j n some long (inl e) = absurd (omega (arith, some, ap length e, length-take-le n (get_or ss j []) (omega (arith, long))))
+parted_at_cut ss j n some long (inr (inl e)) =
+    let at = ends_of ss (take n (get_or ss j [])) e in
+    let s = get_or ss j [] in
+    (at.0, at.1, ap (λ t. common t s) (sym at.2) ∙ omega (arith, length-take-le n s (omega (arith, long)), (common_short (take n s) s).0, begins_common s (take n s) (drop n s) n (omega (arith, length-take-le n s (omega (arith, long)))) (sym (take-append-drop n s) ∙ ap (λ p. p ++ drop n s) (sym (take_all n (take n s) (omega (arith, length-take-le n s (omega (arith, long))))))), common_turned s (take n s)))
+parted_at_cut ss j n some long (inr (inr (a, b, apart, first, second))) = one (same_or_not a on.0) where
+  s : List Choice
+  s = get_or ss j []
+
+  on : GoesOn (get_or ss j []) n
+  on = goes_on (get_or ss j []) n long
+
+  one : (a ≡ on.0) ⊎ (a ≢ on.0) → (i : ℕ) × (i < length ss) × (common (get_or ss i []) (get_or ss j []) ≡ n)
+  one (inl e) = let at = prefix_of ss (take n (get_or ss j []) ++ b ∷ []) second in (at.0, at.1, parts_from (get_or ss at.0 []) (get_or ss j []) n b at.2 long at.3 on.0 on.1 on.2 (λ f. apart (e ∙ sym f)))
+  one (inr m) = let at = prefix_of ss (take n (get_or ss j []) ++ a ∷ []) first in (at.0, at.1, parts_from (get_or ss at.0 []) (get_or ss j []) n a at.2 long at.3 on.0 on.1 on.2 m)
+
+-- ---- up from the last chain
+
+module _ (plan : List Named) (all : Chained) (forest : AreForest plan all) where
+  pub path_long : (c : ℕ) → c < length all.heads → length (chain_path plan all c) ≡ (head all c).past
+  path_long zero h = let none : (head all 0).past ≡ 0 = ap (λ (h : Head). h.past) forest.root in omega (arith, none, length-take (head all 0).past (choices_at plan (head all 0).line))
+  path_long (suc c) h = length-take-le (head all (suc c)).past (choices_at plan (head all (suc c)).line) (forest.begins (suc c) (omega arith) h).within
+
+  abbrev Up : ℕ → List Choice → ℕ → Type 0
+  Up at path depth = (at < length all.heads) × (chain_path plan all at ≡ take (head all at).past path) × (depth ≤ (head all at).past)
+
+  pub up_first : (depth : ℕ) → depth ≤ length (chain_path plan all (length all.heads - 1)) → Up (length all.heads - 1) (chain_path plan all (length all.heads - 1)) depth
+  up_first depth h =
+      let within : length all.heads - 1 < length all.heads = omega (arith, forest.some) in
+      let long = path_long (length all.heads - 1) within in
+      (within, sym (take_all (head all (length all.heads - 1)).past (chain_path plan all (length all.heads - 1)) (omega (arith, long))), omega (arith, h, long))
+
+  pub up_next : (at : ℕ) (path : List Choice) (depth : ℕ) → Up at path depth → depth < (head all at).past → IsCut (choices_of plan) (take depth path) → Up (above all at) path depth × (above all at < at)
+  up_next zero path depth is l cut = let none : (head all 0).past ≡ 0 = ap (λ (h : Head). h.past) forest.root in absurd (omega (arith, l, none))
+  up_next (suc c) path depth (h, front, low) l cut = ((omega (arith, h, b.below), b.stands ∙ first_is ∙ ap (λ n. take n path) (sym up_past), omega (arith, high, up_past)), b.below) where
+    x : Head
+    x = head all (suc c)
+
+    b : Begins plan (head all (suc c)) (chain_path plan all (above all (suc c))) (suc c)
+    b = forest.begins (suc c) (omega arith) h
+
+    taken : (n : ℕ) → n ≤ (head all (suc c)).past → path_at plan (head all (suc c)) n ≡ take n path
+    taken n k = sym (take-take n (head all (suc c)).past (choices_at plan (head all (suc c)).line) k) ∙ ap (take n) front ∙ take-take n (head all (suc c)).past path k
+
+    first_is : path_at plan (head all (suc c)) (head all (suc c)).first ≡ take (head all (suc c)).first path
+    first_is = taken (head all (suc c)).first (omega (arith, b.some))
+
+    up_past : (head all (above all (suc c))).past ≡ (head all (suc c)).first
+    up_past = sym (path_long (above all (suc c)) (omega (arith, h, b.below))) ∙ ap length b.stands ∙ length-take-le (head all (suc c)).first (choices_at plan (head all (suc c)).line) (omega (arith, b.some, b.within))
+
+    high : depth ≤ (head all (suc c)).first
+    high = one (cases_lt (head all (suc c)).first depth) where
+      one : ((head all (suc c)).first < depth) ⊎ (depth ≤ (head all (suc c)).first) → depth ≤ (head all (suc c)).first
+      one (inr k) = k
+      one (inl k) = absurd (b.inside depth k l (subst (IsCut (choices_of plan)) (sym (taken depth (omega (arith, l)))) cut))
+
+  pub up_found : (at : ℕ) (path : List Choice) (depth : ℕ) → Up at path depth → (head all at).past ≤ depth → chain_path plan all at ≡ take depth path
+  up_found at path depth is l = is.1 ∙ ap (λ n. take n path) (let same : (head all at).past ≡ depth = omega (arith, l, is.2) in same)
+
+-- ---- one chain more
+
+take_front : (p rest : List Choice) → take (length p) (p ++ rest) ≡ p
+take_front p rest = take-append-le (length p) p rest (omega arith) ∙ take_all (length p) p (omega arith)
+
+module _ (plan : List Named) (rows : List Row) (are : AreRows (choices_of plan) rows) where
+  -- the schedule of a line, in both ways
+  pub choices_is : (line : ℕ) → choices_at plan line ≡ get_or (choices_of plan) line []
+  choices_is line = sym (get_or-map (λ (s : Named). s.1) plan line ([], []))
+
+  less_before : (i k : ℕ) → i < k → k < length rows → common (placed (choices_of plan) rows i) (placed (choices_of plan) rows k) ≤ (row_at rows k).common
+  less_before i zero l h = absurd (omega (arith, l))
+  less_before i (suc k) l h = omega (arith, (are.gathered i k (suc k) (omega (arith, l)) (omega arith) h).1, are.commons (suc k) h)
+
+  module _ (all : Chained) (k first past up : ℕ) (grown : Grown plan rows k first all) (h : k < length rows) (there : up < length all.heads)
+      (on : chain_path plan all up ≡ take first (chain_path plan all (length all.heads - 1)))
+      (some : first < past) (within : past ≤ length (placed (choices_of plan) rows k)) (from : (row_at rows k).common ≤ first)
+      (begin : IsCut (choices_of plan) (take first (placed (choices_of plan) rows k))) (end : IsCut (choices_of plan) (take past (placed (choices_of plan) rows k)))
+      (inside : (n : ℕ) → first < n → n < past → IsCut (choices_of plan) (take n (placed (choices_of plan) rows k)) → ⊥) where
+    abbrev x : Head
+    x = record { line = (row_at rows k).line; first = first; past = past; above = up }
+
+    abbrev next : Chained
+    next = begun x all
+
+    abbrev here : List Choice
+    here = placed (choices_of plan) rows k
+
+    more : length next.heads ≡ length all.heads + 1
+    more = more_heads all x grown.forest.some grown.forest.rows grown.forest.kids there
+
+    old : (c : ℕ) → c < length all.heads → head next c ≡ head all c
+    old c l = old_head all x grown.forest.some grown.forest.rows grown.forest.kids there c l
+
+    new : head next (length all.heads) ≡ x
+    new = new_head all x grown.forest.some grown.forest.rows grown.forest.kids there
+
+    path_is : (n : ℕ) → path_at plan x n ≡ take n here
+    path_is n = ap (take n) (choices_is (row_at rows k).line)
+
+    old_path : (c : ℕ) → c < length all.heads → chain_path plan next c ≡ chain_path plan all c
+    old_path c l = ap (λ h. path_at plan h h.past) (old c l)
+
+    abbrev By : Head → List Choice → Type 0
+    By h path = (n : ℕ) × (h.first < n) × (n ≤ h.past) × (path ≡ path_at plan h n)
+
+    owns_old : (c : ℕ) (path : List Choice) → Owns plan all c path → Owns plan next c path
+    owns_old c path o = let by : By (head next c) path = subst (λ h. By h path) (sym (old c o.1)) (o.2, o.3, o.4, o.5) in (o.0, omega (arith, o.1, more), by.0, by.1, by.2, by.3)
+
+    owns_new : (n : ℕ) → first < n → n ≤ past → Owns plan next (length all.heads) (take n here)
+    owns_new n a b = let by : By (head next (length all.heads)) (take n here) = subst (λ h. By h (take n here)) (sym new) (n, a, b, sym (path_is n)) in (grown.forest.some, omega (arith, more), by.0, by.1, by.2, by.3)
+
+    -- a path that lies on the new chain, or on an old one
+    abbrev Mine : ℕ → List Choice → Type 0
+    Mine c path = (c ≡ length all.heads) × (n : ℕ) × (first < n) × (n ≤ past) × (path ≡ take n here)
+
+    owns_either : (c : ℕ) (path : List Choice) → Owns plan next c path → Owns plan all c path ⊎ Mine c path
+    owns_either c path o = one (cases_eq c (length all.heads)) where
+      one : (c ≡ length all.heads) ⊎ (c ≢ length all.heads) → Owns plan all c path ⊎ Mine c path
+      one (inl e) = let by : By x path = subst (λ h. By h path) (ap (head next) e ∙ new) (o.2, o.3, o.4, o.5) in inr (e, by.0, by.1, by.2, by.3 ∙ path_is by.0)
+      one (inr m) = let low : c < length all.heads = omega (arith, o.1, more, m) in let by : By (head all c) path = subst (λ h. By h path) (old c low) (o.2, o.3, o.4, o.5) in inl (o.0, low, by.0, by.1, by.2, by.3)
+
+    clash : (c d : ℕ) (path : List Choice) → Owns plan all c path → Mine d path → ⊥
+    clash c d path o (_, n, a, b, e) = one (grown.only c path o) where
+      one : ((i : ℕ) × (i < k) × (i < length rows) × (rest : List Choice) × (placed (choices_of plan) rows i ≡ path ++ rest)) ⊎ ((m : ℕ) × (m ≤ first) × (path ≡ take m here)) → ⊥
+      one (inl (i, l, _, rest, f)) = omega (arith, a, from, less_before i k l h, begins_common (placed (choices_of plan) rows i) here rest n (omega (arith, b, within)) (f ∙ ap (λ p. p ++ rest) e))
+      one (inr (m, l, f)) = omega (arith, a, l, ap length (sym e ∙ f), length-take n here, length-take m here, b, within)
+
+    alone : (c d : ℕ) (path : List Choice) → Owns plan next c path → Owns plan next d path → c ≡ d
+    alone c d path o p = one (owns_either c path o) (owns_either d path p) where
+      one : Owns plan all c path ⊎ Mine c path → Owns plan all d path ⊎ Mine d path → c ≡ d
+      one (inl a) (inl b) = grown.forest.alone c d path a b
+      one (inl a) (inr b) = absurd (clash c d path a b)
+      one (inr a) (inl b) = absurd (clash d c path b a)
+      one (inr a) (inr b) = a.0 ∙ sym b.0
+
+    first_fits : first ≤ length here
+    first_fits = omega (arith, some, within)
+
+    begins : (c : ℕ) → 0 < c → c < length next.heads → Begins plan (head next c) (chain_path plan next (head next c).above) c
+    begins c a b = one (cases_eq c (length all.heads)) where
+      mine : Begins plan x (chain_path plan next up) (length all.heads)
+      mine = record {
+        line = omega (arith, are.within k h, length-map plan (λ (s : Named). s.1));
+        some = some;
+        within = omega (arith, within, ap length (choices_is (row_at rows k).line));
+        begin = subst (IsCut (choices_of plan)) (sym (path_is first)) begin;
+        end = subst (IsCut (choices_of plan)) (sym (path_is past)) end;
+        inside = λ n l m cut. inside n l m (subst (IsCut (choices_of plan)) (path_is n) cut);
+        below = there;
+        stands = old_path up there ∙ on ∙ taken_alike (chain_path plan all (length all.heads - 1)) here first grown.last ∙ sym (path_is first);
+      }
+
+      one : (c ≡ length all.heads) ⊎ (c ≢ length all.heads) → Begins plan (head next c) (chain_path plan next (head next c).above) c
+      one (inl e) = subst (λ n. Begins plan (head next n) (chain_path plan next (head next n).above) n) (sym e) (subst (λ g. Begins plan g (chain_path plan next g.above) (length all.heads)) (sym new) mine)
+      one (inr m) =
+          let low : c < length all.heads = omega (arith, b, more, m) in
+          let was = grown.forest.begins c a low in
+          subst (λ g. Begins plan g (chain_path plan next g.above) c) (sym (old c low)) (subst (λ p. Begins plan (head all c) p c) (sym (old_path (above all c) (omega (arith, was.below, low)))) was)
+
+    pub grown_more : Grown plan rows k past next
+    grown_more = record {
+      forest = record {
+        some = omega (arith, more);
+        rows = more_kids all x grown.forest.some grown.forest.rows grown.forest.kids there ∙ ap (λ n. n + 1) grown.forest.rows ∙ sym more;
+        root = old 0 grown.forest.some ∙ grown.forest.root;
+        begins = begins;
+        kids = kids_more all x grown.forest.some grown.forest.rows grown.forest.kids there;
+        alone = alone;
+      };
+      before = λ i n a b c d. let was = grown.before i n a b c d in (was.0, owns_old was.0 (take n (placed (choices_of plan) rows i)) was.1);
+      here = λ n a b. two n a b (cases_lt first n);
+      only = λ c path o. three c path (owns_either c path o);
+      last = omega (arith, begins_common (take past here) here [] past within (sym (append-nil (take past here))), ap (λ p. common p here) last_is);
+      long = grown.long;
+      ends = λ i a b. let was = grown.ends i a b in (omega (arith, was.0, more), old_path _ was.0 ∙ was.1);
+    } where
+      last_is : chain_path plan next (length next.heads - 1) ≡ take past here
+      last_is = let at : length next.heads - 1 ≡ length all.heads = omega (arith, more) in ap (chain_path plan next) at ∙ ap (λ h. path_at plan h h.past) new ∙ path_is past
+
+      two : (n : ℕ) → 0 < n → n ≤ past → (first < n) ⊎ (n ≤ first) → (c : ℕ) × Owns plan next c (take n here)
+      two n a b (inl l) = (length all.heads, owns_new n l b)
+      two n a b (inr l) = let was = grown.here n a l in (was.0, owns_old was.0 (take n here) was.1)
+
+      three : (c : ℕ) (path : List Choice) → Owns plan all c path ⊎ Mine c path
+          → ((i : ℕ) × (i < k) × (i < length rows) × (rest : List Choice) × (placed (choices_of plan) rows i ≡ path ++ rest)) ⊎ ((n : ℕ) × (n ≤ past) × (path ≡ take n here))
+      three c path (inr (_, n, _, b, e)) = inr (n, b, e)
+      three c path (inl o) = four (grown.only c path o) where
+        four : ((i : ℕ) × (i < k) × (i < length rows) × (rest : List Choice) × (placed (choices_of plan) rows i ≡ path ++ rest)) ⊎ ((n : ℕ) × (n ≤ first) × (path ≡ take n here))
+            → ((i : ℕ) × (i < k) × (i < length rows) × (rest : List Choice) × (placed (choices_of plan) rows i ≡ path ++ rest)) ⊎ ((n : ℕ) × (n ≤ past) × (path ≡ take n here))
+        four (inl a) = inl a
+        four (inr (n, l, e)) = inr (n, omega (arith, l, some), e)
+
+  -- ---- a whole row
+
+  -- the chain with which the schedule at a place ends was noted
+  pub grown_row : (k : ℕ) (all : Chained) (e : ℕ) → k < length rows → Grown plan rows k (length (placed (choices_of plan) rows k)) all → e < length all.heads → chain_path plan all e ≡ placed (choices_of plan) rows k
+      → Grown plan rows (k + 1) (common_before (choices_of plan) rows (k + 1)) (record { heads = all.heads; kids = all.kids; ends = set all.ends (row_at rows k).line e })
+  grown_row k all e h grown there is = record {
+    forest = record { some = grown.forest.some; rows = grown.forest.rows; root = grown.forest.root; begins = grown.forest.begins; kids = grown.forest.kids; alone = grown.forest.alone };
+    before = λ i n a b c d. before i n a b c d (cases_eq i k);
+    here = λ n a b.
+        let low : n ≤ common here (placed (choices_of plan) rows (suc k)) = omega (arith, b, next) in
+        let was = grown.here n a (omega (arith, low, (common_short here (placed (choices_of plan) rows (suc k))).0)) in
+        let same : take n (placed (choices_of plan) rows (k + 1)) ≡ take n here = ap (λ j. take n (placed (choices_of plan) rows j)) (add-one k) ∙ sym (taken_alike here (placed (choices_of plan) rows (suc k)) n low) in
+        (was.0, subst (Owns plan all was.0) (sym same) was.1);
+    only = λ c path o. inl (only c path (grown.only c path o));
+    last = omega (arith, next, (common_short here (placed (choices_of plan) rows (suc k))).0, common_least (chain_path plan all (length all.heads - 1)) here (placed (choices_of plan) rows (suc k)) (common here (placed (choices_of plan) rows (suc k))) (omega (arith, grown.last, (common_short here (placed (choices_of plan) rows (suc k))).0)) (omega arith), ap (λ j. common (chain_path plan all (length all.heads - 1)) (placed (choices_of plan) rows j)) (add-one k));
+    long = length-set all.ends (row_at rows k).line e ∙ grown.long;
+    ends = λ i a b. ends i a b (cases_eq (row_at rows i).line (row_at rows k).line);
+  } where
+    here : List Choice
+    here = placed (choices_of plan) rows k
+
+    next : common_before (choices_of plan) rows (k + 1) ≡ common (placed (choices_of plan) rows k) (placed (choices_of plan) rows (suc k))
+    next = ap (common_before (choices_of plan) rows) (add-one k)
+
+    before : (i n : ℕ) → i < k + 1 → i < length rows → 0 < n → n ≤ length (placed (choices_of plan) rows i) → (i ≡ k) ⊎ (i ≢ k) → (c : ℕ) × Owns plan all c (take n (placed (choices_of plan) rows i))
+    before i n a b c d (inl f) =
+        let was = grown.here n c (omega (arith, d, ap (λ j. length (placed (choices_of plan) rows j)) f)) in
+        (was.0, subst (λ j. Owns plan all was.0 (take n (placed (choices_of plan) rows j))) (sym f) was.1)
+    before i n a b c d (inr m) = grown.before i n (omega (arith, a, m)) b c d
+
+    only : (c : ℕ) (path : List Choice) → ((i : ℕ) × (i < k) × (i < length rows) × (rest : List Choice) × (placed (choices_of plan) rows i ≡ path ++ rest)) ⊎ ((n : ℕ) × (n ≤ length (placed (choices_of plan) rows k)) × (path ≡ take n (placed (choices_of plan) rows k)))
+        → (i : ℕ) × (i < k + 1) × (i < length rows) × (rest : List Choice) × (placed (choices_of plan) rows i ≡ path ++ rest)
+    only c path (inl (i, a, b, rest, f)) = (i, omega (arith, a), b, rest, f)
+    only c path (inr (n, a, f)) = (k, omega arith, h, drop n (placed (choices_of plan) rows k), sym (take-append-drop n (placed (choices_of plan) rows k)) ∙ ap (λ p. p ++ drop n (placed (choices_of plan) rows k)) (sym f))
+
+    at_line : (row_at rows k).line < length all.ends
+    at_line = omega (arith, are.within k h, length-map plan (λ (s : Named). s.1), grown.long)
+
+    ends : (i : ℕ) → i < k + 1 → i < length rows → ((row_at rows i).line ≡ (row_at rows k).line) ⊎ ((row_at rows i).line ≢ (row_at rows k).line)
+        → (get_or (set all.ends (row_at rows k).line e) (row_at rows i).line 0 < length all.heads) × (chain_path plan all (get_or (set all.ends (row_at rows k).line e) (row_at rows i).line 0) ≡ placed (choices_of plan) rows i)
+    ends i a b (inl f) =
+        let set_there : get_or (set all.ends (row_at rows k).line e) (row_at rows i).line 0 ≡ e = ap (λ l. get_or (set all.ends (row_at rows k).line e) l 0) f ∙ get_or-set_same all.ends (row_at rows k).line e 0 at_line in
+        (omega (arith, there, set_there), ap (chain_path plan all) set_there ∙ is ∙ ap (λ l. get_or (choices_of plan) l []) (sym f))
+    ends i a b (inr m) =
+        let kept : get_or (set all.ends (row_at rows k).line e) (row_at rows i).line 0 ≡ get_or all.ends (row_at rows i).line 0 = get_or-set_other all.ends (row_at rows k).line (row_at rows i).line e 0 m in
+        let low : i < k = omega (arith, a, λ (f : i ≡ k). m (ap (λ j. (row_at rows j).line) f)) in
+        let was = grown.ends i low b in
+        (omega (arith, was.0, kept), ap (chain_path plan all) kept ∙ was.1)
+
+  -- ---- all rows
+
+  pub grown_all : (first : ℕ) (all : Chained) → Grown plan rows (length rows) first all → AreChains plan all
+  grown_all first all grown = record {
+    forest = grown.forest;
+    owned = owned;
+    long = grown.long;
+    ends = λ number h.
+        let at = are.all number (omega (arith, h, length-map plan (λ (s : Named). s.1))) in
+        let was = grown.ends at.0 at.1 at.1 in
+        subst (λ n. (get_or all.ends n 0 < length all.heads) × (chain_path plan all (get_or all.ends n 0) ≡ choices_at plan n)) at.2 (was.0, was.1 ∙ sym (choices_is (row_at rows at.0).line));
+  } where
+    some_path : (path : List Choice) → path ≢ [] → 0 < length path
+    some_path [] n = absurd (n refl)
+    some_path (c ∷ path) n = omega arith
+
+    owned : (path : List Choice) → path ≢ [] → IsPrefix (choices_of plan) path → (c : ℕ) × Owns plan all c path
+    owned path n p =
+        let at = prefix_of (choices_of plan) path p in
+        let place = are.all at.0 at.1 in
+        let begun_so : placed (choices_of plan) rows place.0 ≡ path ++ at.2 = ap (λ l. get_or (choices_of plan) l []) place.2 ∙ at.3 in
+        let was = grown.before place.0 (length path) place.1 place.1 (some_path path n) (omega (arith, ap length begun_so, length-append path at.2)) in
+        (was.0, subst (Owns plan all was.0) (ap (take (length path)) begun_so ∙ take_front path at.2) was.1)
+
+-- the chain that makes no choice, alone
+pub grown_none : (plan : List Named) (rows : List Row) (ends : List ℕ) → length ends ≡ length plan → Grown plan rows 0 0 (record { heads = no_head ∷ []; kids = [] ∷ []; ends = ends })
+grown_none plan rows ends long = record {
+  forest = record {
+    some = omega arith;
+    rows = refl;
+    root = refl;
+    begins = λ c a b. absurd (omega (arith, a, b));
+    kids = kids_none;
+    alone = λ c d path o p. absurd (omega (arith, o.0, o.1));
+  };
+  before = λ i n a b c d. absurd (omega (arith, a));
+  here = λ n a b. absurd (omega (arith, a, b));
+  only = λ c path o. absurd (omega (arith, o.0, o.1));
+  last = omega arith;
+  long = long;
+  ends = λ i a b. absurd (omega (arith, a));
+} where
+  kids_none : (c d : ℕ) → times d (get_or ([] ∷ []) c []) ≡ one_if (is_kid (record { heads = no_head ∷ []; kids = [] ∷ []; ends = ends }) c d)
+  kids_none c d = ap (times d) (empty c) ∙ sym (ap one_if (no_kid d)) where
+    empty : (c : ℕ) → get_or {A = List ℕ} ([] ∷ []) c [] ≡ []
+    empty zero = refl
+    empty (suc c) = refl
+
+    no_kid : (d : ℕ) → is_kid (record { heads = no_head ∷ []; kids = [] ∷ []; ends = ends }) c d ≡ false
+    no_kid zero = refl
+    no_kid (suc d) = ap (λ b. nat_lt 0 (suc d) && b && (above (record { heads = no_head ∷ []; kids = [] ∷ []; ends = ends }) (suc d) == c)) (le-ltb (suc d) 1 (omega arith)) ∙ mid_false (nat_lt 0 (suc d)) false (above (record { heads = no_head ∷ []; kids = [] ∷ []; ends = ends }) (suc d) == c) refl
+
+-- ---- where the chains of a row end
+
+module _ (plan : List Named) (rows : List Row) (are : AreRows (choices_of plan) rows) where
+  cut_or_end : (i k n : ℕ) → i < length rows → k < length rows → n ≡ common (placed (choices_of plan) rows i) (placed (choices_of plan) rows k) → IsCut (choices_of plan) (take n (placed (choices_of plan) rows k))
+  cut_or_end i k n a b e = one (cases_lt n (length (placed (choices_of plan) rows k))) where
+    one : (n < length (placed (choices_of plan) rows k)) ⊎ (length (placed (choices_of plan) rows k) ≤ n) → IsCut (choices_of plan) (take n (placed (choices_of plan) rows k))
+    one (inl l) = cut_where_parted (choices_of plan) (row_at rows i).line (row_at rows k).line n (are.within i a) (are.within k b) e l
+    one (inr l) = inr (inl (ends_there (choices_of plan) (row_at rows k).line (take n (placed (choices_of plan) rows k)) (are.within k b) (take_all n (placed (choices_of plan) rows k) l)))
+
+  pub begin_cut : (k : ℕ) → k < length rows → IsCut (choices_of plan) (take (row_at rows k).common (placed (choices_of plan) rows k))
+  begin_cut zero h = inl (ap (λ n. take n (placed (choices_of plan) rows 0)) (are.commons 0 h))
+  begin_cut (suc i) h = cut_or_end i (suc i) (row_at rows (suc i)).common (omega (arith, h)) h (are.commons (suc i) h)
+
+  pub end_cut : (k past : ℕ) → k < length rows → (past ≡ length (placed (choices_of plan) rows k)) ⊎ ((j : ℕ) × (k < j) × (j < length rows) × (common (placed (choices_of plan) rows j) (placed (choices_of plan) rows k) ≡ past)) → IsCut (choices_of plan) (take past (placed (choices_of plan) rows k))
+  end_cut k past h (inl e) = inr (inl (ends_there (choices_of plan) (row_at rows k).line (take past (placed (choices_of plan) rows k)) (are.within k h) (take_all past (placed (choices_of plan) rows k) (omega (arith, e)))))
+  end_cut k past h (inr (j, a, b, e)) = cut_or_end j k past b h (sym e)
+
+  pub inside_cut : (k first past : ℕ) → k < length rows → (row_at rows k).common ≤ first → past ≤ length (placed (choices_of plan) rows k)
+      → ((j : ℕ) → k < j → j < length rows → first < common (placed (choices_of plan) rows j) (placed (choices_of plan) rows k) → common (placed (choices_of plan) rows j) (placed (choices_of plan) rows k) < past → ⊥)
+      → (n : ℕ) → first < n → n < past → IsCut (choices_of plan) (take n (placed (choices_of plan) rows k)) → ⊥
+  inside_cut k first past h low within between n a b cut =
+      let at = parted_at_cut (choices_of plan) (row_at rows k).line n (omega (arith, a)) (omega (arith, b, within)) cut in
+      let place = are.all at.0 at.1 in
+      let e : common (placed (choices_of plan) rows place.0) (placed (choices_of plan) rows k) ≡ n = ap (λ i. common (get_or (choices_of plan) i []) (placed (choices_of plan) rows k)) place.2 ∙ at.2 in
+      one place.0 place.1 e (cases_lt place.0 k) (cases_eq place.0 k) where
+        one : (j : ℕ) → j < length rows → common (placed (choices_of plan) rows j) (placed (choices_of plan) rows k) ≡ n → (j < k) ⊎ (k ≤ j) → (j ≡ k) ⊎ (j ≢ k) → ⊥
+        one j l e (inl m) _ = omega (arith, e, a, low, less_before plan rows are j k m h)
+        one j l e (inr _) (inl f) = omega (arith, b, within, e, ap (λ i. common (placed (choices_of plan) rows i) (placed (choices_of plan) rows k)) f, common_same (placed (choices_of plan) rows k))
+        one j l e (inr m) (inr f) = between j (omega (arith, m, f)) l (omega (arith, e, a)) (omega (arith, e, b))

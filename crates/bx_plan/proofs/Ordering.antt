@@ -1,0 +1,129 @@
+-- Schedules in order: those stand together that begin alike.
+use Rattle.std.proofs.Common.{◌≡◌, ◌≢◌, ◌⊎◌, inl, inr, ℕ, zero, suc, ◌+◌, ◌<◌, ◌≤◌, Bool, true, false, cond, List, [], ◌∷◌, ◌++◌, Option, None, Some, length, slice_get, refl, sym, ap, ◌∙◌, arith, Decides}
+use Rattle.std.specs.declared.cmp.Ordering.{Ordering}
+use Rattle.std.specs.declared.cmp.Ordering.TheVariants.{Less, Equal, Greater}
+use Rattle.std.specs.Ordering.{nat_cmp, ordering_then, ordering_reverse, is_gt}
+use Rattle.std.specs.Cmp.{IsTotalOrder}
+use Rattle.std.proofs.lemmas.Cmp.{nat_cmp_total, on_total, then_total, tied_itself}
+use Rattle.std.proofs.lemmas.Map.Lookups.{exact_unsigned}
+use Rattle.bx_world.specs.declared.choices.Choice.{Choice}
+use Rattle.bx_world.specs.declared.choices.Choice.TheVariants.{Run, Deliver, Expire}
+use Rattle.bx_plan.specs.Gathered.{rank, choice_cmp, choices_cmp, next_cmp, common}
+use Rattle.bx_plan.specs.Nodes.{choice_eq}
+use Rattle.bx_plan.proofs.Members.{choice_decides}
+
+pub choice_total : IsTotalOrder choice_cmp
+choice_total = then_total (on_total (λ c. (rank c).0) nat_cmp_total) (then_total (on_total (λ c. (rank c).1) nat_cmp_total) (on_total (λ c. (rank c).2) nat_cmp_total))
+
+first_equal : (o p : Ordering) → ordering_then o p ≡ Equal → o ≡ Equal
+first_equal Less p h = cc
+first_equal Equal p h = refl
+first_equal Greater p h = cc
+
+then_equal : (o p : Ordering) → ordering_then o p ≡ Equal → p ≡ Equal
+then_equal Less p h = cc
+then_equal Equal p h = h
+then_equal Greater p h = cc
+
+same_rank : (a b : Choice) → (rank a).0 ≡ (rank b).0 → (rank a).1 ≡ (rank b).1 → (rank a).2 ≡ (rank b).2 → a ≡ b
+same_rank (Run p) (Run q) e f g = ap (λ n. Run n) f
+same_rank (Deliver p q) (Deliver r s) e f g = ap (λ n. Deliver n q) f ∙ ap (λ n. Deliver r n) g
+same_rank (Expire p) (Expire q) e f g = ap (λ n. Expire n) f
+same_rank (Run p) (Deliver r s) e f g = absurd (omega (arith, e))
+same_rank (Run p) (Expire r) e f g = absurd (omega (arith, e))
+same_rank (Deliver p q) (Run r) e f g = absurd (omega (arith, e))
+same_rank (Deliver p q) (Expire r) e f g = absurd (omega (arith, e))
+same_rank (Expire p) (Run r) e f g = absurd (omega (arith, e))
+same_rank (Expire p) (Deliver r s) e f g = absurd (omega (arith, e))
+
+equal_choices : (a b : Choice) → choice_cmp a b ≡ Equal → a ≡ b
+equal_choices a b h =
+    let more = then_equal (nat_cmp (rank a).0 (rank b).0) (ordering_then (nat_cmp (rank a).1 (rank b).1) (nat_cmp (rank a).2 (rank b).2)) h in
+    same_rank a b (exact_unsigned (rank a).0 (rank b).0 (first_equal (nat_cmp (rank a).0 (rank b).0) (ordering_then (nat_cmp (rank a).1 (rank b).1) (nat_cmp (rank a).2 (rank b).2)) h))
+    (exact_unsigned (rank a).1 (rank b).1 (first_equal (nat_cmp (rank a).1 (rank b).1) (nat_cmp (rank a).2 (rank b).2) more))
+    (exact_unsigned (rank a).2 (rank b).2 (then_equal (nat_cmp (rank a).1 (rank b).1) (nat_cmp (rank a).2 (rank b).2) more))
+
+-- ---- what two begin with alike
+
+pub common_here : (x y : Choice) (xs ys : List Choice) → x ≡ y → common (x ∷ xs) (y ∷ ys) ≡ suc (common xs ys)
+common_here x y xs ys e = ap (λ b. cond b (suc (common xs ys)) 0) ((choice_decides x y).1 e)
+
+pub common_apart : (x y : Choice) (xs ys : List Choice) → x ≢ y → common (x ∷ xs) (y ∷ ys) ≡ 0
+common_apart x y xs ys n = one (choice_eq x y) refl where
+  one : (b : Bool) → choice_eq x y ≡ b → cond (choice_eq x y) (suc (common xs ys)) 0 ≡ 0
+  one true e = absurd (n ((choice_decides x y).0 e))
+  one false e = ap (λ b. cond b (suc (common xs ys)) 0) e
+
+-- two choices are the same, or not
+pub same_or_not : (x y : Choice) → (x ≡ y) ⊎ (x ≢ y)
+same_or_not x y = one (choice_eq x y) refl where
+  one : (b : Bool) → choice_eq x y ≡ b → (x ≡ y) ⊎ (x ≢ y)
+  one true e = inl ((choice_decides x y).0 e)
+  one false e = inr (λ s. let yes = (choice_decides x y).1 s in cc)
+
+-- a choice that is behind neither of two that are the same is that one
+abbrev Level : Ordering → Ordering → Ordering → Ordering → Type 0
+Level o p q r = (o ≡ Equal) × (p ≡ Equal) × (is_gt q ≡ false) × (is_gt r ≡ false)
+
+level : (o p q r : Ordering) → o ≡ ordering_reverse p → is_gt (ordering_then o q) ≡ false → is_gt (ordering_then p r) ≡ false → Level o p q r
+level Less Less q r e h k = cc
+level Less Equal q r e h k = cc
+level Less Greater q r e h k = cc
+level Equal Less q r e h k = cc
+level Equal Equal q r e h k = (refl, refl, h, k)
+level Equal Greater q r e h k = cc
+level Greater p q r e h k = cc
+
+pub between : (a b c : List Choice) → is_gt (choices_cmp a b) ≡ false → is_gt (choices_cmp b c) ≡ false → (common a c ≤ common a b) × (common a c ≤ common b c)
+between [] b c h k = (omega arith, omega arith)
+between (x ∷ xs) [] c h k = cc
+between (x ∷ xs) (y ∷ ys) [] h k = (omega arith, omega arith)
+between (x ∷ xs) (y ∷ ys) (z ∷ zs) h k = one (same_or_not x z) (between xs ys zs) where
+  one : (x ≡ z) ⊎ (x ≢ z) → (is_gt (choices_cmp xs ys) ≡ false → is_gt (choices_cmp ys zs) ≡ false → (common xs zs ≤ common xs ys) × (common xs zs ≤ common ys zs))
+      → (common (x ∷ xs) (z ∷ zs) ≤ common (x ∷ xs) (y ∷ ys)) × (common (x ∷ xs) (z ∷ zs) ≤ common (y ∷ ys) (z ∷ zs))
+  one (inr n) others = let none = common_apart x z xs zs n in (omega arith, omega arith)
+  one (inl e) others =
+      let turned : choice_cmp x y ≡ ordering_reverse (choice_cmp y z) = choice_total.antisymm x y ∙ ap (λ c. ordering_reverse (choice_cmp y c)) e in
+      let flat = level (choice_cmp x y) (choice_cmp y z) (choices_cmp xs ys) (choices_cmp ys zs) turned h k in
+      let first : x ≡ y = equal_choices x y flat.0 in
+      let second : y ≡ z = equal_choices y z flat.1 in
+      let rest = others flat.2 flat.3 in
+      (omega (arith, common_here x z xs zs e, common_here x y xs ys first, rest.0), omega (arith, common_here x z xs zs e, common_here y z ys zs second, rest.1))
+
+-- the order by where both part
+pub cmp_at : (a b : List Choice) → choices_cmp a b ≡ next_cmp (slice_get a (common a b)) (slice_get b (common a b))
+cmp_at [] [] = refl
+cmp_at [] (y ∷ ys) = refl
+cmp_at (x ∷ xs) [] = refl
+cmp_at (x ∷ xs) (y ∷ ys) = one (same_or_not x y) (cmp_at xs ys) where
+  go_on : (o p : Ordering) → o ≡ Equal → ordering_then o p ≡ p
+  go_on Less p e = cc
+  go_on Equal p e = refl
+  go_on Greater p e = cc
+
+  decided : (o p : Ordering) → (o ≡ Equal → ⊥) → ordering_then o p ≡ o
+  decided Less p n = refl
+  decided Equal p n = absurd (n refl)
+  decided Greater p n = refl
+
+  one : (x ≡ y) ⊎ (x ≢ y) → choices_cmp xs ys ≡ next_cmp (slice_get xs (common xs ys)) (slice_get ys (common xs ys))
+      → ordering_then (choice_cmp x y) (choices_cmp xs ys) ≡ next_cmp (slice_get (x ∷ xs) (common (x ∷ xs) (y ∷ ys))) (slice_get (y ∷ ys) (common (x ∷ xs) (y ∷ ys)))
+  one (inl e) rest =
+      go_on (choice_cmp x y) (choices_cmp xs ys) (ap (choice_cmp x) (sym e) ∙ tied_itself choice_total x) ∙ rest
+      ∙ ap (λ n. next_cmp (slice_get (x ∷ xs) n) (slice_get (y ∷ ys) n)) (sym (common_here x y xs ys e))
+  one (inr n) rest =
+      decided (choice_cmp x y) (choices_cmp xs ys) (λ s. n (equal_choices x y s))
+      ∙ ap (λ n. next_cmp (slice_get (x ∷ xs) n) (slice_get (y ∷ ys) n)) (sym (common_apart x y xs ys n))
+
+pub common_append : (front xs ys : List Choice) → common (front ++ xs) (front ++ ys) ≡ length front + common xs ys
+common_append [] xs ys = omega arith
+common_append (c ∷ front) xs ys = omega (arith, common_here c c (front ++ xs) (front ++ ys) refl, common_append front xs ys)
+
+pub common_turned : (xs ys : List Choice) → common xs ys ≡ common ys xs
+common_turned [] [] = refl
+common_turned [] (y ∷ ys) = refl
+common_turned (x ∷ xs) [] = refl
+common_turned (x ∷ xs) (y ∷ ys) = one (same_or_not x y) (common_turned xs ys) where
+  one : (x ≡ y) ⊎ (x ≢ y) → common xs ys ≡ common ys xs → common (x ∷ xs) (y ∷ ys) ≡ common (y ∷ ys) (x ∷ xs)
+  one (inl e) rest = common_here x y xs ys e ∙ ap suc rest ∙ sym (common_here y x ys xs (sym e))
+  one (inr n) rest = common_apart x y xs ys n ∙ sym (common_apart y x ys xs (λ e. n (sym e)))

@@ -1,0 +1,46 @@
+use Rattle.std.proofs.Common.{◌≡◌, ◌<◌, ◌≤◌, ◌+◌, List, Option, None, Some, Result, Ok, Err, length, take, get_or, sym, ap, subst, ◌∙◌, arith}
+use Rattle.std.proofs.lemmas.List.{get_or_default, length-map}
+use Rattle.bx_terms.specs.declared.faults.Fault.{Fault}
+use Rattle.bx_terms.specs.declared.faults.Fault.TheVariants.{TooLong}
+use Rattle.bx_plan.specs.declared.plans.Line.{Line}
+use Rattle.bx_plan.specs.declared.plans.building.Refusal.{Refusal}
+use Rattle.bx_plan.specs.declared.plans.building.Refusal.TheVariants.{Bad, Twice, Long}
+use Rattle.bx_terms.specs.Outcomes.{Gives}
+use Rattle.bx_plan.specs.Planned.{Planned, schedules}
+use Rattle.bx_plan.specs.Reading.{parts_of}
+use Rattle.bx_plan.specs.Building.{answer_of, fault_of, so_far}
+use Rattle.bx_plan.specs.Nodes.{node_count}
+use Rattle.bx_plan.specs.Plans.{Named, choices_of, plan_of, TakesMemory}
+use Rattle.bx_plan.specs.View.{line_view, lines_view}
+use Rattle.bx_plan.proofs.Adding.{few_all, stands_few, stands_full}
+use Rattle.bx_plan.proofs.plans.building.Builder.finish.Goals as goal
+
+pub returns-then-is_full : goal.returns-then-is_full
+returns-then-is_full c text is =
+    let self = c.args.self in
+    let k = c.last_fitting-last.result in
+    let there : k < length (so_far self) = omega (arith, c.last_fitting-last.ensures.there, ap length c.deref-then-is_full.ensures.value, length-map self.lines.items line_view) in
+    let fits : node_count (take k (choices_of (so_far self))) ≤ 1000000 = subst (λ (ls : List Line). node_count (take k (choices_of (lines_view ls))) ≤ 1000000) c.deref-then-is_full.ensures.value c.last_fitting-last.ensures.fits in
+    let full : 1000000 < node_count (take (k + 1) (choices_of (so_far self))) = subst (λ (ls : List Line). 1000000 < node_count (take (k + 1) (choices_of (lines_view ls)))) c.deref-then-is_full.ensures.value c.last_fitting-last.ensures.full in
+    stands_full (so_far self) self.numbers.items (answer_of c.args.refusal (so_far self)) (plan_of text) k fits full there is.stands
+    ∙ ap (λ m. Err (TooLong m)) (get_or_default self.numbers.items k 0 c.index.result.now (omega (arith, there, c.requires)) ∙ sym c.index.ensures)
+
+pub returns-in-None : goal.returns-in-None
+returns-in-None c text is =
+    let self = c.args.self in
+    let few = few_all c.deref-2.result.now self.lines.items c.len.result c.is_full.result c.deref-2.ensures.value (omega arith) c.is_full.ensures.1 c.if-is_full.false in
+    sym (stands_few (so_far self) self.numbers.items (answer_of c.args.refusal (so_far self)) (plan_of text) few is.stands) ∙ ap (λ (o : Option Refusal). answer_of o (so_far self)) c.in-None.is
+
+given : (takes : Type 0) (r : Refusal) (fault : Fault) (said : Result (List Named) Fault) → fault ≡ fault_of r → Err (fault_of r) ≡ said → Gives {X = Planned} {A = List Named} takes (λ plan. schedules plan) (Err fault) said
+given takes r fault said e f = subst (λ (x : Fault). Gives {X = Planned} {A = List Named} takes (λ plan. schedules plan) (Err x) said) (sym e) (one r f) where
+  one : (r : Refusal) → Err (fault_of r) ≡ said → Gives {X = Planned} {A = List Named} takes (λ plan. schedules plan) (Err (fault_of r)) said
+  one (Bad n) f = sym f
+  one (Twice n) f = sym f
+  one (Long n) f = sym f
+
+pub returns : goal.returns
+returns c text is =
+    let self = c.args.self in
+    let few = few_all c.deref-2.result.now self.lines.items c.len.result c.is_full.result c.deref-2.ensures.value (omega arith) c.is_full.ensures.1 c.if-is_full.false in
+    given (TakesMemory (parts_of 10 text)) c.in-Some.refusal c.fault.result (plan_of text) c.fault.ensures
+    (sym (ap (λ (o : Option Refusal). answer_of o (so_far self)) c.in-Some.is) ∙ stands_few (so_far self) self.numbers.items (answer_of c.args.refusal (so_far self)) (plan_of text) few is.stands)

@@ -1,0 +1,16 @@
+use Rattle.std.proofs.Common.{◌-◌, ◌<◌, ◌≤◌, length, take}
+use Rattle.bx_plan.specs.Nodes.{node_count}
+use Rattle.bx_plan.specs.Plans.{choices_of}
+use Rattle.bx_plan.specs.View.{lines_view}
+use Rattle.bx_plan.proofs.plans.counting.last_fitting.Given as goal
+
+abbrev pub invariant-loop-high : goal.invariant-loop-high
+invariant-loop-high l = record {
+  order : l.low < l.high;
+  within : l.high ≤ length l.lines;
+  fits : node_count (take l.low (choices_of (lines_view l.lines))) ≤ 1000000;
+  full : 1000000 < node_count (take l.high (choices_of (lines_view l.lines)));
+}
+
+abbrev pub decreases-loop-high : goal.decreases-loop-high
+decreases-loop-high l = l.high - l.low
