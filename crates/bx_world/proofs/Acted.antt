@@ -1,22 +1,19 @@
 -- What is asked of one process, carried to its life and to the others.
 use Rattle.std.proofs.Common.{◌≡◌, ◌≢◌, ◌<◌, ℕ, true, false, length, get_or, map, refl, ap, sym, subst, ◌∙◌}
 use Rattle.std.proofs.lemmas.Option.{slice_get-map, slice_get-get_or}
-use Rattle.std.specs.Prelude.{Bool, option_map, List, Option, None, Some, Result, Ok, Err, slice_get, if◌then◌else◌}
+use Rattle.std.specs.Prelude.{Bool, option_map, List, Some, Result, Ok, Err, slice_get, if◌then◌else◌}
 use Rattle.std.proofs.Math.ListN.{set}
 use Rattle.std.proofs.Math.Seq.{map-set_same}
 use Rattle.std.proofs.lemmas.List.{map-set}
-use Rattle.bx_terms.specs.Tree.{Tree, pid}
+use Rattle.bx_terms.specs.Tree.{Tree}
 use Rattle.bx_terms.specs.Outcomes.{Does}
 use Rattle.bx_terms.specs.declared.faults.Fault.{Fault}
 use Rattle.bx_terms.specs.declared.faults.Fault.TheVariants.{NotEnabled, Memory}
 use Rattle.bx_terms.specs.declared.places.Place.{Place}
 use Rattle.bx_load.specs.Image.{Loaded}
-use Rattle.bx_proc.specs.Process.{Process, can_run, can_run_in, can_expire}
+use Rattle.bx_proc.specs.Process.{Process, can_run, can_run_in}
 use Rattle.bx_proc.specs.Stepping.{StandsFree}
-use Rattle.bx_proc.specs.Signals.{expired}
-use Rattle.bx_proc.specs.declared.parts.Answer.TheVariants.{Value}
 use Rattle.bx_world.specs.declared.acts.Act.{Act}
-use Rattle.bx_world.specs.declared.acts.Act.TheVariants.{Hear, Expire, Spawned, Unspawned}
 use Rattle.bx_world.specs.declared.lanes.Lanes.{Lanes}
 use Rattle.bx_world.specs.declared.slots.Slot.{Slot}
 use Rattle.bx_world.specs.declared.slots.Slot.TheVariants as slots
@@ -24,10 +21,8 @@ use Rattle.bx_world.specs.Lives.{life}
 use Rattle.bx_world.specs.declared.turns.Turn.{Turn}
 use Rattle.bx_world.specs.declared.turns.Turn.TheVariants as turns
 use Rattle.bx_world.specs.World.{Life, Live, Exited}
-use Rattle.bx_world.specs.Lifetimes.{Lived, lived, lived_if, exited_if, life_expired, put_back, at_life, told_at, lives_told, lives_expired, lost_if}
-use Rattle.bx_world.specs.Deeds.{other_if, system_limit}
-use Rattle.bx_world.specs.Spawning.{life_answered, lives_answered}
-use Rattle.bx_world.specs.Acting.{process_acted, exited_acted, missed, life_acted, acted_at, lives_acted, MayLack}
+use Rattle.bx_world.specs.Lifetimes.{lived, lived_if, exited_if, put_back}
+use Rattle.bx_world.specs.Acting.{process_acted, exited_acted, life_acted, acted_at, lives_acted, MayLack}
 use Rattle.bx_world.proofs.Changing.{does_through, err_through}
 
 -- the life that is seen at a place
@@ -52,24 +47,6 @@ pub free_runs : (here : Place) (x : Process) → StandsFree here x → can_run x
 free_runs here x free = ap (λ s. can_run_in s x.mailbox) free.0
 
 module _ (image : Loaded) (p : ℕ) where
-  -- a process that lives
-  of_live : (act : Act) (l : Lanes) (x : Process) → life_acted image p act l (Live x) ≡ lived_if (process_acted image p act l x)
-  of_live (Hear q) l x = refl
-  of_live Expire l x = go (can_expire x)
-    where
-      go : (b : Bool) → ◌≡◌ {A = Result Lived Fault} (if b then Ok ((Live (expired x), l), turns.Ran) else Err NotEnabled) (lived_if (if b then Ok ((expired x, l), turns.Ran) else Err NotEnabled))
-      go true = refl
-      go false = refl
-  of_live (Spawned child linked) l x = refl
-  of_live Unspawned l x = refl
-
-  -- one that has exited
-  of_exited : (act : Act) (l : Lanes) (reason : Tree) → life_acted image p act l (Exited reason) ≡ exited_if reason (exited_acted act p l)
-  of_exited (Hear q) l reason = refl
-  of_exited Expire l reason = refl
-  of_exited (Spawned child linked) l reason = refl
-  of_exited Unspawned l reason = refl
-
   living : (w : Process × Lanes) (turn : Turn) → ((reason : Tree) → turn ≢ turns.Ended reason) → lived (w, turn) ≡ ((Live w.0, w.1), turn)
   living w turns.Ran other = refl
   living w (turns.Ended reason) other = absurd (other reason refl)
@@ -78,19 +55,19 @@ module _ (image : Loaded) (p : ℕ) where
 
   pub went : (act : Act) (x y : Process) (l m : Lanes) (turn : Turn) → ((reason : Tree) → turn ≢ turns.Ended reason) → process_acted image p act l x ≡ Ok ((y, m), turn)
       → life_acted image p act l (Live x) ≡ Ok ((Live y, m), turn)
-  went act x y l m turn other is = of_live act l x ∙ ap lived_if is ∙ ap Ok (living (y, m) turn other)
+  went act x y l m turn other is = ap lived_if is ∙ ap Ok (living (y, m) turn other)
 
   pub ended : (act : Act) (x y : Process) (l m : Lanes) (reason : Tree) → process_acted image p act l x ≡ Ok ((y, m), turns.Ended reason)
       → life_acted image p act l (Live x) ≡ Ok ((Exited reason, m), turns.Ran)
-  ended act x y l m reason is = of_live act l x ∙ ap lived_if is
+  ended act x y l m reason is = ap lived_if is
 
   pub exited_went : (act : Act) (reason : Tree) (l m : Lanes) → exited_acted act p l ≡ Ok (m, tt) → life_acted image p act l (Exited reason) ≡ Ok ((Exited reason, m), turns.Ran)
-  exited_went act reason l m is = of_exited act l reason ∙ ap (exited_if reason) is
+  exited_went act reason l m is = ap (exited_if reason) is
 
   pub exited_refused : (act : Act) (reason : Tree) (l m : Lanes) (takes : Type 0) (f : Fault) → Does {A = Unit {0}} takes l m (Err f) (exited_acted act p l)
       → Does {A = Turn} takes (Exited reason, l) (Exited reason, m) (Err f) (life_acted image p act l (Exited reason))
   exited_refused act reason l m takes f h =
-      err_through takes takes l m (Exited reason, l) (Exited reason, m) f (exited_acted act p l) (life_acted image p act l (Exited reason)) (λ t. t) (λ fault said. of_exited act l reason ∙ ap (exited_if reason) said)
+      err_through takes takes l m (Exited reason, l) (Exited reason, m) f (exited_acted act p l) (life_acted image p act l (Exited reason)) (λ t. t) (λ fault said. ap (exited_if reason) said)
       (λ same. ap (λ (n : Lanes). (Exited reason, n)) same) h
 
   -- among the others
@@ -107,25 +84,3 @@ module _ (image : Loaded) (p : ℕ) where
       (λ fault said. all ∙ ap (put_back p (map f xs)) said)
       (λ same. let first = map-set_same f xs p y x (ap (λ (w : Life × Lanes). w.0) same ∙ ap f is) in let second = ap (λ (w : Life × Lanes). w.1) same in λ i. (first i, second i))
       did
-
-  -- what each is among the others
-  pub told_is : (q : ℕ) (l : Lanes) (lives : List Life) → lives_acted image p (Hear q) l lives ≡ lives_told q p l lives
-  told_is q l lives = go (slice_get lives p)
-    where
-      go : (o : Option Life) → acted_at image p (Hear q) l lives o ≡ told_at q p l lives o
-      go None = refl
-      go (Some one) = refl
-
-  pub expired_is : (l : Lanes) (lives : List Life) → lives_acted image p Expire l lives ≡ lives_expired p l lives
-  expired_is l lives = go (slice_get lives p)
-    where
-      go : (o : Option Life) → acted_at image p Expire l lives o ≡ at_life (life_expired l) p lives o
-      go None = refl
-      go (Some one) = refl
-
-  pub spawned_is : (child : ℕ) (linked : Bool) (l : Lanes) (lives : List Life) → lives_acted image p (Spawned child linked) l lives ≡ lives_answered image p (other_if linked child) (Value (pid child)) l lives
-  spawned_is child linked l lives = go (slice_get lives p)
-    where
-      go : (o : Option Life) → acted_at image p (Spawned child linked) l lives o ≡ at_life (life_answered image p (other_if linked child) (Value (pid child)) l) p lives o
-      go None = refl
-      go (Some one) = refl

@@ -4,7 +4,7 @@ use Rattle.std.specs.Prelude.{IsTrue, ◌&&◌, if◌then◌else◌, is_some, is
 use Rattle.std.proofs.Math.ListN.{set}
 use Rattle.std.proofs.lemmas.List.{set-get_or}
 use Rattle.std.proofs.lemmas.Option.{get_or_from_slice_get}
-use Rattle.bx_terms.specs.Tree.{Tree, pid}
+use Rattle.bx_terms.specs.Tree.{pid}
 use Rattle.bx_terms.specs.declared.faults.Fault.{Fault}
 use Rattle.bx_terms.specs.declared.faults.Fault.TheVariants.{NotEnabled, Halted}
 use Rattle.bx_terms.specs.declared.kinds.Trap.{Trap}
@@ -15,8 +15,6 @@ use Rattle.bx_signals.specs.declared.signal.Signal.{Signal}
 use Rattle.bx_signals.specs.declared.signal.Signal.TheVariants as signals
 use Rattle.bx_proc.specs.Process.{Process, can_run, can_expire}
 use Rattle.bx_proc.specs.Signals.{expired}
-use Rattle.bx_proc.specs.Stepping.{settled}
-use Rattle.bx_proc.specs.declared.parts.Answer.{Answer}
 use Rattle.bx_proc.specs.declared.parts.Answer.TheVariants.{Value}
 use Rattle.bx_world.specs.declared.choices.Choice.{Choice}
 use Rattle.bx_world.specs.declared.choices.Choice.TheVariants.{Run, Deliver, Expire}
@@ -30,12 +28,15 @@ use Rattle.bx_world.specs.Asking.{Done, whole, done}
 use Rattle.bx_world.specs.Turning.{runs}
 use Rattle.bx_world.specs.Delivering.{heard, exited_heard, lost}
 use Rattle.bx_world.specs.Enabled.{able, can, actor, may_at, may_run, may_expire}
-use Rattle.bx_world.specs.Lifetimes.{Among, lived, lived_if, exited_if, life_run, life_expired, put_back, at_life, lives_run, lost_if, told_at}
-use Rattle.bx_world.specs.Spawning.{life_answered, lives_answered, childless_at_trap, lives_with_child, lives_spawned}
+use Rattle.bx_world.specs.declared.acts.Act.TheVariants as acts
+use Rattle.bx_world.specs.declared.acts.Act.TheVariants.{Hear, Spawned, Unspawned}
+use Rattle.bx_world.specs.Acting.{acted_at, lives_acted}
+use Rattle.bx_world.specs.Lifetimes.{Among, lived, lived_if, exited_if, life_run, put_back, at_life, lives_run, lost_if}
+use Rattle.bx_world.specs.Spawning.{childless_at_trap, lives_with_child, lives_spawned}
 use Rattle.bx_world.specs.Batches.{trap_in, tell, pinned, world_if}
 use Rattle.bx_world.specs.Choosing.{spawned_too, made, trap_of, world_of, unless_refused, chosen, applied}
 use Rattle.bx_world.specs.Deeds.{Deed, alone, past_limits, system_limit, other_if, is_answered, new_child, instruction, signalled}
-use Rattle.bx_world.specs.Changes.{Coming, change, spawned, run_turn, signal_change, run_coming, signal_coming, expire_coming, coming, after}
+use Rattle.bx_world.specs.Changes.{Coming, change, spawned, run_turn, run_coming, signal_coming, expire_coming, coming, after}
 use Rattle.bx_world.proofs.Deeds.{Quiet, plain, Spawns, asked, spawns, spawns_alone}
 
 -- what stood at a place, put there again
@@ -86,11 +87,11 @@ module _ (image : Loaded) (p : ℕ) (w : State) (x : Process) (at : slice_get w.
       let value = Value (pid count) in
       let other = other_if spawn.linked count in
       let more = w.processes ++ Live child ∷ [] in
-      go (past_limits spawn count) (lives_answered image p None system_limit w.lanes w.processes) (lives_with_child image p spawn w.lanes w.processes)
+      go (past_limits spawn count) (lives_acted image p Unspawned w.lanes w.processes) (lives_with_child image p spawn w.lanes w.processes)
       (is_answered image None system_limit x) (is_answered image other value x) (Some child)
-      (subst (λ (o : Option Life). Mirrors (Run p) w (at_life (life_answered image p None system_limit w.lanes) p w.processes o) (Ok (change None (is_answered image None system_limit x)))) (sym at)
+      (subst (λ (o : Option Life). Mirrors (Run p) w (acted_at image p Unspawned w.lanes w.processes o) (Ok (change None (is_answered image None system_limit x)))) (sym at)
       (deed_mirrors (Run p) w x (is_answered image None system_limit x) at))
-      (subst (λ (o : Option Life). Mirrors (Run p) w (childless_at_trap w.processes w.lanes (at_life (life_answered image p other value w.lanes) p more o)) (Ok (change (Some child) (is_answered image other value x))))
+      (subst (λ (o : Option Life). Mirrors (Run p) w (childless_at_trap w.processes w.lanes (acted_at image p (Spawned count spawn.linked) w.lanes more o)) (Ok (change (Some child) (is_answered image other value x))))
       (sym (got_before w.processes (Live child ∷ []) p (Live x) at))
       (child_mirrors p w x child (is_answered image other value x)))
     where
@@ -147,7 +148,7 @@ module _ (image : Loaded) (w : State) where
   told_with p q (Some (Live x)) s = put_back q w.processes (lived_if (heard p q x w.lanes s))
   told_with p q (Some (Exited reason)) s = put_back q w.processes (exited_if reason (exited_heard p q w.lanes s))
 
-  told_is : (p q : ℕ) (o : Option Life) → told_at p q w.lanes w.processes o ≡ told_with p q o (first (waiting w.lanes.channels (p, q)))
+  told_is : (p q : ℕ) (o : Option Life) → acted_at image q (Hear p) w.lanes w.processes o ≡ told_with p q o (first (waiting w.lanes.channels (p, q)))
   told_is p q None = refl
   told_is p q (Some (Live x)) = refl
   told_is p q (Some (Exited reason)) = refl
@@ -166,12 +167,12 @@ module _ (image : Loaded) (w : State) where
   told_mirrors p q (Some (Exited reason)) (Some (signals.LinkExit other)) at = refl
   told_mirrors p q (Some (Exited reason)) (Some (signals.Exit other)) at = refl
 
-  expire_mirrors : (p : ℕ) (o : Option Life) → Mirrors (Expire p) w (at_life (life_expired w.lanes) p w.processes o) (expire_coming o)
+  expire_mirrors : (p : ℕ) (o : Option Life) → Mirrors (Expire p) w (acted_at image p acts.Expire w.lanes w.processes o) (expire_coming o)
   expire_mirrors p None = refl
   expire_mirrors p (Some (Exited reason)) = refl
   expire_mirrors p (Some (Live x)) = go (can_expire x)
     where
-      go : (b : Bool) → Mirrors (Expire p) w (put_back p w.processes (if b then Ok ((Live (expired x), w.lanes), turns.Ran) else Err NotEnabled))
+      go : (b : Bool) → Mirrors (Expire p) w (put_back p w.processes (lived_if (if b then Ok ((expired x, w.lanes), turns.Ran) else Err NotEnabled)))
           (if b then Ok (Ok (record { life = Some (Live (expired x)); child = None; posts = []; takes = false; shows = None })) else Err NotEnabled)
       go true = refl
       go false = refl
@@ -285,13 +286,13 @@ whole_kept p lives l x w (turns.Ended reason) at = λ h. cc
 whole_kept p lives l x w (turns.Trapped kind) at = λ h. ap (λ (more : List Life). (more, l)) (set_back lives p (Live x) at)
 whole_kept p lives l x w (turns.Spawns spawn) at = λ h. cc
 
-pub answered_kept : (image : Loaded) (p : ℕ) (child : Option ℕ) (answer : Answer) (l : Lanes) (lives : List Life) → KeptIf is_trap (lives, l) (lives_answered image p child answer l lives)
-answered_kept image p child answer l lives = go (slice_get lives p) refl
+pub answered_kept : (image : Loaded) (p child : ℕ) (linked : Bool) (l : Lanes) (lives : List Life) → KeptIf is_trap (lives, l) (lives_acted image p (Spawned child linked) l lives)
+answered_kept image p child linked l lives = go (slice_get lives p) refl
   where
-    go : (o : Option Life) → slice_get lives p ≡ o → KeptIf is_trap (lives, l) (at_life (life_answered image p child answer l) p lives o)
+    go : (o : Option Life) → slice_get lives p ≡ o → KeptIf is_trap (lives, l) (acted_at image p (Spawned child linked) l lives o)
     go None at = tt
     go (Some (Exited reason)) at = tt
-    go (Some (Live x)) at = let d = done (Run p) l (is_answered image child answer x) in whole_kept p lives l x d.0 d.1 at
+    go (Some (Live x)) at = let d = done (Run p) l (is_answered image (other_if linked child) (Value (pid child)) x) in whole_kept p lives l x d.0 d.1 at
 
 -- and a run that asks for a spawn
 spawning_kept : (image : Loaded) (p : ℕ) (l : Lanes) (lives : List Life) (o : Option Life) → slice_get lives p ≡ o → KeptIf is_spawn (lives, l) (at_life (life_run image p l) p lives o)

@@ -1,5 +1,5 @@
 -- What choices make of channels, told by what they put and take.
-use Rattle.std.proofs.Common.{◌≡◌, ℕ, List, [], ◌∷◌, ◌++◌, Bool, true, false, cond, Option, Some, None, Result, Ok, Err, refl, sym, ap, subst, ◌∙◌, append_assoc, append-nil}
+use Rattle.std.proofs.Common.{◌≡◌, ℕ, List, [], ◌∷◌, ◌++◌, Bool, true, false, cond, Ok, Err, refl, sym, ap, ◌∙◌, append_assoc, append-nil}
 use Rattle.std.specs.Prelude.{◌&&◌, is_some, is_none, if◌then◌else◌}
 use Rattle.bx_terms.specs.declared.places.Place.{Place}
 use Rattle.bx_load.specs.Image.{Loaded}

@@ -1,13 +1,12 @@
 -- A local choice and any other of another actor are independent where both orders leave the process of the local one the same: all else is then the
 -- same by itself, even where that process is spawned by the other.
-use Rattle.std.proofs.Common.{◌≡◌, ◌≢◌, ℕ, ◌<◌, ◌≤◌, List, [], Bool, true, false, Option, Some, None, Ok, length, refl, sym, ap, ◌∙◌, arith}
+use Rattle.std.proofs.Common.{◌≡◌, ◌≢◌, ℕ, ◌<◌, ◌≤◌, [], Bool, true, false, Option, Some, None, Ok, length, refl, sym, ap, ◌∙◌, arith}
 use Rattle.std.specs.Prelude.{nat_lt, slice_get}
 use Rattle.std.proofs.lemmas.Bool.{ltb-true, ltb-false}
 use Rattle.std.proofs.lemmas.Option.{slice_get_within, slice_get_past}
 use Rattle.bx_load.specs.Image.{Loaded}
 use Rattle.bx_signals.specs.Channels.{Channels}
 use Rattle.bx_signals.specs.declared.signal.Signal.{Signal}
-use Rattle.bx_proc.specs.Process.{Process}
 use Rattle.bx_world.specs.declared.choices.Choice.{Choice}
 use Rattle.bx_world.specs.declared.choices.Choice.TheVariants.{Run, Deliver, Expire}
 use Rattle.bx_world.specs.declared.turns.Turn.{Turn}

@@ -1,22 +1,19 @@
 -- Choices of different actors, of which one at least is local, lead to the same world in both orders: their changes are the same in both.
-use Rattle.std.proofs.Common.{◌≡◌, ◌≢◌, ℕ, zero, suc, ◌<◌, ◌≤◌, List, [], ◌∷◌, ◌++◌, Bool, true, false, ◌⊎◌, inl, inr, Option, Some, None, Result, Ok, Err, length, refl, sym, ap, subst, ◌∙◌, arith, append_assoc, append-nil, length-append, length-set}
+use Rattle.std.proofs.Common.{◌≡◌, ◌≢◌, ℕ, zero, suc, ◌<◌, List, [], ◌∷◌, ◌++◌, Bool, true, false, ◌⊎◌, inl, inr, Option, Some, None, Result, Ok, Err, length, refl, sym, ap, subst, ◌∙◌, arith, append_assoc, append-nil, length-append, length-set}
 use Rattle.std.specs.Prelude.{◌&&◌, ◌||◌, is_some, is_none, if◌then◌else◌, slice_get, slice_set}
 use Rattle.std.proofs.lemmas.Bool.{cases_eq, false_from_ne_true}
 use Rattle.std.proofs.lemmas.Option.{slice_get_within}
-use Rattle.bx_terms.specs.Tree.{Tree, atom}
-use Rattle.bx_terms.specs.declared.fixed.TheConstants.{KILLED}
+use Rattle.bx_terms.specs.Tree.{Tree}
 use Rattle.bx_terms.specs.declared.faults.Fault.TheVariants.{NotEnabled}
 use Rattle.bx_terms.specs.declared.kinds.Trap.{Trap}
 use Rattle.bx_load.specs.Image.{Loaded}
 use Rattle.bx_signals.specs.Waiting.{first}
 use Rattle.bx_signals.specs.Channels.{Channels, waiting}
 use Rattle.bx_signals.specs.declared.signal.Signal.{Signal}
-use Rattle.bx_signals.specs.declared.signal.Signal.TheVariants as signals
 use Rattle.bx_signals.proofs.Maps.{same_channels, equal_pair}
 use Rattle.bx_signals.proofs.Turned.{same_everywhere}
-use Rattle.bx_cells.specs.Links.{among as holds}
 use Rattle.bx_proc.specs.Process.{Process, can_run, can_expire}
-use Rattle.bx_proc.specs.Signals.{without_link, expired}
+use Rattle.bx_proc.specs.Signals.{expired}
 use Rattle.bx_proc.specs.Stepping.{attempted}
 use Rattle.bx_proc.specs.declared.parts.Effect.{Effect}
 use Rattle.bx_proc.specs.declared.parts.Effect.TheVariants as effects
@@ -29,7 +26,7 @@ use Rattle.bx_world.specs.World.{Life, Live, Exited, State}
 use Rattle.bx_world.specs.Enabled.{able, can, actor, may_at, may_run, may_expire}
 use Rattle.bx_world.specs.Seen.{place_at}
 use Rattle.bx_world.specs.Sharing.{displayed}
-use Rattle.bx_world.specs.Deeds.{exit_message, is_kill, is_normal, low_enough, Posts, Deed, did, instruction, hears, dies, is_told, exit_comes, signalled}
+use Rattle.bx_world.specs.Deeds.{Posts, Deed, did, instruction, signalled}
 use Rattle.bx_world.specs.Changes.{Change, Coming, turned_to, run_turn, run_coming, signal_coming, expire_coming, change_of, heeds, coming, with_life, with_child, after}
 use Rattle.bx_world.specs.Choosing.{chosen}
 use Rattle.bx_world.specs.Posting.{same_pair, in_channel, as_row, first_of, put_by, taken_by, behind, all_behind}

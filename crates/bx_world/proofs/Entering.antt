@@ -1,11 +1,10 @@
 -- What stands in a set of links behind a choice stood there before it, or entered by it.
-use Rattle.std.proofs.Common.{◌≡◌, ◌≢◌, ℕ, zero, suc, ◌==◌, List, [], ◌∷◌, ◌++◌, Bool, true, false, cond, ◌⊎◌, inl, inr, ⊎_elim, Option, Some, None, Result, Ok, Err, length, refl, sym, ap, subst, ◌∙◌, arith}
+use Rattle.std.proofs.Common.{◌≡◌, ℕ, zero, suc, ◌==◌, List, [], ◌∷◌, ◌++◌, Bool, true, false, cond, ◌⊎◌, inl, inr, ⊎_elim, Option, Some, None, Ok, Err, length, refl, sym, ap, subst, ◌∙◌, arith}
 use Rattle.std.specs.Prelude.{◌||◌, not, if◌then◌else◌, nat_lt, slice_get, slice_set}
 use Rattle.std.proofs.lemmas.Bool.Decides.{nat_tests}
 use Rattle.bx_terms.specs.Tree.{Tree, atom, pid}
 use Rattle.bx_terms.specs.declared.fixed.TheConstants.{KILLED}
 use Rattle.bx_terms.specs.declared.faults.Fault.TheVariants.{NotEnabled}
-use Rattle.bx_terms.specs.declared.kinds.Trap.{Trap}
 use Rattle.bx_terms.specs.declared.places.Place.{Place}
 use Rattle.bx_load.specs.Image.{Loaded, export}
 use Rattle.bx_signals.specs.Waiting.{first}
@@ -32,7 +31,7 @@ use Rattle.bx_world.specs.World.{Life, Live, Exited, State, begun}
 use Rattle.bx_world.specs.Requests.{requested}
 use Rattle.bx_world.specs.Enabled.{can, actor}
 use Rattle.bx_world.specs.Deeds.{Deed, closes, yes, exit_message, is_kill, is_normal, low_enough, past_limits, system_limit, other_if, linked_to, is_answered, new_child, performs, did, instruction, hears, dies, is_told, exit_comes, signalled}
-use Rattle.bx_world.specs.Changes.{Change, Coming, change, turned_to, spawned, run_turn, run_coming, signal_coming, expire_coming, coming, with_life, with_child, after}
+use Rattle.bx_world.specs.Changes.{Coming, change, turned_to, spawned, run_turn, run_coming, signal_coming, expire_coming, coming, with_life, with_child, after}
 use Rattle.bx_world.specs.Choosing.{chosen}
 use Rattle.bx_world.specs.Posting.{behind, all_behind}
 use Rattle.bx_world.specs.Entering.{holds, is_linked, request_in, request_of, asks, SpawnsLinked, EntersByRun, Enters, Entered}

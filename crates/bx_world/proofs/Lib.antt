@@ -23,3 +23,4 @@ pub mod Commuting
 pub mod Orders
 pub mod Children
 pub mod Crossing
+pub mod Alone

@@ -8,18 +8,23 @@ use Rattle.bx_signals.specs.Waiting.{first}
 use Rattle.bx_signals.specs.Channels.{waiting}
 use Rattle.bx_proc.specs.Process.{Process, can_expire}
 use Rattle.bx_proc.specs.Signals.{expired}
+use Rattle.bx_proc.specs.declared.parts.Answer.{Answer}
 use Rattle.bx_proc.specs.declared.parts.Answer.TheVariants.{Value}
+use Rattle.bx_world.specs.declared.choices.Choice.TheVariants.{Run}
 use Rattle.bx_world.specs.declared.acts.Act.{Act}
 use Rattle.bx_world.specs.declared.acts.Act.TheVariants.{Hear, Expire, Spawned, Unspawned}
 use Rattle.bx_world.specs.declared.lanes.Lanes.{Lanes}
 use Rattle.bx_world.specs.declared.turns.Turn.TheVariants as turns
-use Rattle.bx_world.specs.World.{Life}
-use Rattle.bx_world.specs.Asking.{Done}
+use Rattle.bx_world.specs.World.{Life, Live, Exited}
+use Rattle.bx_world.specs.Asking.{Done, whole, done}
 use Rattle.bx_world.specs.Delivering.{received, exited_received, lost}
 use Rattle.bx_world.specs.Enabled.{may_at, may_expire}
-use Rattle.bx_world.specs.Lifetimes.{Lived, Among, life_told, life_expired, put_back, lost_if, Waits}
-use Rattle.bx_world.specs.Deeds.{other_if, system_limit}
-use Rattle.bx_world.specs.Spawning.{answering, life_answered}
+use Rattle.bx_world.specs.Lifetimes.{Lived, Among, lived_if, exited_if, put_back, lost_if, Waits}
+use Rattle.bx_world.specs.Deeds.{other_if, system_limit, is_answered}
+
+-- the parent enters its child into its set, where they are linked, and is answered
+abbrev pub answering : Loaded → ℕ → Option ℕ → Answer → Process → Lanes → Done
+answering image p child answer x lanes = whole (x, lanes) (done (Run p) lanes (is_answered image child answer x))
 
 -- a wait that can expire is over
 abbrev pub expiring : Lanes → Process → Result Done Fault
@@ -43,10 +48,8 @@ missed act p lanes = Err NotEnabled
 
 -- of a life
 abbrev pub life_acted : Loaded → ℕ → Act → Lanes → Life → Result Lived Fault
-life_acted image p (Hear q) lanes one = life_told q p lanes one
-life_acted image p Expire lanes one = life_expired lanes one
-life_acted image p (Spawned child linked) lanes one = life_answered image p (other_if linked child) (Value (pid child)) lanes one
-life_acted image p Unspawned lanes one = life_answered image p None system_limit lanes one
+life_acted image p act lanes (Live x) = lived_if (process_acted image p act lanes x)
+life_acted image p act lanes (Exited reason) = exited_if reason (exited_acted act p lanes)
 
 -- among the others
 abbrev pub acted_at : Loaded → ℕ → Act → Lanes → List Life → Option Life → Result Among Fault

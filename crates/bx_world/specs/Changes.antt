@@ -9,13 +9,11 @@ use Rattle.bx_terms.specs.declared.faults.Fault.TheVariants.{NotEnabled}
 use Rattle.bx_terms.specs.declared.kinds.Trap.{Trap}
 use Rattle.bx_load.specs.Image.{Loaded}
 use Rattle.bx_signals.specs.Waiting.{first}
-use Rattle.bx_signals.specs.Channels.{Channels, waiting, put, taken}
+use Rattle.bx_signals.specs.Channels.{Channels, waiting}
 use Rattle.bx_signals.specs.declared.signal.Signal.{Signal}
 use Rattle.bx_signals.specs.declared.signal.Signal.TheVariants as signals
 use Rattle.bx_proc.specs.Process.{Process, can_run, can_expire}
 use Rattle.bx_proc.specs.Signals.{expired}
-use Rattle.bx_proc.specs.Stepping.{settled}
-use Rattle.bx_proc.specs.declared.parts.Answer.{Answer}
 use Rattle.bx_proc.specs.declared.parts.Answer.TheVariants.{Value}
 use Rattle.bx_world.specs.declared.choices.Choice.{Choice}
 use Rattle.bx_world.specs.declared.choices.Choice.TheVariants.{Run, Deliver, Expire}

@@ -1,9 +1,13 @@
 -- What a choice makes of a world.
-use Rattle.std.specs.Prelude.{ℕ, List, Option, Some, None, Result, Ok, Err, is_some, if◌then◌else◌}
+use Rattle.std.specs.Prelude.{ℕ, List, [], Option, Some, None, Result, Ok, Err, is_some, if◌then◌else◌}
+use Rattle.std.specs.FinMap as map
 use Rattle.bx_terms.specs.declared.faults.Fault.{Fault}
 use Rattle.bx_terms.specs.declared.faults.Fault.TheVariants.{NotEnabled, Halted}
 use Rattle.bx_terms.specs.declared.kinds.Trap.{Trap}
 use Rattle.bx_load.specs.Image.{Loaded}
+use Rattle.bx_signals.specs.Channels.{Channels, put}
+use Rattle.bx_signals.specs.declared.signal.Signal.{Signal}
+use Rattle.bx_world.specs.declared.acts.Act.TheVariants as acts
 use Rattle.bx_world.specs.declared.choices.Choice.{Choice}
 use Rattle.bx_world.specs.declared.choices.Choice.TheVariants.{Run, Deliver, Expire}
 use Rattle.bx_world.specs.declared.lanes.Lanes.{Lanes}
@@ -11,9 +15,10 @@ use Rattle.bx_world.specs.declared.turns.Turn.{Turn}
 use Rattle.bx_world.specs.declared.turns.Turn.TheVariants as turns
 use Rattle.bx_world.specs.World.{Life, State}
 use Rattle.bx_world.specs.Enabled.{can}
-use Rattle.bx_world.specs.Lifetimes.{Among, lives_run, lives_told, lives_expired}
+use Rattle.bx_world.specs.Lifetimes.{Among, lives_run}
+use Rattle.bx_world.specs.Acting.{lives_acted}
 use Rattle.bx_world.specs.Spawning.{lives_spawned}
-use Rattle.bx_world.specs.Changes.{coming, after}
+use Rattle.bx_world.specs.Changes.{heeds, coming, after}
 
 -- a run may ask for a spawn
 abbrev pub spawned_too : Loaded → ℕ → Result Among Fault → Result Among Fault
@@ -23,8 +28,8 @@ spawned_too image p answer = answer
 -- a choice among the processes, beside the lanes
 abbrev pub made : Loaded → Choice → List Life → Lanes → Result Among Fault
 made image (Run p) lives lanes = spawned_too image p (lives_run image p lanes lives)
-made image (Deliver p q) lives lanes = lives_told p q lanes lives
-made image (Expire p) lives lanes = lives_expired p lanes lives
+made image (Deliver p q) lives lanes = lives_acted image q (acts.Hear p) lanes lives
+made image (Expire p) lives lanes = lives_acted image p acts.Expire lanes lives
 
 abbrev pub trap_of : ℕ → Turn → Option (Trap × ℕ)
 trap_of p (turns.Trapped kind) = Some (kind, p)
@@ -47,3 +52,27 @@ unless_refused (Some fault) w = Err fault
 
 abbrev pub applied : Loaded → Choice → State → Result (State × Unit {0}) Fault
 applied image choice w = unless_refused (refusal w choice) (chosen image choice w)
+
+-- ---- a choice by itself
+
+-- nothing waits but the signal that the choice takes
+abbrev pub put_alone : Choice → Option Signal → Channels Signal
+put_alone (Deliver p q) (Some signal) = put (p, q) signal map.empty
+put_alone (Deliver p q) None = map.empty
+put_alone (Run p) signal = map.empty
+put_alone (Expire p) signal = map.empty
+
+-- and nothing was displayed
+abbrev pub only : Choice → Lanes → Lanes
+only choice lanes = record { channels = put_alone choice (heeds choice lanes.channels); output = [] }
+
+abbrev pub bare : Choice → State → State
+bare choice w = record w { lanes = only choice w.lanes }
+
+abbrev pub shown_if : Option Fault → State → Result State Fault
+shown_if None v = Ok v
+shown_if (Some fault) v = Err fault
+
+-- what a choice does in a world, applied where nothing else is on its way
+abbrev pub shown_alone : Loaded → Choice → State → Result State Fault
+shown_alone image choice w = shown_if (refusal w choice) (after choice (bare choice w) (coming image choice w))

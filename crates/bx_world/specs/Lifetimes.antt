@@ -6,15 +6,13 @@ use Rattle.bx_terms.specs.declared.faults.Fault.TheVariants.{NotEnabled}
 use Rattle.bx_load.specs.Image.{Loaded}
 use Rattle.bx_signals.specs.Waiting.{first}
 use Rattle.bx_signals.specs.Channels.{waiting}
-use Rattle.bx_proc.specs.Process.{can_run, can_expire}
-use Rattle.bx_proc.specs.Signals.{expired}
+use Rattle.bx_proc.specs.Process.{can_run}
 use Rattle.bx_world.specs.declared.lanes.Lanes.{Lanes}
 use Rattle.bx_world.specs.declared.turns.Turn.{Turn}
 use Rattle.bx_world.specs.declared.turns.Turn.TheVariants.{Ran, Ended, Trapped, Spawns}
 use Rattle.bx_world.specs.World.{Life, Live, Exited}
 use Rattle.bx_world.specs.Asking.{Done}
 use Rattle.bx_world.specs.Turning.{runs}
-use Rattle.bx_world.specs.Delivering.{received, exited_received, lost}
 
 -- a life and the lanes, and what was done; of a process that ended the reason alone stays
 abbrev pub Lived : Type 0
@@ -39,16 +37,6 @@ abbrev pub life_run : Loaded → ℕ → Lanes → Life → Result Lived Fault
 life_run image p lanes (Live x) = if can_run x then Ok (lived (runs image p lanes x)) else Err NotEnabled
 life_run image p lanes (Exited reason) = Err NotEnabled
 
--- the first signal from p takes effect at q
-abbrev pub life_told : ℕ → ℕ → Lanes → Life → Result Lived Fault
-life_told p q lanes (Live x) = lived_if (received p q x lanes)
-life_told p q lanes (Exited reason) = exited_if reason (exited_received p q lanes)
-
--- a wait that can expire is over
-abbrev pub life_expired : Lanes → Life → Result Lived Fault
-life_expired lanes (Live x) = if can_expire x then Ok ((Live (expired x), lanes), Ran) else Err NotEnabled
-life_expired lanes (Exited reason) = Err NotEnabled
-
 -- the same among the others
 abbrev pub Among : Type 0
 Among = (List Life × Lanes) × Turn
@@ -64,20 +52,10 @@ at_life does p lives None = Err NotEnabled
 abbrev pub lives_run : Loaded → ℕ → Lanes → List Life → Result Among Fault
 lives_run image p lanes lives = at_life (life_run image p lanes) p lives (slice_get lives p)
 
-abbrev pub lives_expired : ℕ → Lanes → List Life → Result Among Fault
-lives_expired p lanes lives = at_life (life_expired lanes) p lives (slice_get lives p)
-
 -- to a pid that no process has a signal is lost
 abbrev pub lost_if : List Life → Result (Lanes × Unit {0}) Fault → Result Among Fault
 lost_if lives (Ok done) = Ok ((lives, done.0), Ran)
 lost_if lives (Err fault) = Err fault
-
-abbrev pub told_at : ℕ → ℕ → Lanes → List Life → Option Life → Result Among Fault
-told_at p q lanes lives (Some one) = put_back q lives (life_told p q lanes one)
-told_at p q lanes lives None = lost_if lives (lost p q lanes (first (waiting lanes.channels (p, q))))
-
-abbrev pub lives_told : ℕ → ℕ → Lanes → List Life → Result Among Fault
-lives_told p q lanes lives = told_at p q lanes lives (slice_get lives q)
 
 -- a signal waits there
 abbrev pub Waits : ℕ → ℕ → Lanes → Type 0

@@ -69,7 +69,7 @@ impl Actor<'_> {
         match request {
             Request::Refused => {
                 let answer = Answer::Fault(Class::Error, Term::atom(fixed::BADARG));
-                self.close_whole(process, lanes, &answer)
+                self.close(process, lanes, &answer)
             }
             Request::Send(to, message) => self.send(process, lanes, to, message),
             Request::Exit(to, reason) => self.exit(process, lanes, to, reason),
@@ -114,15 +114,16 @@ impl Actor<'_> {
     }
 
     /// Gives a process its answer: it goes on, or it ends and tells its links.
-    #[tactic(auto, using(crate::proofs::Halting::went_on, crate::proofs::Halting::any_takes))]
+    #[tactic(auto, using(crate::proofs::Undoing::whole_alone, crate::proofs::Halting::went_on, crate::proofs::Halting::any_takes))]
     pub(crate) fn close(
         self,
         process: &mut Proc,
         lanes: &mut Lanes,
         answer: &Answer,
     ) -> Result<Turn, Fault>
-        ensures { Does (Unit {0}) (process.old, lanes.old) (process.new, lanes.new) result
-            (Ok (closing self.entry.pid lanes.old (settled self.entry.image.now answer.now process.old))) }
+        ensures { Does (Unit {0}) (process.old, lanes.old) (process.new, lanes.new) result (Ok (whole
+            (process.old, lanes.old)
+            (closing self.entry.pid lanes.old (settled self.entry.image.now answer.now process.old)))) }
     {
         match process.settle(self.alloc, self.image, answer) {
             Ok(()) => Ok(Turn::Ran),
@@ -149,23 +150,8 @@ impl Actor<'_> {
         }
     }
 
-    /// Gives a process its answer, where nothing else was done.
-    #[tactic(auto, using(crate::proofs::Undoing::whole_alone))]
-    pub(crate) fn close_whole(
-        self,
-        process: &mut Proc,
-        lanes: &mut Lanes,
-        answer: &Answer,
-    ) -> Result<Turn, Fault>
-        ensures { Does (Unit {0}) (process.old, lanes.old) (process.new, lanes.new) result (Ok (whole
-            (process.old, lanes.old)
-            (closing self.entry.pid lanes.old (settled self.entry.image.now answer.now process.old)))) }
-    {
-        self.close(process, lanes, answer)
-    }
-
     /// Puts a signal to another process, and gives the sender its answer.
-    #[tactic(auto, using(crate::proofs::Undoing::told_trapped, crate::proofs::Undoing::stood, crate::proofs::Undoing::untold))]
+    #[tactic(auto, using(crate::proofs::Undoing::back_trapped, crate::proofs::Undoing::rewhole, crate::proofs::Undoing::untold))]
     fn tell(
         self,
         process: &mut Proc,
@@ -251,7 +237,7 @@ impl Actor<'_> {
             (Ok (whole (process.old, lanes.old) (linking self.entry.image.now self.entry.pid to process.old lanes.old))) }
     {
         if to == self.pid || process.is_linked(to) {
-            return self.close_whole(process, lanes, &yes());
+            return self.close(process, lanes, &yes());
         }
         if let Err(_signal) = lanes.channels.put(self.alloc, self.pid, to, Signal::Link) {
             return Err(Fault::Memory);
@@ -275,7 +261,7 @@ impl Actor<'_> {
             (Ok (whole (process.old, lanes.old) (unlinking self.entry.image.now self.entry.pid to process.old lanes.old))) }
     {
         if to == self.pid || !process.is_linked(to) {
-            return self.close_whole(process, lanes, &yes());
+            return self.close(process, lanes, &yes());
         }
         if let Err(_signal) = lanes.channels.put(self.alloc, self.pid, to, Signal::Unlink) {
             return Err(Fault::Memory);
@@ -386,10 +372,10 @@ impl Actor<'_> {
             (closing self.entry.pid lanes.old (settled self.entry.image.now answer.now (with_link child process.old))))) }
     {
         if process.is_linked(child) {
-            return self.close_whole(process, lanes, answer);
+            return self.close(process, lanes, answer);
         }
         process.add_link(child)?;
-        let turn = match self.close_whole(process, lanes, answer) {
+        let turn = match self.close(process, lanes, answer) {
             Ok(turn) => turn,
             Err(refused) => {
                 process.drop_link(child);

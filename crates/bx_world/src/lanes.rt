@@ -2,8 +2,10 @@
 
 ghost use Rattle.std.specs.Prelude.{◌≡◌, [], IfOk};
 ghost use Rattle.std.specs.FinMap as map;
+ghost use Rattle.bx_world.specs.Choosing.{only};
 ghost use Rattle.bx_world.specs.Sharing.{hearing};
 
+use crate::choices::Choice;
 use crate::output::Output;
 use bx_share::{Copied, Same};
 use bx_signals::Channels;
@@ -43,6 +45,24 @@ impl Lanes {
         let mut channels = self.channels.copy(alloc)?;
         channels.unshare(alloc, room)?;
         Ok(Lanes { channels, output })
+    }
+
+    /// Nothing but the signal that a choice takes. The term is shared.
+    pub(crate) fn only(&self, alloc: Global, choice: Choice) -> Result<Lanes, AllocError>
+        ensures { IfOk result (λ lanes. lanes ≡ only choice self.now) }
+    {
+        let mut lanes = Lanes::new(alloc);
+        let Choice::Deliver(from, to) = choice else {
+            return Ok(lanes);
+        };
+        let Some(signal) = self.channels.first(from, to) else {
+            return Ok(lanes);
+        };
+        let signal = signal.clone()?;
+        if let Err(_signal) = lanes.channels.put(alloc, from, to, signal) {
+            return Err(AllocError);
+        }
+        Ok(lanes)
     }
 
     /// Takes the signal that waits first.

@@ -5,7 +5,7 @@ ghost use Rattle.bx_terms.specs.Outcomes.{Does, Gives};
 ghost use Rattle.bx_load.specs.Image.{export};
 ghost use Rattle.bx_world.specs.World.{started};
 ghost use Rattle.bx_world.specs.Enabled.{enabled, open_choices, can};
-ghost use Rattle.bx_world.specs.Choosing.{applied};
+ghost use Rattle.bx_world.specs.Choosing.{applied, bare, shown_alone};
 ghost use Rattle.bx_world.specs.Batches.{Fits, WorldActs, WorldRunsOn, state_after};
 ghost use Rattle.bx_world.specs.declared.acts.Act.TheVariants as acts;
 ghost use Rattle.bx_world.specs.declared.choices.Choice.TheVariants as choices;
@@ -144,6 +144,41 @@ impl<P: Hold<Proc>, C: Hold<Lanes>> World<P, C> {
             Some(tried) => tried.answer(),
             None => Ok(()),
         }
+    }
+
+    /// What a choice would do, by itself: a world of equal processes in which nothing waited but the signal that the choice takes and
+    /// nothing was displayed, behind that choice. So its channels hold what the choice puts, and its output what it displays.
+    ///
+    /// `Halted` exactly where the world has trapped, else `NotEnabled` exactly where the choice is not enabled.
+    pub fn change(&self, alloc: Global, image: &Image, choice: Choice) -> Result<World<P, C>, Fault>
+        ensures { Gives (IsTrue (can self.now choice)) (λ w. w) result
+            (shown_alone image.now choice self.now) }
+    {
+        if self.trap.is_some() {
+            return Err(Fault::Halted);
+        }
+        if !self.can(choice) {
+            return Err(Fault::NotEnabled);
+        }
+        let mut world = self.bare(alloc, choice)?;
+        match world.apply(alloc, image, choice) {
+            Ok(()) => Ok(world),
+            Err(refused) => Err(refused),
+        }
+    }
+
+    /// Equal processes, and nothing on its way but the signal that a choice takes.
+    fn bare(&self, alloc: Global, choice: Choice) -> Result<World<P, C>, AllocError>
+        ensures { IfOk result (λ w. w ≡ bare choice self.now) }
+    {
+        let procs = self.procs.share(alloc)?;
+        let lanes = self.lanes.see().only(alloc, choice)?;
+        let lanes = C::put(alloc, lanes)?;
+        Ok(World {
+            procs,
+            lanes,
+            trap: self.trap,
+        })
     }
 
     /// Applies a choice, at most so many times: a run as often as its process runs by itself, and then once more, whatever that has

@@ -6,6 +6,8 @@ mod answers;
 #[cfg(test)]
 mod arguments;
 #[cfg(test)]
+mod changes;
+#[cfg(test)]
 mod exits;
 #[cfg(test)]
 mod last_calls;

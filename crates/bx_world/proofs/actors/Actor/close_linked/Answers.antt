@@ -17,8 +17,8 @@ returns-in-Err c =
     let l = c.args.lanes.now in
     let p = c.args.self.pid in
     let q = c.args.child in
-    let y = c.close_whole-2.new.process in
-    let m = c.close_whole-2.new.lanes in
+    let y = c.close-2.new.process in
+    let m = c.close-2.new.lanes in
     let fresh : among q x.links ≡ false = sym c.is_linked.ensures.told ∙ c.if-is_linked.false in
     let added = (became (with_link q x) c.add_link.new.self c.in_ok-add_link.ensures) in
     refused_back (x, l) (c.add_link.new.self, l) (y, m) (c.drop_link.new.self, m) c.in-Err.refused
@@ -31,8 +31,8 @@ pub returns : goal.returns
 returns c =
     let x = c.args.process.now in
     let l = c.args.lanes.now in
-    let y = c.close_whole-2.new.process in
-    let m = c.close_whole-2.new.lanes in
+    let y = c.close-2.new.process in
+    let m = c.close-2.new.lanes in
     let p = c.args.self.pid in
     let q = c.args.child in
     let fresh : among q x.links ≡ false = sym c.is_linked.ensures.told ∙ c.if-is_linked.false in

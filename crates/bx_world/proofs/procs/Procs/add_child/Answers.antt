@@ -1,17 +1,14 @@
 use Rattle.std.proofs.Common.{◌≡◌, Ok, sym, ap, ◌∙◌, arith}
 use Rattle.std.proofs.lemmas.List.{length-map}
 use Rattle.std.specs.Prelude.{ℕ, List, [], ◌∷◌, ◌++◌, length}
-use Rattle.bx_terms.specs.Tree.{pid}
-use Rattle.bx_proc.specs.declared.parts.Answer.TheVariants.{Value}
 use Rattle.bx_world.specs.declared.turns.Turn.{Turn}
 use Rattle.bx_world.specs.declared.turns.Turn.TheVariants.{Trapped}
 use Rattle.bx_world.specs.World.{Life, Live}
 use Rattle.bx_world.specs.Lives.{life}
 use Rattle.bx_world.specs.declared.acts.Act.TheVariants.{Spawned}
 use Rattle.bx_world.specs.Acting.{lives_acted}
-use Rattle.bx_world.specs.Deeds.{other_if, new_child}
-use Rattle.bx_world.specs.Spawning.{lives_answered, childless_at_trap, lives_with_child}
-use Rattle.bx_world.proofs.Acted.{spawned_is}
+use Rattle.bx_world.specs.Deeds.{new_child}
+use Rattle.bx_world.specs.Spawning.{childless_at_trap, lives_with_child}
 use Rattle.bx_world.proofs.Changing.{err_through}
 use Rattle.bx_world.proofs.Applying.{answered_kept}
 use Rattle.bx_world.proofs.Growing.{popped, grown_trapped}
@@ -28,16 +25,16 @@ returns-in-Ok-Trapped g c =
     let kind = c.in-Ok-Trapped.kind in
     let child = new_child image p spawn in
     let k = c.len-child.result in
-    let r = lives_answered image p (other_if spawn.linked k) (Value (pid k)) l c.push.new.self in
+    let r = lives_acted image p (Spawned k spawn.linked) l c.push.new.self in
     let count : k ≡ length lives = omega (arith, length-map c.self.inside.slots.items (life g.P.Hold.shown), ap length c.self.view_is) in
     let made : child ≡ c.in_ok-process.process = let e = c.in_ok-process.ensures in cc in
     let pushed : c.push.new.self ≡ lives ++ Live child ∷ [] = c.in_ok-push.ensures.ok ∙ ap (λ x. lives ++ Live x ∷ []) (sym made) in
     let whole : lives_with_child image p spawn l lives ≡ childless_at_trap lives l r =
-    ap (λ (m : ℕ). childless_at_trap lives l (lives_answered image p (other_if spawn.linked m) (Value (pid m)) l (lives ++ Live child ∷ []))) (sym count)
-    ∙ ap (λ (more : List Life). childless_at_trap lives l (lives_answered image p (other_if spawn.linked k) (Value (pid k)) l more)) (sym pushed) in
+    ap (λ (m : ℕ). childless_at_trap lives l (lives_acted image p (Spawned m spawn.linked) l (lives ++ Live child ∷ []))) (sym count)
+    ∙ ap (λ (more : List Life). childless_at_trap lives l (lives_acted image p (Spawned k spawn.linked) l more)) (sym pushed) in
     whole
-    ∙ grown_trapped lives c.push.new.self c.act.new.self (Live child) l n kind r pushed (answered_kept image p (other_if spawn.linked k) (Value (pid k)) l c.push.new.self)
-    (sym (spawned_is image p k spawn.linked l c.push.new.self) ∙ c.in-Ok-Trapped.ensures ∙ ap (λ (t : Turn). Ok ((c.act.new.self, n), t)) c.in-Ok-Trapped.field-0-is)
+    ∙ grown_trapped lives c.push.new.self c.act.new.self (Live child) l n kind r pushed (answered_kept image p k spawn.linked l c.push.new.self)
+    (c.in-Ok-Trapped.ensures ∙ ap (λ (t : Turn). Ok ((c.act.new.self, n), t)) c.in-Ok-Trapped.field-0-is)
     ∙ ap (λ (more : List Life). Ok ((more, n), Trapped kind)) (sym c.pop.ensures)
 
 pub returns-in-Err : goal.returns-in-Err
@@ -50,16 +47,16 @@ returns-in-Err g c =
     let n = g.C.Hold.shown c.act.new.lanes in
     let child = new_child image p spawn in
     let k = c.len-child.result in
-    let r = lives_answered image p (other_if spawn.linked k) (Value (pid k)) l c.push.new.self in
+    let r = lives_acted image p (Spawned k spawn.linked) l c.push.new.self in
     let count : k ≡ length lives = omega (arith, length-map c.self.inside.slots.items (life g.P.Hold.shown), ap length c.self.view_is) in
     let made : child ≡ c.in_ok-process.process = let e = c.in_ok-process.ensures in cc in
     let pushed : c.push.new.self ≡ lives ++ Live child ∷ [] = c.in_ok-push.ensures.ok ∙ ap (λ x. lives ++ Live x ∷ []) (sym made) in
     let whole : lives_with_child image p spawn l lives ≡ childless_at_trap lives l r =
-    ap (λ (m : ℕ). childless_at_trap lives l (lives_answered image p (other_if spawn.linked m) (Value (pid m)) l (lives ++ Live child ∷ []))) (sym count)
-    ∙ ap (λ (more : List Life). childless_at_trap lives l (lives_answered image p (other_if spawn.linked k) (Value (pid k)) l more)) (sym pushed) in
+    ap (λ (m : ℕ). childless_at_trap lives l (lives_acted image p (Spawned m spawn.linked) l (lives ++ Live child ∷ []))) (sym count)
+    ∙ ap (λ (more : List Life). childless_at_trap lives l (lives_acted image p (Spawned k spawn.linked) l more)) (sym pushed) in
     err_through (Unit {0}) (Unit {0}) (c.push.new.self, l) (c.act.new.self, n) (lives, l) (c.pop-in-Err.new.self, n) c.in-Err.refused (lives_acted image p (Spawned k spawn.linked) l c.push.new.self) (lives_with_child image p spawn l lives)
     (λ u. u)
-    (λ fault said. whole ∙ ap (childless_at_trap lives l) (sym (spawned_is image p k spawn.linked l c.push.new.self) ∙ said))
+    (λ fault said. whole ∙ ap (childless_at_trap lives l) said)
     (λ same.
     (let first : c.pop-in-Err.new.self ≡ lives = c.pop-in-Err.ensures ∙ popped lives c.push.new.self c.act.new.self (Live child) pushed (ap (λ w. w.0) same) in
     let second : n ≡ l = ap (λ w. w.1) same in
