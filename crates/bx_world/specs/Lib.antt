@@ -19,3 +19,4 @@ pub mod Texts
 pub mod Posting
 pub mod Entering
 pub mod Independent
+pub mod Cells

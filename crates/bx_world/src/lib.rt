@@ -21,6 +21,7 @@ mod shown;
 mod slots;
 mod texts;
 mod turns;
+mod weights;
 mod world;
 
 pub use bx_proc::Status;

@@ -1,10 +1,11 @@
 //! Worlds, stepped by one choice at a time.
 
-ghost use Rattle.std.specs.Prelude.{◌≡◌, ◌≢◌, ◌↔◌, ◌<◌, ◌≤◌, [], length, option_map, slice_get, None, IsTrue, IsSome, IfOk, OnErr, Ok};
+ghost use Rattle.std.specs.Prelude.{◌≡◌, ◌≢◌, ◌↔◌, ◌<◌, ◌≤◌, min, [], length, option_map, slice_get, None, IsTrue, IsSome, IfOk, OnErr, Ok};
 ghost use Rattle.bx_terms.specs.Outcomes.{Does, Gives};
 ghost use Rattle.bx_load.specs.Image.{export};
 ghost use Rattle.bx_world.specs.World.{started};
 ghost use Rattle.bx_world.specs.Enabled.{enabled, open_choices, can};
+ghost use Rattle.bx_world.specs.Cells.{cells};
 ghost use Rattle.bx_world.specs.Choosing.{applied, bare, shown_alone};
 ghost use Rattle.bx_world.specs.Batches.{Fits, WorldActs, WorldRunsOn, state_after};
 ghost use Rattle.bx_world.specs.declared.acts.Act.TheVariants as acts;
@@ -355,6 +356,19 @@ impl<P: Hold<Proc>, C: Hold<Lanes>> World<P, C> {
         ensures { result.now ≡ self.now.lanes.channels }
     {
         &self.lanes.see().channels
+    }
+
+    /// How many cells of some twenty bytes a copy takes, at the least: sixteen for a process itself, and one for each register, frame,
+    /// message, link, channel, signal and displayed term. What is free is copied too, and counts.
+    pub fn cells(&self) -> u64
+        ensures { min (cells self.now) 18446744073709551615 ≤ result }
+    {
+        let lanes = self.lanes.see();
+        let displayed = lanes.output().as_slice().len() as u64;
+        self.procs
+            .cells()
+            .saturating_add(lanes.channels.cells())
+            .saturating_add(displayed)
     }
 
     /// Whether both are equal.
