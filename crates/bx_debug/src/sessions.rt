@@ -7,7 +7,6 @@ ghost use Rattle.bx_world.specs.Choosing.{refusal};
 ghost use Rattle.bx_world.specs.Running.{ran, unchosen};
 ghost use Rattle.bx_debug.specs.Leading.{led};
 ghost use Rattle.bx_debug.specs.Pausing.{run_of, RunTakes};
-ghost use Rattle.bx_debug.specs.Places.{is_set};
 ghost use Rattle.bx_debug.specs.Sessions.{back, behind, forward, gone, GoTakes, opened, stepped, with_break, without_break, world_of};
 ghost use Rattle.bx_debug.specs.Swapping.{Swaps};
 
@@ -151,13 +150,6 @@ impl<'a> Session<'a> {
         ensures { IsTrue result ↔ (self.now ≡ other.now) }
     {
         self.at == other.at && self.places.same(&other.places) && self.trail.same(&other.trail)
-    }
-
-    /// Whether there is a breakpoint at this address.
-    pub fn breaks_at(&self, place: Place) -> bool
-        ensures { result ≡ is_set self.now.places place }
-    {
-        self.places.contains(place)
     }
 
     /// Makes a choice, and removes those behind the position.
