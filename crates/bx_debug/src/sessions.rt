@@ -7,6 +7,7 @@ ghost use Rattle.bx_world.specs.Choosing.{refusal};
 ghost use Rattle.bx_world.specs.Running.{ran, unchosen};
 ghost use Rattle.bx_debug.specs.Leading.{led};
 ghost use Rattle.bx_debug.specs.Pausing.{run_of, RunTakes};
+ghost use Rattle.bx_debug.specs.Places.{is_set};
 ghost use Rattle.bx_debug.specs.Sessions.{back, behind, forward, gone, GoTakes, opened, stepped, with_break, without_break, world_of};
 ghost use Rattle.bx_debug.specs.Swapping.{Swaps};
 
