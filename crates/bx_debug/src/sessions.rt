@@ -153,13 +153,6 @@ impl<'a> Session<'a> {
         self.at == other.at && self.places.same(&other.places) && self.trail.same(&other.trail)
     }
 
-    /// Whether there is a breakpoint at this address.
-    pub fn breaks_at(&self, place: Place) -> bool
-        ensures { result ≡ is_set self.now.places place }
-    {
-        self.places.contains(place)
-    }
-
     /// Makes a choice, and removes those behind the position.
     ///
     /// `Halted` exactly where the world has trapped, else `NotEnabled` exactly where the choice is not enabled; a refused choice

@@ -4,7 +4,7 @@ use Rattle.std.proofs.lemmas.List.{take-append-drop, take-take, take_more, lengt
 use Rattle.std.specs.Io.KnownBytes.{Appends, Consumes, IsAtEnd, Keeps}
 use Rattle.std.proofs.KnownBytes.{Appends-trans, Keeps-refl}
 use Rattle.bx_debugger.specs.Lines.{begun_line, last_line}
-use Rattle.bx_debugger.specs.Talks.{Breaks, Broken, Ends, Finishes, Follows, Hearing, Hears, IsEarly, Talks, Turns, ended_in, heard, lines_in, quits, told}
+use Rattle.bx_debugger.specs.Talks.{Breaks, Broken, Ends, Finishes, Follows, Hearing, Hears, Talks, Turns, ended_in, heard, lines_in, quits, told}
 use Rattle.bx_engine.specs.declared.failures.Failure.{Failure}
 use Rattle.bx_engine.specs.declared.failures.Failure.TheVariants.{Refused, Read, Write, Start}
 use Rattle.bx_terms.specs.declared.faults.Fault.TheVariants.{Memory, TooLarge}
@@ -135,18 +135,3 @@ talks_large file w v had rest h after piece extra c full some f = (piece, extra,
 pub hears_all : (w v had rest : Option (List ℕ)) (h after : Hearing) (piece : List ℕ) → Consumes had rest piece → length piece ≤ h.left → Follows w v h after piece
     → Hears w v had rest h after piece
 hears_all w v had rest h after piece c le f = record { given = c; within = le; follows = f }
-
--- no failure of lines comes before a line is asked for
-not_early : (file : ℕ) (h : Hearing) (old new had rest : Option (List ℕ)) (failure : Failure) → Talks file h old new had rest (Err failure) → IsEarly file failure → ⊥
-not_early file h old new had rest (Refused Memory n) t early = early
-not_early file h old new had rest (Refused TooLarge None) t early = let no : None ≡ Some file = t.4.0 in cc
-not_early file h old new had rest (Refused TooLarge (Some n)) t early = let same : Some n ≡ Some file = t.4.0 in let e : n ≡ file = cc in omega (arith, e, early)
-not_early file h old new had rest (Refused fault n) t early = absurd t.4
-not_early file h old new had rest (Read n) t early = let e = t.4.0 in omega (arith, e, early)
-not_early file h old new had rest Write t early = early
-not_early file h old new had rest Start t early = absurd t.4
-
-pub early_kept : (file : ℕ) (h : Hearing) (old new had rest w v : Option (List ℕ)) (answer : Result (Unit {0}) Failure) → Talks file h old new had rest answer
-    → IfErr answer (λ failure. IsEarly file failure → Keeps w v)
-early_kept file h old new had rest w v (Ok done) t = tt
-early_kept file h old new had rest w v (Err failure) t = λ early. absurd (not_early file h old new had rest failure t early)

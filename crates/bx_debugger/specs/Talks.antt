@@ -1,5 +1,5 @@
 -- How lines are heard, byte by byte, and how a debugger ends.
-use Rattle.std.specs.Prelude.{◌≡◌, ◌<◌, ◌≤◌, ◌⊎◌, ℕ, ◌+◌, ◌-◌, Bool, true, false, List, [], ◌++◌, Option, Some, None, Result, Ok, Err, length, take, IsSome, refl}
+use Rattle.std.specs.Prelude.{◌≡◌, ◌<◌, ◌≤◌, ◌⊎◌, ℕ, ◌+◌, ◌-◌, Bool, true, false, List, [], ◌++◌, Option, Some, None, Result, Ok, Err, length, take, IsErr, IsSome, refl}
 use Rattle.std.specs.Coded.{Coded, code_by, coded×, coded_ℕ, coded_list}
 use Rattle.std.specs.Io.KnownBytes.{Appends, Consumes, IsAtEnd, Keeps}
 use Rattle.bx_terms.specs.FixedAtoms.{fixed_atoms}
@@ -155,19 +155,16 @@ IsBefore start given said (Err (Refused Memory file)) = TakesMemory start × (fi
 IsBefore start given said (Err (Read n)) = IsSome (start_in start) × ClearBefore fixed_atoms given n
 IsBefore start given said (Err failure) = said ≡ Err failure
 
--- a failure that comes before a line is asked for, whatever the readers give: the start's, one of so many listings', or another of no
--- file but out of memory
-abbrev pub IsEarly : ℕ → Failure → Type 0
-IsEarly files (Refused Memory file) = ⊥
-IsEarly files (Refused fault None) = Unit {0}
-IsEarly files (Refused fault (Some n)) = n < files
-IsEarly files (Read n) = n < files
-IsEarly files Write = ⊥
-IsEarly files Start = Unit {0}
-
 -- What a debugger did, whose listings are known: it ended before a line was asked for, and neither read one nor wrote; or the
 -- session was opened, and lines were read and answered.
 abbrev pub Debugs : List ℕ → List (List ℕ) → Result History Failure → Option (List ℕ) → Option (List ℕ) → Option (List ℕ) → Option (List ℕ) → Result (Unit {0}) Failure → Type 0
 Debugs start given said old new had rest answer =
     (IsBefore start given said answer × Keeps old new × Keeps had rest)
     ⊎ ((s : History) × (said ≡ Ok s) × Talks (length given) (begins (sources_of given) s) old new had rest answer)
+
+-- The same whatever the readers give: it ended without a line that was read or an answer that was written, out of memory among the
+-- reasons; or a session was opened, and lines were read and answered.
+abbrev pub DebugsAny : ℕ → Option (List ℕ) → Option (List ℕ) → Option (List ℕ) → Option (List ℕ) → Result (Unit {0}) Failure → Type 0
+DebugsAny files old new had rest answer =
+    (IsErr answer × Keeps old new × Keeps had rest)
+    ⊎ ((sources : Sources) × (s : History) × Talks files (begins sources s) old new had rest answer)

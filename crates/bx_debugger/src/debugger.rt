@@ -1,10 +1,9 @@
 //! `debug`: a session at a start over listings, told line by line what to do.
 
-ghost use Rattle.std.specs.Prelude.{◌≡◌, List, ℕ, IfErr, IsOk, Some, length, map};
-ghost use Rattle.std.specs.Io.KnownBytes.{Keeps};
+ghost use Rattle.std.specs.Prelude.{◌≡◌, List, ℕ, IsOk, Some, length, map};
 ghost use Rattle.bx_terms.specs.Outcomes.{Gives};
 ghost use Rattle.bx_debugger.specs.Opening.{session_at, session_of};
-ghost use Rattle.bx_debugger.specs.Talks.{Debugs, IsEarly};
+ghost use Rattle.bx_debugger.specs.Talks.{Debugs, DebugsAny};
 
 use crate::prompts::{NoPrompt, Prompt};
 use crate::talks::Talk;
@@ -33,10 +32,8 @@ pub fn debug_text<R: Read, C: Read, W: Write>(
     ensures talked { (given : List (List ℕ)) → map R.remaining listings.old ≡ map (λ text. Some text) given
         → Debugs start.now given (session_of start.now given) (W.contents writer.old) (W.contents writer.new)
         (C.remaining commands.old) (C.remaining commands.new) result }
-    ensures unwritten { IfErr result (λ failure. IsEarly (length listings.old) failure
-        → Keeps (W.contents writer.old) (W.contents writer.new)) }
-    ensures unread { IfErr result (λ failure. IsEarly (length listings.old) failure
-        → Keeps (C.remaining commands.old) (C.remaining commands.new)) }
+    ensures unknown { DebugsAny (length listings.old) (W.contents writer.old) (W.contents writer.new)
+        (C.remaining commands.old) (C.remaining commands.new) result }
 {
     let silent = Prompted { prompt: &NoPrompt };
     silent.debug_text(alloc, listings, start, commands, writer)
@@ -61,10 +58,8 @@ impl<'a, P: Prompt> Prompted<'a, P> {
         ensures talked { (given : List (List ℕ)) → map R.remaining listings.old ≡ map (λ text. Some text) given
             → Debugs start.now given (session_of start.now given) (W.contents writer.old) (W.contents writer.new)
             (C.remaining commands.old) (C.remaining commands.new) result }
-        ensures unwritten { IfErr result (λ failure. IsEarly (length listings.old) failure
-            → Keeps (W.contents writer.old) (W.contents writer.new)) }
-        ensures unread { IfErr result (λ failure. IsEarly (length listings.old) failure
-            → Keeps (C.remaining commands.old) (C.remaining commands.new)) }
+        ensures unknown { DebugsAny (length listings.old) (W.contents writer.old) (W.contents writer.new)
+            (C.remaining commands.old) (C.remaining commands.new) result }
     {
         let start = match start_of(alloc, start) {
             Ok(start) => start,

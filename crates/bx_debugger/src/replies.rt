@@ -209,9 +209,9 @@ fn ran_line(
         ≡ ran_line sources.now number order.1 order.0 session.old) }
 {
     let (pid, bound) = order;
-    if session.world().process(pid).is_none() {
+    let Some(_) = session.world().process(pid) else {
         return refusal_line(alloc, number, &Fault::BadCommand { line: number });
-    }
+    };
     let pause = session.run(alloc, pid, bound)?;
     let words = pause_words(alloc, session, sources, order, &pause)?;
     Ok(stopped_line(alloc, session, words.as_str())?)
