@@ -6,7 +6,6 @@ pub mod Look
 pub mod Functions
 pub mod Trace
 pub mod Help
-pub mod Plan
 pub mod Swap
 pub mod Commands
 pub mod CommandView

@@ -7,7 +7,7 @@ ghost use Rattle.bx_plan.specs.Grammar.{HasPids, IsName};
 ghost use Rattle.bx_plan.specs.Plans.{plan_of};
 ghost use Rattle.bx_debug.specs.Sessions.{History};
 ghost use Rattle.bx_debug.specs.Swapping.{MaySwap};
-ghost use Rattle.bx_debugger.specs.Plan.{plan_line};
+ghost use Rattle.bx_engine.specs.PlanLines.{plan_line};
 ghost use Rattle.bx_debugger.specs.Swap.{may_swap};
 
 /// The test that `swap` is answered by tells exactly whether two choices stand before the position and are independent.

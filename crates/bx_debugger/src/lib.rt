@@ -7,7 +7,6 @@ mod help;
 mod holdings;
 pub mod laws;
 mod listings;
-mod plan_lines;
 mod programs;
 mod prompts;
 mod replies;

@@ -1,25 +1,17 @@
 -- A choice that is brought forward by one exchange after another.
 use Rattle.std.proofs.Common.{◌≡◌, ◌∙◌, ℕ, zero, suc, ◌+◌, ◌-◌, ◌<◌, ◌≤◌, List, [], ◌∷◌, ◌++◌, length, take, drop, append_assoc, refl, sym, ap, subst, arith}
-use Rattle.std.specs.Prelude.{slice_index_or}
-use Rattle.std.proofs.lemmas.List.{length-drop, length-take-le, length-append, take-append-drop, take-append-le}
+use Rattle.std.specs.Prelude.{slice_get, slice_index_or}
+use Rattle.std.proofs.lemmas.Option.{slice_get-get_or}
+use Rattle.std.proofs.lemmas.List.{drop_more, take_more, length-drop, length-take-le, length-append, take-append-drop, take-append-le}
+use Rattle.std.proofs.lemmas.List.Edits.{length-swap}
 use Rattle.bx_world.specs.declared.choices.Choice.{Choice}
 use Rattle.bx_replay.specs.Courses.{Course, reached}
 use Rattle.bx_replay.specs.Exchanges.{exchanged_at, with_exchange, MayExchange}
 use Rattle.bx_replay.specs.Moving.{brought, exchanged, AllMay, AreWithin, IsExchanged}
 use Rattle.bx_replay.proofs.Rows.{swapped}
+use Rattle.bx_replay.proofs.Turning.{around, leads, new as turned, old as straight, short as front_long}
 
 -- ---- lists
-
--- what stands from a position on begins with what stands there
-pub from_there : {A : Type 0} (xs : List A) (i : ℕ) (d : A) → i < length xs → drop i xs ≡ slice_index_or xs i d ∷ drop (i + 1) xs
-from_there [] i d h = absurd (omega arith)
-from_there (x ∷ xs) zero d h = refl
-from_there (x ∷ xs) (suc i) d h = from_there xs i d (omega arith)
-
-one_longer : {A : Type 0} (xs : List A) (i : ℕ) (d : A) → i < length xs → take (i + 1) xs ≡ take i xs ++ slice_index_or xs i d ∷ []
-one_longer [] i d h = absurd (omega arith)
-one_longer (x ∷ xs) zero d h = refl
-one_longer (x ∷ xs) (suc i) d h = ap (λ ys. x ∷ ys) (one_longer xs i d (omega arith))
 
 drop_front : {A : Type 0} (xs ys : List A) (n : ℕ) → length xs ≡ n → drop n (xs ++ ys) ≡ ys
 drop_front [] ys zero h = refl
@@ -38,7 +30,7 @@ module _ (xs : List Choice) (from : ℕ) (d : Choice) (within : from < length xs
   behind i = take (from - i) (drop i xs) ++ drop (from + 1) xs
 
   pub brought_is : (i : ℕ) → brought from i xs ≡ take i xs ++ moved ∷ behind i
-  brought_is i = ap (λ ys. take i xs ++ (take 1 ys ++ behind i)) (from_there xs from d within)
+  brought_is i = ap (λ ys. take i xs ++ (take 1 ys ++ behind i)) (drop_more xs from d within)
 
   -- nothing is moved
   pub brought_here : brought from from xs ≡ xs
@@ -46,7 +38,7 @@ module _ (xs : List Choice) (from : ℕ) (d : Choice) (within : from < length xs
       let none : from - from ≡ 0 = omega arith in
       brought_is from
       ∙ ap (λ n. take from xs ++ moved ∷ (take n (drop from xs) ++ drop (from + 1) xs)) none
-      ∙ ap (λ ys. take from xs ++ ys) (sym (from_there xs from d within))
+      ∙ ap (λ ys. take from xs ++ ys) (sym (drop_more xs from d within))
       ∙ take-append-drop from xs
 
   module _ (i : ℕ) (less : i < from) where
@@ -56,14 +48,14 @@ module _ (xs : List Choice) (from : ℕ) (d : Choice) (within : from < length xs
 
     pub next_to : brought from (i + 1) xs ≡ take i xs ++ other ∷ moved ∷ behind (i + 1)
     next_to =
-        brought_is (i + 1) ∙ ap (λ ys. ys ++ moved ∷ behind (i + 1)) (one_longer xs i d (omega arith))
+        brought_is (i + 1) ∙ ap (λ ys. ys ++ moved ∷ behind (i + 1)) (take_more xs i d (omega arith))
         ∙ append_assoc (take i xs) (other ∷ []) (moved ∷ behind (i + 1))
 
     behind_is : behind i ≡ other ∷ behind (i + 1)
     behind_is =
         let count : from - i ≡ suc (from - (i + 1)) = omega arith in
         ap (λ n. take n (drop i xs) ++ drop (from + 1) xs) count
-        ∙ ap (λ ys. take (suc (from - (i + 1))) ys ++ drop (from + 1) xs) (from_there xs i d (omega arith))
+        ∙ ap (λ ys. take (suc (from - (i + 1))) ys ++ drop (from + 1) xs) (drop_more xs i d (omega arith))
 
     short : length (take i xs) ≡ i
     short = length-take-le i xs (omega arith)
@@ -103,6 +95,34 @@ long_brought xs from at d within le =
       length-append (take (from - at) (drop at xs)) (drop (from + 1) xs),
       length-drop (from + 1) xs,
     )
+
+-- what stands before it stays
+pub brought_before : (xs : List Choice) (from to : ℕ) (d : Choice) (k : ℕ) → from < length xs → to ≤ from → k < to → slice_get (brought from to xs) k ≡ slice_get xs k
+brought_before xs from to d k within le less =
+    let cut : length (take to xs) ≡ to = length-take-le to xs (omega arith) in
+    ap (λ ys. slice_get ys k) (brought_is xs from d within to)
+    ∙ get_front (take to xs) (slice_index_or xs from d ∷ (take (from - to) (drop to xs) ++ drop (from + 1) xs)) k (omega arith)
+    ∙ sym (get_front (take to xs) (drop to xs) k (omega arith)) ∙ ap (λ ys. slice_get ys k) (take-append-drop to xs)
+  where
+    get_front : (ys zs : List Choice) (n : ℕ) → n < length ys → slice_get (ys ++ zs) n ≡ slice_get ys n
+    get_front [] zs n h = absurd (omega arith)
+    get_front (y ∷ ys) zs zero h = refl
+    get_front (y ∷ ys) zs (suc n) h = get_front ys zs n (omega arith)
+
+-- and the one in whose place it stands is right behind it
+pub brought_next : (xs : List Choice) (from to : ℕ) (d : Choice) → from < length xs → to < from → slice_get (brought from to xs) (to + 1) ≡ slice_get xs to
+brought_next xs from to d within less =
+    let cut : length (take to xs) ≡ to = length-take-le to xs (omega arith) in
+    let rest = take (from - (to + 1)) (drop (to + 1) xs) ++ drop (from + 1) xs in
+    ap (λ ys. slice_get ys (to + 1))
+        (brought_is xs from d within to ∙ ap (λ ys. take to xs ++ slice_index_or xs from d ∷ ys) (behind_is xs from d within to less))
+    ∙ get_behind (take to xs) (slice_index_or xs from d ∷ slice_index_or xs to d ∷ rest) 1 (to + 1) (omega (arith, cut))
+    ∙ sym (slice_get-get_or xs to d (omega arith))
+  where
+    get_behind : (ys zs : List Choice) (n k : ℕ) → k ≡ length ys + n → slice_get (ys ++ zs) k ≡ slice_get zs n
+    get_behind [] zs n k e = let same : k ≡ n = omega (arith, e) in ap (slice_get zs) same
+    get_behind (y ∷ ys) zs n zero e = absurd (omega (arith, e))
+    get_behind (y ∷ ys) zs n (suc k) e = get_behind ys zs n k (omega (arith, e))
 
 -- ---- exchanges
 
@@ -158,3 +178,45 @@ brought_twice xs from at d within le (suc n) to count =
     sym (brought_on (brought from at xs) at d (omega (arith, long)) to (omega arith))
     ∙ ap (exchanged_at to) (brought_twice xs from at d within le n (to + 1) more)
     ∙ brought_on xs from d within to (omega arith)
+
+-- ---- what exchanges leave as it was
+
+-- how many there are
+pub long_after : (count : ℕ) (old new : Course) → IsExchanged count old new → length new.choices ≡ length old.choices
+long_after count old new e = ap (λ (c : Course). length c.choices) e.is ∙ go e.positions old.choices
+  where
+    go : (is : List ℕ) (cs : List Choice) → length (exchanged is cs) ≡ length cs
+    go [] cs = refl
+    go (i ∷ is) cs = go is (exchanged_at i cs) ∙ length-swap cs i (i + 1)
+
+-- where prefixes lead that hold all that were exchanged
+pub ends_after : (count n : ℕ) (old new : Course) → IsExchanged count old new → count ≤ n → reached n new ≡ reached n old
+ends_after count n old new e le = ap (reached n) e.is ∙ go e.positions old e.within e.may
+  where
+    go : (is : List ℕ) (c : Course) → AreWithin count is → AllMay is c → reached n (after is c) ≡ reached n c
+    go [] c w m = refl
+    go (i ∷ is) c w m = go is (with_exchange i c) w.1 m.1 ∙ leads i c (around i c m.0) n (omega (arith, w.0))
+
+-- the choices behind them
+drop_after : (i n : ℕ) (c : Course) → MayExchange i c → i + 1 < n → drop n (exchanged_at i c.choices) ≡ drop n c.choices
+drop_after i n c may le =
+    let a = around i c may in
+    ap (drop n) (turned i c a) ∙ past a.second a.first a.more ∙ sym (past a.first a.second a.more) ∙ ap (drop n) (sym (straight i c a))
+  where
+    drop_past : (xs ys : List Choice) (m : ℕ) → length xs ≤ m → drop m (xs ++ ys) ≡ drop (m - length xs) ys
+    drop_past [] ys m h = let none : m ≡ m - 0 = omega arith in ap (λ k. drop k ys) none
+    drop_past (x ∷ xs) ys zero h = absurd (omega arith)
+    drop_past (x ∷ xs) ys (suc m) h = let less : m - length xs ≡ suc m - suc (length xs) = omega arith in drop_past xs ys m (omega arith) ∙ ap (λ k. drop k ys) less
+
+    past : (x y : Choice) (more : List Choice) → drop n (take i c.choices ++ x ∷ y ∷ more) ≡ drop (n - i - 2) more
+    past x y more =
+        let cut = front_long i c (around i c may) in
+        let far : n - length (take i c.choices) ≡ suc (suc (n - i - 2)) = omega arith in
+        drop_past (take i c.choices) (x ∷ y ∷ more) n (omega arith) ∙ ap (λ k. drop k (x ∷ y ∷ more)) far
+
+pub behind_after : (count : ℕ) (old new : Course) → IsExchanged count old new → drop count new.choices ≡ drop count old.choices
+behind_after count old new e = ap (λ (c : Course). drop count c.choices) e.is ∙ go e.positions old e.within e.may
+  where
+    go : (is : List ℕ) (c : Course) → AreWithin count is → AllMay is c → drop count (exchanged is c.choices) ≡ drop count c.choices
+    go [] c w m = refl
+    go (i ∷ is) c w m = go is (with_exchange i c) w.1 m.1 ∙ drop_after i count c m.0 w.0

@@ -1,5 +1,5 @@
 -- Two independent choices lead a run to the same place in both orders, and where they do they are independent.
-use Rattle.std.proofs.Common.{◌≡◌, ◌≢◌, ℕ, ◌+◌, [], ◌∷◌, ◌⊎◌, inl, inr, Option, Some, None, Bool, true, false, refl, sym, ap, ◌∙◌, arith}
+use Rattle.std.proofs.Common.{◌≡◌, ◌≢◌, ℕ, ◌+◌, [], ◌∷◌, ◌⊎◌, inl, inr, Option, Some, None, Bool, true, false, refl, sym, ap, subst, ◌∙◌, arith}
 use Rattle.std.specs.Prelude.{◌↔◌, IsTrue, ◌&&◌, ◌||◌, is_some, is_none, if◌then◌else◌, slice_get}
 use Rattle.bx_terms.specs.declared.kinds.Trap.{Trap}
 use Rattle.bx_load.specs.Image.{Loaded}
@@ -154,38 +154,47 @@ module _ (image : Loaded) (a b : Choice) (end : Ended) (none : end.refused ≡ N
         sym not ∙ yes,
   )
 
+  found : (one other : Ended) → one ≡ ran image (a ∷ b ∷ []) end → other ≡ ran image (b ∷ a ∷ []) end
+      → (one.applied ≡ end.applied + 2) × (one.world.trap ≡ None) → (other.applied ≡ end.applied + 2) × (other.world.trap ≡ None)
+      → IsSettled image end.world a b ⊎ (SameProcess (actor a) one.world other.world × SameProcess (actor b) one.world other.world) → AreIndependent image end.world a b
+  found one other one_is other_is both turned (inl known) =
+      let one_made = made image a b end one none may.0 one_is both.0 both.1 in
+      settled image end.world a b known apart may.0 may.1 one_made.first_runs one_made.second_runs
+  found one other one_is other_is both turned (inr same) =
+      alike one other (made image a b end one none may.0 one_is both.0 both.1) (made image b a end other none may.1 other_is turned.0 turned.1) same.0 same.1
+
   -- both were made
   pub tried : (one other : Ended) (agree : Bool) → one ≡ ran image (a ∷ b ∷ []) end → other ≡ ran image (b ∷ a ∷ []) end
       → (one.applied ≡ end.applied + 2) × (one.world.trap ≡ None) → (other.applied ≡ end.applied + 2) × (other.world.trap ≡ None)
       → (IsTrue agree → IsSettled image end.world a b ⊎ (SameProcess (actor a) one.world other.world × SameProcess (actor b) one.world other.world))
       → (SameProcess (actor a) one.world other.world × SameProcess (actor b) one.world other.world → IsTrue agree)
       → IsTrue agree ↔ ((end.refused ≡ None) × AreIndependent image end.world a b)
-  tried one other agree one_is other_is both turned yes no = (
-    λ h. (none, found (yes h)),
+  tried one other agree one_is other_is both turned told known = (
+    λ h. (none, found one other one_is other_is both turned (told h)),
     λ h.
         let same : one ≡ other = one_is ∙ same_end image a b end none h.1 ∙ sym other_is in
-        no (
+        known (
           ap (λ (e : Ended). slice_get e.world.processes (actor a)) same,
           ap (λ (e : Ended). slice_get e.world.processes (actor b)) same,
         ),
-  ) where
-    one_made = made image a b end one none may.0 one_is both.0 both.1
-
-    found : IsSettled image end.world a b ⊎ (SameProcess (actor a) one.world other.world × SameProcess (actor b) one.world other.world) → AreIndependent image end.world a b
-    found (inl known) = settled image end.world a b known apart may.0 may.1 one_made.first_runs one_made.second_runs
-    found (inr same) = alike one other one_made (made image b a end other none may.1 other_is turned.0 turned.1) same.0 same.1
+  )
 
   -- it is known that both lead to equal worlds, if the one is applied without a trap
   pub known_passes : IsSettled image end.world a b → Passes image end a b
   known_passes known = record {
     refused = none;
     enabled = may.0;
-    independent = λ first second. settled image end.world a b known apart may.0 may.1 first second;
+    independent = λ one both. settled image end.world a b known apart may.0 may.1 one both;
   }
+
+-- in equal worlds
+pub in_equal : (r : Bool) (p q : ℕ) (w v x y : State) → w ≡ x → v ≡ y → (IsTrue r ↔ (SameProcess p w v × SameProcess q w v)) → IsTrue r ↔ (SameProcess p x y × SameProcess q x y)
+in_equal r p q w v x y e f h =
+    subst (λ (z : State). IsTrue r ↔ (SameProcess p z y × SameProcess q z y)) e (subst (λ (z : State). IsTrue r ↔ (SameProcess p w z × SameProcess q w z)) f h)
 
 -- independent ones pass
 pub independent_passes : (image : Loaded) (a b : Choice) (end : Ended) → IndependentAt image end a b → Passes image end a b
-independent_passes image a b end h = record { refused = h.0; enabled = h.1.first_enabled; independent = λ first second. h.1 }
+independent_passes image a b end h = record { refused = h.0; enabled = h.1.first_enabled; independent = λ one both. h.1 }
 
 -- two that pass and are made in a row are independent
 pub made_independent : (image : Loaded) (a b : Choice) (end one : Ended) → Passes image end a b → one ≡ ran image (a ∷ b ∷ []) end → one.applied ≡ end.applied + 2 → one.world.trap ≡ None
@@ -193,3 +202,11 @@ pub made_independent : (image : Loaded) (a b : Choice) (end one : Ended) → Pas
 made_independent image a b end one passes is count free =
     let done = made image a b end one passes.refused passes.enabled is count free in
     (passes.refused, passes.independent done.first_runs done.second_runs)
+
+-- so they are exactly where both are made in a row
+pub made_or_not : (image : Loaded) (a b : Choice) (end one : Ended) (made : Bool) → Passes image end a b → one ≡ ran image (a ∷ b ∷ []) end
+    → (IsTrue made ↔ ((one.applied ≡ end.applied + 2) × (one.world.trap ≡ None))) → IsTrue made ↔ IndependentAt image end a b
+made_or_not image a b end one made passes is both = (
+  λ h. made_independent image a b end one passes is (both.0 h).0 (both.0 h).1,
+  λ h. let done = both_applied image a b end h.0 h.1 in both.1 (ap (λ (e : Ended). e.applied) is ∙ done.0, ap (λ (e : Ended). e.world.trap) is ∙ done.1),
+)

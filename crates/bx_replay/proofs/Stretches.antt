@@ -1,6 +1,6 @@
 -- Equal choices in a row, made in one call.
 use Rattle.std.proofs.Common.{◌≡◌, ℕ, zero, suc, ◌+◌, ◌-◌, ◌<◌, ◌≤◌, List, [], ◌∷◌, ◌++◌, length, take, replicate, append-nil, append_assoc, refl, sym, ap, subst, ◌∙◌, arith}
-use Rattle.std.specs.Prelude.{slice_get, Some}
+use Rattle.std.specs.Prelude.{slice_get, OnErr, Result, Ok, Err, Some}
 use Rattle.std.proofs.Math.Seq.{take-append-add}
 use Rattle.std.proofs.lemmas.List.{length-replicate}
 use Rattle.bx_load.specs.Image.{Loaded}
@@ -59,9 +59,10 @@ pub all_made : (image : Loaded) (whole left : List Choice) (old new : Ended) →
 all_made image whole left old new so_far none =
     so_far.leads ∙ ap (λ (cs : List Choice). ran image cs old) (sym (append-nil so_far.front) ∙ ap (λ (cs : List Choice). so_far.front ++ cs) (sym none) ∙ sym so_far.parts)
 
-get_behind : (front more : List Choice) (n : ℕ) → slice_get (front ++ more) (length front + n) ≡ slice_get more n
-get_behind [] more n = refl
-get_behind (c ∷ front) more n = get_behind front more n
+get_behind : (front more : List Choice) (n k : ℕ) → k ≡ length front + n → slice_get (front ++ more) k ≡ slice_get more n
+get_behind [] more n k e = let same : k ≡ n = omega (arith, e) in ap (slice_get more) same
+get_behind (c ∷ front) more n zero e = absurd (omega (arith, e))
+get_behind (c ∷ front) more n (suc k) e = get_behind front more n k (omega (arith, e))
 
 get_run : (times n : ℕ) (choice : Choice) (left : List Choice) → n < times → slice_get (replicate times choice ++ left) n ≡ Some choice
 get_run zero n choice left h = absurd (omega arith)
@@ -84,7 +85,7 @@ run_lacks image whole rest left choice times old mid new so_far is lacks =
       choice = choice;
       next =
           ap (λ (cs : List Choice). slice_get cs (length front + n)) parts
-          ∙ get_behind front (replicate times choice ++ left) n ∙ get_run times n choice left lacks.1;
+          ∙ get_behind front (replicate times choice ++ left) n (length front + n) refl ∙ get_run times n choice left lacks.1;
       here =
           lacks.2 ∙ ap (ran image (replicate n choice)) so_far.leads ∙ sym (ran_on image front (replicate n choice) old)
           ∙ ap (λ (cs : List Choice). ran image (front ++ cs) old) (sym (take_run times n choice left lacks.1))
@@ -92,3 +93,7 @@ run_lacks image whole rest left choice times old mid new so_far is lacks =
           ∙ ap (λ (cs : List Choice). ran image (take (length front + n) cs) old) (sym parts);
       takes = lacks.3;
     }
+
+pub on_err : {T E P : Type 0} (r : Result T E) → P → OnErr r P
+on_err (Ok x) p = tt
+on_err (Err e) p = p

@@ -1,9 +1,8 @@
 //! Whether two choices are independent where a run has come.
 
-ghost use Rattle.std.specs.Prelude.{◌≡◌, ◌≢◌, ◌↔◌, ◌+◌, ◌==◌, ◌<◌, ◌≤◌, ◌^◌, ◌∷◌, [], if◌then◌else◌, true, drop, length, None, IfOk, IsSome, IsTrue};
+ghost use Rattle.std.specs.Prelude.{◌≡◌, ◌≢◌, ◌↔◌, ◌+◌, ◌==◌, ◌<◌, ◌≤◌, ◌^◌, if◌then◌else◌, true, drop, length, None, IfOk, IsSome, IsTrue};
 ghost use Rattle.bx_world.specs.Enabled.{actor, can};
 ghost use Rattle.bx_world.specs.Independent.{one_is_local, IsLocal};
-ghost use Rattle.bx_world.specs.Running.{ran};
 ghost use Rattle.bx_replay.specs.Exchanges.{next_apart, IsSettled, SameProcess};
 ghost use Rattle.bx_replay.specs.Moving.{IndependentAt, Passes};
 
@@ -130,8 +129,10 @@ pub(crate) fn are_independent(
     if !both_made(here, &other) {
         return Ok(false);
     }
-    let known = is_settled(image, &here.world, first, second);
-    Ok(known || same_processes(&one.world, &other.world, first, second))
+    if is_settled(image, &here.world, first, second) {
+        return Ok(true);
+    }
+    Ok(same_processes(&one.world, &other.world, first, second))
 }
 
 /// Whether two choices are independent where a run has come, if the second can be made behind the first and neither traps.
@@ -148,17 +149,22 @@ pub(crate) fn may_pass(
     ensures yes { IfOk result (λ is. IsTrue is → Passes image.now here.now first second) }
     ensures no { IfOk result (λ is. IndependentAt image.now here.now first second → IsTrue is) }
 {
-    if first.actor() == second.actor() {
+    if second.actor() == first.actor() {
         return Ok(false);
     }
     if !is_settled(image, &here.world, first, second) {
         return are_independent(alloc, image, here, first, second);
     }
-    Ok(here.refused.is_none() && may_go_first(image, &here.world, first, second))
+    if here.refused.is_some() {
+        return Ok(false);
+    }
+    Ok(may_go_first(image, &here.world, first, second))
 }
 
-/// Whether the second can be made behind the first where a run has come, and neither traps.
-pub(crate) fn are_made(
+/// Whether two choices are independent where a run has come.
+///
+/// One order is made, and the other only where it is not known that it leads to an equal world.
+pub(crate) fn are_free(
     alloc: Global,
     image: &Image,
     here: &RcEnd,
@@ -166,10 +172,11 @@ pub(crate) fn are_made(
     second: Choice,
 ) -> Result<bool, AllocError>
     requires { here.now.applied + 2 < 2 ^ 64 }
-    ensures { IfOk result (λ is. IsTrue is ↔
-        (((ran image.now (first ∷ second ∷ []) here.now).applied ≡ here.now.applied + 2)
-        × ((ran image.now (first ∷ second ∷ []) here.now).world.trap ≡ None))) }
+    ensures { IfOk result (λ is. IsTrue is ↔ IndependentAt image.now here.now first second) }
 {
+    if !may_pass(alloc, image, here, first, second)? {
+        return Ok(false);
+    }
     let there = follow_both(alloc, image, here, first, second)?;
     Ok(both_made(here, &there))
 }

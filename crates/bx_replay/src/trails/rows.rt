@@ -1,12 +1,12 @@
 //! Rows: choices of which one is brought forward at a time.
 
-ghost use Rattle.std.specs.Prelude.{◌≡◌, ◌+◌, ◌<◌, ◌≤◌, length, IfOk, OnErr};
+ghost use Rattle.std.specs.Prelude.{◌≡◌, ◌+◌, ◌<◌, ◌≤◌, ◌^◌, if◌then◌else◌, length, IfOk, OnErr};
 ghost use Rattle.bx_replay.specs.Courses.{reached};
 ghost use Rattle.bx_replay.specs.Moving.{brought, Brings, IsExchanged};
 ghost use Rattle.bx_replay.specs.Reaching.{BringsPast, IsFreeFrom, Reaches};
 
 use super::Trail;
-use crate::independence::{are_made, may_pass};
+use crate::independence::{are_free, may_pass};
 use crate::kept::{Kept, nearest, replace};
 use crate::runs::{RcEnd, advance_each, advance_run, copied, follow_one};
 use bx_load::Image;
@@ -33,7 +33,8 @@ impl<'a> Model for Row<'a> {
     ghost use Rattle.bx_world.specs.contracts.lanes.Lanes as lane;
     ghost use Rattle.bx_world.specs.World.{state_code};
     ghost use Rattle.bx_replay.specs.Courses.{Course, course_code};
-    
+    ghost use Rattle.bx_replay.specs.Keeping.{AreKept};
+
     ghost Value = { Course };
 
     ghost coded = { course_code images.the_row.coded
@@ -92,6 +93,14 @@ fn carry(choices: &mut [Choice], from: usize, to: usize)
         at -= 1;
         choices.swap(at, at + 1);
     }
+}
+
+/// From where on the choices may be passed, behind one more.
+fn rest_behind(free: bool, at: usize, rest: usize) -> usize
+    requires { at + 1 < 2 ^ 64 }
+    ensures { result ≡ (if free then rest else at + 1) }
+{
+    if free { rest } else { at + 1 }
 }
 
 impl<'a> Row<'a> {
@@ -192,9 +201,7 @@ impl<'a> Row<'a> {
         let choice = self.choices[past];
         let (rest, here) = self.free_from(alloc, first, past - 1, choice)?;
         let other = self.choices[past - 1];
-        if !may_pass(alloc, self.image, &here, other, choice)?
-            || !are_made(alloc, self.image, &here, other, choice)?
-        {
+        if !are_free(alloc, self.image, &here, other, choice)? {
             return Ok(None);
         }
         let between = follow_one(alloc, self.image, &here, choice)?;
@@ -218,9 +225,8 @@ impl<'a> Row<'a> {
         let mut rest = first;
         for at in first..last {
             let other = self.choices[at];
-            if !may_pass(alloc, self.image, &end, other, choice)? {
-                rest = at + 1;
-            }
+            let free = may_pass(alloc, self.image, &end, other, choice)?;
+            rest = rest_behind(free, at, rest);
             advance_run(alloc, &mut end, self.image, other, 1)?;
         }
         Ok((rest, end))
