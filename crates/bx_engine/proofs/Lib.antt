@@ -8,4 +8,5 @@ pub mod SourceRows
 pub mod PlanRows
 pub mod PlanLaw
 pub mod PlanAgain
+pub mod ReportRows
 pub mod TidyLaw

@@ -107,7 +107,7 @@ module _ (c : Course) (past rest : ℕ) (choice : Choice) (within : past < lengt
     mid = ran c.image (choice ∷ []) (reached i c)
 
     pair : next_apart (drop i (stood (i + 1)).choices) ≡ Some (other, slice_index_or c.choices past choice)
-    pair = ap next_apart (rest_is c.choices past choice within i lower) ∙ apart_of other (slice_index_or c.choices past choice) _ there.1.apart
+    pair = ap next_apart (rest_is c.choices past choice within i lower) ∙ apart_of other (slice_index_or c.choices past choice) (take (past - (i + 1)) (drop (i + 1) c.choices) ++ drop (past + 1) c.choices) there.1.apart
 
     pub turn : Turns (stood (i + 1)) (stood i) mid
     turn = subst (λ (d : Course). Turns (stood (i + 1)) d mid) exchange_is

@@ -1,6 +1,7 @@
 //! Schedules in which the choices of one process stand together.
 
-ghost use Rattle.std.specs.Prelude.{◌≡◌, ◌+◌, ◌<◌, ◌≤◌, length, IfOk, IfSome, OnOk};
+ghost use Rattle.std.specs.Prelude.{◌≡◌, ◌==◌, ◌<◌, ◌≤◌, if◌then◌else◌, length, IfOk, IfSome, OnOk};
+ghost use Rattle.bx_world.specs.Enabled.{actor};
 ghost use Rattle.bx_world.specs.World.{started};
 ghost use Rattle.bx_replay.specs.Moving.{IsExchanged};
 ghost use Rattle.bx_swaps.specs.Tidying.{switches, IsTidied, IsTidy};
@@ -13,15 +14,24 @@ use bx_terms::{AtomId, Fault};
 use bx_world::Choice;
 use std::alloc::{AllocError, Global};
 
+/// One where two choices concern different processes, and none where they concern the same.
+fn parted(first: Choice, second: Choice) -> usize
+    ensures { result ≡ (if actor first == actor second then 0 else 1) }
+{
+    if first.actor() == second.actor() {
+        0
+    } else {
+        1
+    }
+}
+
 /// How many choices concern another process than the one before them.
 fn switches(choices: &[Choice]) -> usize
     ensures { result ≡ switches choices.now }
 {
     let mut count = 0;
     for at in 1..choices.len() {
-        if choices[at - 1].actor() != choices[at].actor() {
-            count += 1;
-        }
+        count += parted(choices[at - 1], choices[at]);
     }
     count
 }
@@ -42,6 +52,20 @@ fn next_alike(choices: &[Choice], at: usize, count: usize) -> Option<usize>
     None
 }
 
+/// Brings the next choice of the process that the choice before that position concerns there, as far as that may be done.
+fn settle(alloc: Global, row: &mut Row<'_>, at: usize, count: usize) -> Result<(), AllocError>
+    requires some { 0 < at }
+    requires order { at ≤ count }
+    requires within { count ≤ length row.old.choices }
+    ensures { OnOk result (IsExchanged count row.old row.new) }
+{
+    let Some(next) = next_alike(row.choices(), at, count) else {
+        return Ok(());
+    };
+    row.bring_forward(alloc, next, at)?;
+    Ok(())
+}
+
 /// Puts choices of one process together: from the left, the next choice of the process that the last one concerns is brought forward, as far
 /// as that may be done.
 fn gather(alloc: Global, row: &mut Row<'_>, count: usize) -> Result<(), AllocError>
@@ -49,9 +73,7 @@ fn gather(alloc: Global, row: &mut Row<'_>, count: usize) -> Result<(), AllocErr
     ensures { OnOk result (IsExchanged count row.old row.new) }
 {
     for at in 1..count {
-        if let Some(next) = next_alike(row.choices(), at, count) {
-            row.bring_forward(alloc, next, at)?;
-        }
+        settle(alloc, row, at, count)?;
     }
     Ok(())
 }

@@ -1,6 +1,6 @@
 //! A choice that is taken back with all that depends on it.
 
-ghost use Rattle.std.specs.Prelude.{◌≡◌, ◌+◌, ◌<◌, ◌≤◌, length, slice_get, IfOk};
+ghost use Rattle.std.specs.Prelude.{◌≡◌, ◌==◌, ◌+◌, ◌<◌, ◌≤◌, ◌^◌, if◌then◌else◌, length, IfOk};
 ghost use Rattle.bx_world.specs.World.{started};
 ghost use Rattle.bx_replay.specs.Courses.{reached};
 ghost use Rattle.bx_swaps.specs.Tidying.{IsSetAside, IsUndo, IsUndone};
@@ -11,6 +11,14 @@ use bx_plan::Schedule;
 use bx_replay::{Row, Trail};
 use bx_terms::{AtomId, Fault};
 use std::alloc::{AllocError, Global};
+
+/// Where those begin that are set aside, behind a choice that came forward to that position.
+fn aside_behind(first: usize, came: usize) -> usize
+    requires { first + 1 < 2 ^ 64 }
+    ensures { result ≡ (if came == first then first + 1 else first) }
+{
+    if came == first { first + 1 } else { first }
+}
 
 /// Moves each choice behind that position, and before `count`, in front of those that depend on it: where these begin then.
 fn set_aside(
@@ -25,9 +33,8 @@ fn set_aside(
 {
     let mut first = position;
     for at in position + 1..count {
-        if row.bring_forward(alloc, at, first)? == first {
-            first += 1;
-        }
+        let came = row.bring_forward(alloc, at, first)?;
+        first = aside_behind(first, came);
     }
     Ok(first)
 }

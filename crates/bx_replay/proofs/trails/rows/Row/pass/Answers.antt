@@ -1,4 +1,4 @@
-use Rattle.std.proofs.Common.{◌≡◌, ◌<◌, ◌≤◌, ◌-◌, ◌+◌, length, refl, sym, ap, subst, ◌∙◌, arith}
+use Rattle.std.proofs.Common.{◌≡◌, ◌<◌, ◌≤◌, ◌-◌, ◌+◌, ◌++◌, length, take, drop, refl, sym, ap, subst, ◌∙◌, arith}
 use Rattle.std.specs.Prelude.{List, Some, None, nat_eq}
 use Rattle.bx_world.specs.declared.choices.Choice.{Choice}
 use Rattle.bx_world.specs.declared.choices.Choice.TheVariants.{Run}
@@ -71,5 +71,6 @@ returns-clause-ok c =
     let put = long_brought items from reach.rest (Run 0) within (omega arith) in
     let carried : c.carry.new.choices ≡ brought from reach.rest items = c.carry.ensures ∙ ap (brought from reach.rest) c.deref_mut.ensures.value in
     let whole = written_whole c.self.inside.choices.len c.carry.new.choices items (omega (arith, c.deref_mut.ensures.len, ap length c.deref_mut.ensures.value)) (ap length carried ∙ put) ∙ carried in
-    subst (λ (s : Course). BringsPast from c.args.to s (course c.self.inside.image.now c.self.inside.start.end _) reach.rest (nat_eq reach.rest first)) c.self.view_is
-    (passes_some old from c.args.to first reach within le is order _ (ap (course c.self.inside.image.now c.self.inside.start.end) whole) (nat_eq reach.rest first) refl)
+    let now : Course = course c.self.inside.image.now c.self.inside.start.end (take c.self.inside.choices.len (c.carry.new.choices ++ drop (length c.carry.new.choices) items)) in
+    subst (λ (s : Course). BringsPast from c.args.to s now reach.rest (nat_eq reach.rest first)) c.self.view_is
+    (passes_some old from c.args.to first reach within le is order now (ap (course c.self.inside.image.now c.self.inside.start.end) whole) (nat_eq reach.rest first) refl)
