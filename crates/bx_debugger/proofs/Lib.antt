@@ -9,5 +9,3 @@ pub mod LifeRows
 pub mod ItemRows
 pub mod TraceRows
 pub mod SwapLaw
-pub mod PlanRows
-pub mod PlanLaw

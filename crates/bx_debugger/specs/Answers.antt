@@ -21,7 +21,7 @@ use Rattle.bx_debugger.specs.Functions.{list_answer}
 use Rattle.bx_debugger.specs.Help.{help_answer}
 use Rattle.bx_debugger.specs.Look.{look_answer}
 use Rattle.bx_debugger.specs.Open.{open_answer}
-use Rattle.bx_debugger.specs.Plan.{plan_line}
+use Rattle.bx_engine.specs.PlanLines.{plan_line}
 use Rattle.bx_debugger.specs.Program.{Program, program_of}
 use Rattle.bx_debugger.specs.Signals.{signals_answer}
 use Rattle.bx_debugger.specs.Stops.{paused_line, standing, stop_words, stopped_line}

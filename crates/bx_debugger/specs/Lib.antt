@@ -8,7 +8,6 @@ pub mod Trace
 pub mod Open
 pub mod Stops
 pub mod Help
-pub mod Plan
 pub mod Commands
 pub mod CommandView
 pub mod Answers

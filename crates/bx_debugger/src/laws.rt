@@ -5,7 +5,7 @@ ghost use Rattle.std.specs.List.{AllByRecursion};
 ghost use Rattle.bx_world.specs.declared.choices.Choice.{Choice};
 ghost use Rattle.bx_plan.specs.Grammar.{HasPids, IsName};
 ghost use Rattle.bx_plan.specs.Plans.{plan_of};
-ghost use Rattle.bx_debugger.specs.Plan.{plan_line};
+ghost use Rattle.bx_engine.specs.PlanLines.{plan_line};
 
 /// The line that `plan` answers is read back as a schedule of this name with just these choices.
 pub fn a_plan_is_read_back()

@@ -9,7 +9,6 @@ pub mod laws;
 mod listings;
 mod open_lines;
 mod pauses;
-mod plan_lines;
 mod programs;
 mod prompts;
 mod replies;

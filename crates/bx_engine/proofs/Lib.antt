@@ -5,3 +5,8 @@ pub mod FileRows
 pub mod Failing
 pub mod OneFile
 pub mod SourceRows
+pub mod PlanRows
+pub mod PlanLaw
+pub mod PlanAgain
+pub mod ReportRows
+pub mod TidyLaw

@@ -8,3 +8,5 @@ pub mod Loads
 pub mod Runs
 pub mod Listings
 pub mod Campaigns
+pub mod PlanLines
+pub mod Tidying

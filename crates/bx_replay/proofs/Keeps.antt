@@ -1,12 +1,13 @@
 -- What a trail keeps stays good where choices are put behind, and where its tail is another one.
 use Rattle.std.proofs.Common.{◌≡◌, ℕ, ◌+◌, ◌-◌, ◌^◌, ◌<◌, ◌≤◌, inl, inr, List, [], ◌∷◌, ◌++◌, length, take, drop, refl, sym, ap, subst, ◌∙◌, arith, length-append}
-use Rattle.std.specs.Prelude.{Bool, true, false, if◌then◌else◌, slice_index_or}
-use Rattle.std.proofs.lemmas.List.{append-nil, take_all, length-take-le, get_or-take, get_or_append_left, get_or-append_right, get_or_push, get_or_default}
+use Rattle.std.specs.Prelude.{Bool, true, false, if◌then◌else◌, slice_index_or, slice_set}
+use Rattle.std.proofs.lemmas.Bool.{cases_eq}
+use Rattle.std.proofs.lemmas.List.{append-nil, take_all, length-take-le, get_or-take, get_or_append_left, get_or-append_right, get_or_push, get_or_default, get_or-set_same, get_or-set_other, length-set}
 use Rattle.bx_load.specs.Image.{Loaded}
 use Rattle.bx_world.specs.declared.choices.Choice.{Choice}
 use Rattle.bx_world.specs.Running.{Ended, ran}
 use Rattle.bx_replay.specs.Courses.{Course, reached}
-use Rattle.bx_replay.specs.Keeping.{IsReached, AreKept, Parts}
+use Rattle.bx_replay.specs.Keeping.{IsReached, IsNearest, AreKept, Parts, SameCounts}
 use Rattle.bx_replay.specs.declared.kept.Kept.{Kept}
 use Rattle.bx_replay.proofs.Prefixes.{below, bounded, course, onward, reached_longer, reached_before, reached_behind}
 
@@ -220,3 +221,37 @@ nearest c kept start found count near are begins parts none some = elim (below 0
         omega arith,
       )
 ]
+
+-- an end in the place of one that as many choices led to
+pub counts_set : (kept : List Kept) (at : ℕ) (put : Kept) → at < length kept → ((d : Kept) → count_of (slice_index_or kept at d) ≡ count_of put) → SameCounts kept (slice_set kept at put)
+counts_set kept at put within was = record {
+  long = length-set kept at put;
+  same = λ k d h. elim (cases_eq k at) [
+    | inl here ↦
+        ap (λ n. count_of (slice_index_or (slice_set kept at put) n d)) here ∙ ap count_of (get_or-set_same kept at put d within) ∙ sym (was d)
+        ∙ ap (λ n. count_of (slice_index_or kept n d)) (sym here)
+    | inr ne ↦ ap count_of (get_or-set_other kept at k put d ne)
+  ];
+}
+
+-- the nearest end that is kept, and that none lies between
+pub nearest_kept : (c : Course) (kept : List Kept) (start found : Kept) (count near : ℕ) → AreKept c kept → c.start ≡ start.end → Parts kept (c.start.applied + count) near → (near ≡ 0 → found ≡ start)
+    → (0 < near → found ≡ slice_index_or kept (near - 1) found) → IsNearest c kept count found.end
+nearest_kept c kept start found count near are begins parts none some =
+    let is = nearest c kept start found count near are begins parts none some in
+    record {
+      is = is.0;
+      before = is.1;
+      last = λ k d h low. elim (below k near) [
+        | inl lower ↦
+            let bound = parts.bound in
+            let rises = no_later c kept k (near - 1) d are (omega arith) (omega arith) in
+            let same = ap count_of (get_or_default kept (near - 1) d found (omega arith)) in
+            let at = ap count_of (some (omega arith)) in
+            omega arith
+        | inr higher ↦
+            let next = parts.next d (omega arith) in
+            let rises = no_later c kept near k d are higher h in
+            absurd (omega arith)
+      ];
+    }

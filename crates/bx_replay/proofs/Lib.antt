@@ -5,3 +5,5 @@ pub mod Prefixes
 pub mod Stretches
 pub mod Keeps
 pub mod Turning
+pub mod Bringing
+pub mod Carrying

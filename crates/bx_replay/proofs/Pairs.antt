@@ -1,5 +1,5 @@
 -- Two independent choices lead a run to the same place in both orders, and where they do they are independent.
-use Rattle.std.proofs.Common.{◌≡◌, ◌≢◌, ℕ, ◌+◌, [], ◌∷◌, ◌⊎◌, inl, inr, Option, Some, None, Bool, true, false, refl, sym, ap, ◌∙◌, arith}
+use Rattle.std.proofs.Common.{◌≡◌, ◌≢◌, ℕ, ◌+◌, [], ◌∷◌, ◌⊎◌, inl, inr, Option, Some, None, Bool, true, false, refl, sym, ap, subst, ◌∙◌, arith}
 use Rattle.std.specs.Prelude.{◌↔◌, IsTrue, ◌&&◌, ◌||◌, is_some, is_none, if◌then◌else◌, slice_get}
 use Rattle.bx_terms.specs.declared.kinds.Trap.{Trap}
 use Rattle.bx_load.specs.Image.{Loaded}
@@ -10,9 +10,11 @@ use Rattle.bx_world.specs.Enabled.{able, can, actor}
 use Rattle.bx_world.specs.Choosing.{chosen}
 use Rattle.bx_world.specs.Running.{Ended, advanced, ran}
 use Rattle.bx_world.specs.Independent.{runs_local, one_is_local, AreIndependent, IsLocal}
-use Rattle.bx_world.proofs.Orders.{either_way, same_world}
+use Rattle.bx_world.proofs.Commuting.{beside_any}
+use Rattle.bx_world.proofs.Orders.{any_beside, either_way, same_world}
 use Rattle.bx_world.proofs.Children.{left_alike, second_left_alike}
-use Rattle.bx_replay.specs.Exchanges.{SameProcess}
+use Rattle.bx_replay.specs.Exchanges.{IsSettled, SameProcess}
+use Rattle.bx_replay.specs.Moving.{IndependentAt, Passes}
 
 -- what is enabled is so in a world that has not trapped
 free_of : (t : Option (Trap × ℕ)) (b : Bool) → (is_none t && b) ≡ true → t ≡ None
@@ -23,7 +25,7 @@ pub untrapped : (w : State) (c : Choice) → can w c ≡ true → w.trap ≡ Non
 untrapped w c h = free_of w.trap (able c w.processes w.lanes) h
 
 -- a choice more
-abbrev at : State → ℕ → Ended
+abbrev pub at : State → ℕ → Ended
 at w n = record { world = w; applied = n; refused = None }
 
 abbrev decided : Bool → Bool → Ended → Ended → Ended → Ended
@@ -55,7 +57,7 @@ second_enabled image a b w n first count =
     was_enabled image b (chosen image a w) (n + 1)
     (ap (λ (e : Ended). (advanced image b e).applied) (sym (goes_on image a w n first)) ∙ count ∙ omega arith)
 
-at_of : (end : Ended) → end.refused ≡ None → end ≡ at end.world end.applied
+pub at_of : (end : Ended) → end.refused ≡ None → end ≡ at end.world end.applied
 at_of end none = ap (λ r. record { world = end.world; applied = end.applied; refused = r }) none
 
 -- both orders lead to the same place
@@ -110,6 +112,12 @@ either_local image w (Run p) (Expire r) h = inr tt
 either_local image w (Deliver p q) b h = inl tt
 either_local image w (Expire p) b h = inl tt
 
+-- by a law
+settled : (image : Loaded) (w : State) (a b : Choice) → IsSettled image w a b → actor a ≢ actor b → can w a ≡ true → can w b ≡ true
+    → (chosen image a w).trap ≡ None → (chosen image b (chosen image a w)).trap ≡ None → AreIndependent image w a b
+settled image w a b (inl h) apart can_a can_b a_runs b_runs = beside_any image a b w h.0 h.1 apart can_a can_b a_runs b_runs
+settled image w a b (inr h) apart can_a can_b a_runs b_runs = any_beside image a b w h.0 h.1 apart can_a can_b a_runs b_runs
+
 -- two choices of different processes, both enabled where a run has come that refused none, of which one at least is local
 module _ (image : Loaded) (a b : Choice) (end : Ended) (none : end.refused ≡ None)
     (may : (can end.world a ≡ true) × (can end.world b ≡ true) × (one_is_local image end.world a b ≡ true)) (apart : actor a ≢ actor b) where
@@ -134,19 +142,71 @@ module _ (image : Loaded) (a b : Choice) (end : Ended) (none : end.refused ≡ N
     go (inl local) = left_alike image a b end.world local apart may.0 may.1 made.first_runs made.second_runs turned.second_runs (same (actor a) same_a)
     go (inr local) = second_left_alike image a b end.world local apart may.0 may.1 turned.first_runs made.second_runs turned.second_runs (same (actor b) same_b)
 
-  pub tried : (one other : Ended) (agree : Bool) → one ≡ ran image (a ∷ b ∷ []) end → other ≡ ran image (b ∷ a ∷ []) end → (one.applied ≡ end.applied + 2) × (one.world.trap ≡ None)
-      → (IsTrue agree ↔ ((other.applied ≡ end.applied + 2) × (other.world.trap ≡ None) × SameProcess (actor a) one.world other.world × SameProcess (actor b) one.world other.world))
-      → IsTrue agree ↔ ((end.refused ≡ None) × AreIndependent image end.world a b)
-  tried one other agree one_is other_is both agrees = (
-    λ h.
-        let k = agrees.0 h in
-        (none, alike one other (made image a b end one none may.0 one_is both.0 both.1) (made image b a end other none may.1 other_is k.0 k.1) k.2 k.3),
+  -- the other was tried too, and was not made
+  pub not_turned : (one other : Ended) (made : Bool) → one ≡ ran image (a ∷ b ∷ []) end → other ≡ ran image (b ∷ a ∷ []) end → (one.applied ≡ end.applied + 2) × (one.world.trap ≡ None)
+      → (IsTrue made ↔ ((other.applied ≡ end.applied + 2) × (other.world.trap ≡ None))) → made ≡ false
+      → IsTrue false ↔ ((end.refused ≡ None) × AreIndependent image end.world a b)
+  not_turned one other made one_is other_is both turned not = (
+    λ h. cc,
     λ h.
         let same : one ≡ other = one_is ∙ same_end image a b end none h.1 ∙ sym other_is in
-        agrees.1 (
-          ap (λ (e : Ended). e.applied) (sym same) ∙ both.0,
-          ap (λ (e : Ended). e.world.trap) (sym same) ∙ both.1,
+        let yes : made ≡ true = turned.1 (ap (λ (e : Ended). e.applied) (sym same) ∙ both.0, ap (λ (e : Ended). e.world.trap) (sym same) ∙ both.1) in
+        sym not ∙ yes,
+  )
+
+  found : (one other : Ended) → one ≡ ran image (a ∷ b ∷ []) end → other ≡ ran image (b ∷ a ∷ []) end
+      → (one.applied ≡ end.applied + 2) × (one.world.trap ≡ None) → (other.applied ≡ end.applied + 2) × (other.world.trap ≡ None)
+      → IsSettled image end.world a b ⊎ (SameProcess (actor a) one.world other.world × SameProcess (actor b) one.world other.world) → AreIndependent image end.world a b
+  found one other one_is other_is both turned (inl known) =
+      let one_made = made image a b end one none may.0 one_is both.0 both.1 in
+      settled image end.world a b known apart may.0 may.1 one_made.first_runs one_made.second_runs
+  found one other one_is other_is both turned (inr same) =
+      alike one other (made image a b end one none may.0 one_is both.0 both.1) (made image b a end other none may.1 other_is turned.0 turned.1) same.0 same.1
+
+  -- both were made
+  pub tried : (one other : Ended) (agree : Bool) → one ≡ ran image (a ∷ b ∷ []) end → other ≡ ran image (b ∷ a ∷ []) end
+      → (one.applied ≡ end.applied + 2) × (one.world.trap ≡ None) → (other.applied ≡ end.applied + 2) × (other.world.trap ≡ None)
+      → (IsTrue agree → IsSettled image end.world a b ⊎ (SameProcess (actor a) one.world other.world × SameProcess (actor b) one.world other.world))
+      → (SameProcess (actor a) one.world other.world × SameProcess (actor b) one.world other.world → IsTrue agree)
+      → IsTrue agree ↔ ((end.refused ≡ None) × AreIndependent image end.world a b)
+  tried one other agree one_is other_is both turned told known = (
+    λ h. (none, found one other one_is other_is both turned (told h)),
+    λ h.
+        let same : one ≡ other = one_is ∙ same_end image a b end none h.1 ∙ sym other_is in
+        known (
           ap (λ (e : Ended). slice_get e.world.processes (actor a)) same,
           ap (λ (e : Ended). slice_get e.world.processes (actor b)) same,
         ),
   )
+
+  -- it is known that both lead to equal worlds, if the one is applied without a trap
+  pub known_passes : IsSettled image end.world a b → Passes image end a b
+  known_passes known = record {
+    refused = none;
+    enabled = may.0;
+    independent = λ one both. settled image end.world a b known apart may.0 may.1 one both;
+  }
+
+-- in equal worlds
+pub in_equal : (r : Bool) (p q : ℕ) (w v x y : State) → w ≡ x → v ≡ y → (IsTrue r ↔ (SameProcess p w v × SameProcess q w v)) → IsTrue r ↔ (SameProcess p x y × SameProcess q x y)
+in_equal r p q w v x y e f h =
+    subst (λ (z : State). IsTrue r ↔ (SameProcess p z y × SameProcess q z y)) e (subst (λ (z : State). IsTrue r ↔ (SameProcess p w z × SameProcess q w z)) f h)
+
+-- independent ones pass
+pub independent_passes : (image : Loaded) (a b : Choice) (end : Ended) → IndependentAt image end a b → Passes image end a b
+independent_passes image a b end h = record { refused = h.0; enabled = h.1.first_enabled; independent = λ one both. h.1 }
+
+-- two that pass and are made in a row are independent
+pub made_independent : (image : Loaded) (a b : Choice) (end one : Ended) → Passes image end a b → one ≡ ran image (a ∷ b ∷ []) end → one.applied ≡ end.applied + 2 → one.world.trap ≡ None
+    → IndependentAt image end a b
+made_independent image a b end one passes is count free =
+    let done = made image a b end one passes.refused passes.enabled is count free in
+    (passes.refused, passes.independent done.first_runs done.second_runs)
+
+-- so they are exactly where both are made in a row
+pub made_or_not : (image : Loaded) (a b : Choice) (end one : Ended) (made : Bool) → Passes image end a b → one ≡ ran image (a ∷ b ∷ []) end
+    → (IsTrue made ↔ ((one.applied ≡ end.applied + 2) × (one.world.trap ≡ None))) → IsTrue made ↔ IndependentAt image end a b
+made_or_not image a b end one made passes is both = (
+  λ h. made_independent image a b end one passes is (both.0 h).0 (both.0 h).1,
+  λ h. let done = both_applied image a b end h.0 h.1 in both.1 (ap (λ (e : Ended). e.applied) is ∙ done.0, ap (λ (e : Ended). e.world.trap) is ∙ done.1),
+)

@@ -44,13 +44,13 @@ module _ (i : ℕ) (c : Course) (a : Around i c) where
   pub long : i + 2 ≤ length c.choices
   long = omega (arith, length-drop i c.choices, ap length a.rest)
 
-  short : length (take i c.choices) ≡ i
+  pub short : length (take i c.choices) ≡ i
   short = length-take-le i c.choices (omega (arith, long))
 
-  old : c.choices ≡ take i c.choices ++ a.first ∷ a.second ∷ a.more
+  pub old : c.choices ≡ take i c.choices ++ a.first ∷ a.second ∷ a.more
   old = sym (take-append-drop i c.choices) ∙ ap (λ zs. take i c.choices ++ zs) a.rest
 
-  new : exchanged_at i c.choices ≡ take i c.choices ++ a.second ∷ a.first ∷ a.more
+  pub new : exchanged_at i c.choices ≡ take i c.choices ++ a.second ∷ a.first ∷ a.more
   new = swapped i (i + 1) c.choices a.first a.second a.more (add-one i) a.rest
 
   -- prefixes that end before both
@@ -102,7 +102,7 @@ module _ (i : ℕ) (c : Course) (a : Around i c) where
       ∙ ap (λ (zs : List Choice). ran c.image zs c.start) (sym old)
 
 -- which two are exchanged
-abbrev unless_same : Bool → Choice × Choice → Option (Choice × Choice)
+abbrev pub unless_same : Bool → Choice × Choice → Option (Choice × Choice)
 unless_same same pair = if same then None else Some pair
 
 in_pair : (p q : Choice × Choice) → Some p ≡ Some q → p ≡ q

@@ -1,18 +1,23 @@
 -- Exchanges of two choices that are next to each other in a row, where the two are independent.
 -- Source: Mazurkiewicz, "Trace Theory"; Godefroid, "Partial-Order Methods for the Verification of Concurrent Systems".
-use Rattle.std.specs.Prelude.{◌≡◌, ℕ, ◌+◌, List, [], ◌∷◌, Bool, true, false, ◌==◌, if◌then◌else◌, drop, slice_get, Option, Some, None}
+use Rattle.std.specs.Prelude.{◌≡◌, ◌⊎◌, ℕ, ◌+◌, ◌<◌, List, [], ◌∷◌, Bool, true, false, ◌==◌, if◌then◌else◌, drop, length, slice_get, Option, Some, None}
 use Rattle.std.specs.List.{swap}
 use Rattle.bx_load.specs.Image.{Loaded}
 use Rattle.bx_world.specs.declared.choices.Choice.{Choice}
 use Rattle.bx_world.specs.World.{State}
 use Rattle.bx_world.specs.Enabled.{actor}
 use Rattle.bx_world.specs.Running.{Ended}
-use Rattle.bx_world.specs.Independent.{AreIndependent}
+use Rattle.bx_world.specs.Independent.{AreIndependent, IsLocal}
 use Rattle.bx_replay.specs.Courses.{Course, reached}
 
 -- the process of that pid is the same in both, or is in neither
 abbrev pub SameProcess : ℕ → State → State → Type 0
 SameProcess p w v = slice_get w.processes p ≡ slice_get v.processes p
+
+-- one of two choices concerns a process alone that is there: both orders lead to equal worlds, if one is applied without a trap
+abbrev pub IsSettled : Loaded → State → Choice → Choice → Type 0
+IsSettled image w first second =
+    (IsLocal image w first × (actor first < length w.processes)) ⊎ (IsLocal image w second × (actor second < length w.processes))
 
 -- the choices at i and i + 1 in each other's place
 abbrev pub exchanged_at : ℕ → List Choice → List Choice

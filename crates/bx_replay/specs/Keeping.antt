@@ -29,3 +29,15 @@ pub record Turns (old new : Course) (end : Ended) : Type 0 where
   pub count : length new.choices ≡ length old.choices
   pub there : IsReached new end
   pub elsewhere : (n : ℕ) → n ≢ end.applied - old.start.applied → reached n new ≡ reached n old
+
+-- the last end that is kept which so many choices lead to, or fewer, or the start
+pub record IsNearest (course : Course) (kept : List Kept) (count : ℕ) (end : Ended) : Type 0 where
+  pub is : IsReached course end
+  pub before : end.applied ≤ course.start.applied + count
+  pub last : (k : ℕ) (d : Kept) → k < length kept → (slice_index_or kept k d).end.applied ≤ course.start.applied + count
+      → (slice_index_or kept k d).end.applied ≤ end.applied
+
+-- as many choices lead to each
+pub record SameCounts (old new : List Kept) : Type 0 where
+  pub long : length new ≡ length old
+  pub same : (k : ℕ) (d : Kept) → k < length old → (slice_index_or new k d).end.applied ≡ (slice_index_or old k d).end.applied

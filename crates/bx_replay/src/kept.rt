@@ -2,7 +2,7 @@
 
 ghost use Rattle.std.specs.Prelude.{◌≡◌, ◌+◌, ◌-◌, ◌<◌, ◌≤◌, ◌^◌, length, IfOk, OnErr, IsTrue, slice_index_or};
 ghost use Rattle.bx_replay.specs.Courses.{Course};
-ghost use Rattle.bx_replay.specs.Keeping.{AreKept, IsReached, Parts, Turns};
+ghost use Rattle.bx_replay.specs.Keeping.{AreKept, IsNearest, IsReached, Parts, SameCounts, Turns};
 
 use crate::runs::{RcEnd, advance_all, copied};
 use crate::weights::cells;
@@ -30,6 +30,16 @@ impl Kept {
         let distance = cells(alloc, &end.world)?.max(LEAST);
         let next = end.applied.saturating_add(distance);
         Ok(Kept { end, next })
+    }
+
+    /// The same end.
+    pub(crate) fn copy(&self, alloc: Global) -> Result<Kept, AllocError>
+        ensures { IfOk result (λ copy. copy ≡ self.now) }
+    {
+        Ok(Kept {
+            end: copied(alloc, &self.end)?,
+            next: self.next,
+        })
     }
 
     /// How many choices lead there.
@@ -83,6 +93,16 @@ pub(crate) fn last_of<'a>(start: &'a Kept, kept: &'a [Kept], count: usize) -> &'
     &kept[count - 1]
 }
 
+/// The last that is kept of which no more than `count` choices lead there from the start on, or the start where there is none.
+pub(crate) fn nearest<'a>(start: &'a Kept, kept: &'a [Kept], count: usize) -> &'a Kept
+    requires { start.now.end.applied + count < 2 ^ 64 }
+    ensures { (course : Course) → course.start ≡ start.now.end → AreKept course kept.now
+        → IsNearest course kept.now count result.now.end }
+{
+    let near = within(kept, start.count() + count as u64);
+    last_of(start, kept, near)
+}
+
 /// Keeps an end, where it is far enough behind the last one.
 pub(crate) fn keep_if_due(
     alloc: Global,
@@ -130,8 +150,9 @@ pub(crate) fn keep_all(
 
 /// Keeps an end in the place of the one that as many choices led to, where such a one is kept.
 pub(crate) fn replace(kept: &mut Vec<Kept>, end: RcEnd)
-    ensures { (old new : Course) → AreKept old kept.old.items → Turns old new end
+    ensures kept { (old new : Course) → AreKept old kept.old.items → Turns old new end
         → AreKept new kept.new.items }
+    ensures counts { SameCounts kept.old.items kept.new.items }
 {
     let count = within(kept, end.applied);
     if count > 0 && kept[count - 1].count() == end.applied {

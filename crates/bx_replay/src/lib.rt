@@ -9,4 +9,4 @@ mod weights;
 
 pub use independence::{apart, apart_at};
 pub use runs::{RcEnd, advance_all, copied, follow, shared};
-pub use trails::Trail;
+pub use trails::{Row, Trail};

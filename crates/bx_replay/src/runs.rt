@@ -1,7 +1,8 @@
 //! Runs that go on from where others have come.
 
-ghost use Rattle.std.specs.Prelude.{◌≡◌, ◌+◌, ◌<◌, ◌^◌, ◌∷◌, [], length, replicate, IfOk, OnOk};
-ghost use Rattle.bx_world.specs.Running.{ran};
+ghost use Rattle.std.specs.Prelude.{◌≡◌, ◌+◌, ◌<◌, ◌^◌, ◌∷◌, [], length, replicate, IfOk, OnErr, OnOk};
+ghost use Rattle.bx_world.specs.Running.{ran, Lacks};
+ghost use Rattle.bx_replay.specs.Lacking.{LacksAmong};
 
 use bx_load::Image;
 use bx_plan::Part;
@@ -80,7 +81,8 @@ pub(crate) fn follow_both(
     Ok(end)
 }
 
-/// These choices more, in order; equal ones in a row are made in one call. It can only run out of memory.
+/// These choices more, in order; equal ones in a row are made in one call. It can only run out of memory. Then those are made that
+/// stand before the one that takes it: `applied` tells how many.
 pub fn advance_all(
     alloc: Global,
     end: &mut RcEnd,
@@ -88,7 +90,8 @@ pub fn advance_all(
     part: Part<'_>,
 ) -> Result<(), AllocError>
     requires { end.old.applied + length part < 2 ^ 64 }
-    ensures { OnOk result (end.new ≡ ran image.now part.entry end.old) }
+    ensures ok { OnOk result (end.new ≡ ran image.now part.entry end.old) }
+    ensures err { OnErr result (LacksAmong image.now part.entry end.old end.new) }
 {
     let mut left = part;
     while let Some(run) = left.next_run() {
@@ -97,8 +100,24 @@ pub fn advance_all(
     Ok(())
 }
 
+/// These choices more, in order, one by one. It can only run out of memory.
+pub(crate) fn advance_each(
+    alloc: Global,
+    end: &mut RcEnd,
+    image: &Image,
+    choices: &[Choice],
+) -> Result<(), AllocError>
+    requires { end.old.applied + length choices.now < 2 ^ 64 }
+    ensures { OnOk result (end.new ≡ ran image.now choices.now end.old) }
+{
+    for choice in choices {
+        advance_run(alloc, end, image, *choice, 1)?;
+    }
+    Ok(())
+}
+
 /// So many equal choices more, one at least.
-fn advance_run(
+pub(crate) fn advance_run(
     alloc: Global,
     end: &mut RcEnd,
     image: &Image,
@@ -107,7 +126,8 @@ fn advance_run(
 ) -> Result<(), AllocError>
     requires some { 0 < times }
     requires few { end.old.applied + times < 2 ^ 64 }
-    ensures { OnOk result (end.new ≡ ran image.now (replicate times choice) end.old) }
+    ensures ok { OnOk result (end.new ≡ ran image.now (replicate times choice) end.old) }
+    ensures err { OnErr result (Lacks image.now choice times end.old end.new) }
 {
     // `advance_many` counts to one less than a number can
     if let Err(_) = advance_many(alloc, end, image, choice, times - 1) {

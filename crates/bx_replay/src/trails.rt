@@ -5,13 +5,16 @@ ghost use Rattle.bx_world.specs.Running.{ran};
 ghost use Rattle.bx_replay.specs.Courses.{reached};
 ghost use Rattle.bx_replay.specs.Exchanges.{next_apart, Exchanges};
 
+mod rows;
+
 use crate::independence::{apart_at, are_independent};
-use crate::kept::{Kept, keep_all, keep_if_due, last_of, replace, within};
+use crate::kept::{Kept, keep_all, keep_if_due, last_of, nearest, replace, within};
 use crate::runs::{RcEnd, follow, follow_one};
 use bx_load::Image;
 use bx_plan::{Part, Schedule};
 use bx_share::Same;
 use std::alloc::{AllocError, Global};
+pub use rows::Row;
 use std::marker::Model;
 
 /// Choices in a row, from where a run has come, over some code.
@@ -144,11 +147,8 @@ impl<'a> Trail<'a> {
         requires { count ≤ length self.now.choices }
         ensures { IfOk result (λ end. end ≡ reached count self.now) }
     {
-        let before = self.start.count();
-        let near = within(&self.kept, before + count as u64);
-        let from = last_of(&self.start, &self.kept, near);
-        let made = from.count();
-        let first = (made - before) as usize;
+        let from = nearest(&self.start, &self.kept, count);
+        let first = (from.count() - self.start.count()) as usize;
         follow(
             alloc,
             self.image,

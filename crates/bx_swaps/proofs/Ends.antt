@@ -1,5 +1,5 @@
 -- Exchanges leave where a schedule ends as it was.
-use Rattle.std.proofs.Common.{◌≡◌, ℕ, List, [], ◌∷◌, Result, Ok, Err, None, refl, sym, subst, ◌∙◌}
+use Rattle.std.proofs.Common.{◌≡◌, ℕ, List, [], ◌∷◌, Result, Ok, Err, None, refl, sym, ap, subst, ◌∙◌}
 use Rattle.bx_terms.specs.declared.faults.Fault.{Fault}
 use Rattle.bx_terms.specs.declared.faults.Fault.TheVariants.{Memory}
 use Rattle.bx_load.specs.Image.{Loaded}
@@ -9,7 +9,8 @@ use Rattle.bx_world.specs.Running.{ran}
 use Rattle.bx_replay.specs.Courses.{Course}
 use Rattle.bx_replay.specs.Exchanges.{with_exchange}
 use Rattle.bx_replay.proofs.Turning.{around, whole}
-use Rattle.bx_swaps.specs.Exchanges.{exchanged, AllMay, AtFaultAtOnce, IsAnswer, IsAnswerFrom, Takes}
+use Rattle.bx_replay.specs.Moving.{exchanged, AllMay, IsExchanged}
+use Rattle.bx_swaps.specs.Exchanges.{AtFaultAtOnce, IsAnswer, IsAnswerFrom, Takes}
 
 -- each exchange in turn
 pub same_ends : (positions : List ℕ) (course : Course) → AllMay positions course
@@ -27,3 +28,7 @@ pub wanting : (image : Loaded) (found : Result State Fault) (start : State) (pos
 wanting image found start positions choices answer is at err =
     subst (λ (r : Result State Fault). IsAnswer image r positions choices answer) (sym is)
     (subst (λ (a : Result (List Choice) Fault). IsAnswerFrom image start positions choices a) (sym err) (takes positions choices at))
+
+-- exchanges leave where all of them lead as it was
+pub exchanged_end : (count : ℕ) (old new : Course) → IsExchanged count old new → ran old.image new.choices old.start ≡ ran old.image old.choices old.start
+exchanged_end count old new e = ap (λ (c : Course). ran old.image c.choices old.start) e.is ∙ same_ends e.positions old e.may

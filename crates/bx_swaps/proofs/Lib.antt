@@ -1,1 +1,4 @@
 pub mod Ends
+pub mod Begun
+pub mod Aside
+pub mod Switching

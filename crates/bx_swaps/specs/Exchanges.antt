@@ -8,21 +8,23 @@ use Rattle.bx_world.specs.declared.choices.Choice.{Choice}
 use Rattle.bx_world.specs.World.{State}
 use Rattle.bx_world.specs.Running.{unchosen}
 use Rattle.bx_replay.specs.Courses.{Course}
-use Rattle.bx_replay.specs.Exchanges.{exchanged_at, next_apart, with_exchange, MayExchange}
+use Rattle.bx_replay.specs.Exchanges.{next_apart, with_exchange, MayExchange}
+use Rattle.bx_replay.specs.Moving.{exchanged, AllMay}
 
 -- choices from a world on in which nothing was chosen yet
 abbrev pub from_start : Loaded → State → List Choice → Course
 from_start image start choices = record { image = image; start = unchosen start; choices = choices }
 
--- one exchange after another, each in what the earlier ones made
-abbrev pub exchanged : List ℕ → List Choice → List Choice
-exchanged [] choices = choices
-exchanged (i ∷ more) choices = exchanged more (exchanged_at i choices)
+-- a trail of these choices from the start on; memory may run out wherever there is a start
+abbrev pub BeginsFrom : Loaded → State → List Choice → Result Course Fault → Type 0
+BeginsFrom image start choices (Ok course) = course ≡ from_start image start choices
+BeginsFrom image start choices (Err Memory) = Unit {0}
+BeginsFrom image start choices (Err fault) = ⊥
 
--- each exchange may be made, in what the earlier ones made
-abbrev pub AllMay : List ℕ → Course → Type 0
-AllMay [] course = Unit {0}
-AllMay (i ∷ more) course = MayExchange i course × AllMay more (with_exchange i course)
+-- where there is no start, why
+abbrev pub BeginsAt : Loaded → Result State Fault → List Choice → Result Course Fault → Type 0
+BeginsAt image (Ok start) choices answer = BeginsFrom image start choices answer
+BeginsAt image (Err fault) choices answer = answer ≡ Err fault
 
 -- the first position at which the exchange may not be made
 abbrev pub IsFirstAtFault : List ℕ → Course → ℕ → Type 0

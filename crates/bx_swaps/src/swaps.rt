@@ -4,11 +4,11 @@ ghost use Rattle.std.specs.Prelude.{IfOk};
 ghost use Rattle.bx_world.specs.World.{started};
 ghost use Rattle.bx_swaps.specs.Exchanges.{IsAnswer, AtFaultAtOnce, ExchangesAll};
 
+use crate::starts::trail_of;
 use bx_load::Image;
 use bx_plan::Schedule;
 use bx_replay::{Trail, apart_at};
 use bx_terms::{AtomId, Fault};
-use bx_world::{RcWorld, RunEnd};
 use std::alloc::{AllocError, Global};
 
 /// The first of these positions, where the list alone tells that it is at fault: no two choices of different processes stand there.
@@ -63,14 +63,7 @@ pub fn check_swaps(
     if let Some(position) = refused_at_once(schedule, positions) {
         return Err(Fault::NotIndependent { position });
     }
-    let start = RunEnd {
-        world: RcWorld::start(alloc, image, module, function)?,
-        applied: 0,
-        refused: None,
-    };
-    let mut choices = Schedule::new(alloc);
-    choices.append(schedule.all())?;
-    let mut trail = Trail::of(alloc, image, start, choices)?;
+    let mut trail = trail_of(alloc, image, module, function, schedule)?;
     match exchange_all(alloc, &mut trail, positions)? {
         Some(position) => Err(Fault::NotIndependent { position }),
         None => Ok(trail.into_schedule()),

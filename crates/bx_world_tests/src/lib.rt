@@ -42,6 +42,8 @@ mod streams;
 #[cfg(test)]
 mod swaps;
 #[cfg(test)]
+mod tidying;
+#[cfg(test)]
 mod traces;
 #[cfg(test)]
 mod worlds;

@@ -16,7 +16,7 @@ loop-at-preserved c =
     let within : past ≤ length choices = omega (arith, so_far.within, c.min.ensures) in
     let applied = ap (λ (e : Ended). e.applied) c.end-in-loop-at.view_is in
     let all : start.applied + past ≤ next.applied = omega (arith, applied, c.count.ensures, c.if-end-count.false) in
-    let made : next ≡ ran image (take (past - c.loop-at.at) (drop c.loop-at.at choices)) c.loop-at.end = c.in_ok-advance_all.ensures ∙ ap (λ (cs : List Choice). ran image cs c.loop-at.end) c.part.ensures in
+    let made : next ≡ ran image (take (past - c.loop-at.at) (drop c.loop-at.at choices)) c.loop-at.end = c.in_ok-advance_all.ensures.ok ∙ ap (λ (cs : List Choice). ran image cs c.loop-at.end) c.part.ensures in
     let on = further_reached image start c.loop-at.end next choices c.loop-at.at past (omega arith) within so_far.here made all in
     record {
       within = within;

@@ -8,7 +8,7 @@ advance-requires c =
     let most = few_made c.args.image.now c.args.choice (c.args.times - 1) c.args.end.now c.advance_many.new.end c.in_default.ensures in
     omega (arith, most, c.requires.some, c.requires.few)
 
-pub returns : goal.returns
-returns c =
+pub returns-clause-ok : goal.returns-clause-ok
+returns-clause-ok c =
     last_made c.args.image.now c.args.choice c.args.times c.args.end.now c.advance_many.new.end c.advance.new.end c.requires.some c.in_default.ensures
     (sym (ok_pair _ _ _ _ c.in_default-advance.ensures).0)

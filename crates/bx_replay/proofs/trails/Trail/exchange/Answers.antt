@@ -42,7 +42,7 @@ invariant_of-self-2 c =
     let found = c.in_ok-are_independent.ensures.0 c.if-not-branch.false in
     let turns = turns_found c.args.position old c.in_ok-here.here c.in_ok-between.between c.in-Some.first c.in-Some.second at pair found.0 found.1 c.in_ok-between.ensures in
     subst (λ (cs : List Choice). AreKept (course old.image old.start cs) c.replace.new.kept.items) (sym c.in_ok-swap.ensures.ok)
-    (c.replace.ensures old (with_exchange c.args.position old) c.self.invariant turns)
+    (c.replace.ensures.kept old (with_exchange c.args.position old) c.self.invariant turns)
 
 pub returns-clause-done : goal.returns-clause-done
 returns-clause-done c =

@@ -6,7 +6,7 @@ use Rattle.bx_plan.specs.Entry.{Entry}
 use Rattle.bx_plan.specs.Nodes.{choice_eq}
 use Rattle.bx_world.specs.declared.choices.Choice.{Choice}
 use Rattle.bx_world.specs.declared.choices.Choice.TheVariants.{Run, Deliver, Expire}
-use Rattle.bx_debugger.specs.Plan.{before, entries_words, entry_words, gathered}
+use Rattle.bx_engine.specs.PlanLines.{before, entries_words, entry_words, gathered}
 
 -- choices that compare alike are the same
 nat_same : (p q : ℕ) → (p == q) ≡ true → p ≡ q

@@ -1,4 +1,4 @@
--- `plan NAME`: choices as one line of a plan, equal neighbours in one entry.
+-- Choices as one line of a plan, equal neighbours in one entry.
 use Rattle.std.specs.Prelude.{ℕ, ◌+◌, ◌==◌, List, [], ◌∷◌, ◌++◌, if◌then◌else◌, codes, decimal}
 use Rattle.bx_plan.specs.Entry.{Entry}
 use Rattle.bx_plan.specs.Nodes.{choice_eq}

@@ -1,6 +1,6 @@
 use Rattle.std.proofs.Common.{◌≡◌, ◌++◌, length, string_bytes}
-use Rattle.bx_debugger.specs.Plan.{entries_words, gathered}
-use Rattle.bx_debugger.proofs.plan_lines.push_entries.Given as goal
+use Rattle.bx_engine.specs.PlanLines.{entries_words, gathered}
+use Rattle.bx_engine.proofs.plan_lines.push_entries.Given as goal
 
 -- what is written and what is left to write make the whole
 abbrev pub invariant-loop-run : goal.invariant-loop-run

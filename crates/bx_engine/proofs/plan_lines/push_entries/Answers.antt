@@ -1,6 +1,6 @@
 use Rattle.std.proofs.Common.{string_bytes}
-use Rattle.bx_debugger.proofs.PlanRows.{entries_next}
-use Rattle.bx_debugger.proofs.plan_lines.push_entries.Goals as goal
+use Rattle.bx_engine.proofs.PlanRows.{entries_next}
+use Rattle.bx_engine.proofs.plan_lines.push_entries.Goals as goal
 
 pub loop-run-preserved : goal.loop-run-preserved
 loop-run-preserved c =

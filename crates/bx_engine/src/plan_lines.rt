@@ -1,7 +1,7 @@
-//! `plan NAME`: the choices of a session as one line of a plan.
+//! Choices as one line of a plan.
 
 ghost use Rattle.std.specs.Prelude.{◌≡◌, ◌++◌, OnOk, codes, string_bytes};
-ghost use Rattle.bx_debugger.specs.Plan.{entries_words, entry_words, gathered, plan_line};
+ghost use Rattle.bx_engine.specs.PlanLines.{entries_words, entry_words, gathered, plan_line};
 
 use bx_plan::{Part, Run};
 use bx_world::choice_text;
@@ -37,7 +37,7 @@ fn push_entries(alloc: Global, out: &mut String, choices: Part<'_>) -> Result<()
 }
 
 /// Adds choices as a line of a plan, and ends the line.
-pub(crate) fn push_plan(
+pub fn push_plan(
     alloc: Global,
     out: &mut String,
     name: &str,

@@ -18,8 +18,8 @@ use Rattle.bx_plan.proofs.Spellings.{entry_lacks}
 use Rattle.bx_world.specs.declared.choices.Choice.{Choice}
 use Rattle.bx_world.specs.declared.choices.Choice.TheVariants.{Run, Deliver, Expire}
 use Rattle.bx_world.specs.Texts.{spelling as shown_choice}
-use Rattle.bx_debugger.specs.Plan.{before, entries_words, entry_words, gathered, plan_line}
-use Rattle.bx_debugger.proofs.PlanRows.{same_choice}
+use Rattle.bx_engine.specs.PlanLines.{before, entries_words, entry_words, gathered, plan_line}
+use Rattle.bx_engine.proofs.PlanRows.{same_choice}
 
 -- entries whose choices may be named, each of which is made at least once
 abbrev Sound : List Entry → Type 0
@@ -139,7 +139,7 @@ not_long name cs few =
     ap (λ t. t || nat_lt 1000000 (node_count (cs ∷ []))) a ∙ b
 
 -- the line's schedule
-reads : (name : List ℕ) (cs : List Choice) → IsName name → AllByRecursion HasPids cs → length cs ≤ 100000
+pub reads : (name : List ℕ) (cs : List Choice) → IsName name → AllByRecursion HasPids cs → length cs ≤ 100000
     → line_of (plan_line name cs) ≡ Some (Some (name, gathered cs))
 reads name cs n pids few =
     let c = count_gathered cs in
@@ -150,7 +150,7 @@ reads name cs n pids few =
       append_assoc name (codes ":") (entries_words (gathered cs)),
     )
 
-lacks : (name : List ℕ) (cs : List Choice) → IsName name → AllByRecursion HasPids cs → length cs ≤ 100000 → Lacks 10 (plan_line name cs)
+pub lacks : (name : List ℕ) (cs : List Choice) → IsName name → AllByRecursion HasPids cs → length cs ≤ 100000 → Lacks 10 (plan_line name cs)
 lacks name cs n pids few =
     let c = count_gathered cs in
     subst (Lacks 10) (sym (append_assoc name (codes ":") (entries_words (gathered cs))))

@@ -1,0 +1,73 @@
+-- Choices that are set aside, behind those that come before them.
+use Rattle.std.proofs.Common.{◌≡◌, ◌∙◌, ℕ, ◌+◌, ◌-◌, ◌<◌, ◌≤◌, Bool, true, false, List, length, take, drop, refl, sym, ap, subst, arith}
+use Rattle.std.specs.Prelude.{◌==◌, if◌then◌else◌, slice_get, None, IsTrue}
+use Rattle.std.proofs.lemmas.Bool.{eqb-true, eqb-false}
+use Rattle.std.proofs.lemmas.List.{length-drop, length-take-le}
+use Rattle.bx_world.specs.declared.choices.Choice.{Choice}
+use Rattle.bx_world.specs.declared.choices.Choice.TheVariants.{Run}
+use Rattle.bx_world.specs.Running.{Ended, ran}
+use Rattle.bx_replay.specs.Courses.{Course, reached}
+use Rattle.bx_replay.specs.Moving.{brought, Brings, IsExchanged}
+use Rattle.bx_replay.proofs.Bringing.{among_more, brought_before, brought_next, ends_after, further, long_after}
+use Rattle.bx_replay.proofs.Prefixes.{bounded, onward}
+use Rattle.bx_world.proofs.Lawful.{few_applied}
+use Rattle.bx_swaps.specs.Tidying.{IsSetAside, IsUndone}
+
+-- those that are set aside begin with that choice, when so many were looked at
+pub record AsideAt (count at k : ℕ) (old new : Course) (first : ℕ) : Type 0 where
+  pub exchanged : IsExchanged count old new
+  pub back : k ≤ first
+  pub less : first < at
+  pub there : slice_get new.choices first ≡ slice_get old.choices k
+
+aside_there : (mid new : Course) (at first came : ℕ) → at < length mid.choices → first < at → Brings at first mid new came → (same : Bool) → (came == first) ≡ same
+    → slice_get new.choices (if same then first + 1 else first) ≡ slice_get mid.choices first
+aside_there mid new at first came within less brings true e =
+    let here : came ≡ first = eqb-true came first e in
+    ap (λ cs. slice_get cs (first + 1)) (brings.choices ∙ ap (λ n. brought at n mid.choices) here) ∙ brought_next mid.choices at first (Run 0) within less
+aside_there mid new at first came within less brings false e =
+    let apart = eqb-false came first e in
+    let low = brings.reach in
+    let high = brings.start in
+    let behind : first < came = ne_less first came low (λ same. apart (sym same)) in
+    ap (λ cs. slice_get cs first) brings.choices ∙ brought_before mid.choices at came (Run 0) first within high behind
+  where
+    ne_less : (a b : ℕ) → a ≤ b → (a ≡ b → ⊥) → a < b
+    ne_less a b le ne = omega (arith, ne)
+
+aside_bound : (first came : ℕ) (same : Bool) → (first ≤ (if same then first + 1 else first)) × ((if same then first + 1 else first) ≤ first + 1)
+aside_bound first came true = (omega arith, omega arith)
+aside_bound first came false = (omega arith, omega arith)
+
+-- one choice more
+pub aside_more : (count at k : ℕ) (old mid new : Course) (first came next : ℕ) → at < count → count ≤ length old.choices → AsideAt count at k old mid first → Brings at first mid new came → next ≡ (if came == first then first + 1 else first)
+    → AsideAt count (at + 1) k old new next
+aside_more count at k old mid new first came next inside within so_far brings is =
+    let long = long_after count old mid so_far.exchanged in
+    let less = so_far.less in
+    let back = so_far.back in
+    let bound = aside_bound first came (came == first) in
+    record {
+      exchanged = further count old mid new so_far.exchanged (among_more (at + 1) count mid new (omega arith) brings.exchanges);
+      back = omega (arith, bound.0, is);
+      less = omega (arith, bound.1, is);
+      there = ap (slice_get new.choices) is ∙ aside_there mid new at first came (omega arith) less brings (came == first) refl ∙ so_far.there;
+    }
+
+-- where a prefix applies each choice, so does each shorter one
+prefix_applied : (c : Course) (m n : ℕ) → m ≤ n → n ≤ length c.choices → (reached n c).applied ≡ c.start.applied + n → (reached m c).applied ≡ c.start.applied + m
+prefix_applied c m n le within all =
+    let few = bounded c m (omega arith) in
+    let on = ap (λ (e : Ended). e.applied) (onward c.image c.start c.choices m n (reached m c) c.choices le refl refl) in
+    let more = few_applied c.image (take (n - m) (drop m c.choices)) (reached m c) in
+    let short = length-take-le (n - m) (drop m c.choices) (omega (arith, length-drop m c.choices)) in
+    omega arith
+
+pub undone_leads : (count k : ℕ) (old new : Course) (before : ℕ) → count ≤ length old.choices → (reached count old).applied ≡ old.start.applied + count → IsSetAside count k old new before → IsUndone count k old new before
+undone_leads count k old new before within all aside =
+    let long = long_after count old new aside.exchanged in
+    let begins = ap (λ (c : Course). c.start.applied) aside.exchanged.is in
+    let end = ap (λ (e : Ended). e.applied) (ends_after count count old new aside.exchanged (omega arith)) in
+    let inside = aside.within in
+    let here = prefix_applied new before count (omega arith) (omega arith) (omega arith) in
+    record { aside = aside; leads = omega arith }
