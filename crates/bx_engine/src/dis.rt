@@ -36,7 +36,7 @@ fn text_of<R: Read>(alloc: Global, listing: &mut R) -> Result<String, Failure>
         Ok(atoms) => atoms,
         Err(fault) => return Err(Failure::Refused(fault, None)),
     };
-    let (unit, _) = match read_unit(alloc, &mut atoms, 0, listing) {
+    let (unit, _) = match read_unit(alloc, &mut atoms, 0, listing, false) {
         Ok(read) => read,
         Err(failure) => return Err(failure),
     };

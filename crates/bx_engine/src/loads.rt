@@ -1,6 +1,6 @@
 //! The image of the listings, and the plan.
 
-ghost use Rattle.std.specs.Prelude.{◌≡◌, List, ℕ, IfOk, Some, map};
+ghost use Rattle.std.specs.Prelude.{◌≡◌, List, ℕ, IfOk, IsTrue, Some, map};
 ghost use Rattle.bx_terms.specs.FixedAtoms.{fixed_atoms};
 ghost use Rattle.bx_plan.specs.Planned.{schedules};
 ghost use Rattle.bx_engine.specs.Sources.{sources_of};
@@ -21,7 +21,7 @@ pub fn image_of<R: Read>(alloc: Global, listings: &mut [R]) -> Result<Image, Fai
     ensures { (given : List (List ℕ)) → map R.remaining listings.old ≡ map (λ text. Some text) given
         → FilesGive (λ image. image) result (ClearBefore fixed_atoms given) (image_of given) }
 {
-    match located_image_of(alloc, listings) {
+    match loaded(alloc, listings, false) {
         Ok((image, _)) => Ok(image),
         Err(failure) => Err(failure),
     }
@@ -37,11 +37,25 @@ pub fn located_image_of<R: Read>(
     ensures located { (given : List (List ℕ)) → map R.remaining listings.old ≡ map (λ text. Some text) given
         → IfOk result (λ r. r.1 ≡ sources_of given) }
 {
+    loaded(alloc, listings, true)
+}
+
+/// The image, and, where that is asked, where the items of its modules stand in their sources.
+fn loaded<R: Read>(
+    alloc: Global,
+    listings: &mut [R],
+    asked: bool,
+) -> Result<(Image, Sources), Failure>
+    ensures loaded { (given : List (List ℕ)) → map R.remaining listings.old ≡ map (λ text. Some text) given
+        → FilesGive (λ r. r.0) result (ClearBefore fixed_atoms given) (image_of given) }
+    ensures located { IsTrue asked → (given : List (List ℕ)) → map R.remaining listings.old ≡ map (λ text. Some text) given
+        → IfOk result (λ r. r.1 ≡ sources_of given) }
+{
     let mut atoms = match Atoms::new(alloc) {
         Ok(atoms) => atoms,
         Err(fault) => return Err(Failure::Refused(fault, None)),
     };
-    let (units, sources) = match units_of(alloc, &mut atoms, listings) {
+    let (units, sources) = match units_of(alloc, &mut atoms, listings, asked) {
         Ok(units) => units,
         Err(failure) => return Err(failure),
     };

@@ -5,7 +5,6 @@ ghost use Rattle.bx_replay.specs.Courses.{Course};
 ghost use Rattle.bx_replay.specs.Keeping.{AreKept, IsNearest, IsReached, Parts, SameCounts, Turns};
 
 use crate::runs::{RcEnd, advance_all, copied};
-use crate::weights::cells;
 use bx_load::Image;
 use bx_plan::Schedule;
 use std::alloc::{AllocError, Global};
@@ -24,12 +23,12 @@ pub(crate) struct Kept {
 impl Kept {
     /// The next one is kept once as many choices have been applied as this world has cells. So what is kept stays
     /// within a constant of the choices and the largest world.
-    pub(crate) fn new(alloc: Global, end: RcEnd) -> Result<Kept, AllocError>
-        ensures { IfOk result (λ kept. kept.end ≡ end) }
+    pub(crate) fn new(end: RcEnd) -> Kept
+        ensures { result.end ≡ end }
     {
-        let distance = cells(alloc, &end.world)?.max(LEAST);
+        let distance = end.world.cells().max(LEAST);
         let next = end.applied.saturating_add(distance);
-        Ok(Kept { end, next })
+        Kept { end, next }
     }
 
     /// The same end.
@@ -117,7 +116,7 @@ pub(crate) fn keep_if_due(
     if !last_of(start, kept, kept.len()).is_due(end.applied) {
         return Ok(());
     }
-    let here = Kept::new(alloc, copied(alloc, end)?)?;
+    let here = Kept::new(copied(alloc, end)?);
     kept.push(here)?;
     Ok(())
 }

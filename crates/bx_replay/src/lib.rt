@@ -5,7 +5,6 @@ mod independence;
 mod kept;
 mod runs;
 mod trails;
-mod weights;
 
 pub use independence::{apart, apart_at};
 pub use runs::{RcEnd, advance_all, copied, follow, shared};

@@ -67,7 +67,7 @@ impl<'a> Trail<'a> {
         requires { start.applied + length schedule < 2 ^ 64 }
         ensures { IfOk result (λ trail. trail ≡ record { image = image.entry.now; start = start; choices = schedule }) }
     {
-        let start = Kept::new(alloc, start)?;
+        let start = Kept::new(start);
         let kept = keep_all(alloc, image, &start, &schedule)?;
         Ok(Trail {
             image,

@@ -23,10 +23,10 @@ loop-file-preserved g c =
           subst (λ units. SoFar c.args.atoms.now (c.loop-file.file + 1) given c.read_unit.new.atoms units) (sym c.in_ok-keep-in-Ok.ensures.unit)
           (so_far_next rem c.index-listings-file.result c.args.atoms.now c.loop-file.file given c.loop-file.atoms c.read_unit.new.atoms c.loop-file.units.items c.in-Ok.read.0
           (c.loop-file.invariant.so_far given known) next (c.in-Ok.ensures.read next.text (ap rem (sym c.index-listings-file.is) ∙ next.known)));
-      located = λ given known.
+      located = λ asked given known.
           let next = next_file rem c.args.listings.now c.loop-file.listings c.loop-file.file c.index-listings-file.result given known c.loop-file.invariant.rest short c.index-listings-file.is in
           sources_next rem c.index-listings-file.result c.loop-file.file given c.loop-file.sources _ c.in-Ok.read.1.items
-          (c.loop-file.invariant.located given known) next (c.in-Ok.ensures.located next.text (ap rem (sym c.index-listings-file.is) ∙ next.known)) c.in_ok-keep-in-Ok.ensures.located;
+          (c.loop-file.invariant.located asked given known) next (c.in-Ok.ensures.located asked next.text (ap rem (sym c.index-listings-file.is) ∙ next.known)) c.in_ok-keep-in-Ok.ensures.located;
       rest = left_after c.args.listings.now c.loop-file.listings c.loop-file.file c.read_unit.new.listing c.loop-file.invariant.rest;
     }
 
@@ -36,6 +36,6 @@ returns-clause-read g c given known =
     all_files g.R.Read.remaining c.args.listings.now c.args.atoms.now c.loop-file.file given c.loop-file.atoms c.loop-file.units.items known long (c.loop-file.invariant.so_far given known)
 
 pub returns-clause-located : goal.returns-clause-located
-returns-clause-located g c given known =
+returns-clause-located g c asked given known =
     let long : length c.args.listings.now ≤ c.loop-file.file = search rules in
-    all_sources g.R.Read.remaining c.args.listings.now c.loop-file.file given c.loop-file.sources known long (c.loop-file.invariant.located given known)
+    all_sources g.R.Read.remaining c.args.listings.now c.loop-file.file given c.loop-file.sources known long (c.loop-file.invariant.located asked given known)

@@ -16,5 +16,5 @@ returns-clause-kept c = λ course begins are is.
     ∙ ap (λ n. slice_index_or kept (n - 1) found) long in
     let applied = ap (λ (e : Ended). e.applied) c.end.view_is in
     let due : count_of found < c.args.end.now.applied = let less = c.is_due.ensures c.if-not-is_due.false in omega arith in
-    pushed course kept c.push.new.self.items c.args.start.now found c.in_ok-here.here c.args.end.now are begins (λ none. c.last_of.ensures.start (omega arith)) some
-    due is (c.in_ok-here.ensures ∙ c.in_ok-copied.ensures) c.in_ok-push.ensures.items
+    pushed course kept c.push.new.self.items c.args.start.now found c.new-here.result c.args.end.now are begins (λ none. c.last_of.ensures.start (omega arith)) some
+    due is (c.new-here.ensures ∙ c.in_ok-copied.ensures) c.in_ok-push.ensures.items
