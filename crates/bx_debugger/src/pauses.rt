@@ -58,7 +58,7 @@ fn push_idle(
     shown: Option<Shown<'_>>,
 ) -> Result<(), AllocError>
     ensures { OnOk result (string_bytes out.new
-        ≡ string_bytes out.old ++ idle_words atoms.now (option_map status_of (option_map life_of shown))) }
+        ≡ string_bytes out.old ++ idle_words atoms.now (option_map status_of (option_map life_of shown.entry))) }
 {
     match shown {
         Some(Shown::Exited(reason)) => push_ended(alloc, out, atoms, reason),
