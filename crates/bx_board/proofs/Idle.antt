@@ -3,7 +3,7 @@ use Rattle.std.proofs.Common.{◌≡◌, ◌≢◌, ◌⊎◌, inl, inr, ℕ, ze
 use Rattle.std.specs.Prelude.{MatchBool}
 use Rattle.std.proofs.lemmas.List.{length-set}
 use Rattle.std.proofs.lemmas.Bool.{cases_eq}
-use Rattle.bx_plan.specs.Chains.{Begins, above, chain_count, one_if}
+use Rattle.bx_plan.specs.Chains.{Begins, above, chain_count, chain_path, head, one_if}
 use Rattle.bx_board.specs.declared.slots.Slot.{Slot}
 use Rattle.bx_board.specs.declared.slots.Slot.TheVariants.{Waiting, Leased, Done}
 use Rattle.bx_board.specs.declared.slots.Event.TheVariants.{Lease, Submit}
@@ -22,7 +22,7 @@ idle_done b is idle none n h = true_is _ (all n n (omega arith) h) where
   all fuel zero l w = is_true _ is.root
   all zero (suc m) l w = absurd (omega (arith, l))
   all (suc fuel) (suc m) l w = by (standing b.state (suc m)) refl (all fuel (above b.job.chains (suc m))) where
-    begins : Begins b.job.plan b.job.chains (suc m)
+    begins : Begins b.job.plan (head b.job.chains (suc m)) (chain_path b.job.plan b.job.chains (above b.job.chains (suc m))) (suc m)
     begins = is.chains.forest.begins (suc m) (omega arith) w
 
     by : (x : Slot) → standing b.state (suc m) ≡ x → (above b.job.chains (suc m) ≤ fuel → above b.job.chains (suc m) < chain_count b.job.chains → is_done (standing b.state (above b.job.chains (suc m))) ≡ true)

@@ -1,7 +1,9 @@
 -- What a chain that is leased goes on from.
-use Rattle.std.proofs.Common.{◌≡◌, ℕ, ◌<◌, true, length, ap, ◌∙◌, arith}
+use Rattle.std.proofs.Common.{◌≡◌, ℕ, zero, suc, ◌<◌, true, length, ap, ◌∙◌, arith}
 use Rattle.bx_world.specs.Running.{Ended}
-use Rattle.bx_plan.specs.Chains.{above, head}
+use Rattle.bx_plan.specs.declared.chains.Head.{Head}
+use Rattle.bx_plan.specs.Planned.{Planned}
+use Rattle.bx_plan.specs.Chains.{above, chain_path, head, AreForest, Begins, Chained}
 use Rattle.bx_board.specs.declared.slots.Slot.TheVariants.{Waiting, Done}
 use Rattle.bx_board.specs.declared.working.Span.{Span}
 use Rattle.bx_board.specs.Jobs.{run_alone}
@@ -12,6 +14,11 @@ use Rattle.bx_board.proofs.Steps.{free_is, not_root, waiting_not_done}
 
 abbrev pub span_of : Kept → ℕ → Span
 span_of b n = let h = head b.job.chains n in record { chain = n; line = h.line; first = h.first; past = h.past }
+
+-- a chain that makes a choice is none that makes none
+pub some_chain : (plan : Planned) (all : Chained) → AreForest plan all → (c : ℕ) → c < length all.heads → 0 < (head all c).past → Begins plan (head all c) (chain_path plan all (above all c)) c
+some_chain plan all forest zero h some = let none : (head all 0).past ≡ 0 = ap (λ (h : Head). h.past) forest.root in absurd (omega (arith, none, some))
+some_chain plan all forest (suc c) h some = forest.begins (suc c) (omega arith) h
 
 -- a chain that is free goes on from the end of the one that it stands on
 pub leased_from : (b : Kept) → IsKept b → (n : ℕ) → is_free b.job b.state n ≡ true → (end : Ended) → standing b.state (above b.job.chains n) ≡ Done end

@@ -17,6 +17,9 @@ impl<'a> Book<'a> {
     {
         let head = self.chains.head(chain);
         let span = piece.span;
+        if head.past != span.past {
+            return false;
+        }
         let plan = piece.plan;
         self.plan
             .same_front(head.line, head.past, plan, span.line, span.past)

@@ -8,8 +8,8 @@ use Rattle.bx_board.proofs.Found.{choices_found, done_is}
 use Rattle.bx_board.proofs.Steps.{is_true}
 use Rattle.bx_board.proofs.books.Book.end_at.Goals as goal
 
-pub unreachable-requires-in_default-index : goal.unreachable-requires-in_default-index
-unreachable-requires-in_default-index c =
+pub unreachable-requires : goal.unreachable-requires
+unreachable-requires c =
     let i = c.self.inside in
     let is = c.self.invariant.0.kept in
     let all = subst IsAllDone (sym c.self.view_is) c.requires.done in
@@ -17,7 +17,7 @@ unreachable-requires-in_default-index c =
     let ends = is.chains.ends c.args.number number in
     let within : c.end-chain.result < length i.slots.items = omega (arith, c.end-chain.ensures, ends.0, is.count) in
     let done = done_is (get_or i.slots.items c.end-chain.result Waiting) (is_true _ (all c.end-chain.result (omega (arith, within, is.count)))) in
-    c.in_default-index.not-Done done.0 (get_or_read i.slots.items c.end-chain.result c.index.result.now within c.index.ensures Waiting ∙ done.1)
+    c.in_default.not-Done done.0 (get_or_read i.slots.items c.end-chain.result c.index.result.now within c.index.ensures Waiting ∙ done.1)
 
 pub returns : goal.returns
 returns c =
