@@ -10,3 +10,4 @@ pub mod PlanLaw
 pub mod PlanAgain
 pub mod ReportRows
 pub mod TidyLaw
+pub mod TidyRows

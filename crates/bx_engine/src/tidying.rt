@@ -1,14 +1,14 @@
 //! `tidy`: a plan of which each schedule is tidied.
 
-ghost use Rattle.std.specs.Prelude.{◌≡◌, ◌⊎◌, ◌<◌, ◌≤◌, List, ℕ, IfErr, IfOk, IsOk, IsTrue, Some, false, length, map, slice_get, string_bytes};
+ghost use Rattle.std.specs.Prelude.{◌≡◌, ◌⊎◌, ◌<◌, ◌≤◌, List, ℕ, IfErr, IfOk, IsOk, IsTrue, Ok, Some, false, length, map, slice_get, string_bytes};
 ghost use Rattle.std.specs.Io.KnownBytes.{Keeps};
 ghost use Rattle.bx_plan.specs.Planned.{schedules};
 ghost use Rattle.bx_plan.specs.Plans.{plan_of};
-ghost use Rattle.bx_world.specs.World.{started};
+ghost use Rattle.bx_world.specs.World.{State, started};
 ghost use Rattle.bx_engine.specs.Inputs.{input_limit};
 ghost use Rattle.bx_engine.specs.Loads.{ClearUpTo};
 ghost use Rattle.bx_engine.specs.Runs.{ClearStart, TakesMemory, entry_in, run_behind};
-ghost use Rattle.bx_engine.specs.Tidying.{AreLinesOf, IsPastLimits, IsTidyOf, PushesAt, TidiesAt, TidiesBy, TidiesFiles, WritesTidied};
+ghost use Rattle.bx_engine.specs.Tidying.{AreLinesOf, IsPastLimits, IsTidyOf, PushesAt, TidiesAt, TidiesBy, TidiesFiles, TidiesFrom, WritesTidied};
 
 use crate::failures::Failure;
 use crate::inputs::INPUT_LIMIT;
@@ -42,8 +42,8 @@ impl<'a> Beginning<'a> {
         number: usize,
     ) -> Result<(), Fault>
         requires { number < length (schedules plan.now) }
-        ensures { TidiesAt (started self.now.image.now self.now.module self.now.function)
-            (λ start _. PushesAt self.now.image.now start (slice_get (schedules plan.now) number) (string_bytes out.old) (string_bytes out.new)) result }
+        ensures { (start : State) → started self.now.image.now self.now.module self.now.function ≡ Ok start
+            → TidiesFrom (λ _. PushesAt self.now.image.now start (slice_get (schedules plan.now) number) (string_bytes out.old) (string_bytes out.new)) result }
     {
         let Some(name) = plan.label(number) else {
             return Ok(());

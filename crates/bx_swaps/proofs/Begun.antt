@@ -1,26 +1,21 @@
 -- Trails of a schedule from the start on, and what comes of them.
-use Rattle.std.proofs.Common.{◌≡◌, ◌∙◌, ℕ, ◌+◌, ◌<◌, ◌≤◌, List, length, take, Result, Ok, Err, Some, None, Option, refl, sym, ap, subst, arith}
-use Rattle.std.specs.Prelude.{IsOk, IsSome}
+use Rattle.std.proofs.Common.{◌≡◌, ◌∙◌, ℕ, zero, suc, ◌+◌, ◌<◌, ◌≤◌, Bool, true, false, List, [], ◌∷◌, length, take, Result, Ok, Err, Some, None, Option, refl, sym, ap, subst, arith}
+use Rattle.std.specs.Prelude.{IfOk, IsSome, is_some, not, ◌||◌}
 use Rattle.std.proofs.lemmas.List.{take_all}
-use Rattle.bx_terms.specs.Outcomes.{Gives}
 use Rattle.bx_terms.specs.declared.faults.Fault.{Fault}
 use Rattle.bx_terms.specs.declared.faults.Fault.TheVariants.{Memory, NotIndependent}
 use Rattle.bx_terms.specs.declared.places.Place.{Place}
 use Rattle.bx_load.specs.Image.{Loaded}
 use Rattle.bx_world.specs.declared.choices.Choice.{Choice}
+use Rattle.bx_world.specs.Enabled.{can}
 use Rattle.bx_world.specs.World.{State, begun, begun_at}
-use Rattle.bx_world.specs.Running.{Ended, ran}
+use Rattle.bx_world.specs.Running.{Ended, advanced, ran, unchosen}
+use Rattle.bx_world.proofs.Lawful.{after_refusal, few_applied, ran_stays}
 use Rattle.bx_replay.specs.Courses.{Course, reached}
 use Rattle.bx_replay.specs.Moving.{IsExchanged}
+use Rattle.bx_replay.proofs.Prefixes.{next_is}
 use Rattle.bx_swaps.specs.Exchanges.{from_start, BeginsAt}
-use Rattle.bx_swaps.specs.Tidying.{applied_of, switches, IsSetAside, IsTidied, IsTidy, IsTidyFrom, IsUndo, IsUndoFrom, IsUndone}
-
--- a start that fails, fails by its fault, or by memory where there is one
-pub start_fails : (image : Loaded) (place : Option Place) (choices : List Choice) (fault : Fault) → Gives {X = State} (IsSome place) (λ w. w) (Err fault) (begun_at place) → BeginsAt image (begun_at place) choices (Err fault)
-start_fails image (Some place) choices Memory h = tt
-start_fails image None choices Memory h = absurd (let never : None ≡ Some _ = h in cc)
-start_fails image (Some place) choices fault h = absurd (let never : Ok (begun place) ≡ Err fault = h in cc)
-start_fails image None choices fault h = sym h
+use Rattle.bx_swaps.specs.Tidying.{applied_of, IsTidied, IsTidy, IsUndo, IsUndone}
 
 -- a trail that is made begins at a start
 pub record Begun (image : Loaded) (found : Result State Fault) (choices : List Choice) (course : Course) : Type 0 where
@@ -32,38 +27,90 @@ pub begun_of : (image : Loaded) (found : Result State Fault) (choices : List Cho
 begun_of image (Ok start) choices course h = record { start = start; there = refl; is = h }
 begun_of image (Err fault) choices course h = absurd (let never : Ok course ≡ Err fault = h in cc)
 
--- one that is not, where there is a start, lacks memory
-pub lacks_memory : (image : Loaded) (found : Result State Fault) (start : State) (choices : List Choice) (fault : Fault) → found ≡ Ok start → BeginsAt image found choices (Err fault) → fault ≡ Memory
-lacks_memory image found start choices fault e h = go fault (subst (λ (r : Result State Fault). BeginsAt image r choices (Err fault)) e h)
-  where
-    go : (f : Fault) → BeginsAt image (Ok start) choices (Err f) → f ≡ Memory
-    go Memory k = refl
-    go f k = absurd k
-
--- and is no tidied schedule either
-pub tidy_fails : (image : Loaded) (found : Result State Fault) (choices : List Choice) (fault : Fault) → BeginsAt image found choices (Err fault) → IsTidy image found choices (Err fault)
-tidy_fails image (Ok start) choices Memory h = tt
-tidy_fails image (Ok start) choices fault h = absurd h
-tidy_fails image (Err other) choices fault h = h
-
-pub tidy_lacks : (image : Loaded) (found : Result State Fault) (choices : List Choice) (course : Course) (answer : Result (List Choice) Fault) → BeginsAt image found choices (Ok course) → answer ≡ Err Memory → IsTidy image found choices answer
-tidy_lacks image found choices course answer h e =
-    let b = begun_of image found choices course h in
-    subst (λ (r : Result State Fault). IsTidy image r choices answer) (sym b.there) (subst (λ a. IsTidyFrom image b.start choices a) (sym e) tt)
+pub none_before : (image : Loaded) (found : Result State Fault) (choices : List Choice) (course : Course) → BeginsAt image found choices (Ok course) → course.start.applied ≡ 0
+none_before image found choices course h = ap (λ (c : Course). c.start.applied) (begun_of image found choices course h).is
 
 -- where all lead
 all_of : (c : Course) → reached (length c.choices) c ≡ ran c.image c.choices c.start
 all_of c = ap (λ cs. ran c.image cs c.start) (take_all (length c.choices) c.choices (omega arith))
 
-pub tidy_done : (image : Loaded) (found : Result State Fault) (choices : List Choice) (course new : Course) (count : ℕ) → BeginsAt image found choices (Ok course) → count ≡ (reached (length course.choices) course).applied
-    → IsTidied count course new → IsTidy image found choices (Ok new.choices)
-tidy_done image found choices course new count h made is =
-    let b = begun_of image found choices course h in
-    let old = from_start image b.start choices in
-    let count_is : count ≡ applied_of old = made ∙ ap (λ (e : Ended). e.applied) (all_of course) ∙ ap applied_of b.is in
-    let moved : IsTidied (applied_of old) old new = subst (λ n. IsTidied n old new) count_is (subst (λ (c : Course). IsTidied count c new) b.is is) in
-    subst (λ (r : Result State Fault). IsTidy image r choices (Ok new.choices)) (sym b.there)
-    (subst (λ (c : Course). IsTidied (applied_of old) old c) (named old new moved.exchanged.is) moved)
-  where
-    named : (old new : Course) {cs : List Choice} → new ≡ record old { choices = cs } → new ≡ record old { choices = new.choices }
-    named old new e = e ∙ ap (λ (c : Course). record old { choices = c.choices }) (sym e)
+named : (count : ℕ) (old new : Course) → IsExchanged count old new → new ≡ record old { choices = new.choices }
+named count old new e = e.is ∙ ap (λ (c : Course). record old { choices = c.choices }) (sym e.is)
+
+module _ (image : Loaded) (found : Result State Fault) (choices : List Choice) (course : Course) (count : ℕ) (h : BeginsAt image found choices (Ok course)) (made : count ≡ (reached (length course.choices) course).applied) where
+  abbrev b : Begun image found choices course
+  b = begun_of image found choices course h
+
+  abbrev given : Course
+  given = from_start image b.start choices
+
+  count_is : count ≡ applied_of given
+  count_is = made ∙ ap (λ (e : Ended). e.applied) (all_of course) ∙ ap applied_of b.is
+
+  pub tidy_done : (new : Course) → IsTidied count course new → IsTidy image found choices (Ok new.choices)
+  tidy_done new is =
+      let moved : IsTidied (applied_of given) given new = subst (λ n. IsTidied n given new) count_is (subst (λ (c : Course). IsTidied count c new) b.is is) in
+      subst (λ (r : Result State Fault). IsTidy image r choices (Ok new.choices)) (sym b.there)
+      (subst (λ (c : Course). IsTidied (applied_of given) given c) (named (applied_of given) given new moved.exchanged) moved)
+
+  pub undo_done : (new : Course) (k before : ℕ) → IsUndone count k course new before → IsUndo image found choices k (Ok (new.choices, before))
+  undo_done new k before is =
+      let moved : IsUndone (applied_of given) k given new before = subst (λ n. IsUndone n k given new before) count_is (subst (λ (c : Course). IsUndone count k c new before) b.is is) in
+      subst (λ (r : Result State Fault). IsUndo image r choices k (Ok (new.choices, before))) (sym b.there)
+      (subst (λ (c : Course). IsUndone (applied_of given) k given c before) (named (applied_of given) given new moved.aside.exchanged) moved)
+
+  pub undo_refused : (k : ℕ) → count ≤ k → IsUndo image found choices k (Err (NotIndependent k))
+  undo_refused k past = subst (λ (r : Result State Fault). IsUndo image r choices k (Err (NotIndependent k))) (sym b.there) (refl, omega (arith, count_is))
+
+-- where the start is exported
+pub export_there : (place found : Option Place) (none : Bool) → found ≡ place → is_some found ≡ not none → none ≡ false → IsSome place
+export_there place found none e s f = ap (λ o. is_some o) (sym e) ∙ s ∙ ap not f
+
+pub undo_past : (image : Loaded) (place : Option Place) (choices : List Choice) (k : ℕ) → IsSome place → length choices ≤ k → IsUndo image (begun_at place) choices k (Err (NotIndependent k))
+undo_past image None choices k there past = absurd (let never : false ≡ true = there in cc)
+undo_past image (Some place) choices k there past = let few = few_applied image choices (unchosen (begun place)) in (refl, omega arith)
+
+-- ---- how many are applied
+
+grows_by : (image : Loaded) (c : Choice) (end : Ended) (stays able : Bool) → (is_some end.refused || is_some end.world.trap) ≡ stays → can end.world c ≡ able → end.applied ≤ (advanced image c end).applied
+grows_by image c end true able s a = let e = ap (λ (x : Ended). x.applied) (next_is image c end true able s a) in omega arith
+grows_by image c end false true s a = let e = ap (λ (x : Ended). x.applied) (next_is image c end false true s a) in omega arith
+grows_by image c end false false s a = let e = ap (λ (x : Ended). x.applied) (next_is image c end false false s a) in omega arith
+
+grows : (image : Loaded) (choices : List Choice) (end : Ended) → end.applied ≤ (ran image choices end).applied
+grows image [] end = omega arith
+grows image (c ∷ more) end =
+    let one = grows_by image c end (is_some end.refused || is_some end.world.trap) (can end.world c) refl refl in
+    let rest = grows image more (advanced image c end) in
+    omega arith
+
+-- as many as are applied of all, the first so many are
+first_of : (image : Loaded) (c : Choice) (more : List Choice) (end : Ended) (stays able : Bool) (n : ℕ) → (is_some end.refused || is_some end.world.trap) ≡ stays → can end.world c ≡ able
+    → ((m : ℕ) → (ran image more (advanced image c end)).applied ≡ (advanced image c end).applied + m → (ran image (take m more) (advanced image c end)).applied ≡ (advanced image c end).applied + m)
+    → (ran image (c ∷ more) end).applied ≡ end.applied + n → (ran image (take n (c ∷ more)) end).applied ≡ end.applied + n
+first_of image c more end stays able zero s a rest e = omega arith
+first_of image c more end true able (suc n) s a rest e =
+    let same = ap (λ (x : Ended). x.applied) (ran_stays image (c ∷ more) end s) in
+    absurd (omega arith)
+first_of image c more end false false (suc n) s a rest e =
+    let next = next_is image c end false false s a in
+    let same = ap (λ (x : Ended). x.applied) (ap (ran image more) next ∙ after_refusal image more (record end { refused = Some c }) refl) in
+    absurd (omega arith)
+first_of image c more end false true (suc n) s a rest e =
+    let one = ap (λ (x : Ended). x.applied) (next_is image c end false true s a) in
+    let on = rest n (omega arith) in
+    omega arith
+
+pub all_first : (image : Loaded) (choices : List Choice) (end : Ended) (n : ℕ) → (ran image choices end).applied ≡ end.applied + n → (ran image (take n choices) end).applied ≡ end.applied + n
+all_first image [] end zero e = omega arith
+all_first image [] end (suc n) e = absurd (omega arith)
+all_first image (c ∷ more) end n e = first_of image c more end (is_some end.refused || is_some end.world.trap) (can end.world c) n refl refl (all_first image more (advanced image c end)) e
+
+pub applied_first : (c : Course) (n : ℕ) → c.start.applied ≡ 0 → n ≡ (reached (length c.choices) c).applied → (reached n c).applied ≡ c.start.applied + n
+applied_first c n none is =
+    let all = ap (λ (e : Ended). e.applied) (all_of c) in
+    all_first c.image c.choices c.start n (omega arith)
+
+pub same_then : {T E : Type 0} (r : Result T E) (P : T → Type 0) (one other : T) → IfOk r (λ t. t ≡ one) → one ≡ other → P other → IfOk r P
+same_then (Ok t) P one other h e p = subst P (sym (h ∙ e)) p
+same_then (Err x) P one other h e p = tt

@@ -1,13 +1,14 @@
-use Rattle.std.proofs.Common.{◌≡◌, Ok, Err, None, rules}
+use Rattle.std.proofs.Common.{◌≡◌, Err, None, rules}
 use Rattle.bx_terms.specs.declared.faults.Fault.TheVariants.{Memory}
 use Rattle.bx_world.specs.World.{started}
 use Rattle.bx_swaps.specs.Exchanges.{AtFaultAtOnce}
+use Rattle.bx_swaps.proofs.Begun.{begun_of}
 use Rattle.bx_swaps.proofs.Ends.{wanting}
 use Rattle.bx_swaps.proofs.swaps.check_swaps.Goals as goal
 
 pub returns-in_err-position : goal.returns-in_err-position
 returns-in_err-position c =
-    let is : started c.args.image.now c.args.module c.args.function ≡ Ok c.in_ok-start.field-0 = search rules in
+    let begun = begun_of c.args.image.now (started c.args.image.now c.args.module c.args.function) c.args.schedule.now c.in_ok-trail.trail c.in_ok-trail.ensures in
     let at : AtFaultAtOnce c.args.positions.now c.args.schedule.now None = c.in_default.ensures in
     let err : c.from_residual-in_err-position.result ≡ Err Memory = search rules in
-    wanting c.args.image.now _ c.in_ok-start.field-0 c.args.positions.now c.args.schedule.now c.from_residual-in_err-position.result is at err
+    wanting c.args.image.now _ begun.start c.args.positions.now c.args.schedule.now c.from_residual-in_err-position.result begun.there at err
