@@ -9,4 +9,3 @@ pub mod Runs
 pub mod Listings
 pub mod Campaigns
 pub mod PlanLines
-pub mod Tidying

@@ -7,7 +7,6 @@
 //! - `ring ROUNDS`, `senders TURNS`: sends and deliveries among many processes
 //! - `walk CHOICES`: choices at random in generated listings
 //! - `swaps POSITIONS`: exchanges of independent choices
-//! - `tidy CHOICES`: a schedule of so many, tidied
 //! - `kept CHOICES GROWING`: a session in which nothing grows, or the stack, mailbox or output
 //! - `forms ROUNDS FILE`: the forms of a listing, read
 //!
@@ -58,7 +57,6 @@ fn by_number(rt: &HostRuntime, word: &str, number: u32) -> Result<(), Trouble> {
         "ring" => crowds::ring(rt, number),
         "senders" => crowds::senders(rt, number),
         "swaps" => swaps::measure(rt, number),
-        "tidy" => swaps::tidied(rt, number),
         "walk" => walks::measure(rt, number),
         _ => Err(Trouble::Usage),
     }

@@ -4,7 +4,7 @@ use crate::programs::Program;
 use crate::trouble::Trouble;
 use bx_plan::Schedule;
 use bx_replay::Trail;
-use bx_swaps::{check_swaps, tidy};
+use bx_swaps::check_swaps;
 use bx_terms::Fault;
 use bx_world::{Choice, RcWorld};
 use rand_core::Rng;
@@ -29,7 +29,7 @@ const LISTING: &str = "{module,m}. {exports,[{f,0},{g,0},{h,1}]}. {attributes,[]
 /// Exchanges choices at so many positions, drawn among those where the two are independent.
 pub fn measure(rt: &HostRuntime, positions: u32) -> Result<(), Trouble> {
     let program = Program::of(rt.alloc(), LISTING.as_bytes(), "f")?;
-    let given = walk(rt.alloc(), &program, CHOICES)?;
+    let given = walk(rt.alloc(), &program)?;
     let positions = draw(rt.alloc(), &program, &given, positions as usize)?;
     let made = exchanged(rt.alloc(), &program, &given, &positions)?;
     let (count, choices) = (positions.len(), made.len());
@@ -37,38 +37,12 @@ pub fn measure(rt: &HostRuntime, positions: u32) -> Result<(), Trouble> {
     Ok(())
 }
 
-/// Tidies a schedule of so many choices.
-pub fn tidied(rt: &HostRuntime, choices: u32) -> Result<(), Trouble> {
-    let program = Program::of(rt.alloc(), LISTING.as_bytes(), "f")?;
-    let given = walk(rt.alloc(), &program, choices)?;
-    let made = gathered(rt.alloc(), &program, &given)?;
-    let before = switches(&given.to_choices(rt.alloc())?);
-    let after = switches(&made.to_choices(rt.alloc())?);
-    eprintln!(rt; "{before} switches of process, {after} left in {choices} choices")?;
-    Ok(())
-}
-
-/// The schedule tidied. It is not inlined, so that callgrind counts it apart from the drawing.
-#[inline(never)]
-fn gathered(alloc: Global, program: &Program, given: &Schedule) -> Result<Schedule, Fault> {
-    let (module, start) = (program.module(), program.start());
-    tidy(alloc, program.image(), module, start, given)
-}
-
-/// How many choices concern another process than the one before them.
-fn switches(choices: &[Choice]) -> usize {
-    let pairs = choices.windows(2);
-    pairs
-        .filter(|pair| pair[0].actor() != pair[1].actor())
-        .count()
-}
-
-/// A schedule of so many choices, drawn at each among those that are enabled.
-fn walk(alloc: Global, program: &Program, choices: u32) -> Result<Schedule, Fault> {
+/// A schedule, drawn at each choice among those that are enabled.
+fn walk(alloc: Global, program: &Program) -> Result<Schedule, Fault> {
     let mut rng = Pcg32::new(1, 11);
     let mut world = program.begin(alloc)?;
     let mut schedule = Schedule::new(alloc);
-    for _turn in 0..choices {
+    for _turn in 0..CHOICES {
         let Some(choice) = any_enabled(alloc, &mut rng, &world)? else {
             break;
         };
