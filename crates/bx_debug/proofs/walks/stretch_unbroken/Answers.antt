@@ -21,7 +21,7 @@ returns c =
     let next = c.advance_all.new.end in
     let there : c.end.inside.world ≡ from = ap (λ (e : Ended). e.world) c.end.view_is in
     let applied = ap (λ (e : Ended). e.applied) c.end-2.view_is in
-    let on = all_unbroken image choices c.end.inside.world next c.in_ok-advance_all.ensures (sym c.halted.ensures ∙ c.in_default.is) in
+    let on = all_unbroken image choices c.end.inside.world next c.in_ok-advance_all.ensures.ok (sym c.halted.ensures ∙ c.in_default.is) in
     subst (λ (s : Option Stop). Reaches image set.empty choices from c.end-2.inside.applied next.world s) (sym c.ended_by.ensures)
     (subst (λ (n : ℕ). Reaches image set.empty choices from n next.world (why next)) (sym applied)
     (subst (λ (w : State). Reaches image set.empty choices w next.applied next.world (why next)) there on))
