@@ -1,13 +1,14 @@
 -- Lines of tidied schedules, one behind the other.
 use Rattle.std.proofs.Common.{◌≡◌, ◌∙◌, ℕ, ◌+◌, ◌<◌, List, [], ◌∷◌, ◌++◌, length, take, Option, Some, None, Result, Ok, Err, append-nil, append_assoc, refl, sym, ap, subst, arith}
-use Rattle.std.specs.Prelude.{codes, slice_get, slice_index_or, option_map, IsOk}
+use Rattle.std.specs.Prelude.{codes, slice_get, slice_index_or, false, true, IsOk, IsSome}
 use Rattle.std.proofs.lemmas.List.{take_more}
 use Rattle.std.proofs.lemmas.Option.{slice_get-get_or}
 use Rattle.bx_terms.specs.declared.faults.Fault.{Fault}
 use Rattle.bx_terms.specs.declared.faults.Fault.TheVariants.{Memory}
 use Rattle.bx_load.specs.Image.{Loaded}
 use Rattle.bx_plan.specs.Plans.{Named}
-use Rattle.bx_world.specs.World.{State}
+use Rattle.bx_world.specs.World.{State, begun_at}
+use Rattle.bx_terms.specs.declared.places.Place.{Place}
 use Rattle.bx_engine.specs.PlanLines.{plan_line}
 use Rattle.bx_engine.specs.Tidying.{AreLinesOf, AreTidied, PushesAt, PushesTidied, TidiesAt, TidiesFrom, plan_text}
 
@@ -52,3 +53,8 @@ fails_at (Err other) wanted pushed fault there h = absurd there
 pub done_at : {X : Type 0} (found : Result State Fault) (wanted : State → X → Type 0) (x : X) → IsOk found → ((start : State) → found ≡ Ok start → wanted start x) → TidiesAt found wanted (Ok x)
 done_at (Ok start) wanted x there h = h start refl
 done_at (Err other) wanted x there h = absurd there
+
+-- where the start is exported there is one
+pub there_ok : (place : Option Place) → IsSome place → IsOk (begun_at place)
+there_ok None h = absurd (let never : false ≡ true = h in cc)
+there_ok (Some place) h = tt
