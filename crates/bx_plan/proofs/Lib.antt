@@ -6,6 +6,7 @@ pub mod Running
 pub mod Marks
 pub mod Decimals
 pub mod Spellings
+pub mod Firsts
 pub mod Headings
 pub mod Accepting
 pub mod Members
