@@ -129,12 +129,7 @@ fn idle(pid: u32, world: &RcWorld) -> Option<Pause>
 
 /// Runs a process once.
 #[inline(always)]
-fn run_once(
-    alloc: Global,
-    image: &Image,
-    pid: u32,
-    world: &mut RcWorld,
-) -> Result<(), AllocError>
+fn run_once(alloc: Global, image: &Image, pid: u32, world: &mut RcWorld) -> Result<(), AllocError>
     ensures { OnOk result (world.new ≡ chosen image.now (Run pid) world.old) }
 {
     match world.apply(alloc, image, Choice::Run(pid)) {

@@ -115,7 +115,7 @@ brought_next xs from to d within less =
     let cut : length (take to xs) ≡ to = length-take-le to xs (omega arith) in
     let rest = take (from - (to + 1)) (drop (to + 1) xs) ++ drop (from + 1) xs in
     ap (λ ys. slice_get ys (to + 1))
-        (brought_is xs from d within to ∙ ap (λ ys. take to xs ++ slice_index_or xs from d ∷ ys) (behind_is xs from d within to less))
+    (brought_is xs from d within to ∙ ap (λ ys. take to xs ++ slice_index_or xs from d ∷ ys) (behind_is xs from d within to less))
     ∙ get_behind (take to xs) (slice_index_or xs from d ∷ slice_index_or xs to d ∷ rest) 1 (to + 1) (omega (arith, cut))
     ∙ sym (slice_get-get_or xs to d (omega arith))
   where

@@ -68,8 +68,7 @@ module _ (c : Course) (past rest : ℕ) (choice : Choice) (within : past < lengt
       let up = all_free n (i + 1) (omega arith) (omega arith) in
       let turned = either_way c.image (reached (i + 1) c).world (slice_index_or c.choices (i + 1) choice) choice up.1 in
       let passes = free i le (omega arith) in
-      let next = made_next c i choice (omega arith) passes.refused passes.enabled in
-      (
+      let next = made_next c i choice (omega arith) passes.refused passes.enabled in (
         passes.refused,
         passes.independent (ap (λ (w : State). w.trap) (sym next) ∙ untrapped (reached (i + 1) c).world choice turned.first_enabled)
             (ap (λ (w : State). (chosen c.image choice w).trap) (sym next) ∙ turned.first_runs),
@@ -112,7 +111,7 @@ module _ (c : Course) (past rest : ℕ) (choice : Choice) (within : past < lengt
     pub turn : Turns (stood (i + 1)) (stood i) mid
     turn = subst (λ (d : Course). Turns (stood (i + 1)) d mid) exchange_is
         (turns_found i (stood (i + 1)) (reached i (stood (i + 1))) mid other (slice_index_or c.choices past choice) refl pair there.0 there.1
-            (ap (λ (e : Ended). ran c.image (choice ∷ []) e) (sym same_front) ∙ ap (λ (x : Choice). ran c.image (x ∷ []) (reached i (stood (i + 1)))) is))
+        (ap (λ (e : Ended). ran c.image (choice ∷ []) e) (sym same_front) ∙ ap (λ (x : Choice). ran c.image (x ∷ []) (reached i (stood (i + 1)))) is))
 
     pub mid_count : mid.applied ≡ c.start.applied + (i + 1)
     mid_count = count_behind c i other choice (omega arith) here
@@ -140,13 +139,13 @@ module _ (c : Course) (past rest : ℕ) (choice : Choice) (within : past < lengt
   all_kept kept now near nearest before same are (suc n) i count le =
       none_replaced (stood (i + 1)) (stood i) now (mid i le (omega arith)) (all_kept kept now near nearest before same are n (i + 1) (omega arith) (omega arith)) (turn i le (omega arith))
       (λ k d h e.
-          let long = same.long in
-          let was = same.same k d (omega arith) in
-          let last = nearest.last k d (omega arith) in
-          let made = mid_count i le (omega arith) in
-          let inside : count_of (slice_index_or kept k d) ≤ c.start.applied + (past - 1) = omega arith in
-          let low = last inside in
-          omega arith)
+      let long = same.long in
+      let was = same.same k d (omega arith) in
+      let last = nearest.last k d (omega arith) in
+      let made = mid_count i le (omega arith) in
+      let inside : count_of (slice_index_or kept k d) ≤ c.start.applied + (past - 1) = omega arith in
+      let low = last inside in
+      omega arith)
 
 -- ---- how far
 
@@ -197,7 +196,7 @@ reaches_none c image choice other first past here code some within is other_is a
     let there : FreeAt choice c (past - 1) = subst (λ y. FreeAt y c (past - 1)) same h in
     let before : other ≡ slice_index_or c.choices (past - 1) choice = other_is ∙ get_or_default c.choices (past - 1) other choice (omega arith) in
     never (subst (λ y. IndependentAt image here y choice) (sym before) (subst (λ e. IndependentAt image e (slice_index_or c.choices (past - 1) choice) choice) (sym at)
-        (subst (λ i. IndependentAt i (reached (past - 1) c) (slice_index_or c.choices (past - 1) choice) choice) (sym code) there)))
+    (subst (λ i. IndependentAt i (reached (past - 1) c) (slice_index_or c.choices (past - 1) choice) choice) (sym code) there)))
 
 pub reaches_some : (c : Course) (image : Loaded) (choice other : Choice) (first past rest : ℕ) (here between : Ended) → image ≡ c.image → 0 < past → past < length c.choices → choice ≡ slice_index_or c.choices past choice
     → other ≡ slice_index_or c.choices (past - 1) other → here ≡ reached (past - 1) c → IsFreeFrom choice first (past - 1) c rest → IndependentAt image here other choice → between ≡ ran image (choice ∷ []) here

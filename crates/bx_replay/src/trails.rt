@@ -13,8 +13,8 @@ use crate::runs::{RcEnd, follow, follow_one};
 use bx_load::Image;
 use bx_plan::{Part, Schedule};
 use bx_share::Same;
-use std::alloc::{AllocError, Global};
 pub use rows::Row;
+use std::alloc::{AllocError, Global};
 use std::marker::Model;
 
 /// Choices in a row, from where a run has come, over some code.

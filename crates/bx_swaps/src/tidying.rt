@@ -80,11 +80,7 @@ fn gather(alloc: Global, row: &mut Row<'_>, count: usize) -> Result<(), AllocErr
 
 /// The same choices over the same code, from the same start, of which the first `count` are exchanged so that those of one process stand
 /// together. Where that would leave more that concern another process than the one before them, none is exchanged. The trail stays.
-pub fn tidied<'a>(
-    alloc: Global,
-    trail: &Trail<'a>,
-    count: usize,
-) -> Result<Trail<'a>, AllocError>
+pub fn tidied<'a>(alloc: Global, trail: &Trail<'a>, count: usize) -> Result<Trail<'a>, AllocError>
     requires { count ≤ length trail.now.choices }
     ensures { IfOk result (IsTidied count trail.now) }
 {

@@ -67,7 +67,12 @@ const STOPPED: [Row<'static>; 9] = [
 
 const OPENED: [Row<'static>; 5] = [
     (LOOP, "m:f", "open\n", "r0 m:4 {jump,{f,3}}\nend\n"),
-    (TRAPS, "m:f", "go r0*2\nopen\n", "at 2 of 2: trapped Unset <0.0.0>\nend\n"),
+    (
+        TRAPS,
+        "m:f",
+        "go r0*2\nopen\n",
+        "at 2 of 2: trapped Unset <0.0.0>\nend\n",
+    ),
     (
         TALK,
         "m:f",

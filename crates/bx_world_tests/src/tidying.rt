@@ -61,9 +61,17 @@ const TIDIED: [Tidied; 13] = [
     // a run that ends its process past another's send, which stays before the other end
     (SENDERS, "r0*10 r1 r2 r1 r2", "r0*10 r1*2 r2*2"),
     // a delivery waits for its send, the run that reads the message for the delivery
-    (SENDERS, "r0*10 r1*2 r2 d1>0 r2 r0", "r0*10 r1*2 d1>0 r0 r2*2"),
+    (
+        SENDERS,
+        "r0*10 r1*2 r2 d1>0 r2 r0",
+        "r0*10 r1*2 d1>0 r0 r2*2",
+    ),
     // two sends stay in their order, and the delivery that comes a part of the way would part four choices in place of three
-    (SENDERS, "r0*10 r1 r2 d1>0 d2>0 r0", "r0*10 r1 r2 d1>0 d2>0 r0"),
+    (
+        SENDERS,
+        "r0*10 r1 r2 d1>0 d2>0 r0",
+        "r0*10 r1 r2 d1>0 d2>0 r0",
+    ),
     // a link past the end of the process that it is to, and the wait past the delivery
     (LINKS, "r0*4 r1 r0 d0>1 r0", "r0*6 r1 d0>1"),
     // the end of a wait
@@ -283,7 +291,12 @@ fn a_start_that_is_not_exported_is_refused(rt: HostRuntime) -> Result<(), Fail> 
 /// The choices of a trail of which so many are tidied, and those that the trail itself has then.
 fn tidied_front(alloc: Global, entries: &str, count: usize) -> Result<(Schedule, Schedule), Fault> {
     let image = image(alloc, &[LOOPS])?;
-    let trail = Trail::of(alloc, &image, begin(alloc, &image)?, schedule(alloc, entries)?)?;
+    let trail = Trail::of(
+        alloc,
+        &image,
+        begin(alloc, &image)?,
+        schedule(alloc, entries)?,
+    )?;
     let front = tidied(alloc, &trail, count.min(trail.len()))?;
     Ok((front.into_schedule(), trail.into_schedule()))
 }

@@ -2,10 +2,9 @@
 
 use crate::program::memory;
 use bx_engine::Failure;
-use std::io;
 use std::io::Read;
 use std::rt::Files;
-use std::fs;
+use std::{fs, io};
 
 /// Where an order's text is read from.
 #[derive(Drop)]

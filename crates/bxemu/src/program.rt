@@ -217,12 +217,7 @@ fn names_of(alloc: Global, files: &[&str], last: &str) -> Result<Vec<String>, Al
 }
 
 /// Looks at the start, opens all the files, the plan last, and then writes the report of the run.
-fn run<R, I, O>(
-    rt: &R,
-    start: &str,
-    names: &[String],
-    talk: Talk<'_, I, O>,
-) -> Result<(), Failure>
+fn run<R, I, O>(rt: &R, start: &str, names: &[String], talk: Talk<'_, I, O>) -> Result<(), Failure>
 where
     R: Files + AllocGlobal,
     I: Read,

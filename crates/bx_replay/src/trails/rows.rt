@@ -188,12 +188,7 @@ impl<'a> Row<'a> {
     }
 
     /// How far forward the choice at `past` may be brought, to `first` at the most; `None` where it does not pass the one before it.
-    fn reach(
-        &self,
-        alloc: Global,
-        first: usize,
-        past: usize,
-    ) -> Result<Option<Reach>, AllocError>
+    fn reach(&self, alloc: Global, first: usize, past: usize) -> Result<Option<Reach>, AllocError>
         requires order { first < past }
         requires within { past < length self.now.choices }
         ensures { IfOk result (Reaches first past self.now) }

@@ -37,5 +37,5 @@ returns-clause-unknown g c = inr (
   c.in-Ok-located_image_of.program.1,
   c.in-Ok-session_at.session,
   subst (λ (h : Hearing). Talks (length c.args.listings.now) h (g.W.Write.contents c.args.writer.now) (g.W.Write.contents c.answer_all.new.writer)
-  (g.C.Read.remaining c.args.commands.now) (g.C.Read.remaining c.answer_all.new.commands) c.answer_all.result) c.new-talk.ensures c.answer_all.ensures,
+      (g.C.Read.remaining c.args.commands.now) (g.C.Read.remaining c.answer_all.new.commands) c.answer_all.result) c.new-talk.ensures c.answer_all.ensures,
 )

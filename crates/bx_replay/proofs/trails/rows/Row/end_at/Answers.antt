@@ -20,5 +20,5 @@ returns c =
     let first : c.count.result - c.count-2.result ≡ found.applied - start.applied = λ i. c.count.ensures i - c.count-2.ensures i in
     c.in_ok-advance_each.ensures
     ∙ onward image start choices (c.count.result - c.count-2.result) count c.in_ok-end.end c.deref-2.result.now (omega (arith, first)) c.deref-2.ensures.value
-        (c.in_ok-end.ensures ∙ there.is.is ∙ ap (λ n. reached n (course image start choices)) (sym first))
+    (c.in_ok-end.ensures ∙ there.is.is ∙ ap (λ n. reached n (course image start choices)) (sym first))
     ∙ ap (reached count) c.self.view_is

@@ -37,5 +37,5 @@ loop-at-preserved c =
       here = end_step s c.self.inside.image.now c.index-other.result.now at c.loop-at.end c.advance_run.new.end code within other_is c.loop-at.invariant.here c.in_ok-advance_run.ensures.ok;
       free = subst (λ n. IsFreeFrom c.args.choice c.args.first (at + 1) s n) (sym c.rest_behind-rest.ensures)
           (free_step s c.self.inside.image.now c.args.choice c.index-other.result.now c.args.first at c.loop-at.rest c.loop-at.end c.in_ok-free.free code within other_is c.loop-at.invariant.here
-              c.in_ok-free.ensures.yes c.in_ok-free.ensures.no (omega arith) c.loop-at.invariant.free);
+          c.in_ok-free.ensures.yes c.in_ok-free.ensures.no (omega arith) c.loop-at.invariant.free);
     }
