@@ -26,7 +26,14 @@ use std::thread::Threads;
 use std::time::Clock;
 use std::{env, io};
 
-/// Standard input, from where a session's lines or a plan may come, and standard output, to where texts go.
+/// What an order runs: its start, and the names of its files.
+#[derive(Clone, Copy)]
+struct Task<'a> {
+    start: &'a str,
+    names: &'a [String],
+}
+
+/// Where a session's lines come from, and where its answers go.
 #[derive(Drop)]
 struct Talk<'t, I, O> {
     input: &'t mut I,
@@ -106,18 +113,18 @@ where
     let names = names.as_slice();
     match order {
         Order::Run { start, .. } => {
-            let ended = run(rt, start, names, Talk { input, output });
+            let ended = run(rt, Task { start, names }, input, output);
             told(&ended, names, errors)
         }
         Order::Campaign { start, workers, .. } if errors.is_terminal() => {
             let gate = Progress::new(rt);
             let workers = Workers::new(rt, *workers, &gate);
-            let ended = campaign(rt, &workers, start, names, Talk { input, output });
+            let ended = campaign(rt, &workers, Task { start, names }, input, output);
             told(&ended, names, errors)
         }
         Order::Campaign { start, workers, .. } => {
             let workers = Workers::new(rt, *workers, &FreeGate);
-            let ended = campaign(rt, &workers, start, names, Talk { input, output });
+            let ended = campaign(rt, &workers, Task { start, names }, input, output);
             told(&ended, names, errors)
         }
         Order::Debug { start, .. } => {
@@ -217,15 +224,15 @@ fn names_of(alloc: Global, files: &[&str], last: &str) -> Result<Vec<String>, Al
 }
 
 /// Looks at the start, opens all the files, the plan last, and then writes the report of the run.
-fn run<R, I, O>(rt: &R, start: &str, names: &[String], talk: Talk<'_, I, O>) -> Result<(), Failure>
+fn run<R, I, O>(rt: &R, task: Task<'_>, input: &mut I, output: &mut O) -> Result<(), Failure>
 where
     R: Files + AllocGlobal,
     I: Read,
     O: Write,
-    ensures { IfErr result (λ failure. (failure ≡ Failure.Write) ⊎ Keeps
-        (O.contents talk.output.old) (O.contents talk.output.new)) }
+    ensures { IfErr result (λ failure. (failure ≡ Failure.Write) ⊎ Keeps (O.contents output.old)
+        (O.contents output.new)) }
 {
-    let Talk { input, output } = talk;
+    let Task { start, names } = task;
     let _ = start_of(rt.alloc(), start)?;
     let mut inputs = open_with_plan(rt, names, input)?;
     match inputs.split_last_mut() {
@@ -238,19 +245,19 @@ where
 fn campaign<R, G, I, O>(
     rt: &R,
     workers: &Workers<'_, R, G>,
-    start: &str,
-    names: &[String],
-    talk: Talk<'_, I, O>,
+    task: Task<'_>,
+    input: &mut I,
+    output: &mut O,
 ) -> Result<(), Failure>
 where
     R: Files + AllocGlobal + Threads + Wait + Sync,
     G: Gate,
     I: Read,
     O: Write,
-    ensures { IfErr result (λ failure. (failure ≡ Failure.Write) ⊎ Keeps
-        (O.contents talk.output.old) (O.contents talk.output.new)) }
+    ensures { IfErr result (λ failure. (failure ≡ Failure.Write) ⊎ Keeps (O.contents output.old)
+        (O.contents output.new)) }
 {
-    let Talk { input, output } = talk;
+    let Task { start, names } = task;
     let _ = start_of(rt.alloc(), start)?;
     let mut inputs = open_with_plan(rt, names, input)?;
     match inputs.split_last_mut() {

@@ -1,7 +1,7 @@
 mod desk;
 mod orders;
 
-use crate::program::{Talk, names_of, run};
+use crate::program::{Task, names_of, run};
 use bx_engine::fault_line;
 use std::alloc::Global;
 use std::test::Fail;
@@ -12,11 +12,11 @@ fn line_of_run(rt: &HostRuntime, alloc: Global, start: &str, files: &str) -> Res
     let names = names_of(alloc, files.as_slice(), "/dev/null")?;
     let mut written = Vec::new(alloc);
     let mut report: Vec<u8> = Vec::new(alloc);
-    let talk = Talk {
-        input: &mut b"".as_slice(),
-        output: &mut report,
+    let task = Task {
+        start,
+        names: names.as_slice(),
     };
-    if let Err(failure) = run(rt, start, names.as_slice(), talk) {
+    if let Err(failure) = run(rt, task, &mut b"".as_slice(), &mut report) {
         fault_line(&failure, names.as_slice(), &mut written);
     }
     Ok(String::from_utf8(written).ok().ok_or("text")?)
