@@ -3,9 +3,8 @@
 use bx_load::Image;
 use bx_plan::{Schedule, read_plan};
 use bx_proc::Proc;
-use bx_replay::Trail;
 use bx_share::RcHold;
-use bx_swaps::{tidied, tidy, undo};
+use bx_swaps::{tidy, undo};
 use bx_terms::Fault;
 use bx_world::{Choice, Lanes, RcWorld, RunEnd, advance};
 use bxemu_testkit::{atom, image};
@@ -285,26 +284,5 @@ fn lacks_a_start(alloc: Global, entries: &str, position: usize) -> Result<bool, 
 fn a_start_that_is_not_exported_is_refused(rt: HostRuntime) -> Result<(), Fail> {
     assert!(rt; lacks_a_start(rt.alloc(), "r0*4", 0)?);
     assert!(rt; lacks_a_start(rt.alloc(), "", 7)?);
-    Ok(())
-}
-
-/// The choices of a trail of which so many are tidied, and those that the trail itself has then.
-fn tidied_front(alloc: Global, entries: &str, count: usize) -> Result<(Schedule, Schedule), Fault> {
-    let image = image(alloc, &[LOOPS])?;
-    let trail = Trail::of(
-        alloc,
-        &image,
-        begin(alloc, &image)?,
-        schedule(alloc, entries)?,
-    )?;
-    let front = tidied(alloc, &trail, count.min(trail.len()))?;
-    Ok((front.into_schedule(), trail.into_schedule()))
-}
-
-#[test]
-fn choices_behind_a_position_stay(rt: HostRuntime) -> Result<(), Fail> {
-    let (front, trail) = tidied_front(rt.alloc(), "r0*4 r1 r0 r1 r0", 6)?;
-    assert!(rt; front.same(&schedule(rt.alloc(), "r0*5 r1*2 r0")?));
-    assert!(rt; trail.same(&schedule(rt.alloc(), "r0*4 r1 r0 r1 r0")?));
     Ok(())
 }
