@@ -22,8 +22,6 @@ mod refused_calls;
 #[cfg(test)]
 mod reports;
 #[cfg(test)]
-mod rows;
-#[cfg(test)]
 mod samples;
 #[cfg(test)]
 mod starts;
