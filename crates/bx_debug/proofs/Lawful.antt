@@ -1,8 +1,8 @@
 -- What is true of every session.
 use Rattle.std.proofs.Common.{◌≡◌, ℕ, ◌+◌, ◌-◌, ◌<◌, ◌≤◌, List, [], ◌∷◌, ◌++◌, length, replicate, take, Bool, true, false, Option, Some, None, Result, Ok, Err, refl, sym, ap, ◌∙◌, subst, arith, length-append}
-use Rattle.std.specs.Prelude.{is_some, if◌then◌else◌, nat_lt}
+use Rattle.std.specs.Prelude.{◌==◌, ◌||◌, is_some, if◌then◌else◌, nat_lt}
 use Rattle.std.proofs.lemmas.List.{take_at, length-take-le}
-use Rattle.std.proofs.lemmas.Bool.{le-ltb, ltb-false}
+use Rattle.std.proofs.lemmas.Bool.{eqb-false, le-ltb, ltb-false}
 use Rattle.bx_terms.proofs.Outcomes.{ok_pair, bind_ok}
 use Rattle.bx_terms.specs.declared.atom_table.AtomId.{AtomId}
 use Rattle.bx_terms.specs.declared.faults.Fault.{Fault}
@@ -14,8 +14,14 @@ use Rattle.bx_world.specs.World.{State, started}
 use Rattle.bx_world.specs.Enabled.{can}
 use Rattle.bx_world.specs.Choosing.{refusal}
 use Rattle.bx_world.specs.Running.{Ended, ran, unchosen}
-use Rattle.bx_debug.specs.Calls.{Call, Step, Back, Forward, Go, Run, Swap, SetBreak, ClearBreak, kept_unless, called, after_calls}
+use Rattle.bx_debug.specs.Calls.{Call, Step, Back, Forward, Go, Run, Swap, Tidy, Undo, SetBreak, ClearBreak, kept_unless, called, after_calls}
+use Rattle.bx_replay.specs.Courses.{Course, reached}
 use Rattle.bx_replay.specs.Exchanges.{with_exchange}
+use Rattle.bx_replay.specs.Moving.{IsExchanged}
+use Rattle.bx_replay.proofs.Bringing.{ends_after, one_made}
+use Rattle.bx_swaps.specs.Tidying.{tidied_of, undone_of}
+use Rattle.bx_swaps.proofs.Ends.{exchanged_is}
+use Rattle.bx_swaps.proofs.Gathering.{tidied_so, undone_so}
 use Rattle.bx_debug.specs.Exchanging.{may_swap, swap_by}
 use Rattle.bx_debug.specs.Going.{walked}
 use Rattle.bx_debug.specs.Leading.{led, all_enabled, IsSession}
@@ -23,8 +29,9 @@ use Rattle.bx_debug.specs.Pausing.{runs_to}
 use Rattle.bx_debug.specs.Sessions.{History, behind, world_of, begun, opened, with_made, or_refused, stepped, back, forward}
 use Rattle.bx_debug.specs.Stopping.{IsRunOf}
 use Rattle.bx_debug.specs.Swapping.{course_of}
+use Rattle.bx_debug.specs.Tidying.{tidy_of, undone}
 use Rattle.bx_debug.proofs.Exchanging.{may_so}
-use Rattle.bx_debug.proofs.Swapping.{session_swapped}
+use Rattle.bx_debug.proofs.Swapping.{session_exchanged}
 use Rattle.bx_debug.proofs.Leads.{enabled_both, enabled_take, ran_all}
 use Rattle.bx_debug.proofs.Stopped.{walked_enabled, and_true}
 
@@ -75,16 +82,53 @@ forward_made image start n s false is m =
     let few : n ≤ length s.choices - s.at = ltb-false (length s.choices - s.at) n is in
     moved image start s (s.at + n) m (omega arith)
 
--- an exchange that may be made
+-- the choices of a session, where they lead
+here_of : (image : Loaded) (start : State) (s : History) → Made image start s → IsSession (course_of s) s.at (led s.image (behind s) s.start)
+here_of image start s m = record { begins = refl; within = m.within; made = m.made; shown = refl }
+
+-- exchanges that may be made before the position
+exchanged_made : (image : Loaded) (start : State) (s : History) (new : Course) → IsExchanged s.at (course_of s) new → Made image start s → Made image start (record s { choices = new.choices })
+exchanged_made image start s new e m =
+    let now = session_exchanged (course_of s) new s.at (led s.image (behind s) s.start) (here_of image start s m) e in
+    let code = ap (λ (c : Course). c.image) e.is in
+    let begins = ap (λ (c : Course). c.start.world) e.is in
+    record {
+      code = m.code;
+      begins = m.begins;
+      within = now.within;
+      made = (λ i. all_enabled (sym code i) new.choices (sym begins i)) ∙ now.made;
+    }
+
 swap_made : (image : Loaded) (start : State) (k : ℕ) (s : History) (may : Bool) → may_swap k s ≡ may → Made image start s → Made image start (kept_unless s (swap_by may k s))
 swap_made image start k s false is m = m
 swap_made image start k s true is m =
     let may = may_so k s is in
-    let trail = course_of s in
     let before : k - 1 + 1 < s.at = let some = may.0 in let short = may.1 in omega (arith, some, short) in
-    let here : IsSession trail s.at (led s.image (behind s) s.start) = record { begins = refl; within = m.within; made = m.made; shown = refl } in
-    let new = session_swapped trail (with_exchange (k - 1) trail) s.at (k - 1) (led s.image (behind s) s.start) here before may.2 refl in
-    record { code = m.code; begins = m.begins; within = new.within; made = new.made }
+    exchanged_made image start s (with_exchange (k - 1) (course_of s)) (one_made s.at (k - 1) (course_of s) before may.2) m
+
+tidy_made : (image : Loaded) (start : State) (s : History) → Made image start s → Made image start (tidy_of s)
+tidy_made image start s m = exchanged_made image start s (tidied_of s.at (course_of s)) (tidied_so s.at (course_of s)).exchanged m
+
+undo_made : (image : Loaded) (start : State) (k : ℕ) (s : History) (past : Bool) → (k == 0 || nat_lt s.at k) ≡ past → Made image start s
+    → Made image start (kept_unless s (if past then Err (faults.NotIndependent k) else Ok (undone k s, tt)))
+undo_made image start k s true is m = m
+undo_made image start k s false is m =
+    let stands = or_false (k == 0) (nat_lt s.at k) is in
+    let some = eqb-false k 0 stands.0 in
+    let least = ltb-false s.at k stands.1 in
+    let less : k - 1 < s.at = omega (arith, pos k some, least) in
+    let aside = undone_so s.at (k - 1) (course_of s) less in
+    let now = exchanged_made image start s (undone_of s.at (k - 1) (course_of s)).0 aside.exchanged m in
+    let inside = now.within in
+    let before = aside.less in
+    moved image start (record s { choices = (undone_of s.at (k - 1) (course_of s)).0.choices }) (undone_of s.at (k - 1) (course_of s)).1 now (omega (arith, inside, before))
+  where
+    or_false : (a b : Bool) → (a || b) ≡ false → (a ≡ false) × (b ≡ false)
+    or_false true b e = cc
+    or_false false b e = (refl, e)
+
+    pos : (n : ℕ) → (n ≡ 0 → ⊥) → 0 < n
+    pos n ne = omega (arith, ne)
 
 called_made : (image : Loaded) (start : State) (call : Call) (s : History) → Made image start s → Made image start (called call s)
 called_made image start (Step choice) s m = step_made image start choice s (refusal (world_of s) choice) refl m
@@ -95,6 +139,8 @@ called_made image start (Run bound p) s m =
     let runs = replicate (runs_to bound s.image s.places p (world_of s)) (choices.Run p) in
     made_more image start (walked s.image s.places runs (world_of s)).0 s m (walked_enabled s.image s.places runs (world_of s))
 called_made image start (Swap k) s m = swap_made image start k s (may_swap k s) refl m
+called_made image start Tidy s m = tidy_made image start s m
+called_made image start (Undo k) s m = undo_made image start k s (k == 0 || nat_lt s.at k) refl m
 called_made image start (SetBreak place) s m = record { code = m.code; begins = m.begins; within = m.within; made = m.made }
 called_made image start (ClearBreak place) s m = record { code = m.code; begins = m.begins; within = m.within; made = m.made }
 
@@ -159,3 +205,17 @@ forward_is n s false within is t gone_back =
 
 pub forward_back : (n : ℕ) (s t : History) → s.at ≤ length s.choices → back n s ≡ Ok (t, tt) → forward n t ≡ Ok (s, tt)
 forward_back n s t within gone_back = forward_is n s (nat_lt s.at n) within refl t gone_back
+
+-- ---- exchanges leave where they lead
+
+exchanged_shows : (s : History) (new : Course) → IsExchanged s.at (course_of s) new → world_of (record s { choices = new.choices }) ≡ world_of s
+exchanged_shows s new e =
+    ap (λ (end : Ended). end.world) (ap (reached s.at) (sym (exchanged_is s.at (course_of s) new e)) ∙ ends_after s.at s.at (course_of s) new e (omega arith))
+
+pub tidy_shows : (s : History) → world_of (tidy_of s) ≡ world_of s
+tidy_shows s = exchanged_shows s (tidied_of s.at (course_of s)) (tidied_so s.at (course_of s)).exchanged
+
+pub undo_shows : (k : ℕ) (s : History) → 0 < k → k ≤ s.at → world_of (record (undone k s) { at = s.at }) ≡ world_of s
+undo_shows k s some least =
+    let less : k - 1 < s.at = omega arith in
+    exchanged_shows s (undone_of s.at (k - 1) (course_of s)).0 (undone_so s.at (k - 1) (course_of s) less).exchanged

@@ -7,6 +7,7 @@ use Rattle.bx_debug.specs.Exchanging.{swap_of}
 use Rattle.bx_debug.specs.Pausing.{run_of}
 use Rattle.bx_debug.specs.declared.pauses.Bound.{Bound}
 use Rattle.bx_debug.specs.Sessions.{History, stepped, back, forward, gone, with_break, without_break}
+use Rattle.bx_debug.specs.Tidying.{tidy_of, undo_of}
 
 pub data Call : Type 0 where
   Step : Choice → Call
@@ -15,6 +16,8 @@ pub data Call : Type 0 where
   Go : List Choice → Call
   Run : Bound → ℕ → Call
   Swap : ℕ → Call
+  Tidy : Call
+  Undo : ℕ → Call
   SetBreak : Place → Call
   ClearBreak : Place → Call
 
@@ -30,6 +33,8 @@ called (Forward n) s = kept_unless s (forward n s)
 called (Go choices) s = (gone choices s).0
 called (Run bound p) s = (run_of bound p s).0
 called (Swap number) s = kept_unless s (swap_of number s)
+called Tidy s = tidy_of s
+called (Undo number) s = kept_unless s (undo_of number s)
 called (SetBreak place) s = with_break place s
 called (ClearBreak place) s = without_break place s
 

@@ -7,4 +7,5 @@ pub mod Pausing
 pub mod Stopping
 pub mod Swapping
 pub mod Exchanging
+pub mod Tidying
 pub mod Calls

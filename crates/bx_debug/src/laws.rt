@@ -16,6 +16,7 @@ ghost use Rattle.bx_debug.specs.declared.pauses.Bound.{Bound};
 ghost use Rattle.bx_debug.specs.Sessions.{History, back, forward, opened, stepped, with_made, world_of};
 ghost use Rattle.bx_debug.specs.Stopping.{IsRunOf, TellsWhy};
 ghost use Rattle.bx_debug.specs.Swapping.{MaySwap};
+ghost use Rattle.bx_debug.specs.Tidying.{tidy_of, undone};
 
 /// Whatever the calls on a session were, the world that it shows is the run of the choices before its position, from the start
 /// at which it was opened, and that run applied each of them.
@@ -75,4 +76,10 @@ pub fn each_of_its_runs_is_made()
 /// The test that an exchange is told by tells exactly whether two choices stand before the position and are independent.
 pub fn swaps_are_told_by_a_test()
     ensures { (k : ℕ) (s : History) → (may_swap k s ≡ true) ↔ MaySwap k s }
+{}
+
+/// Tidying leaves the world that is shown, and so does taking a choice back, once what was taken back is made again.
+pub fn exchanges_leave_the_world_shown()
+    ensures tidied { (s : History) → world_of (tidy_of s) ≡ world_of s }
+    ensures undone { (k : ℕ) (s : History) → 0 < k → k ≤ s.at → world_of (record (undone k s) { at = s.at }) ≡ world_of s }
 {}

@@ -1,6 +1,6 @@
 //! Sessions.
 
-ghost use Rattle.std.specs.Prelude.{◌≡◌, ◌≢◌, ◌↔◌, ◌-◌, ◌<◌, ◌≤◌, [], false, length, None, Ok, OnErr, OnOk, IfOk, IsSome, IsTrue, take};
+ghost use Rattle.std.specs.Prelude.{⊤, ◌≡◌, ◌≢◌, ◌↔◌, ◌-◌, ◌<◌, ◌≤◌, [], false, length, None, Ok, OnErr, OnOk, IfOk, IsSome, IsTrue, take};
 ghost use Rattle.bx_terms.specs.Outcomes.{Does, Gives};
 ghost use Rattle.bx_load.specs.Image.{export};
 ghost use Rattle.bx_world.specs.Choosing.{refusal};
@@ -10,6 +10,7 @@ ghost use Rattle.bx_debug.specs.Pausing.{run_of, RunTakes};
 ghost use Rattle.bx_debug.specs.Places.{is_set};
 ghost use Rattle.bx_debug.specs.Sessions.{back, behind, forward, gone, GoTakes, opened, stepped, with_break, without_break, world_of};
 ghost use Rattle.bx_debug.specs.Swapping.{Swaps};
+ghost use Rattle.bx_debug.specs.Tidying.{tidy_of, undo_of};
 
 use crate::pauses::{Bound, Pause, Runner};
 use crate::places::Places;
@@ -18,6 +19,7 @@ use crate::walks::{Walk, into_world};
 use bx_load::Image;
 use bx_plan::Schedule;
 use bx_replay::{Trail, shared};
+use bx_swaps::{tidied, undone};
 use bx_terms::{AtomId, Fault, Place};
 use bx_world::{Choice, RcWorld, RunEnd};
 use std::alloc::{AllocError, Global};
@@ -250,6 +252,37 @@ impl<'a> Session<'a> {
         if !self.trail.exchange(alloc, number - 1)? {
             return Err(Fault::NotIndependent { position: number });
         }
+        Ok(())
+    }
+
+    /// Exchanges the choices before the position so that those of one process stand together, as far as they are independent. The
+    /// position stays, the choices behind it and the breakpoints, and the world that is shown.
+    ///
+    /// It can only run out of memory.
+    pub fn tidy(&mut self, alloc: Global) -> Result<(), Fault>
+        ensures { Does ⊤ self.old self.new result (Ok (tidy_of self.old, tt)) }
+    {
+        self.trail = tidied(alloc, &self.trail, self.at)?;
+        Ok(())
+    }
+
+    /// Takes back the choice of that number, counted from 1, with all that depend on it: the others that stand before the position
+    /// come to stand in front of these, by exchanges, and the position is between them. So `forward` makes again what is taken back,
+    /// and what stood behind the position follows. The breakpoints stay.
+    ///
+    /// `NotIndependent` with the number exactly where no such choice stands before the position. Memory is taken only where one does.
+    pub fn undo(&mut self, alloc: Global, number: usize) -> Result<(), Fault>
+        ensures { Does ((0 < number) × (number ≤ self.old.at)) self.old self.new result
+            (undo_of number self.old) }
+    {
+        if number == 0 || number > self.at {
+            return Err(Fault::NotIndependent { position: number });
+        }
+        let (trail, before) = undone(alloc, &self.trail, self.at, number - 1)?;
+        let world = into_world(trail.end_at(alloc, before)?);
+        self.trail = trail;
+        self.at = before;
+        self.world = world;
         Ok(())
     }
 

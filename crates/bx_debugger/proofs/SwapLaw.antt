@@ -1,6 +1,7 @@
 -- Exchanges as they are answered.
 use Rattle.std.proofs.Common.{◌≡◌, ◌∙◌, ℕ, Bool, true, false, List, Result, Ok, Err, refl, sym, ap}
 use Rattle.std.specs.Prelude.{IfOk}
+use Rattle.bx_terms.specs.Outcomes.{Does}
 use Rattle.bx_terms.specs.declared.faults.Fault.{Fault}
 use Rattle.bx_terms.specs.declared.faults.Fault.TheVariants.{Memory, NotIndependent}
 use Rattle.bx_debug.specs.Exchanging.{may_swap, swap_by, swap_of}
@@ -38,3 +39,15 @@ pub swap_told : {T : Type 0} (view : T → List ℕ) (r : Result T Fault) (n k :
     → IfOk r (λ text. (view text, new) ≡ moved n old (swap_of k old))
 swap_told view (Ok text) n k old new result h told = told old (swap_of k old) (swap_moves k old new result h)
 swap_told view (Err fault) n k old new result h told = tt
+
+-- a call that does what its definition says moves the session so
+does_moves : (takes : Type 0) (old new : History) (result : Result (Unit {0}) Fault) (said : Result (History × Unit {0}) Fault) → Does takes old new result said → Moves old new result said
+does_moves takes old new (Ok done) said h = h
+does_moves takes old new (Err Memory) said h = tt
+does_moves takes old new (Err fault) said h = h
+
+pub does_told : {T : Type 0} (takes : Type 0) (view : T → List ℕ) (r : Result T Fault) (n : ℕ) (old new : History) (said : Result (History × Unit {0}) Fault) (result : Result (Unit {0}) Fault) → Does takes old new result said
+    → IfOk r (λ text. (before : History) → (said : Result (History × Unit {0}) Fault) → Moves before new result said → (view text, new) ≡ moved n before said)
+    → IfOk r (λ text. (view text, new) ≡ moved n old said)
+does_told takes view (Ok text) n old new said result h told = told old said (does_moves takes old new result said h)
+does_told takes view (Err fault) n old new said result h told = tt

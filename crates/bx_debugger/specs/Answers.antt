@@ -12,11 +12,12 @@ use Rattle.bx_world.specs.World.{Life}
 use Rattle.bx_debug.specs.Sessions.{History, behind, world_of, stepped, back, forward, gone, with_break, without_break}
 use Rattle.bx_debug.specs.Exchanging.{swap_of}
 use Rattle.bx_debug.specs.Pausing.{run_of}
+use Rattle.bx_debug.specs.Tidying.{tidy_of, undo_of}
 use Rattle.bx_debug.specs.declared.pauses.Bound.{Bound}
 use Rattle.bx_debug.specs.declared.pauses.Bound.TheVariants.{Event, Meeting}
 use Rattle.bx_debug.specs.declared.stops.Stop.{Stop}
 use Rattle.bx_engine.specs.Sources.{Sources}
-use Rattle.bx_debugger.specs.Commands.{Ordered, Step, Back, Forward, Go, Until, Run, Swap, Break, Clear, Show, Where, Look, Signals, Open, Items, Trace, Plan, Help, ordered_by}
+use Rattle.bx_debugger.specs.Commands.{Ordered, Step, Back, Forward, Go, Until, Run, Swap, Tidy, Undo, Break, Clear, Show, Where, Look, Signals, Open, Items, Trace, Plan, Help, ordered_by}
 use Rattle.bx_debugger.specs.Functions.{list_answer}
 use Rattle.bx_debugger.specs.Help.{help_answer}
 use Rattle.bx_debugger.specs.Look.{look_answer}
@@ -86,6 +87,8 @@ replied sources n (Go choices) s = (went_line (gone choices s), (gone choices s)
 replied sources n (Until p) s = ran_line sources n Event p s
 replied sources n (Run p) s = ran_line sources n Meeting p s
 replied sources n (Swap number) s = moved n s (swap_of number s)
+replied sources n Tidy s = moved n s (Ok (tidy_of s, tt))
+replied sources n (Undo number) s = moved n s (undo_of number s)
 replied sources n (Break place) s = (codes "ok\n", with_break place s)
 replied sources n (Clear place) s = (codes "ok\n", without_break place s)
 replied sources n Show s = (shown_lines s, s)

@@ -2,7 +2,7 @@
 use Rattle.std.specs.Prelude.{string_bytes}
 use Rattle.bx_debugger.specs.declared.commands.Command.{Command}
 use Rattle.bx_debugger.specs.declared.commands.Command.TheVariants as commands
-use Rattle.bx_debugger.specs.Commands.{Ordered, Step, Back, Forward, Go, Until, Run, Swap, Break, Clear, Show, Where, Look, Signals, Open, Items, Trace, Plan, Help}
+use Rattle.bx_debugger.specs.Commands.{Ordered, Step, Back, Forward, Go, Until, Run, Swap, Tidy, Undo, Break, Clear, Show, Where, Look, Signals, Open, Items, Trace, Plan, Help}
 
 abbrev pub ordered : Command → Ordered
 ordered (commands.Step choice) = Step choice
@@ -12,6 +12,8 @@ ordered (commands.Go choices) = Go choices
 ordered (commands.Until pid) = Until pid
 ordered (commands.Run pid) = Run pid
 ordered (commands.Swap number) = Swap number
+ordered commands.Tidy = Tidy
+ordered (commands.Undo number) = Undo number
 ordered (commands.Break place) = Break place
 ordered (commands.Clear place) = Clear place
 ordered commands.Show = Show

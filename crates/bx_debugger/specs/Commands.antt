@@ -21,6 +21,9 @@ pub data Ordered : Type 0 where
   Until : ℕ → Ordered
   Run : ℕ → Ordered
   Swap : ℕ → Ordered
+  Tidy : Ordered
+  -- the choice of that number
+  Undo : ℕ → Ordered
   Break : Place → Ordered
   Clear : Place → Ordered
   Show : Ordered
@@ -115,6 +118,7 @@ alone word =
     else if bytes_eq word (codes "where") then Some Where
     else if bytes_eq word (codes "signals") then Some Signals
     else if bytes_eq word (codes "open") then Some Open
+    else if bytes_eq word (codes "tidy") then Some Tidy
     else if bytes_eq word (codes "help") then Some Help
     else None
 
@@ -128,6 +132,7 @@ about image parts =
     else if bytes_eq parts.0 (codes "until") then option_map Until (number_of most_pid parts.1)
     else if bytes_eq parts.0 (codes "run") then option_map Run (number_of most_pid parts.1)
     else if bytes_eq parts.0 (codes "swap") then option_map Swap (number_of most_number parts.1)
+    else if bytes_eq parts.0 (codes "undo") then option_map Undo (number_of most_number parts.1)
     else if bytes_eq parts.0 (codes "break") then option_map Break (place_named image parts.1)
     else if bytes_eq parts.0 (codes "clear") then option_map Clear (place_named image parts.1)
     else if bytes_eq parts.0 (codes "look") then option_map Look (number_of most_pid parts.1)

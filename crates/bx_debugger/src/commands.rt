@@ -35,6 +35,10 @@ pub(crate) enum Command {
     Run(u32),
     /// Exchanges the choice of that number, from 1 on, and the one behind it.
     Swap(u32),
+    /// Puts the choices of one process together.
+    Tidy,
+    /// Takes back the choice of that number, from 1 on, with all that depend on it.
+    Undo(u32),
     /// Sets a breakpoint.
     Break(Place),
     /// Lets runs break off there no more.
@@ -95,6 +99,9 @@ fn alone(alloc: Global, word: &[u8]) -> Option<Command>
     if word == b"open".as_slice() {
         return Some(Command::Open);
     }
+    if word == b"tidy".as_slice() {
+        return Some(Command::Tidy);
+    }
     if word == b"help".as_slice() {
         return Some(Command::Help);
     }
@@ -126,6 +133,9 @@ fn about(alloc: Global, image: &Image, word: &[u8], rest: &[u8]) -> Result<Optio
     }
     if word == b"swap".as_slice() {
         return Ok(number_of(rest, u32::MAX).map(Command::Swap));
+    }
+    if word == b"undo".as_slice() {
+        return Ok(number_of(rest, u32::MAX).map(Command::Undo));
     }
     if word == b"break".as_slice() {
         return Ok(place_named(alloc, image, rest)?.map(Command::Break));

@@ -15,6 +15,8 @@ macro_rules! commands {
   until P      Runs process P up to before it next sends, asks for something, times out or sets a flag, or to its wait or end
   run P        Runs process P until it has sent or asked for something, or to its wait or end
   swap K       Exchanges choices K and K+1 where they are independent
+  tidy         Puts the choices of one process together, as far as they are independent
+  undo K       Takes back choice K and all that depend on it; forward makes them again
   break M:I    Lets go stop behind a run that leaves its process at item I of module M
   break M:F/A  Lets go stop where a call of that function begins
   clear M:I    Removes that breakpoint; M:F/A names one too

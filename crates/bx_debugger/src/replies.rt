@@ -87,6 +87,14 @@ fn reply(
             let done = session.swap(alloc, *choice as usize);
             moved_line(alloc, session, number, done)
         }
+        Command::Tidy => {
+            let done = session.tidy(alloc);
+            moved_line(alloc, session, number, done)
+        }
+        Command::Undo(choice) => {
+            let done = session.undo(alloc, *choice as usize);
+            moved_line(alloc, session, number, done)
+        }
         Command::Break(place) => {
             session.set_break(alloc, *place)?;
             Ok(String::from_str(alloc, "ok\n")?)

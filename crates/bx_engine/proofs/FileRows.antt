@@ -92,7 +92,7 @@ fault_of_file takes view n fault said gives = ap (in_file n) gives
 pub file_fails : {X A : Type 0} (takes : Type 0) (view : X → A) (n : ℕ) (fault : Fault) (failure : Failure) (said : Result A Fault) → Gives takes view (Err fault) said → failure ≡ fault_in n fault → FileGives view n (Err failure) (in_file n said)
 file_fails takes view n fault failure said gives e = subst (λ f. FileGives view n (Err f) (in_file n said)) (sym e) (fault_of_file takes view n fault said gives)
 
-same_length : {A : Type 0} (rem : A → Option (List ℕ)) (old : List A) (given : List (List ℕ)) → map rem old ≡ map (λ text. Some text) given → length given ≡ length old
+pub same_length : {A : Type 0} (rem : A → Option (List ℕ)) (old : List A) (given : List (List ℕ)) → map rem old ≡ map (λ text. Some text) given → length given ≡ length old
 same_length rem old given known = sym (length-map given (λ text. Some text)) ∙ ap length (sym known) ∙ length-map old rem
 
 -- before the next file nothing is at fault

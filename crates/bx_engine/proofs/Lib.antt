@@ -7,3 +7,7 @@ pub mod OneFile
 pub mod SourceRows
 pub mod PlanRows
 pub mod PlanLaw
+pub mod PlanAgain
+pub mod ReportRows
+pub mod TidyLaw
+pub mod TidyRows

@@ -9,3 +9,4 @@ pub mod Runs
 pub mod Listings
 pub mod Campaigns
 pub mod PlanLines
+pub mod Tidying

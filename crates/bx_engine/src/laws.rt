@@ -4,6 +4,9 @@ ghost use Rattle.std.specs.List.{list_all};
 ghost use Rattle.bx_engine.specs.FaultLines.{line_of};
 ghost use Rattle.bx_engine.specs.Inputs.{IsUnread, IsWhole, input_limit};
 ghost use Rattle.bx_engine.specs.Lines.{IsLine, is_unbroken};
+ghost use Rattle.bx_engine.specs.Runs.{Names, run_of};
+ghost use Rattle.bx_engine.specs.Starts.{start_in};
+ghost use Rattle.bx_engine.specs.Tidying.{IsTidyOf};
 ghost use Rattle.bx_terms.specs.Refusals.{refusal};
 ghost use Rattle.bx_engine.specs.declared.failures.Failure.{Failure};
 ghost use Rattle.bx_engine.specs.declared.inputs.Unread.TheVariants.{TooLarge};
@@ -26,4 +29,10 @@ pub fn an_input_is_its_bytes()
         → IsWhole (Some given) left bytes → bytes ≡ given }
     ensures large { (given : List ℕ) → (left : Option (List ℕ))
         → IsUnread (Some given) left TooLarge → input_limit < length given }
+{}
+
+/// The report of a plan that `tidy` writes is, byte for byte, the report of the plan that it was given.
+pub fn a_tidied_plan_has_the_same_report()
+    ensures { (start : List ℕ) → (names : Names) → (given : List (List ℕ)) → (planned : List ℕ) → (text : List ℕ) → start_in start ≡ Some names
+        → IsTidyOf names given planned text → run_of start given text ≡ run_of start given planned }
 {}

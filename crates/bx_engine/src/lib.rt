@@ -11,6 +11,7 @@ mod plan_lines;
 mod runs;
 mod sources;
 mod starts;
+mod tidying;
 mod units;
 
 pub use campaigns::{Workers, campaign_text};
@@ -22,3 +23,4 @@ pub use plan_lines::push_plan;
 pub use runs::run_text;
 pub use sources::Sources;
 pub use starts::{Start, start_of, token_at};
+pub use tidying::tidy_text;

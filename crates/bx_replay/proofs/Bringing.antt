@@ -1,5 +1,5 @@
 -- A choice that is brought forward by one exchange after another.
-use Rattle.std.proofs.Common.{◌≡◌, ◌∙◌, ℕ, zero, suc, ◌+◌, ◌-◌, ◌<◌, ◌≤◌, List, [], ◌∷◌, ◌++◌, length, take, drop, append_assoc, refl, sym, ap, subst, arith}
+use Rattle.std.proofs.Common.{◌≡◌, ◌∙◌, ℕ, zero, suc, ◌+◌, ◌-◌, ◌<◌, ◌≤◌, List, [], ◌∷◌, ◌++◌, length, take, drop, append_assoc, inl, inr, refl, sym, ap, subst, arith}
 use Rattle.std.specs.Prelude.{slice_get, slice_index_or}
 use Rattle.std.proofs.lemmas.Option.{slice_get-get_or}
 use Rattle.std.proofs.lemmas.List.{drop_more, take_more, length-drop, length-take-le, length-append, take-append-drop, take-append-le}
@@ -8,6 +8,7 @@ use Rattle.bx_world.specs.declared.choices.Choice.{Choice}
 use Rattle.bx_replay.specs.Courses.{Course, reached}
 use Rattle.bx_replay.specs.Exchanges.{exchanged_at, with_exchange, MayExchange}
 use Rattle.bx_replay.specs.Moving.{brought, exchanged, AllMay, AreWithin, IsExchanged}
+use Rattle.bx_replay.proofs.Prefixes.{below}
 use Rattle.bx_replay.proofs.Rows.{swapped}
 use Rattle.bx_replay.proofs.Turning.{around, leads, new as turned, old as straight, short as front_long}
 
@@ -178,6 +179,20 @@ brought_twice xs from at d within le (suc n) to count =
     sym (brought_on (brought from at xs) at d (omega (arith, long)) to (omega arith))
     ∙ ap (exchanged_at to) (brought_twice xs from at d within le n (to + 1) more)
     ∙ brought_on xs from d within to (omega arith)
+
+-- each exchange may be made of a choice that is brought forward in two parts
+pub steps_on : (count : ℕ) (old mid : Course) (from at rest : ℕ) (d : Choice) → from < length old.choices → at ≤ from → IsExchanged count old mid → mid.choices ≡ brought from at old.choices
+    → ((i : ℕ) → at ≤ i → i < from → MayExchange i (record old { choices = brought from (i + 1) old.choices }))
+    → ((i : ℕ) → rest ≤ i → i < at → MayExchange i (record mid { choices = brought at (i + 1) mid.choices }))
+    → (i : ℕ) → rest ≤ i → i < from → MayExchange i (record old { choices = brought from (i + 1) old.choices })
+steps_on count old mid from at rest d within le e are first more i low high = elim (below i at) [
+  | inl less ↦
+      let up : i + 1 + (at - (i + 1)) ≡ at = omega (arith, less) in
+      let on = ap (λ (cs : List Choice). brought at (i + 1) cs) are ∙ brought_twice old.choices from at d within le (at - (i + 1)) (i + 1) up in
+      let same = ap (λ (c : Course). record c { choices = brought at (i + 1) mid.choices }) e.is in
+      subst (λ (c : Course). MayExchange i c) (same ∙ ap (λ (cs : List Choice). record old { choices = cs }) on) (more i low less)
+  | inr past ↦ first i past high
+]
 
 -- ---- what exchanges leave as it was
 

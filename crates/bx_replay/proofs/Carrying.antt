@@ -238,6 +238,7 @@ passes_none c from to order within none =
       start = omega arith;
       choices = sym (brought_here c.choices from choice within);
       exchanges = none_made (from + 1) c;
+      steps = λ i low high. absurd (omega arith);
       on = λ e. let never : false ≡ true = e in cc;
       stuck = λ _ may. none choice is (free_back c from (from - 1) choice within is (omega arith) (subst (MayExchange (from - 1)) same may));
     }
@@ -263,6 +264,7 @@ module _ (c : Course) (from to first : ℕ) (reach : Reach) (within : from < len
         choices = ap (λ (d : Course). d.choices) new_is;
         exchanges = subst (λ (d : Course). IsExchanged (from + 1) c d) (sym new_is)
             (all_exchanged c from reach.rest brought_choice within (stands_there c from within) less came.free.free came.last (from - reach.rest) reach.rest back (omega arith));
+        steps = may c from reach.rest brought_choice within (stands_there c from within) less came.free.free came.last;
         on = λ _. less;
         stuck = λ e may.
             let apart : first < reach.rest = elim (below first reach.rest) [

@@ -42,6 +42,8 @@ pub record Brings (from to : ℕ) (old new : Course) (at : ℕ) : Type 0 where
   pub start : at ≤ from
   pub choices : new.choices ≡ brought from at old.choices
   pub exchanges : IsExchanged (from + 1) old new
+  -- each with the next one before it, which may be made where it is made
+  pub steps : (i : ℕ) → at ≤ i → i < from → MayExchange i (record old { choices = brought from (i + 1) old.choices })
   pub stuck : to < at → MayExchange (at - 1) new → ⊥
 
 -- two choices are independent where a run has come

@@ -38,5 +38,6 @@ pub record BringsPast (from to : ℕ) (old new : Course) (at : ℕ) (more : Bool
   pub start : at ≤ from
   pub choices : new.choices ≡ brought from at old.choices
   pub exchanges : IsExchanged (from + 1) old new
+  pub steps : (i : ℕ) → at ≤ i → i < from → MayExchange i (record old { choices = brought from (i + 1) old.choices })
   pub on : more ≡ true → at < from
   pub stuck : more ≡ false → MayExchange (at - 1) new → ⊥

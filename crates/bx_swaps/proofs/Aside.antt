@@ -11,10 +11,13 @@ use Rattle.bx_replay.specs.Moving.{brought, Brings, IsExchanged}
 use Rattle.bx_replay.proofs.Bringing.{among_more, brought_before, brought_next, ends_after, further, long_after}
 use Rattle.bx_replay.proofs.Prefixes.{bounded, onward}
 use Rattle.bx_world.proofs.Lawful.{few_applied}
-use Rattle.bx_swaps.specs.Tidying.{IsSetAside, IsUndone}
+use Rattle.bx_swaps.specs.Tidying.{behind_came, set_aside, IsSetAside, IsUndone}
+use Rattle.bx_swaps.proofs.Coming.{brings_so}
+use Rattle.bx_swaps.proofs.Gathering.{aside_on, behind_bounds}
 
 -- those that are set aside begin with that choice, when so many were looked at
 pub record AsideAt (count at k : ℕ) (old new : Course) (first : ℕ) : Type 0 where
+  pub is : set_aside (count - at) at first new ≡ set_aside (count - (k + 1)) (k + 1) k old
   pub exchanged : IsExchanged count old new
   pub back : k ≤ first
   pub less : first < at
@@ -35,19 +38,16 @@ aside_there mid new at first came within less brings false e =
     ne_less : (a b : ℕ) → a ≤ b → (a ≡ b → ⊥) → a < b
     ne_less a b le ne = omega (arith, ne)
 
-aside_bound : (first came : ℕ) (same : Bool) → (first ≤ (if same then first + 1 else first)) × ((if same then first + 1 else first) ≤ first + 1)
-aside_bound first came true = (omega arith, omega arith)
-aside_bound first came false = (omega arith, omega arith)
-
 -- one choice more
-pub aside_more : (count at k : ℕ) (old mid new : Course) (first came next : ℕ) → at < count → count ≤ length old.choices → AsideAt count at k old mid first → Brings at first mid new came → next ≡ (if came == first then first + 1 else first)
+pub aside_more : (count at k : ℕ) (old mid new : Course) (first came next : ℕ) → at < count → count ≤ length old.choices → AsideAt count at k old mid first → Brings at first mid new came → next ≡ behind_came first came
     → AsideAt count (at + 1) k old new next
 aside_more count at k old mid new first came next inside within so_far brings is =
     let long = long_after count old mid so_far.exchanged in
     let less = so_far.less in
     let back = so_far.back in
-    let bound = aside_bound first came (came == first) in
+    let bound = behind_bounds first came in
     record {
+      is = ap (λ n. set_aside (count - (at + 1)) (at + 1) n new) is ∙ aside_on count at first came mid new inside (brings_so at first mid new came (omega arith) brings (omega arith)) ∙ so_far.is;
       exchanged = further count old mid new so_far.exchanged (among_more (at + 1) count mid new (omega arith) brings.exchanges);
       back = omega (arith, bound.0, is);
       less = omega (arith, bound.1, is);

@@ -12,9 +12,9 @@ use Rattle.bx_world.specs.World.{State, begun, begun_at}
 use Rattle.bx_world.specs.Running.{Ended, advanced, ran, unchosen}
 use Rattle.bx_world.proofs.Lawful.{after_refusal, few_applied, ran_stays}
 use Rattle.bx_replay.specs.Courses.{Course, reached}
-use Rattle.bx_replay.specs.Moving.{IsExchanged}
 use Rattle.bx_replay.proofs.Prefixes.{next_is}
 use Rattle.bx_swaps.specs.Exchanges.{from_start, BeginsAt}
+use Rattle.bx_swaps.proofs.Ends.{exchanged_is}
 use Rattle.bx_swaps.specs.Tidying.{applied_of, IsTidied, IsTidy, IsUndo, IsUndone}
 
 -- a trail that is made begins at a start
@@ -34,9 +34,6 @@ none_before image found choices course h = ap (λ (c : Course). c.start.applied)
 all_of : (c : Course) → reached (length c.choices) c ≡ ran c.image c.choices c.start
 all_of c = ap (λ cs. ran c.image cs c.start) (take_all (length c.choices) c.choices (omega arith))
 
-named : (count : ℕ) (old new : Course) → IsExchanged count old new → new ≡ record old { choices = new.choices }
-named count old new e = e.is ∙ ap (λ (c : Course). record old { choices = c.choices }) (sym e.is)
-
 module _ (image : Loaded) (found : Result State Fault) (choices : List Choice) (course : Course) (count : ℕ) (h : BeginsAt image found choices (Ok course)) (made : count ≡ (reached (length course.choices) course).applied) where
   abbrev b : Begun image found choices course
   b = begun_of image found choices course h
@@ -51,13 +48,13 @@ module _ (image : Loaded) (found : Result State Fault) (choices : List Choice) (
   tidy_done new is =
       let moved : IsTidied (applied_of given) given new = subst (λ n. IsTidied n given new) count_is (subst (λ (c : Course). IsTidied count c new) b.is is) in
       subst (λ (r : Result State Fault). IsTidy image r choices (Ok new.choices)) (sym b.there)
-      (subst (λ (c : Course). IsTidied (applied_of given) given c) (named (applied_of given) given new moved.exchanged) moved)
+      (subst (λ (c : Course). IsTidied (applied_of given) given c) (exchanged_is (applied_of given) given new moved.exchanged) moved)
 
   pub undo_done : (new : Course) (k before : ℕ) → IsUndone count k course new before → IsUndo image found choices k (Ok (new.choices, before))
   undo_done new k before is =
       let moved : IsUndone (applied_of given) k given new before = subst (λ n. IsUndone n k given new before) count_is (subst (λ (c : Course). IsUndone count k c new before) b.is is) in
       subst (λ (r : Result State Fault). IsUndo image r choices k (Ok (new.choices, before))) (sym b.there)
-      (subst (λ (c : Course). IsUndone (applied_of given) k given c before) (named (applied_of given) given new moved.aside.exchanged) moved)
+      (subst (λ (c : Course). IsUndone (applied_of given) k given c before) (exchanged_is (applied_of given) given new moved.aside.exchanged) moved)
 
   pub undo_refused : (k : ℕ) → count ≤ k → IsUndo image found choices k (Err (NotIndependent k))
   undo_refused k past = subst (λ (r : Result State Fault). IsUndo image r choices k (Err (NotIndependent k))) (sym b.there) (refl, omega (arith, count_is))

@@ -32,3 +32,7 @@ wanting image found start positions choices answer is at err =
 -- exchanges leave where all of them lead as it was
 pub exchanged_end : (count : ℕ) (old new : Course) → IsExchanged count old new → ran old.image new.choices old.start ≡ ran old.image old.choices old.start
 exchanged_end count old new e = ap (λ (c : Course). ran old.image c.choices old.start) e.is ∙ same_ends e.positions old e.may
+
+-- and all but the choices
+pub exchanged_is : (count : ℕ) (old new : Course) → IsExchanged count old new → new ≡ record old { choices = new.choices }
+exchanged_is count old new e = e.is ∙ ap (λ (c : Course). record old { choices = c.choices }) (sym e.is)

@@ -1,6 +1,6 @@
 //! Laws of the definitions: the functions do nothing, and their clauses are the laws.
 
-ghost use Rattle.std.specs.Prelude.{◌≡◌, ℕ, ◌≤◌, List, length, drop};
+ghost use Rattle.std.specs.Prelude.{◌≡◌, ℕ, ◌<◌, ◌≤◌, List, length, drop};
 ghost use Rattle.bx_load.specs.Image.{Loaded};
 ghost use Rattle.bx_world.specs.declared.choices.Choice.{Choice};
 ghost use Rattle.bx_world.specs.World.{State};
@@ -8,7 +8,7 @@ ghost use Rattle.bx_world.specs.Running.{ran, unchosen};
 ghost use Rattle.bx_replay.specs.Courses.{Course, reached};
 ghost use Rattle.bx_replay.specs.Moving.{exchanged, AllMay, IsExchanged};
 ghost use Rattle.bx_swaps.specs.Exchanges.{from_start};
-ghost use Rattle.bx_swaps.specs.Tidying.{IsTidied, IsUndone};
+ghost use Rattle.bx_swaps.specs.Tidying.{tidied_of, undone_of, IsTidied, IsUndone};
 
 /// Where each exchange may be made, the list with all of them made leads to an equal world, output included, and as many of its choices
 /// are applied.
@@ -34,4 +34,12 @@ pub fn a_tidied_schedule_leads_to_an_equal_world()
     ensures undone { (image : Loaded) (start : State) (count k before : ℕ) (choices new : List Choice)
         → IsUndone count k (from_start image start choices) (from_start image start new) before
         → ran image new (unchosen start) ≡ ran image choices (unchosen start) }
+{}
+
+/// Whatever stands in a row, its first choices are tidied, and one of them is set aside, by exchanges that may be made where they are made.
+pub fn each_exchange_may_be_made()
+    ensures tidied { (count : ℕ) (course : Course) → IsTidied count course (tidied_of count course) }
+    ensures aside { (count k : ℕ) (course : Course) → k < count → IsExchanged count course (undone_of count k course).0 }
+    ensures back { (count k : ℕ) (course : Course) → k < count → k ≤ (undone_of count k course).1 }
+    ensures within { (count k : ℕ) (course : Course) → k < count → (undone_of count k course).1 < count }
 {}

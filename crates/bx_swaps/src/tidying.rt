@@ -1,10 +1,9 @@
 //! Schedules in which the choices of one process stand together.
 
-ghost use Rattle.std.specs.Prelude.{◌≡◌, ◌==◌, ◌<◌, ◌≤◌, if◌then◌else◌, length, IfOk, IfSome, OnOk};
+ghost use Rattle.std.specs.Prelude.{◌≡◌, ◌==◌, ◌+◌, ◌-◌, ◌<◌, ◌≤◌, if◌then◌else◌, length, option_map, IfOk, IfSome, OnOk};
 ghost use Rattle.bx_world.specs.Enabled.{actor};
 ghost use Rattle.bx_world.specs.World.{started};
-ghost use Rattle.bx_replay.specs.Moving.{IsExchanged};
-ghost use Rattle.bx_swaps.specs.Tidying.{switches, IsTidied, IsTidy};
+ghost use Rattle.bx_swaps.specs.Tidying.{gathered, next_alike, settled, switches, IsTidied, IsTidy};
 
 use crate::starts::trail_of;
 use bx_load::Image;
@@ -41,7 +40,8 @@ fn next_alike(choices: &[Choice], at: usize, count: usize) -> Option<usize>
     requires some { 0 < at }
     requires order { at ≤ count }
     requires within { count ≤ length choices.now }
-    ensures { IfSome result (λ next. (at ≤ next) × (next < count)) }
+    ensures is { result ≡ option_map (λ n. at + n) (next_alike at (count - at) choices.now) }
+    ensures within { IfSome result (λ next. (at ≤ next) × (next < count)) }
 {
     let actor = choices[at - 1].actor();
     for next in at..count {
@@ -57,7 +57,7 @@ fn settle(alloc: Global, row: &mut Row<'_>, at: usize, count: usize) -> Result<(
     requires some { 0 < at }
     requires order { at ≤ count }
     requires within { count ≤ length row.old.choices }
-    ensures { OnOk result (IsExchanged count row.old row.new) }
+    ensures { OnOk result (row.new ≡ settled at (count - at) row.old) }
 {
     let Some(next) = next_alike(row.choices(), at, count) else {
         return Ok(());
@@ -70,7 +70,7 @@ fn settle(alloc: Global, row: &mut Row<'_>, at: usize, count: usize) -> Result<(
 /// as that may be done.
 fn gather(alloc: Global, row: &mut Row<'_>, count: usize) -> Result<(), AllocError>
     requires { count ≤ length row.old.choices }
-    ensures { OnOk result (IsExchanged count row.old row.new) }
+    ensures { OnOk result (row.new ≡ gathered (count - 1) 1 row.old) }
 {
     for at in 1..count {
         settle(alloc, row, at, count)?;

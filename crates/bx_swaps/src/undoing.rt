@@ -1,9 +1,9 @@
 //! A choice that is taken back with all that depends on it.
 
-ghost use Rattle.std.specs.Prelude.{◌≡◌, ◌==◌, ◌+◌, ◌<◌, ◌≤◌, ◌^◌, if◌then◌else◌, length, IfOk};
+ghost use Rattle.std.specs.Prelude.{◌≡◌, ◌+◌, ◌<◌, ◌≤◌, ◌^◌, length, IfOk};
 ghost use Rattle.bx_world.specs.World.{started};
 ghost use Rattle.bx_replay.specs.Courses.{reached};
-ghost use Rattle.bx_swaps.specs.Tidying.{IsSetAside, IsUndo, IsUndone};
+ghost use Rattle.bx_swaps.specs.Tidying.{behind_came, IsSetAside, IsUndo, IsUndone};
 
 use crate::starts::trail_of;
 use bx_load::Image;
@@ -15,7 +15,7 @@ use std::alloc::{AllocError, Global};
 /// Where those begin that are set aside, behind a choice that came forward to that position.
 fn aside_behind(first: usize, came: usize) -> usize
     requires { first + 1 < 2 ^ 64 }
-    ensures { result ≡ (if came == first then first + 1 else first) }
+    ensures { result ≡ behind_came first came }
 {
     if came == first { first + 1 } else { first }
 }

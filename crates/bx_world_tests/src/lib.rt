@@ -46,4 +46,6 @@ mod tidying;
 #[cfg(test)]
 mod traces;
 #[cfg(test)]
+mod undos;
+#[cfg(test)]
 mod worlds;

@@ -36,6 +36,8 @@ enum Act<'a> {
     Set(u32),
     Clear(u32),
     Swap(usize),
+    Tidy,
+    Undo(usize),
 }
 
 /// A call, the number of its refusal, why it stopped, and where the session stands then, of how many choices.
@@ -138,6 +140,22 @@ const SWAPPED: [Row<'static>; 12] = [
     (Act::Clear(12), 0, Stop::Done, 12, 12),
 ];
 
+/// The same choices: those that process 1 does not depend on are made without it.
+const TAKEN_BACK: [Row<'static>; 12] = [
+    (Act::Tidy, 0, Stop::Done, 0, 0),
+    (Act::GoOwn(9), 0, Stop::Done, 9, 9),
+    (Act::Step(Choice::Run(1)), 0, Stop::Done, 10, 10),
+    (Act::GoOwn(2), 0, Stop::Done, 12, 12),
+    (Act::Back(1), 0, Stop::Done, 11, 12),
+    (Act::Undo(12), 27, Stop::Done, 11, 12),
+    (Act::Undo(10), 0, Stop::Done, 10, 12),
+    (Act::Undo(0), 27, Stop::Done, 10, 12),
+    (Act::Forward(2), 0, Stop::Done, 12, 12),
+    (Act::Tidy, 0, Stop::Done, 12, 12),
+    (Act::Undo(12), 0, Stop::Done, 11, 12),
+    (Act::Undo(9), 0, Stop::Done, 8, 12),
+];
+
 fn item(item: u32) -> Place {
     Place { module: 0, item }
 }
@@ -174,6 +192,8 @@ fn called(alloc: Global, session: &mut Session<'_>, act: Act<'_>) -> Result<(u8,
             Ok(())
         }
         Act::Swap(number) => session.swap(alloc, number),
+        Act::Tidy => session.tidy(alloc),
+        Act::Undo(number) => session.undo(alloc, number),
     };
     Ok((number_of(done)?, Stop::Done))
 }
@@ -272,5 +292,14 @@ fn a_trap_goes_before_a_break(rt: HostRuntime) -> Result<(), Fail> {
 #[test]
 fn exchanges_leave_all_else(rt: HostRuntime) -> Result<(), Fail> {
     assert_eq!(rt; right_rows(rt.alloc(), TALK, &SWAPPED)?, SWAPPED.len());
+    Ok(())
+}
+
+#[test]
+fn exchanges_are_made_before_the_position(rt: HostRuntime) -> Result<(), Fail> {
+    assert_eq!(rt;
+        right_rows(rt.alloc(), TALK, &TAKEN_BACK)?,
+        TAKEN_BACK.len()
+    );
     Ok(())
 }

@@ -12,7 +12,7 @@ use std::alloc::Global;
 use std::test::Fail;
 
 /// `f/0` spawns two processes by its tenth run, which each send it a letter and end, and waits for the first letter.
-const SENDERS: &str = "{module,m}. {exports,[{f,0},{g,2}]}. {attributes,[]}. {labels,9}.
+pub const SENDERS: &str = "{module,m}. {exports,[{f,0},{g,2}]}. {attributes,[]}. {labels,9}.
 {function,f,0,2}. {label,1}. {func_info,{atom,m},{atom,f},0}. {label,2}.
 {bif,self,{f,0},[],{x,3}}. {put_list,{atom,a},nil,{x,2}}. {put_list,{x,3},{x,2},{x,2}}. {move,{atom,g},{x,1}}.
 {move,{atom,m},{x,0}}. {call_ext,3,{extfunc,erlang,spawn,3}}.
@@ -35,14 +35,14 @@ const WAITS: &str = "{module,m}. {exports,[{f,0},{g,0}]}. {attributes,[]}. {labe
 {function,g,0,6}. {label,5}. {func_info,{atom,m},{atom,g},0}. {label,6}. {move,nil,{x,0}}. return.";
 
 /// `f/0` spawns a process, by its fourth run, and both loop, each by itself.
-const LOOPS: &str = "{module,m}. {exports,[{f,0},{g,0}]}. {attributes,[]}. {labels,9}.
+pub const LOOPS: &str = "{module,m}. {exports,[{f,0},{g,0}]}. {attributes,[]}. {labels,9}.
 {function,f,0,2}. {label,1}. {func_info,{atom,m},{atom,f},0}. {label,2}.
 {move,nil,{x,2}}. {move,{atom,g},{x,1}}. {move,{atom,m},{x,0}}. {call_ext,3,{extfunc,erlang,spawn,3}}.
 {label,3}. {move,{integer,1},{x,0}}. {jump,{f,3}}.
 {function,g,0,6}. {label,5}. {func_info,{atom,m},{atom,g},0}. {label,6}. {move,{atom,ok},{x,0}}. {jump,{f,6}}.";
 
 /// `f/0` spawns a process that loops, by its fourth run, and its sixth run traps, since x5 holds nothing.
-const TRAPS: &str = "{module,m}. {exports,[{f,0},{g,0}]}. {attributes,[]}. {labels,9}.
+pub const TRAPS: &str = "{module,m}. {exports,[{f,0},{g,0}]}. {attributes,[]}. {labels,9}.
 {function,f,0,2}. {label,1}. {func_info,{atom,m},{atom,f},0}. {label,2}.
 {move,nil,{x,2}}. {move,{atom,g},{x,1}}. {move,{atom,m},{x,0}}. {call_ext,3,{extfunc,erlang,spawn,3}}.
 {move,nil,{x,0}}. {move,{x,5},{x,0}}.

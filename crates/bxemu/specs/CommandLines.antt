@@ -12,7 +12,7 @@ use Rattle.clap.specs.declared.builder.value_parser.ValueParser.TheVariants.{Sig
 use Rattle.clap.specs.declared.error.Error.{Error}
 use Rattle.clap.specs.declared.error.kind.ErrorKind.TheVariants.{DisplayHelp, DisplayVersion, MissingSubcommand, OutOfMemory}
 use Rattle.bxemu.specs.declared.commands.Order.{Order}
-use Rattle.bxemu.specs.declared.commands.Order.TheVariants.{Campaign, Debug, Dis, Run}
+use Rattle.bxemu.specs.declared.commands.Order.TheVariants.{Campaign, Debug, Dis, Run, Tidy}
 
 -- `--NAME VALUE`, which stands once
 abbrev pub option_rule : Text → Rule
@@ -49,6 +49,11 @@ abbrev pub campaign_command : App
 campaign_command = with_rule (with_rule (with_rule (with_rule (new_app (codes "campaign")) (option_rule (codes "start")))
     (option_rule (codes "plan"))) workers_rule) files_rule
 
+-- `tidy --start M:F --plan FILE FILES..`
+abbrev pub tidy_command : App
+tidy_command = with_rule (with_rule (with_rule (new_app (codes "tidy")) (option_rule (codes "start")))
+    (option_rule (codes "plan"))) files_rule
+
 -- `debug --start M:F FILES..`
 abbrev pub debug_command : App
 debug_command = with_rule (with_rule (new_app (codes "debug")) (option_rule (codes "start"))) files_rule
@@ -62,8 +67,12 @@ abbrev pub bare_program : App
 bare_program = on_top (λ top. record top { subcommand_required = true; has_version = true }) (new_app (codes "bxemu"))
 
 -- with the subcommands that run the schedules of a plan
+abbrev pub running_program : App
+running_program = with_subcommand (with_subcommand bare_program run_command.top) campaign_command.top
+
+-- with the subcommands that take a plan
 abbrev pub plan_program : App
-plan_program = with_subcommand (with_subcommand bare_program run_command.top) campaign_command.top
+plan_program = with_subcommand running_program tidy_command.top
 
 -- with all its subcommands
 abbrev pub program : App
@@ -90,6 +99,14 @@ IsCampaign (Some p) start plan workers files = (p.0 ≡ codes "campaign")
     × ((text : Text) × (first_of (codes "workers") p.1 ≡ Some text) × Spells text workers)
     × (all_of (codes "FILES") p.1 ≡ Some files)
 
+-- a tidying with these parts is what the subcommand's values say
+abbrev pub IsTidy : Option (Text × List Row) → Text → Text → List Text → Type 0
+IsTidy None start plan files = ⊥
+IsTidy (Some p) start plan files = (p.0 ≡ codes "tidy")
+    × (first_of (codes "start") p.1 ≡ Some start)
+    × (first_of (codes "plan") p.1 ≡ Some plan)
+    × (all_of (codes "FILES") p.1 ≡ Some files)
+
 -- a session with these parts is what the subcommand's values say
 abbrev pub IsDebug : Option (Text × List Row) → Text → List Text → Type 0
 IsDebug None start files = ⊥
@@ -108,6 +125,8 @@ Orders named (Run start plan files) =
     IsRun named start.now plan.now (map (λ file. file.now) files.items)
 Orders named (Campaign start plan workers files) =
     IsCampaign named start.now plan.now workers (map (λ file. file.now) files.items)
+Orders named (Tidy start plan files) =
+    IsTidy named start.now plan.now (map (λ file. file.now) files.items)
 Orders named (Debug start files) = IsDebug named start.now (map (λ file. file.now) files.items)
 Orders named (Dis file) = IsDis named file.now
 
@@ -115,12 +134,14 @@ Orders named (Dis file) = IsDis named file.now
 abbrev pub first_files : Order → List Text
 first_files (Run start plan files) = map (λ file. file.now) files.items
 first_files (Campaign start plan workers files) = map (λ file. file.now) files.items
+first_files (Tidy start plan files) = map (λ file. file.now) files.items
 first_files (Debug start files) = map (λ file. file.now) files.items
 first_files (Dis file) = []
 
 abbrev pub last_file : Order → Text
 last_file (Run start plan files) = plan.now
 last_file (Campaign start plan workers files) = plan.now
+last_file (Tidy start plan files) = plan.now
 last_file (Debug start files) = codes "-"
 last_file (Dis file) = file.now
 
@@ -128,6 +149,7 @@ last_file (Dis file) = file.now
 abbrev pub TellsByLine : Order → Type 0
 TellsByLine (Run start plan files) = ⊥
 TellsByLine (Campaign start plan workers files) = ⊥
+TellsByLine (Tidy start plan files) = ⊥
 TellsByLine (Debug start files) = Unit {0}
 TellsByLine (Dis file) = ⊥
 
@@ -172,6 +194,11 @@ OrdersRun words start plan files =
 abbrev pub OrdersCampaign : List Text → Text → Text → ℕ → List Text → Type 0
 OrdersCampaign words start plan workers files =
     (fault_of program words ≡ []) × IsCampaign (subcommand_of program words) start plan workers files
+
+-- the words order a tidying with these parts, and have no fault
+abbrev pub OrdersTidy : List Text → Text → Text → List Text → Type 0
+OrdersTidy words start plan files =
+    (fault_of program words ≡ []) × IsTidy (subcommand_of program words) start plan files
 
 -- the words order a session with these parts, and have no fault
 abbrev pub OrdersDebug : List Text → Text → List Text → Type 0

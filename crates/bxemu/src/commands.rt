@@ -32,6 +32,15 @@ pub enum Order<'a> {
         /// The files of the listings, in order.
         files: Vec<&'a str>,
     },
+    /// Tidies each schedule of a plan.
+    Tidy {
+        /// The function to start with, as `M:F`.
+        start: &'a str,
+        /// The file of the plan.
+        plan: &'a str,
+        /// The files of the listings, in order.
+        files: Vec<&'a str>,
+    },
     /// Opens a session, and does what lines of standard input say.
     Debug {
         /// The function to start with, as `M:F`.
@@ -70,6 +79,7 @@ fn order_of<'a>(alloc: Global, matches: &ArgMatches<'a>) -> Result<Order<'a>, Er
     match name {
         "run" => run_order(alloc, values),
         "campaign" => campaign_order(alloc, values),
+        "tidy" => tidy_order(alloc, values),
         "debug" => debug_order(alloc, values),
         "dis" => dis_order(alloc, values),
         _ => Err(incomplete(alloc)),
@@ -135,6 +145,24 @@ fn workers_of(text: &str) -> Option<u32>
         Ok(workers) => Some(workers),
         Err(_) => None,
     }
+}
+
+/// The order to tidy, by the values of `tidy`.
+fn tidy_order<'a>(alloc: Global, values: &ArgMatches<'a>) -> Result<Order<'a>, Error>
+    ensures ok { IfOk result (Orders (Some (codes "tidy", rows_of (found_of values.now)))) }
+    ensures err { IfErr result (Lacks (Some (codes "tidy", rows_of (found_of values.now)))) }
+{
+    let Some(start) = values.get_str("start") else {
+        return Err(incomplete(alloc));
+    };
+    let Some(plan) = values.get_str("plan") else {
+        return Err(incomplete(alloc));
+    };
+    let Some(files) = values.get_raw("FILES") else {
+        return Err(incomplete(alloc));
+    };
+    let files = Vec::from_slice(alloc, files)?;
+    Ok(Order::Tidy { start, plan, files })
 }
 
 /// The order to open a session, by the values of `debug`.

@@ -1,6 +1,6 @@
 //! What the program's command lines come to. Each function has an empty body; its clause is the law.
 ghost use Rattle.std.specs.Prelude.{◌∷◌, [], codes};
-ghost use Rattle.bxemu.specs.CommandLines.{OrdersCampaign, OrdersDebug, OrdersDis, OrdersRun};
+ghost use Rattle.bxemu.specs.CommandLines.{OrdersCampaign, OrdersDebug, OrdersDis, OrdersRun, OrdersTidy};
 
 /// `run` names the start, the plan and each file, in this order or with the options last; what
 /// stands behind `--` is a file, and so is `-`.
@@ -21,6 +21,14 @@ pub fn a_campaign_names_its_parts()
         ∷ codes "--start=m:f" ∷ []) (codes "m:f") (codes "p") 2 (codes "a.S" ∷ []) }
     ensures left_out { OrdersCampaign (codes "bxemu" ∷ codes "campaign" ∷ codes "--start" ∷ codes "m:f" ∷ codes "--plan" ∷ codes "p"
         ∷ codes "a.S" ∷ codes "b.S" ∷ []) (codes "m:f") (codes "p") 4 (codes "a.S" ∷ codes "b.S" ∷ []) }
+{}
+
+/// `tidy` names the parts that `run` names.
+pub fn a_tidying_names_its_parts()
+    ensures in_order { OrdersTidy (codes "bxemu" ∷ codes "tidy" ∷ codes "--start" ∷ codes "m:f" ∷ codes "--plan" ∷ codes "p"
+        ∷ codes "a.S" ∷ codes "b.S" ∷ []) (codes "m:f") (codes "p") (codes "a.S" ∷ codes "b.S" ∷ []) }
+    ensures options_last { OrdersTidy (codes "bxemu" ∷ codes "tidy" ∷ codes "a.S" ∷ codes "--plan=p" ∷ codes "--start=m:f" ∷ [])
+        (codes "m:f") (codes "p") (codes "a.S" ∷ []) }
 {}
 
 /// `debug` names its start and each file, in this order or with the option last; what stands behind `--` is a file.

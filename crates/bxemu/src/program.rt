@@ -14,7 +14,7 @@ use crate::progress::Progress;
 use crate::prompt::Asking;
 use bx_board::{FreeGate, Gate};
 use bx_debugger::{Prompted, debug_text};
-use bx_engine::{Failure, Workers, dis_text, fault_line, run_text, start_of};
+use bx_engine::{Failure, Workers, dis_text, fault_line, run_text, start_of, tidy_text};
 use bx_terms::Fault;
 use clap::Error;
 use clap::error::ErrorKind;
@@ -127,6 +127,10 @@ where
             let ended = campaign(rt, &workers, Task { start, names }, input, output);
             told(&ended, names, errors)
         }
+        Order::Tidy { start, .. } => {
+            let ended = tidy(rt, Task { start, names }, input, output);
+            told(&ended, names, errors)
+        }
         Order::Debug { start, .. } => {
             let asks = input.is_terminal() && errors.is_terminal();
             let ended = debug(rt, start, names, asks, Talk { input, output });
@@ -144,6 +148,7 @@ fn files_of(alloc: Global, order: &Order<'_>) -> Result<Vec<String>, AllocError>
     match order {
         Order::Run { plan, files, .. } => names_of(alloc, files.as_slice(), plan),
         Order::Campaign { plan, files, .. } => names_of(alloc, files.as_slice(), plan),
+        Order::Tidy { plan, files, .. } => names_of(alloc, files.as_slice(), plan),
         Order::Debug { files, .. } => names_of(alloc, files.as_slice(), "-"),
         Order::Dis { file } => names_of(alloc, &[], file),
     }
@@ -262,6 +267,24 @@ where
     let mut inputs = open_with_plan(rt, names, input)?;
     match inputs.split_last_mut() {
         Some((plan, listings)) => workers.campaign_text(rt.alloc(), listings, start, plan, output),
+        None => Ok(()),
+    }
+}
+
+/// Looks at the start, opens all the files, the plan last, and then writes the plan of the tidied schedules.
+fn tidy<R, I, O>(rt: &R, task: Task<'_>, input: &mut I, output: &mut O) -> Result<(), Failure>
+where
+    R: Files + AllocGlobal,
+    I: Read,
+    O: Write,
+    ensures { IfErr result (λ failure. (failure ≡ Failure.Write) ⊎ Keeps (O.contents output.old)
+        (O.contents output.new)) }
+{
+    let Task { start, names } = task;
+    let _ = start_of(rt.alloc(), start)?;
+    let mut inputs = open_with_plan(rt, names, input)?;
+    match inputs.split_last_mut() {
+        Some((plan, listings)) => tidy_text(rt.alloc(), listings, start, plan, output),
         None => Ok(()),
     }
 }

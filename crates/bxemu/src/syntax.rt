@@ -2,7 +2,7 @@
 ghost use Rattle.std.specs.Prelude.{◌≡◌, IfOk, codes, false};
 ghost use Rattle.clap.specs.Words.{app_of, rule_of};
 ghost use Rattle.clap.specs.declared.builder.command.Command.TheViews.{out-Command as fields_of};
-ghost use Rattle.bxemu.specs.CommandLines.{campaign_command, debug_command, dis_command, file_rule, files_rule, option_rule, plan_program, program, run_command, workers_rule};
+ghost use Rattle.bxemu.specs.CommandLines.{campaign_command, debug_command, dis_command, file_rule, files_rule, option_rule, plan_program, program, run_command, running_program, tidy_command, workers_rule};
 
 use bx_debugger::SESSION_HELP;
 use clap::{Arg, ArgAction, Command};
@@ -20,9 +20,16 @@ pub fn program_command<'a>(alloc: Global) -> Result<Command<'a>, AllocError>
         .subcommand(dis_subcommand(alloc)?)
 }
 
-/// The program with the subcommands that run the schedules of a plan.
+/// The program with the subcommands that take a plan.
 fn plan_program<'a>(alloc: Global) -> Result<Command<'a>, AllocError>
     ensures app { IfOk result (λ c. app_of c ≡ plan_program) }
+{
+    running_program(alloc)?.subcommand(tidy_subcommand(alloc)?)
+}
+
+/// The program with the subcommands that run the schedules of a plan.
+fn running_program<'a>(alloc: Global) -> Result<Command<'a>, AllocError>
+    ensures app { IfOk result (λ c. app_of c ≡ running_program) }
 {
     Command::new(alloc, "bxemu")
         .about("Runs Erlang assembly listings under given schedules")
@@ -54,6 +61,20 @@ fn campaign_subcommand<'a>(alloc: Global) -> Result<Command<'a>, AllocError>
         .arg(start_option(alloc))?
         .arg(plan_option(alloc))?
         .arg(workers_option(alloc))?
+        .arg(files_argument(alloc))
+}
+
+/// `tidy`, with its options and files.
+fn tidy_subcommand<'a>(alloc: Global) -> Result<Command<'a>, AllocError>
+    ensures app { IfOk result (λ c. app_of c ≡ tidy_command) }
+    ensures local { IfOk result (λ c. (fields_of c).has_globals ≡ false) }
+{
+    Command::new(alloc, "tidy")
+        .about(
+            "Exchanges independent choices of each schedule of a plan, so that those of one process stand together, and prints the plan",
+        )
+        .arg(start_option(alloc))?
+        .arg(plan_option(alloc))?
         .arg(files_argument(alloc))
 }
 

@@ -117,6 +117,18 @@ fn orders_campaigns(rt: HostRuntime) -> Result<(), Fail> {
 }
 
 #[test]
+fn orders_tidyings(rt: HostRuntime) -> Result<(), Fail> {
+    let words = words(rt.alloc(), "bxemu tidy b.S --plan p --start m:f -- --plan")?;
+    let Order::Tidy { start, plan, files } = command_of(rt.alloc(), words.as_slice())? else {
+        assert!(rt; false, "another order");
+        return Ok(());
+    };
+    assert!(rt; start == "m:f" && plan == "p");
+    assert_files(&rt, &files, "b.S --plan");
+    Ok(())
+}
+
+#[test]
 fn orders_sessions(rt: HostRuntime) -> Result<(), Fail> {
     let words = words(rt.alloc(), "bxemu debug b.S --start m:f -- --plan")?;
     let Order::Debug { start, files } = command_of(rt.alloc(), words.as_slice())? else {

@@ -1,14 +1,28 @@
-use Rattle.std.proofs.Common.{arith}
-use Rattle.bx_replay.proofs.Bringing.{further, long_after, none_made}
+use Rattle.std.proofs.Common.{◌∙◌, ◌+◌, ◌-◌, length, ap, refl, sym, arith}
+use Rattle.bx_replay.specs.Courses.{Course}
+use Rattle.bx_replay.proofs.Bringing.{long_after}
+use Rattle.bx_swaps.specs.Tidying.{settled}
+use Rattle.bx_swaps.proofs.Gathering.{gathered_all, gathered_on, settled_so}
 use Rattle.bx_swaps.proofs.tidying.gather.Goals as goal
 
 pub loop-at-init : goal.loop-at-init
-loop-at-init c = none_made c.args.count c.args.row.now
+loop-at-init c = record { is = refl; long = refl }
 
 pub settle-requires-clause-within : goal.settle-requires-clause-within
 settle-requires-clause-within c =
-    let long = long_after c.args.count c.args.row.now c.loop-at.row c.loop-at.invariant in
+    let long = c.loop-at.invariant.long in
     omega arith
 
 pub loop-at-preserved : goal.loop-at-preserved
-loop-at-preserved c = further c.args.count c.args.row.now c.loop-at.row c.settle.new.row c.loop-at.invariant c.in_ok-settle.ensures
+loop-at-preserved c =
+    let at = c.loop-at.at in
+    let count = c.args.count in
+    let row = c.loop-at.row in
+    let is = c.in_ok-settle.ensures in
+    record {
+      is = gathered_on count at row c.settle.new.row (omega arith) is ∙ c.loop-at.invariant.is;
+      long = ap (λ (r : Course). length r.choices) is ∙ long_after (at + (count - at)) row (settled at (count - at) row) (settled_so at (count - at) row) ∙ c.loop-at.invariant.long;
+    }
+
+pub returns : goal.returns
+returns c = sym (gathered_all c.args.count c.loop-at.at c.loop-at.row (omega arith)) ∙ c.loop-at.invariant.is

@@ -1,10 +1,11 @@
-use Rattle.std.proofs.Common.{◌+◌, refl, arith}
+use Rattle.std.proofs.Common.{◌≡◌, ◌∙◌, ◌-◌, ap, refl, sym, arith}
 use Rattle.bx_replay.proofs.Bringing.{long_after, none_made}
+use Rattle.bx_swaps.specs.Tidying.{set_aside}
 use Rattle.bx_swaps.proofs.Aside.{aside_more}
 use Rattle.bx_swaps.proofs.undoing.set_aside.Goals as goal
 
 pub loop-at-init : goal.loop-at-init
-loop-at-init c = record { exchanged = none_made c.args.count c.args.row.now; back = omega arith; less = omega arith; there = refl }
+loop-at-init c = record { is = refl; exchanged = none_made c.args.count c.args.row.now; back = omega arith; less = omega arith; there = refl }
 
 pub bring_forward-requires-clause-order : goal.bring_forward-requires-clause-order
 bring_forward-requires-clause-order c = let less = c.loop-at.invariant.less in omega arith
@@ -22,4 +23,5 @@ pub returns : goal.returns
 returns c =
     let at = c.loop-at.invariant in
     let less = at.less in
-    record { exchanged = at.exchanged; back = at.back; within = omega arith; there = at.there }
+    let none : c.args.count - c.loop-at.at ≡ 0 = omega arith in
+    record { is = sym at.is ∙ ap (λ n. set_aside n c.loop-at.at c.loop-at.first c.loop-at.row) none; exchanged = at.exchanged; back = at.back; within = omega arith; there = at.there }

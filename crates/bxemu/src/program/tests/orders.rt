@@ -1,4 +1,4 @@
-//! The four commands over files in memory: what each writes, and the status that it ends with.
+//! The commands over files in memory: what each writes, and the status that it ends with.
 
 use super::desk::{Desk, Lines, Sheet};
 use crate::program::status_of_program;
@@ -28,6 +28,17 @@ const N_CODE: &str =
 /// In `a` process 0 comes to a register that holds nothing.
 const PLAN: &str = "a: r0*2\nb:\n";
 
+/// A module whose `f/0` spawns a process, by its fourth run; both loop, each by itself.
+const LOOPS: &str = "{module,l}. {exports,[{f,0},{g,0}]}. {attributes,[]}. {labels,9}.\n\
+    {function,f,0,2}. {label,1}. {func_info,{atom,l},{atom,f},0}. {label,2}. {move,nil,{x,2}}. {move,{atom,g},{x,1}}.\n\
+    {move,{atom,l},{x,0}}. {call_ext,3,{extfunc,erlang,spawn,3}}. {label,3}. {move,{integer,1},{x,0}}. {jump,{f,3}}.\n\
+    {function,g,0,6}. {label,5}. {func_info,{atom,l},{atom,g},0}. {label,6}. {move,{atom,ok},{x,0}}. {jump,{f,6}}.\n";
+
+/// What is drawn choice by choice, and the same tidied. In `b` a choice is refused.
+const MIXED: &str = "# drawn\n\na: r0*4 r1 r0*1 r1 r0\nb: r0*4 r1 r0 r9 r1 r0\nc:\n";
+
+const TIDIED: &str = "a: r0*6 r1*2\nb: r0*5 r1 r9 r1 r0\nc:\n";
+
 const REPORT: &str =
     "schedule a\napplied 2\nstate trapped Unset <0.0.0>\nprocess <0.0.0> ready\nend\n\
     schedule b\napplied 0\nstate open r0\nprocess <0.0.0> ready\nend\n";
@@ -38,10 +49,13 @@ const ANSWERS: &str = "at 1 of 1\nrefused R22 BeforeStart line 2\napplied 1\nsta
     process <0.0.0> ready\nend\n";
 
 /// The files that there are; what stands in `torn` can't be read.
-const FILES: [(&str, Option<&str>); 7] = [
+const FILES: [(&str, Option<&str>); 10] = [
     ("-", Some(N)),
     ("m.S", Some(M)),
     ("n.S", Some(N)),
+    ("loops.S", Some(LOOPS)),
+    ("mixed", Some(MIXED)),
+    ("tidied", Some(TIDIED)),
     ("empty.S", Some("")),
     ("plan", Some(PLAN)),
     ("bad", Some("a: r0\nb r0\n")),
@@ -168,6 +182,14 @@ fn orders_are_done(rt: HostRuntime) -> Result<(), Fail> {
             0,
         ),
         ("bxemu dis -", N_CODE, "", 0),
+        ("bxemu tidy --start m:f --plan plan m.S n.S", PLAN, "", 0),
+        ("bxemu tidy --start l:f --plan mixed loops.S", TIDIED, "", 0),
+        (
+            "bxemu tidy --start l:f --plan tidied loops.S",
+            TIDIED,
+            "",
+            0,
+        ),
     ];
     assert_rows(&rt, rt.alloc(), &rows)?;
     Ok(())
@@ -175,14 +197,20 @@ fn orders_are_done(rt: HostRuntime) -> Result<(), Fail> {
 
 #[test]
 fn a_plan_may_come_from_standard_input(rt: HostRuntime) -> Result<(), Fail> {
-    let lines = [
-        "bxemu run --start m:f --plan - m.S n.S",
-        "bxemu campaign --start m:f --plan - --workers 2 m.S n.S",
-        "bxemu run --start m:f --plan - m.S -",
+    let rows = [
+        ("bxemu run --start m:f --plan - m.S n.S", PLAN, REPORT),
+        (
+            "bxemu campaign --start m:f --plan - --workers 2 m.S n.S",
+            PLAN,
+            REPORT,
+        ),
+        ("bxemu run --start m:f --plan - m.S -", PLAN, REPORT),
+        ("bxemu tidy --start m:f --plan - m.S -", PLAN, PLAN),
+        ("bxemu tidy --start l:f --plan - loops.S", MIXED, TIDIED),
     ];
-    for line in lines {
-        let ended = ended(&rt, rt.alloc(), line.as_bytes(), PLAN, WIDE);
-        assert!(rt; ended.output.as_slice() == REPORT.as_bytes(), "{line}");
+    for (line, plan, output) in rows {
+        let ended = ended(&rt, rt.alloc(), line.as_bytes(), plan, WIDE);
+        assert!(rt; ended.output.as_slice() == output.as_bytes(), "{line}");
         assert!(rt; ended.status == 0 && ended.errors.is_empty(), "{line}");
     }
     Ok(())
@@ -279,6 +307,75 @@ fn the_first_failure_ends_an_order(rt: HostRuntime) -> Result<(), Fail> {
 }
 
 #[test]
+fn the_first_failure_ends_a_tidying(rt: HostRuntime) -> Result<(), Fail> {
+    let rows = [
+        (
+            "bxemu tidy --start m --plan away away.S",
+            "",
+            "bxemu: start\n",
+            2,
+        ),
+        (
+            "bxemu tidy --start m:f --plan - m.S n.S",
+            "",
+            "bxemu: R24 BadLine line 1 in -\n",
+            1,
+        ),
+        (
+            "bxemu tidy --start m:f --plan away empty.S torn",
+            "",
+            "bxemu: read away\n",
+            4,
+        ),
+        (
+            "bxemu tidy --start m:f --plan torn m.S empty.S",
+            "",
+            "bxemu: R8 BadForm line 1 in empty.S\n",
+            1,
+        ),
+        (
+            "bxemu tidy --start m:f --plan torn m.S n.S",
+            "",
+            "bxemu: read torn\n",
+            4,
+        ),
+        (
+            "bxemu tidy --start m:g --plan bad m.S n.S",
+            "",
+            "bxemu: R24 BadLine line 2 in bad\n",
+            1,
+        ),
+        (
+            "bxemu tidy --start m:g --plan plan m.S n.S",
+            "",
+            "bxemu: R32 NoEntry\n",
+            1,
+        ),
+    ];
+    assert_rows(&rt, rt.alloc(), &rows)?;
+    Ok(())
+}
+
+#[test]
+fn a_tidied_plan_has_the_same_report(rt: HostRuntime) -> Result<(), Fail> {
+    let given = ends(
+        &rt,
+        rt.alloc(),
+        b"bxemu run --start l:f --plan mixed loops.S",
+        WIDE,
+    )?;
+    let tidied = ends(
+        &rt,
+        rt.alloc(),
+        b"bxemu run --start l:f --plan tidied loops.S",
+        WIDE,
+    )?;
+    assert!(rt; given.status == 0 && tidied.status == 0);
+    assert!(rt; given.output.as_slice() == tidied.output.as_slice());
+    Ok(())
+}
+
+#[test]
 fn the_first_failure_ends_a_campaign(rt: HostRuntime) -> Result<(), Fail> {
     let rows = [
         (
@@ -351,6 +448,7 @@ fn a_stream_that_fails_ends_an_order(rt: HostRuntime) -> Result<(), Fail> {
     let lines = [
         "bxemu run --start m:f --plan plan m.S n.S",
         "bxemu campaign --start m:f --plan plan m.S n.S",
+        "bxemu tidy --start m:f --plan plan m.S n.S",
         "bxemu debug --start m:f m.S n.S",
         "bxemu dis n.S",
     ];

@@ -4,7 +4,7 @@ use Rattle.bx_world.specs.declared.choices.Choice.{Choice}
 use Rattle.bx_world.specs.declared.choices.Choice.TheVariants.{Run}
 use Rattle.bx_replay.specs.Courses.{Course}
 use Rattle.bx_replay.specs.Moving.{brought, IsExchanged}
-use Rattle.bx_replay.proofs.Bringing.{among_more, brought_here, brought_twice, further, long_brought, none_made}
+use Rattle.bx_replay.proofs.Bringing.{among_more, brought_here, brought_twice, further, long_brought, none_made, steps_on}
 use Rattle.bx_replay.proofs.trails.rows.Row.bring_forward.Goals as goal
 
 pub loop-at-init : goal.loop-at-init
@@ -13,6 +13,7 @@ loop-at-init c = record {
   high = omega arith;
   choices = sym (brought_here c.args.self.now.choices c.args.from (Run 0) c.requires.within);
   exchanges = none_made (c.args.from + 1) c.args.self.now;
+  steps = λ i low high. absurd (omega arith);
 }
 
 pub pass-requires-clause-within : goal.pass-requires-clause-within
@@ -37,6 +38,7 @@ loop-at-preserved c =
           one.choices ∙ ap (λ (cs : List Choice). brought at rest cs) so_far.choices
           ∙ brought_twice xs from at (Run 0) c.requires.within so_far.high (at - rest) rest count;
       exchanges = further (from + 1) c.args.self.now c.loop-at.self c.pass.new.self so_far.exchanges (among_more (at + 1) (from + 1) c.loop-at.self c.pass.new.self (omega arith) one.exchanges);
+      steps = steps_on (from + 1) c.args.self.now c.loop-at.self from at rest (Run 0) c.requires.within so_far.high so_far.exchanges so_far.choices so_far.steps one.steps;
     }
 
 pub returns-then-not-more-clause-ok : goal.returns-then-not-more-clause-ok
@@ -58,5 +60,6 @@ returns-then-not-more-clause-ok c =
           one.choices ∙ ap (λ (cs : List Choice). brought at rest cs) so_far.choices
           ∙ brought_twice xs from at (Run 0) c.requires.within so_far.high (at - rest) rest count;
       exchanges = further (from + 1) c.args.self.now c.loop-at.self c.pass.new.self so_far.exchanges (among_more (at + 1) (from + 1) c.loop-at.self c.pass.new.self (omega arith) one.exchanges);
+      steps = steps_on (from + 1) c.args.self.now c.loop-at.self from at rest (Run 0) c.requires.within so_far.high so_far.exchanges so_far.choices so_far.steps one.steps;
       stuck = λ less. one.stuck c.if-not-more.true;
     }
