@@ -1,0 +1,9 @@
+pub mod Arrived
+pub mod Attempted
+pub mod Deeds
+pub mod Mailed
+pub mod Numbered
+pub mod PartReports
+pub mod Parting
+pub mod Removed
+pub mod Settled
