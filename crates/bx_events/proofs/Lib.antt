@@ -1,0 +1,4 @@
+pub mod Noting
+pub mod Going
+pub mod Told
+pub mod Ordered
