@@ -1,0 +1,4 @@
+pub mod Endings
+pub mod Counted
+pub mod Texts
+pub mod Tallied
