@@ -3,7 +3,7 @@
 use crate::refusals::{are_refused, number_and_line};
 use bx_listing::read_listing;
 use bx_terms::{AtomId, Atoms, Fault};
-use bxemu_testkit::{answered, module, read};
+use bxemu_testkit::{answered, joined, module, numbered, read};
 use std::alloc::{AllocError, Global};
 use std::test::Fail;
 
@@ -37,7 +37,7 @@ fn with_list(
     length: usize,
     behind: &str,
 ) -> Result<String, AllocError> {
-    let mut items = format!(in alloc; "{{move,{{literal,{before}[1")?;
+    let mut items = joined(alloc, &["{move,{literal,", before, "[1"])?;
     push_ones(&mut items, length)?;
     items.push_str(behind)?;
     items.push_str("},{x,0}}.")?;
@@ -77,7 +77,7 @@ fn literals_that_are_too_high(rt: HostRuntime) -> Result<(), Fail> {
 
 /// Whether the next name, which holds its number, gets that number.
 fn takes(alloc: Global, atoms: &mut Atoms, number: u32) -> Result<bool, Fault> {
-    let text = format!(in alloc; "a{number}")?;
+    let text = numbered(alloc, "a", number, "")?;
     Ok(atoms.name(alloc, text.as_str())? == AtomId(number))
 }
 

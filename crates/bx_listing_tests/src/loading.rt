@@ -3,7 +3,7 @@
 use bx_load::Image;
 use bx_share::Same;
 use bx_terms::{Fault, Place};
-use bxemu_testkit::{atom, image, loaded};
+use bxemu_testkit::{atom, image, loaded, numbered};
 use std::alloc::{AllocError, Global};
 use std::test::Fail;
 
@@ -89,7 +89,7 @@ fn modules(alloc: Global, count: u32, differ: bool) -> Result<Vec<String>, Alloc
     let mut texts = Vec::new(alloc);
     for number in 0..count {
         let number = if differ { number } else { 0 };
-        texts.push(format!(in alloc; "{{module,m{number}}}. {{exports,[]}}. {{labels,1}}.")?)?;
+        texts.push(numbered(alloc, "{module,m", number, "}. {exports,[]}. {labels,1}.")?)?;
     }
     Ok(texts)
 }

@@ -1,6 +1,7 @@
 //! Where tests and selects lead, told by the label that the process comes to.
 
 use crate::reports::{ended, report_of};
+use bxemu_testkit::{joined, numbered};
 use std::alloc::Global;
 use std::test::Fail;
 
@@ -70,10 +71,9 @@ const LABELS: &str =
 
 /// Whether an instruction leads to the label of that number, where x0 holds this term; behind it stands label 3.
 fn leads_to(alloc: Global, term: &str, instruction: &str, label: u8) -> Result<bool, Fail> {
-    let items = format!(in alloc;
-        "{{bif,self,{{f,0}},[],{{x,9}}}}. {{move,{term},{{x,0}}}}. {instruction} {LABELS}"
-    )?;
-    let number = format!(in alloc; "{label}")?;
+    let first = "{bif,self,{f,0},[],{x,9}}. {move,";
+    let items = joined(alloc, &[first, term, ",{x,0}}. ", instruction, " ", LABELS])?;
+    let number = numbered(alloc, "", label as u32, "")?;
     let report = report_of(alloc, items.as_str(), 5)?;
     let want = ended(alloc, 5, number.as_str())?;
     Ok(report.as_str() == want.as_str())
@@ -87,7 +87,7 @@ fn is_answered(
     operands: &str,
     holds: bool,
 ) -> Result<bool, Fail> {
-    let instruction = format!(in alloc; "{{test,{test},{{f,4}},[{{x,0}}{operands}]}}.")?;
+    let instruction = joined(alloc, &["{test,", test, ",{f,4},[{x,0}", operands, "]}."])?;
     leads_to(alloc, term, instruction.as_str(), if holds { 3 } else { 4 })
 }
 
@@ -100,7 +100,7 @@ fn is_compared(
 ) -> Result<bool, Fail> {
     let (test, less, equal, greater) = row;
     for (other, right) in RISING.iter().enumerate() {
-        let operands = format!(in alloc; ",{right}")?;
+        let operands = joined(alloc, &[",", *right])?;
         let holds = if place < other {
             less
         } else if place == other {

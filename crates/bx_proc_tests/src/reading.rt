@@ -1,6 +1,7 @@
 //! Registers that hold nothing, a tag, or a trace, where a term is read.
 
 use crate::reports::is_trapped;
+use bxemu_testkit::joined;
 use std::alloc::Global;
 use std::test::Fail;
 
@@ -102,7 +103,7 @@ fn trapped_by(
     (first, register, runs, trap): (&str, &str, u32, &str),
 ) -> Result<usize, Fail> {
     for (number, (before, behind)) in instructions.iter().enumerate() {
-        let items = format!(in alloc; "{first}{before}{register}{behind}")?;
+        let items = joined(alloc, &[first, *before, register, *behind])?;
         if !is_trapped(alloc, items.as_str(), runs, trap)? {
             return Ok(number);
         }

@@ -1,14 +1,14 @@
 //! What the report says of a process that runs these items.
 
 use bx_engine::{fault_line, run_text};
-use bxemu_testkit::{module, told};
+use bxemu_testkit::{module, numbered, told};
 use std::alloc::{AllocError, Global};
 use std::test::Fail;
 
 /// The report of so many runs of the process that begins at these items, or the line of what it failed by.
 pub fn report_of(alloc: Global, items: &str, runs: u32) -> Result<String, Fail> {
     let listing = module(alloc, items)?;
-    let plan = format!(in alloc; "a: r0*{runs}")?;
+    let plan = numbered(alloc, "a: r0*", runs, "")?;
     let mut readers = [listing.as_bytes()];
     let mut plan = plan.as_bytes();
     let mut written = Vec::new(alloc);
@@ -20,16 +20,19 @@ pub fn report_of(alloc: Global, items: &str, runs: u32) -> Result<String, Fail> 
 
 /// The report of a process that ended with this reason, after so many runs.
 pub fn ended(alloc: Global, runs: u32, reason: &str) -> Result<String, AllocError> {
-    format!(in alloc;
-        "schedule a\napplied {runs}\nstate quiet\nprocess <0.0.0> ended {reason}\nend\n"
-    )
+    let mut text = numbered(alloc, "schedule a\napplied ", runs, "\nstate quiet\n")?;
+    text.push_str("process <0.0.0> ended ")?;
+    text.push_str(reason)?;
+    text.push_str("\nend\n")?;
+    Ok(text)
 }
 
 /// The report of a process whose last run was this trap.
 fn trapped(alloc: Global, runs: u32, trap: &str) -> Result<String, AllocError> {
-    format!(in alloc;
-        "schedule a\napplied {runs}\nstate trapped {trap} <0.0.0>\nprocess <0.0.0> ready\nend\n"
-    )
+    let mut text = numbered(alloc, "schedule a\napplied ", runs, "\nstate trapped ")?;
+    text.push_str(trap)?;
+    text.push_str(" <0.0.0>\nprocess <0.0.0> ready\nend\n")?;
+    Ok(text)
 }
 
 /// How many rows of items, runs and a reason, from the first on, end the process so.

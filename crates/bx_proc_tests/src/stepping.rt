@@ -4,7 +4,7 @@ use bx_load::Image;
 use bx_proc::{Answer, Effect, Proc};
 use bx_share::Copied;
 use bx_terms::{Class, Fault, Term, print};
-use bxemu_testkit::{atom, image_of_items};
+use bxemu_testkit::{atom, image_of_items, joined, numbered};
 use std::alloc::{AllocError, Global};
 use std::test::Fail;
 
@@ -98,17 +98,16 @@ const TURNS: [(&str, &[(Turn, &str)]); 6] = [
 fn told(alloc: Global, image: &Image, effect: &Effect) -> Result<String, AllocError> {
     match effect {
         Effect::Ran => String::from_str(alloc, "ran"),
-        Effect::Trap(trap) => {
-            let name = trap.name();
-            format!(in alloc; "trap {name}")
-        }
+        Effect::Trap(trap) => joined(alloc, &["trap ", trap.name()]),
         Effect::Ended(reason) => {
             let reason = print(alloc, image.atoms(), reason)?;
-            format!(in alloc; "ended {reason}")
+            joined(alloc, &["ended ", reason.as_str()])
         }
         Effect::Send(to, message) => {
             let message = print(alloc, image.atoms(), message)?;
-            format!(in alloc; "sends {message} to {to}")
+            let mut sent = joined(alloc, &["sends ", message.as_str()])?;
+            sent.push_str(numbered(alloc, " to ", *to, "")?.as_str())?;
+            Ok(sent)
         }
         Effect::Ask(native, arguments) => {
             let mut asked = format!(in alloc; "asks for {native:?}")?;

@@ -1,6 +1,7 @@
 //! Runs that have no meaning.
 
 use crate::reports::{is_trapped, right_traps};
+use bxemu_testkit::joined;
 use std::alloc::Global;
 use std::test::Fail;
 
@@ -212,9 +213,8 @@ fn refused_writes(
     trap: &str,
 ) -> Result<usize, Fail> {
     for (number, (before, behind)) in WRITERS.iter().enumerate() {
-        let items = format!(in alloc;
-            "{{move,{{literal,[a]}},{{x,0}}}}. {first}{before}{register}{behind}"
-        )?;
+        let begin = "{move,{literal,[a]},{x,0}}. ";
+        let items = joined(alloc, &[begin, first, *before, register, *behind])?;
         if !is_trapped(alloc, items.as_str(), runs, trap)? {
             return Ok(number);
         }

@@ -1,12 +1,16 @@
 //! The plain meaning of instructions and of built-in functions, told by the reason with which `exit` ends the process.
 
 use crate::reports::{ended, report_of};
+use bxemu_testkit::{joined, numbered};
 use std::alloc::{AllocError, Global};
 use std::test::Fail;
 
 /// The report of a process that runs these items and then ends with what x0 holds.
 fn report_of_x0(alloc: Global, items: &str, runs: u32) -> Result<String, Fail> {
-    let items = format!(in alloc; "{items} {{call_ext_only,1,{{extfunc,erlang,exit,1}}}}.")?;
+    let items = joined(
+        alloc,
+        &[items, " {call_ext_only,1,{extfunc,erlang,exit,1}}."],
+    )?;
     report_of(alloc, items.as_str(), runs)
 }
 
@@ -129,7 +133,7 @@ fn instructions_that_build_and_move(rt: HostRuntime) -> Result<(), Fail> {
 fn with_a_long_tuple(alloc: Global, behind: &str) -> Result<String, AllocError> {
     let mut items = String::from_str(alloc, "{put_tuple2,{x,1},{list,[{integer,0}")?;
     for number in 1..300 {
-        let element = format!(in alloc; ",{{integer,{number}}}")?;
+        let element = numbered(alloc, ",{integer,", number, "}")?;
         items.push_str(element.as_str())?;
     }
     items.push_str("]}}. ")?;
@@ -172,7 +176,7 @@ fn long_tuples(rt: HostRuntime) -> Result<(), Fail> {
 
 /// The report of a process that ends with what this guard BIF gives.
 fn report_of_bif(alloc: Global, name: &str, arguments: &str) -> Result<String, Fail> {
-    let items = format!(in alloc; "{{bif,{name},{{f,0}},[{arguments}],{{x,0}}}}.")?;
+    let items = joined(alloc, &["{bif,", name, ",{f,0},[", arguments, "],{x,0}}."])?;
     report_of_x0(alloc, items.as_str(), 2)
 }
 

@@ -1,6 +1,7 @@
 //! Atoms by number, and as they are printed.
 
-use bx_terms::{AtomId, Atoms, Fault, push_atom};
+use crate::built::{atom, table_of};
+use bx_terms::{AtomId, Atoms, Fault, push_atom, push_pid};
 use std::alloc::{AllocError, Global};
 use std::test::Fail;
 
@@ -24,9 +25,9 @@ static NAMED: [(&str, u32); 7] = [
 
 /// Whether a name gets that number, and is found by it.
 fn gets(alloc: Global, atoms: &mut Atoms, text: &str, number: u32) -> Result<bool, Fault> {
-    let atom = AtomId(number);
-    let is_named = atoms.name(alloc, text)? == atom && atoms.find(text) == Some(atom);
-    Ok(is_named && atoms.text(atom) == Some(text))
+    let wanted = AtomId(number);
+    let is_named = atom(alloc, atoms, text)? == wanted && atoms.find(text) == Some(wanted);
+    Ok(is_named && atoms.text(wanted) == Some(text))
 }
 
 /// The first name that does not get its number.
@@ -75,7 +76,7 @@ fn is_named(
     number: Option<u32>,
 ) -> Result<bool, Fault> {
     let text = repeated(alloc, character, times)?;
-    match atoms.name(alloc, text.as_str()) {
+    match atom(alloc, atoms, text.as_str()) {
         Ok(AtomId(named)) => Ok(number == Some(named)),
         Err(Fault::AtomTooLong { line: None }) => Ok(number.is_none()),
         Err(fault) => Err(fault),
@@ -98,10 +99,17 @@ fn characters_are_counted(rt: HostRuntime) -> Result<(), Fail> {
     Ok(())
 }
 
+/// A name that holds that number.
+fn numbered(alloc: Global, number: u32) -> Result<String, AllocError> {
+    let mut text = String::new(alloc);
+    push_pid(alloc, &mut text, number)?;
+    Ok(text)
+}
+
 /// Whether the next name, which holds its number, gets that number.
 fn takes(alloc: Global, atoms: &mut Atoms, number: u32) -> Result<bool, Fault> {
-    let text = format!(in alloc; "a{number}")?;
-    Ok(atoms.name(alloc, text.as_str())? == AtomId(number))
+    let text = numbered(alloc, number)?;
+    Ok(atom(alloc, atoms, text.as_str())? == AtomId(number))
 }
 
 /// Fills a new table: whether each name gets its number.
@@ -116,13 +124,13 @@ fn fill(alloc: Global, atoms: &mut Atoms) -> Result<bool, Fault> {
 
 /// Whether a full table takes no name more, one that is too long among them, and tells those that it has.
 fn is_full(alloc: Global, atoms: &mut Atoms) -> Result<bool, Fault> {
-    let is_refused = match atoms.name(alloc, "one more") {
+    let is_refused = match atom(alloc, atoms, "one more") {
         Ok(_) => false,
         Err(Fault::TooManyAtoms { line: None }) => true,
         Err(fault) => return Err(fault),
     };
     let is_kept = is_named(alloc, atoms, 'a', 256, None)?
-        && atoms.name(alloc, "a65535")? == AtomId(65_535);
+        && atom(alloc, atoms, "<0.65535.0>")? == AtomId(65_535);
     Ok(is_refused && is_kept && atoms.find("one more").is_none())
 }
 
@@ -138,19 +146,10 @@ fn a_full_table(rt: HostRuntime) -> Result<(), Fail> {
     Ok(())
 }
 
-/// A table with these names as well.
-fn named(alloc: Global, names: &[&str]) -> Result<Atoms, Fault> {
-    let mut atoms = Atoms::new(alloc)?;
-    for name in names {
-        atoms.name(alloc, *name)?;
-    }
-    Ok(atoms)
-}
-
 /// Whether two tables with these names are the same.
 fn are_same(alloc: Global, one: &[&str], other: &[&str]) -> Result<bool, Fault> {
-    let one = named(alloc, one)?;
-    let other = named(alloc, other)?;
+    let one = table_of(alloc, one)?;
+    let other = table_of(alloc, other)?;
     Ok(one.same(&other))
 }
 

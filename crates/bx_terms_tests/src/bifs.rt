@@ -2,7 +2,7 @@
 //! which Erlang has a value or `system_limit`, is `IntegerRange` here.
 
 use crate::built::Flat::{Atom, Int};
-use crate::built::{cons, list, tuple, tuple_of};
+use crate::built::{cons, int, list, table_of, tuple, tuple_of};
 use bx_bifs::{Given, Native, guard, guard_decoded, guard_of_one, guard_of_two, is_guard, native};
 use bx_ops::Bif;
 use bx_terms::{AtomId, Atoms, Class, Fault, Term, fixed, print};
@@ -331,10 +331,7 @@ const A: AtomId = AtomId(80);
 const B: AtomId = AtomId(81);
 
 fn table(alloc: Global) -> Result<Atoms, Fault> {
-    let mut atoms = Atoms::new(alloc)?;
-    atoms.name(alloc, "a")?;
-    atoms.name(alloc, "b")?;
-    Ok(atoms)
+    table_of(alloc, &["a", "b"])
 }
 
 fn term_at(alloc: Global, place: u8) -> Result<Term, AllocError> {
@@ -388,14 +385,14 @@ fn push_call(
 
 fn is_of_two(alloc: Global, name: &str, m: i64, n: i64, want: &str) -> Result<bool, Fault> {
     let atoms = table(alloc)?;
-    let arguments = [Term::int(m), Term::int(n)];
+    let arguments = [int(m), int(n)];
     let told = answer(alloc, &atoms, name, &arguments)?;
     Ok(told.as_str() == want)
 }
 
 fn is_of_one(alloc: Global, name: &str, n: i64, want: &str) -> Result<bool, Fault> {
     let atoms = table(alloc)?;
-    let arguments = [Term::int(n)];
+    let arguments = [int(n)];
     let told = answer(alloc, &atoms, name, &arguments)?;
     Ok(told.as_str() == want)
 }
@@ -514,7 +511,7 @@ fn elements_by_place(rt: HostRuntime) -> Result<(), Fail> {
 fn zeros(alloc: Global, count: u32, tail: Term) -> Result<Term, AllocError> {
     let mut list = tail;
     for _ in 0..count {
-        list = cons(alloc, Term::int(0), list)?;
+        list = cons(alloc, int(0), list)?;
     }
     Ok(list)
 }

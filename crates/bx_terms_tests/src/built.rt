@@ -1,6 +1,8 @@
-//! Terms to test with, built in few calls. Out of memory is the only refusal that can come.
+//! Terms and tables to test with, built in few calls. Out of memory is the only refusal of a term that can come.
+//!
+//! These promise nothing, so that each test is proved beside few clauses.
 
-use bx_terms::{AtomId, Term};
+use bx_terms::{AtomId, Atoms, Fault, Term};
 use std::alloc::{AllocError, Global};
 
 /// A term that holds no other.
@@ -19,6 +21,24 @@ fn term(flat: Flat) -> Term {
         Flat::Pid(pid) => Term::pid(pid),
         Flat::Nil => Term::nil(),
     }
+}
+
+/// The number of an atom in a table, a new one where it is not there.
+pub fn atom(alloc: Global, atoms: &mut Atoms, text: &str) -> Result<AtomId, Fault> {
+    atoms.name(alloc, text)
+}
+
+/// A new table with these names.
+pub fn table_of(alloc: Global, names: &[&str]) -> Result<Atoms, Fault> {
+    let mut atoms = Atoms::new(alloc)?;
+    for name in names {
+        atom(alloc, &mut atoms, *name)?;
+    }
+    Ok(atoms)
+}
+
+pub fn int(number: i64) -> Term {
+    Term::int(number)
 }
 
 pub fn cons(alloc: Global, head: Term, tail: Term) -> Result<Term, AllocError> {

@@ -1,7 +1,7 @@
 //! The order of terms, worked out by hand from the Erlang Reference Manual, "Term Comparisons".
 
 use crate::built::Flat::Int;
-use crate::built::{list, tuple};
+use crate::built::{list, table_of, tuple};
 use bx_terms::{AtomId, Atoms, Fault, Term, order};
 use std::alloc::{AllocError, Global};
 use std::test::Fail;
@@ -10,11 +10,7 @@ use std::test::Fail;
 static NAMES: [&str; 5] = ["\u{10000}", "\u{ffff}", "ab", "a", ""];
 
 fn table(alloc: Global) -> Result<Atoms, Fault> {
-    let mut atoms = Atoms::new(alloc)?;
-    for text in &NAMES {
-        atoms.name(alloc, *text)?;
-    }
-    Ok(atoms)
+    table_of(alloc, &NAMES)
 }
 
 fn named(atoms: &Atoms, text: &str) -> Term {

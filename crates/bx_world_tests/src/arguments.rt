@@ -2,6 +2,7 @@
 
 use crate::reports::report_of;
 use bx_terms::Fault;
+use bxemu_testkit::{joined, numbered};
 use std::alloc::Global;
 use std::test::Fail;
 
@@ -42,9 +43,24 @@ const NO_PROPER_LISTS: [&str; 5] = [
 /// Whether a call of that native with these in x0, x1 and x2 ends the process with `badarg`.
 fn is_refused(alloc: Global, native: &str, arity: u8, arguments: [&str; 3]) -> Result<bool, Fault> {
     let [first, second, third] = arguments;
-    let items = format!(in alloc;
-        "{{bif,self,{{f,0}},[],{{x,9}}}}. {{move,{first},{{x,0}}}}. {{move,{second},{{x,1}}}}. {{move,{third},{{x,2}}}}. {{call_ext,{arity},{{extfunc,erlang,{native},{arity}}}}}. return."
-    )?;
+    let moves = [
+        "{bif,self,{f,0},[],{x,9}}. {move,",
+        first,
+        ",{x,0}}. {move,",
+        second,
+        ",{x,1}}. {move,",
+        third,
+    ];
+    let mut items = joined(alloc, &moves)?;
+    items.push_str(numbered(
+        alloc,
+        ",{x,2}}. {call_ext,",
+        arity as u32,
+        ",{extfunc,erlang,",
+    )?
+    .as_str())?;
+    items.push_str(native)?;
+    items.push_str(numbered(alloc, ",", arity as u32, "}}. return.")?.as_str())?;
     let report = report_of(alloc, items.as_str(), "return.", "r0*5")?;
     Ok(report.as_str() == "applied 5\nstate quiet\nprocess <0.0.0> ended {badarg,[]}\nend\n")
 }

@@ -2,6 +2,7 @@
 
 use crate::reports::{IDLE, TRAPS, WAITS, report_of, spawning};
 use bx_terms::Fault;
+use bxemu_testkit::joined;
 use std::alloc::{AllocError, Global};
 use std::test::Fail;
 
@@ -159,9 +160,9 @@ fn is_reported(
     row: (&str, &str, &str, &str),
 ) -> Result<bool, Fault> {
     let (child, reason, choices, want) = row;
-    let rest = format!(in alloc; "{before}{reason}{after}")?;
+    let rest = joined(alloc, &[before, reason, after])?;
     let parent = spawning(alloc, native, rest.as_str())?;
-    let choices = format!(in alloc; "r0*6 {choices}")?;
+    let choices = joined(alloc, &["r0*6 ", choices])?;
     let report = report_of(alloc, parent.as_str(), child, choices.as_str())?;
     Ok(report.as_str() == want)
 }
@@ -225,7 +226,7 @@ fn report_of_highest(
     choices: &str,
 ) -> Result<String, Fault> {
     let list = highest(alloc)?;
-    let rest = format!(in alloc; "{before}{list}{behind}")?;
+    let rest = joined(alloc, &[before, list.as_str(), behind])?;
     let parent = spawning(alloc, native, rest.as_str())?;
     report_of(alloc, parent.as_str(), TRAPS, choices)
 }
@@ -254,9 +255,9 @@ fn an_end_too_high_for_a_message(rt: HostRuntime) -> Result<(), Fail> {
     );
     let report = report_of_highest(rt.alloc(), "spawn_link", items, "r0*6 r1*3 d0>1")?;
     let list = highest(rt.alloc())?;
-    let want = format!(in rt.alloc();
-        "applied 10\nstate trapped TermHeight <0.1.0>\nprocess <0.0.0> ended {list}\nprocess <0.1.0> ready\nend\n"
-    )?;
+    let head = "applied 10\nstate trapped TermHeight <0.1.0>\nprocess <0.0.0> ended ";
+    let last = "\nprocess <0.1.0> ready\nend\n";
+    let want = joined(rt.alloc(), &[head, list.as_str(), last])?;
     assert!(rt; report.as_str() == want.as_str());
     Ok(())
 }

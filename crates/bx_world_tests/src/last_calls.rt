@@ -3,6 +3,7 @@
 
 use crate::reports::{IDLE, TRAPS, report_of, spawning};
 use bx_terms::Fault;
+use bxemu_testkit::joined;
 use std::alloc::Global;
 use std::test::Fail;
 
@@ -231,7 +232,7 @@ fn is_reported(
     child: &str,
     (choices, want): (&str, &str),
 ) -> Result<bool, Fault> {
-    let rest = format!(in alloc; "{before}{rest}")?;
+    let rest = joined(alloc, &[before, rest])?;
     let parent = spawning(alloc, native, rest.as_str())?;
     let report = report_of(alloc, parent.as_str(), child, choices)?;
     Ok(report.as_str() == want)

@@ -3,7 +3,7 @@
 use crate::reports::{end_of, text_of};
 use bx_terms::Fault;
 use bx_world::{Choice, Shown};
-use bxemu_testkit::{image, image_of_items};
+use bxemu_testkit::{image, image_of_items, numbered};
 use std::alloc::{AllocError, Global};
 use std::test::Fail;
 
@@ -15,11 +15,11 @@ const SPAWNS: &str =
 fn told_of_spawns(alloc: Global) -> Result<String, AllocError> {
     let mut text = String::from_str(alloc, "applied 5119\nstate open")?;
     for pid in 1..1024 {
-        text.push_str(format!(in alloc; " r{pid}")?.as_str())?;
+        text.push_str(numbered(alloc, " r", pid, "")?.as_str())?;
     }
     text.push_str("\nprocess <0.0.0> ended {system_limit,[]}\n")?;
     for pid in 1..1024 {
-        text.push_str(format!(in alloc; "process <0.{pid}.0> ready\n")?.as_str())?;
+        text.push_str(numbered(alloc, "process <0.", pid, ".0> ready\n")?.as_str())?;
     }
     text.push_str("end\n")?;
     Ok(text)
@@ -58,11 +58,13 @@ fn telling(alloc: Global) -> Result<String, AllocError> {
     let mut text = String::from_str(alloc, "r0*1803")?;
     for pid in 1..301 {
         let runs = if pid == 7 { 8000 } else { 4 };
-        text.push_str(format!(in alloc; " r{pid}*{runs}")?.as_str())?;
+        text.push_str(numbered(alloc, " r", pid, "*")?.as_str())?;
+        text.push_str(numbered(alloc, "", runs, "")?.as_str())?;
     }
     for pid in 1..301 {
         let signals = if pid == 7 { 2000 } else { 1 };
-        text.push_str(format!(in alloc; " d{pid}>0*{signals}")?.as_str())?;
+        text.push_str(numbered(alloc, " d", pid, ">0*")?.as_str())?;
+        text.push_str(numbered(alloc, "", signals, "")?.as_str())?;
     }
     Ok(text)
 }
@@ -92,7 +94,7 @@ fn ending(alloc: Global) -> Result<String, AllocError> {
     let mut text = telling(alloc)?;
     text.push_str(" r0*2")?;
     for pid in 1..301 {
-        text.push_str(format!(in alloc; " d0>{pid}")?.as_str())?;
+        text.push_str(numbered(alloc, " d0>", pid, "")?.as_str())?;
     }
     Ok(text)
 }
@@ -100,7 +102,7 @@ fn ending(alloc: Global) -> Result<String, AllocError> {
 fn told_of_ends(alloc: Global) -> Result<String, AllocError> {
     let mut text = String::from_str(alloc, "applied 13600\nstate quiet\n")?;
     for pid in 0..301 {
-        text.push_str(format!(in alloc; "process <0.{pid}.0> ended done\n")?.as_str())?;
+        text.push_str(numbered(alloc, "process <0.", pid, ".0> ended done\n")?.as_str())?;
     }
     text.push_str("end\n")?;
     Ok(text)
@@ -124,7 +126,7 @@ fn told_of_terms(alloc: Global) -> Result<String, AllocError> {
     let head = "applied 4400\nstate open r0\nprocess <0.0.0> ready\n";
     let mut text = String::from_str(alloc, head)?;
     for number in 1..1101 {
-        text.push_str(format!(in alloc; "output <0.0.0> {number}\n")?.as_str())?;
+        text.push_str(numbered(alloc, "output <0.0.0> ", number, "\n")?.as_str())?;
     }
     text.push_str("end\n")?;
     Ok(text)
@@ -147,7 +149,7 @@ fn module(alloc: Global, number: u32) -> Result<String, AllocError> {
     } else {
         "{call_ext_only,0,{extfunc,m0,f,0}}."
     };
-    let name = format!(in alloc; "m{number}")?;
+    let name = numbered(alloc, "m", number, "")?;
     let mut text = String::from_str(alloc, "{module,")?;
     text.push_str(name.as_str())?;
     text.push_str(

@@ -2,14 +2,14 @@
 //!
 //! A run of these tests in which one growth is refused shows the first; where none is, two worlds go the same way.
 
-use crate::samples::{TALK, TALKED};
+use crate::samples::TALKED;
 use bx_load::Image;
 use bx_proc::Proc;
 use bx_share::{ArcHold, Hold, RcHold};
 use bx_terms::Fault;
 use bx_world::Choice::{Deliver, Expire, Run};
 use bx_world::{Choice, Lanes, RunEnd, World, advance, outcome_text};
-use bxemu_testkit::{atom, image, image_of_items};
+use bxemu_testkit::{TALK, atom, image, image_of_items};
 use std::alloc::Global;
 use std::test::Fail;
 
@@ -177,6 +177,19 @@ fn copied<P: Hold<Proc>, C: Hold<Lanes>>(
     })
 }
 
+/// One choice more. It promises nothing, so that what calls it is proved beside few clauses.
+fn go_on<P: Hold<Proc>, C: Hold<Lanes>>(
+    alloc: Global,
+    image: &Image,
+    end: &mut RunEnd<P, C>,
+    choice: Choice,
+) -> Result<(), Fault> {
+    if end.applied == u64::MAX {
+        return Ok(());
+    }
+    advance(alloc, end, image, choice)
+}
+
 /// One choice more, made once more where memory ran out. False where the end was not then as before.
 fn is_advanced<P: Hold<Proc>, C: Hold<Lanes>>(
     alloc: Global,
@@ -185,14 +198,11 @@ fn is_advanced<P: Hold<Proc>, C: Hold<Lanes>>(
     before: &RunEnd<P, C>,
     choice: Choice,
 ) -> Result<bool, Fault> {
-    if end.applied == u64::MAX {
-        return Ok(false);
-    }
-    match advance(alloc, end, image, choice) {
+    match go_on(alloc, image, end, choice) {
         Ok(()) => Ok(true),
         Err(Fault::Memory) => {
             let stayed = end.same(before);
-            advance(alloc, end, image, choice)?;
+            go_on(alloc, image, end, choice)?;
             Ok(stayed)
         }
         Err(fault) => Err(fault),

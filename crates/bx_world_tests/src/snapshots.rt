@@ -1,13 +1,13 @@
 //! Snapshots of worlds whose processes hold all that a process may, each of which goes on apart from the others; and the
 //! instructions that a process runs alone.
 
-use crate::samples::{TALK, TALKED};
+use crate::samples::TALKED;
 use bx_load::Image;
 use bx_proc::{Proc, Why};
 use bx_share::{ArcHold, Hold, RcHold};
 use bx_terms::{Fault, Term};
 use bx_world::{Choice, Lanes, World, outcome_text};
-use bxemu_testkit::{atom, image, image_of_items};
+use bxemu_testkit::{TALK, atom, image, image_of_items};
 use std::alloc::Global;
 use std::test::Fail;
 
@@ -34,17 +34,18 @@ fn run<P: Hold<Proc>, C: Hold<Lanes>>(
     Ok(world)
 }
 
+/// One of these, by its place counted round.
+fn one_of(choices: &[Choice], number: usize) -> Option<Choice> {
+    choices.get(number.checked_rem(choices.len())?).copied()
+}
+
 /// A choice that can be made, by its place among those that can, counted round.
 fn picked<P: Hold<Proc>, C: Hold<Lanes>>(
     alloc: Global,
     world: &World<P, C>,
     number: usize,
 ) -> Result<Option<Choice>, Fault> {
-    let enabled = world.enabled(alloc)?;
-    let Some(at) = number.checked_rem(enabled.len()) else {
-        return Ok(None);
-    };
-    Ok(enabled.get(at).copied())
+    Ok(one_of(world.enabled(alloc)?.as_slice(), number))
 }
 
 /// The choices that were made until none could be, picked by steps of that stride, and a snapshot from before each; and the world
@@ -179,14 +180,17 @@ const RECEIVING: (&str, usize) = (
     12,
 );
 
+/// Why the process stopped at its next instruction, if it did.
+fn stopped(alloc: Global, image: &Image, process: &mut Proc) -> Option<Why> {
+    process.run(alloc, 0, image).err().map(|stop| stop.why())
+}
+
 /// Whether the process's next instruction was run, and is all that there is to it.
 fn is_run(alloc: Global, image: &Image, process: &mut Proc) -> Result<bool, Fault> {
-    match process.run(alloc, 0, image) {
-        Ok(()) => Ok(true),
-        Err(stop) => match stop.why() {
-            Why::Memory => Err(Fault::Memory),
-            _ => Ok(false),
-        },
+    match stopped(alloc, image, process) {
+        None => Ok(true),
+        Some(Why::Memory) => Err(Fault::Memory),
+        Some(_) => Ok(false),
     }
 }
 

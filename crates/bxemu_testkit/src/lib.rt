@@ -4,6 +4,8 @@
 
 mod answers;
 mod streams;
+mod talks;
+mod texts;
 
 pub use answers::{answered, number_of, told};
 use bx_asm::{Unit, assemble};
@@ -12,6 +14,8 @@ use bx_load::{Image, LoadRefused, load};
 use bx_terms::{AtomId, Atoms, Fault};
 use std::alloc::{AllocError, Global};
 pub use streams::{FailingReader, FailingWriter, Interrupted};
+pub use talks::TALK;
+pub use texts::{joined, numbered};
 
 /// Module `m` with `f/0`, which is exported. The items that are given stand behind these, from line 9 and item 3 on.
 const HEAD: &str = "{module,m}.

@@ -1,8 +1,7 @@
 //! What a debugger answers to `trace`, and where in the source it shows that a program stands.
 
-use crate::samples::{
-    HOLDS, LINES, LOOP, NAMES, Row, SIGNALS, TALK, TRAPS, refused_lines, right_rows,
-};
+use crate::samples::{HOLDS, LINES, LOOP, NAMES, Row, SIGNALS, TRAPS, refused_lines, right_rows};
+use bxemu_testkit::TALK;
 use std::test::Fail;
 
 const TRACED: [Row<'static>; 8] = [

@@ -1,8 +1,9 @@
 //! What a debugger answers to `until`, `run` and `open`.
 
 use crate::samples::{
-    CALLS, HOLDS, LINES, LOOP, Row, SIGNALS, TALK, TRAPS, TWO, refused_lines, right_rows,
+    CALLS, HOLDS, LINES, LOOP, Row, SIGNALS, TRAPS, TWO, refused_lines, right_rows,
 };
+use bxemu_testkit::TALK;
 use std::test::Fail;
 
 const STOPPED: [Row<'static>; 9] = [

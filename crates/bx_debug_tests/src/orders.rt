@@ -1,6 +1,7 @@
 //! What a debugger answers to `swap`.
 
-use crate::samples::{LOOP, Row, SIGNALS, TALK, TRAPS, refused_lines, right_rows};
+use crate::samples::{LOOP, Row, SIGNALS, TRAPS, refused_lines, right_rows};
+use bxemu_testkit::TALK;
 use std::test::Fail;
 
 const SWAPPED: [Row<'static>; 5] = [

@@ -3,13 +3,13 @@
 //! A run of these tests in which one growth is refused shows besides that the session is as it was then, and that the call made again
 //! answers as its row says.
 
-use crate::samples::{LOOP, TALK, TRAPS, TWO};
+use crate::samples::{LOOP, TRAPS, TWO};
 use bx_debug::{Session, Stop};
 use bx_load::Image;
 use bx_plan::{Run, Schedule};
 use bx_terms::{Fault, Place, Trap};
 use bx_world::{Choice, RcWorld};
-use bxemu_testkit::{atom, image};
+use bxemu_testkit::{TALK, atom, image};
 use std::alloc::Global;
 use std::test::Fail;
 
