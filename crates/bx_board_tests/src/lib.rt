@@ -22,9 +22,13 @@ mod refused_calls;
 #[cfg(test)]
 mod reports;
 #[cfg(test)]
+mod rows;
+#[cfg(test)]
 mod samples;
 #[cfg(test)]
 mod starts;
+#[cfg(test)]
+mod stories;
 #[cfg(test)]
 mod waits;
 #[cfg(test)]
