@@ -4,24 +4,18 @@
 //!
 //! - `choices ROUNDS`: choices one by one, in each of a few loops; `choices ROUNDS LOOP`: in one of them
 //! - `program CHOICES FILE`: the same in the program of a listing
-//! - `ring ROUNDS`, `senders TURNS`: sends and deliveries among many processes
-//! - `walk CHOICES`: choices at random in generated listings
 //! - `swaps POSITIONS`: exchanges of independent choices
+//! - `tidy CHOICES`: the choices of each process put together
 //! - `kept CHOICES GROWING`: a session in which nothing grows, or the stack, mailbox or output
-//! - `forms ROUNDS FILE`: the forms of a listing, read
 //!
 //! Without arguments it does nothing.
 #![tactic(auto)]
 
-mod crowds;
-mod generated;
 mod kept;
 mod programs;
 mod replays;
 mod swaps;
-mod texts;
 mod trouble;
-mod walks;
 
 use crate::trouble::Trouble;
 use std::process::ExitCode;
@@ -54,10 +48,8 @@ fn take(rt: &HostRuntime) -> Result<(), Trouble> {
 fn by_number(rt: &HostRuntime, word: &str, number: u32) -> Result<(), Trouble> {
     match word {
         "choices" => replays::loops(rt, number),
-        "ring" => crowds::ring(rt, number),
-        "senders" => crowds::senders(rt, number),
         "swaps" => swaps::measure(rt, number),
-        "walk" => walks::measure(rt, number),
+        "tidy" => swaps::tidy_up(rt, number),
         _ => Err(Trouble::Usage),
     }
 }
@@ -68,7 +60,6 @@ fn by_name(rt: &HostRuntime, word: &str, number: u32, name: &str) -> Result<(), 
         "choices" => replays::one_loop(rt, number, name),
         "kept" => kept::measure(rt, number, name),
         "program" => replays::program(rt, number, name, &fs::read(rt, name)?),
-        "forms" => texts::measure(rt, number, name, &fs::read(rt, name)?),
         _ => Err(Trouble::Usage),
     }
 }

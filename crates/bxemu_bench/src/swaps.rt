@@ -1,17 +1,17 @@
-//! Exchanges of choices that are independent, in a long schedule of a few small processes.
+//! Exchanges of choices that are independent, in a schedule of a few small processes: some that are drawn, or all that tidy it.
 
 use crate::programs::Program;
 use crate::trouble::Trouble;
 use bx_plan::Schedule;
 use bx_replay::Trail;
-use bx_swaps::check_swaps;
+use bx_swaps::{check_swaps, tidy};
 use bx_terms::Fault;
 use bx_world::{Choice, RcWorld};
 use rand_core::Rng;
 use rand_pcg::Pcg32;
 use std::alloc::Global;
 
-/// How many choices the schedule makes.
+/// How many choices the schedule makes in which some are exchanged.
 const CHOICES: u32 = 100_000;
 
 /// Processes 1 and 2 loop, each by itself; 0 and 3 hand a message to each other.
@@ -29,7 +29,7 @@ const LISTING: &str = "{module,m}. {exports,[{f,0},{g,0},{h,1}]}. {attributes,[]
 /// Exchanges choices at so many positions, drawn among those where the two are independent.
 pub fn measure(rt: &HostRuntime, positions: u32) -> Result<(), Trouble> {
     let program = Program::of(rt.alloc(), LISTING.as_bytes(), "f")?;
-    let given = walk(rt.alloc(), &program)?;
+    let given = walk(rt.alloc(), &program, CHOICES)?;
     let positions = draw(rt.alloc(), &program, &given, positions as usize)?;
     let made = exchanged(rt.alloc(), &program, &given, &positions)?;
     let (count, choices) = (positions.len(), made.len());
@@ -37,12 +37,29 @@ pub fn measure(rt: &HostRuntime, positions: u32) -> Result<(), Trouble> {
     Ok(())
 }
 
-/// A schedule, drawn at each choice among those that are enabled.
-fn walk(alloc: Global, program: &Program) -> Result<Schedule, Fault> {
+/// Puts the choices of each process together, in a schedule of so many.
+pub fn tidy_up(rt: &HostRuntime, choices: u32) -> Result<(), Trouble> {
+    let program = Program::of(rt.alloc(), LISTING.as_bytes(), "f")?;
+    let given = walk(rt.alloc(), &program, choices)?;
+    let made = tidied(rt.alloc(), &program, &given)?;
+    let count = made.len();
+    eprintln!(rt; "{count} choices tidied")?;
+    Ok(())
+}
+
+/// The schedule tidied. It is not inlined, so that callgrind counts it apart from the drawing.
+#[inline(never)]
+fn tidied(alloc: Global, program: &Program, given: &Schedule) -> Result<Schedule, Fault> {
+    let (module, start) = (program.module(), program.start());
+    tidy(alloc, program.image(), module, start, given)
+}
+
+/// A schedule of so many choices, drawn at each choice among those that are enabled.
+fn walk(alloc: Global, program: &Program, choices: u32) -> Result<Schedule, Fault> {
     let mut rng = Pcg32::new(1, 11);
     let mut world = program.begin(alloc)?;
     let mut schedule = Schedule::new(alloc);
-    for _turn in 0..CHOICES {
+    for _turn in 0..choices {
         let Some(choice) = any_enabled(alloc, &mut rng, &world)? else {
             break;
         };
