@@ -2,9 +2,7 @@
 
 ghost use Rattle.std.specs.Prelude.{◌≡◌};
 
-use crate::samples::{
-    APART, APART_TEXT, BELOW, BELOW_TEXT, book, finished, image, plan, senders, text_of,
-};
+use crate::samples::{APART, APART_TEXT, BELOW, BELOW_TEXT, book, finished, image, plan, text_of};
 use bx_board::{Board, Book, Campaign, Gate, Piece, campaign};
 use bx_load::Image;
 use bx_plan::Plan;
@@ -162,7 +160,7 @@ pub fn met<R: Threads + Wait + Clock + Sync>(
 #[test]
 fn two_workers_of_a_campaign_meet(rt: HostRuntime) -> Result<(), Fail> {
     let alloc = rt.alloc();
-    let image = senders(alloc)?;
+    let image = image(alloc)?;
     let plan = plan(alloc, APART)?;
     let (text, counts) = met(&rt, alloc, &image, &plan, 0)?;
     assert_eq!(&rt; counts, (2, FIRST + SECOND, 0));
@@ -173,7 +171,7 @@ fn two_workers_of_a_campaign_meet(rt: HostRuntime) -> Result<(), Fail> {
 #[test]
 fn two_threads_on_a_board_meet(rt: HostRuntime) -> Result<(), Fail> {
     let alloc = rt.alloc();
-    let image = senders(alloc)?;
+    let image = image(alloc)?;
     let plan = plan(alloc, APART)?;
     let gate = Meeting::new(&rt, alloc, 0);
     let book = book(alloc, &image, &plan)?;

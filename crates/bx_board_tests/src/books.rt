@@ -1,7 +1,6 @@
 //! Calls of a book in a row, by several workers.
 
-use crate::refused_calls::unfinished;
-use crate::samples::{APART, APART_TEXT, BELOW, book, finished, image, plan, senders};
+use crate::samples::{APART, APART_TEXT, BELOW, book, finished, image, plan};
 use bx_board::{Book, Piece, work};
 use bx_load::Image;
 use bx_plan::Plan;
@@ -21,33 +20,28 @@ enum Call {
     Stop,
 }
 
-/// The calls of a history, each with its answer; piece 0 is of another plan.
-const HISTORY: [(Call, &str); 18] = [
+/// The calls of a history, each with its answer.
+const HISTORY: [(Call, &str); 21] = [
     (Call::Counts, "0 2 0 1"),
     (Call::Lease(1), "leased"),
     (Call::Lease(1), "none"),
     (Call::Lease(2), "leased"),
     (Call::Lease(3), "none"),
     (Call::Counts, "0 0 2 1"),
-    (Call::Submit(2, 1), "NotLeased"),
-    (Call::Submit(3, 1), "NotLeased"),
+    (Call::Submit(2, 0), "NotLeased"),
+    (Call::Submit(3, 0), "NotLeased"),
     (Call::GiveBack(1), "true"),
     (Call::GiveBack(1), "false"),
     (Call::Counts, "0 1 1 1"),
     (Call::Lease(1), "leased"),
-    (Call::Submit(1, 3), "taken"),
-    (Call::Submit(1, 1), "Twice"),
-    (Call::Submit(2, 1), "Twice"),
-    (Call::Submit(2, 0), "Foreign"),
+    (Call::Submit(1, 2), "taken"),
+    (Call::Submit(1, 0), "Twice"),
+    (Call::Submit(2, 0), "Twice"),
     (Call::GiveBack(9), "false"),
     (Call::Counts, "0 0 1 2"),
-];
-
-/// The calls behind it.
-const LAST: [(Call, &str); 4] = [
     (Call::Stop, "stopped"),
     (Call::Lease(3), "none"),
-    (Call::Submit(2, 2), "taken"),
+    (Call::Submit(2, 1), "taken"),
     (Call::Counts, "0 0 0 3"),
 ];
 
@@ -144,86 +138,16 @@ fn first_other<'a>(
     Ok(None)
 }
 
-/// The piece of a book's first lease, where there is one.
-fn first_piece<'a>(
-    alloc: Global,
-    image: &'a Image,
-    plan: &'a Plan,
-) -> Result<Option<Piece<'a>>, Fault> {
-    let mut book = book(alloc, image, plan)?;
-    let mut pieces = Vec::new(alloc);
-    lease(alloc, &mut book, 0, &mut pieces)?;
-    match pieces.pop() {
-        Some(piece) => Ok(piece),
-        None => Ok(None),
-    }
-}
-
-/// The report behind both histories; nothing where a call of them is answered otherwise.
-fn told_of_history<'a>(
-    alloc: Global,
-    image: &'a Image,
-    plan: &'a Plan,
-    other: Option<Piece<'a>>,
-) -> Result<String, Fault> {
-    let mut pieces = Vec::new(alloc);
-    if pieces.push(other).is_err() {
-        return Err(Fault::Memory);
-    }
-    let mut book = book(alloc, image, plan)?;
-    if first_other(alloc, &mut book, &HISTORY, &mut pieces)?.is_some() {
-        return Ok(String::new(alloc));
-    }
-    let Some(mut book) = unfinished(alloc, book)? else {
-        return Ok(String::new(alloc));
-    };
-    if first_other(alloc, &mut book, &LAST, &mut pieces)?.is_some() {
-        return Ok(String::new(alloc));
-    }
-    finished(alloc, image, book)
-}
-
-/// The same, where piece 0 is of the first plan.
-fn told_of_two<'a>(
-    alloc: Global,
-    image: &'a Image,
-    first: &'a Plan,
-    plan: &'a Plan,
-) -> Result<String, Fault> {
-    let other = first_piece(alloc, image, first)?;
-    told_of_history(alloc, image, plan, other)
-}
-
 #[test]
 fn each_call_is_one_event_or_a_refusal(rt: HostRuntime) -> Result<(), Fail> {
     let alloc = rt.alloc();
-    let image = senders(alloc)?;
-    let longer = plan(alloc, "z: r0*2\n")?;
+    let image = image(alloc)?;
     let plan = plan(alloc, APART)?;
-    let text = told_of_two(alloc, &image, &longer, &plan)?;
-    assert_eq!(&rt; text.as_str(), APART_TEXT);
-    Ok(())
-}
-
-/// The calls over a schedule that goes on where another ends.
-const CUT: [(Call, &str); 7] = [
-    (Call::Counts, "1 1 0 1"),
-    (Call::Lease(1), "leased"),
-    (Call::Submit(1, 0), "taken"),
-    (Call::Counts, "0 1 0 2"),
-    (Call::Lease(2), "leased"),
-    (Call::Submit(2, 1), "taken"),
-    (Call::Counts, "0 0 0 3"),
-];
-
-#[test]
-fn a_chain_is_cut_where_a_schedule_ends(rt: HostRuntime) -> Result<(), Fail> {
-    let alloc = rt.alloc();
-    let image = senders(alloc)?;
-    let plan = plan(alloc, "p: r0*3\nq: r0*6\n")?;
     let mut book = book(alloc, &image, &plan)?;
     let mut pieces = Vec::new(alloc);
-    assert_eq!(&rt; first_other(alloc, &mut book, &CUT, &mut pieces)?, None);
+    assert_eq!(&rt; first_other(alloc, &mut book, &HISTORY, &mut pieces)?, None);
+    let text = finished(alloc, &image, book)?;
+    assert_eq!(&rt; text.as_str(), APART_TEXT);
     Ok(())
 }
 

@@ -1,11 +1,9 @@
 //! Runs of whole texts: the report that is written, or the line of the first failure.
 
-use bx_engine::{Failure, campaign_text, dis_text, fault_line, run_text};
+use bx_engine::{Failure, fault_line, run_text};
 use bxemu_testkit::{FailingReader, FailingWriter, told};
 use std::alloc::{AllocError, Global};
-use std::sync::Wait;
 use std::test::Fail;
-use std::thread::Threads;
 
 const M: &str = "{module,m}.
 {exports,[{f,0}]}.
@@ -28,7 +26,7 @@ const UNLABELLED: &str =
 /// The names of so many listings and of the plan.
 fn names(alloc: Global, listings: usize) -> Result<Vec<String>, AllocError> {
     let mut names = Vec::new(alloc);
-    for name in ["m.S", "n.S"].iter().take(listings) {
+    for name in ["a.S", "b.S"].iter().take(listings) {
         names.push(String::from_str(alloc, name)?)?;
     }
     names.push(String::from_str(alloc, "plan")?)?;
@@ -56,7 +54,7 @@ fn run<'a>(
 }
 
 /// What was written, and behind it the line of the failure, where the run failed.
-pub fn with_line(
+fn with_line(
     alloc: Global,
     ended: Result<(), Failure>,
     listings: usize,
@@ -70,7 +68,7 @@ pub fn with_line(
 }
 
 /// What a run writes, and behind it the line of its failure.
-pub fn told_of_run<'a>(
+fn told_of_run<'a>(
     alloc: Global,
     listings: &[&'a str],
     start: &str,
@@ -110,18 +108,18 @@ fn reports_of_runs(rt: HostRuntime) -> Result<(), Fail> {
 fn the_first_failure_is_told(rt: HostRuntime) -> Result<(), Fail> {
     let rows: [(&[&str], &str, &str, &str); 10] = [
         (&["", M], "m", "a r0", "bxemu: start\n"),
-        (&["", M], "m:f", "a r0", "bxemu: R8 BadForm line 1 in m.S\n"),
+        (&["", M], "m:f", "a r0", "bxemu: R8 BadForm line 1 in a.S\n"),
         (
             &[M, "{module,'ab"],
             "m:f",
             "a r0",
-            "bxemu: R6 Truncated line 1 in n.S\n",
+            "bxemu: R6 Truncated line 1 in b.S\n",
         ),
         (
             &[UNLABELLED, ""],
             "m:f",
             "a r0",
-            "bxemu: R13 LabelMissing 9 in m.S\n",
+            "bxemu: R13 LabelMissing 9 in a.S\n",
         ),
         (&[M, M], "m:f", "a r0", "bxemu: R17 ModuleTwice\n"),
         (
@@ -142,142 +140,49 @@ fn the_first_failure_is_told(rt: HostRuntime) -> Result<(), Fail> {
     Ok(())
 }
 
-/// What is done over `M` and a plan, or over `M` alone.
-#[derive(Clone, Copy, Debug)]
-enum Engine {
-    Run,
-    Campaign,
-    Dis,
+/// A reader of a text that fails, or ends, behind it.
+fn reader(text: &str, fails: bool) -> FailingReader<'_> {
+    let fails_at = if fails {
+        u32::try_from(text.len()).unwrap_or(u32::MAX)
+    } else {
+        u32::MAX
+    };
+    FailingReader::by_bytes(text.as_bytes(), fails_at)
 }
 
-/// The calls that fail: a read of the listing, one of the plan, and a write.
-#[derive(Clone, Copy, Drop)]
-struct Failing {
-    listing: u32,
-    plan: u32,
-    write: u32,
+/// What a run over `M` and a plan that is refused tells, where the listing's reader fails, or else the plan's.
+fn told_of_readers(alloc: Global, listing_fails: bool) -> Result<String, Fail> {
+    let mut listings = [reader(M, listing_fails)];
+    let mut plan = reader("a r0", !listing_fails);
+    let mut written = Vec::new(alloc);
+    let ended = run_text(alloc, &mut listings, "m:f", &mut plan, &mut written);
+    with_line(alloc, ended, 1, written)
 }
 
-/// No call fails.
-const NONE: Failing = Failing {
-    listing: u32::MAX,
-    plan: u32::MAX,
-    write: u32::MAX,
-};
-
-/// What a run writes, its failure's line behind it, a byte a call.
-fn told_of_bytes<'a>(
-    alloc: Global,
-    listing: &'a str,
-    plan: &'a str,
-    failing: Failing,
-) -> Result<String, Fail> {
-    let mut listings = [FailingReader::by_bytes(listing.as_bytes(), failing.listing)];
-    let mut plan = FailingReader::by_bytes(plan.as_bytes(), failing.plan);
-    let mut writer = FailingWriter::new(alloc, 1, failing.write);
-    let ended = run_text(alloc, &mut listings, "m:f", &mut plan, &mut writer);
-    with_line(alloc, ended, 1, writer.written)
-}
-
-/// The same of a campaign by two workers.
-fn told_of_campaign<'a, R: Threads + Wait + Sync>(
-    rt: &R,
-    alloc: Global,
-    listing: &'a str,
-    plan: &'a str,
-    failing: Failing,
-) -> Result<String, Fail> {
-    let mut listings = [FailingReader::by_bytes(listing.as_bytes(), failing.listing)];
-    let mut plan = FailingReader::by_bytes(plan.as_bytes(), failing.plan);
-    let mut writer = FailingWriter::new(alloc, 1, failing.write);
-    let ended = campaign_text(rt, alloc, &mut listings, "m:f", &mut plan, 2, &mut writer);
-    with_line(alloc, ended, 1, writer.written)
-}
-
-/// The same of a listing that is written as it was read.
-fn told_of_dis(alloc: Global, listing: &str, failing: Failing) -> Result<String, Fail> {
-    let mut reader = FailingReader::by_bytes(listing.as_bytes(), failing.listing);
-    let mut writer = FailingWriter::new(alloc, 1, failing.write);
-    let ended = dis_text(alloc, &mut reader, &mut writer);
-    with_line(alloc, ended, 1, writer.written)
-}
-
-/// What each engine writes.
-fn told_of_failing<R: Threads + Wait + Sync>(
-    rt: &R,
-    alloc: Global,
-    engine: Engine,
-    failing: Failing,
-) -> Result<String, Fail> {
-    match engine {
-        Engine::Run => told_of_bytes(alloc, M, "b:", failing),
-        Engine::Campaign => told_of_campaign(rt, alloc, M, "b:", failing),
-        Engine::Dis => told_of_dis(alloc, M, failing),
-    }
-}
-
-/// What an engine writes where no call fails.
-fn whole(engine: Engine) -> &'static str {
-    match engine {
-        Engine::Dis => {
-            "{module,m}.\n{exports,[{f,0}]}.\n{attributes,[]}.\n{labels,3}.\n{function,f,0,2}.\n{label,1}.\n{func_info,{atom,m},{atom,f},0}.\n{label,2}.\n{call_ext_only,0,{extfunc,n,g,0}}.\n"
-        }
-        _ => "schedule b\napplied 0\nstate open r0\nprocess <0.0.0> ready\nend\n",
-    }
-}
-
-/// How many calls read or write a text, a byte a call.
-fn calls(text: &str) -> u32 {
-    u32::try_from(text.len()).unwrap_or(u32::MAX)
-}
-
-/// Each read of the listing and of the plan, also that which finds its end.
 #[test]
-fn readers_that_fail_at_each_read(rt: HostRuntime) -> Result<(), Fail> {
-    for engine in [Engine::Run, Engine::Campaign, Engine::Dis] {
-        for listing in 0..calls(M).saturating_add(1) {
-            let failing = Failing { listing, ..NONE };
-            let text = told_of_failing(&rt, rt.alloc(), engine, failing)?;
-            assert!(&rt;
-                text.as_str() == "bxemu: read m.S\n",
-                "{engine:?} {listing} {text}"
-            );
-        }
-    }
-    for engine in [Engine::Run, Engine::Campaign] {
-        for plan in 0..3 {
-            let failing = Failing { plan, ..NONE };
-            let text = told_of_failing(&rt, rt.alloc(), engine, failing)?;
-            assert!(&rt;
-                text.as_str() == "bxemu: read plan\n",
-                "{engine:?} {plan} {text}"
-            );
-        }
-    }
+fn readers_that_fail(rt: HostRuntime) -> Result<(), Fail> {
+    let listing = told_of_readers(rt.alloc(), true)?;
+    assert!(rt; listing.as_str() == "bxemu: read a.S\n", "{listing}");
+    let plan = told_of_readers(rt.alloc(), false)?;
+    assert!(rt; plan.as_str() == "bxemu: read plan\n", "{plan}");
     Ok(())
 }
 
-/// Each write; and none, where a read and a write would fail behind the last ones.
+/// The line of a run whose report has 61 bytes, where there is room for so many; nothing where it does not fail.
+fn told_of_writer(alloc: Global, room: u32) -> Result<String, Fail> {
+    let mut writer = FailingWriter::new(alloc, 1, room);
+    let mut plan = b"b:".as_slice();
+    let ended = run_text(alloc, &mut [M.as_bytes()], "m:f", &mut plan, &mut writer);
+    with_line(alloc, ended, 1, Vec::new(alloc))
+}
+
 #[test]
-fn writers_that_fail_at_each_write(rt: HostRuntime) -> Result<(), Fail> {
-    for engine in [Engine::Run, Engine::Campaign, Engine::Dis] {
-        let whole = whole(engine);
-        for write in 0..calls(whole) {
-            let failing = Failing { write, ..NONE };
-            let text = told_of_failing(&rt, rt.alloc(), engine, failing)?;
-            let written = text.as_str().strip_suffix("bxemu: write\n");
-            assert!(&rt;
-                written == whole.get(..write as usize),
-                "{engine:?} {write} {text}"
-            );
-        }
-        let failing = Failing {
-            listing: calls(M).saturating_add(1),
-            plan: 3,
-            write: calls(whole),
-        };
-        let text = told_of_failing(&rt, rt.alloc(), engine, failing)?;
-        assert!(&rt; text.as_str() == whole, "{engine:?} {text}");
+fn writers_that_fail(rt: HostRuntime) -> Result<(), Fail> {
+    for room in [0, 1, 60] {
+        let line = told_of_writer(rt.alloc(), room)?;
+        assert!(rt; line.as_str() == "bxemu: write\n", "{room}: {line}");
     }
+    let line = told_of_writer(rt.alloc(), 61)?;
+    assert!(rt; line.as_str() == "", "{line}");
     Ok(())
 }

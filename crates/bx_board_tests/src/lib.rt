@@ -22,13 +22,9 @@ mod refused_calls;
 #[cfg(test)]
 mod reports;
 #[cfg(test)]
-mod rows;
-#[cfg(test)]
 mod samples;
 #[cfg(test)]
 mod starts;
-#[cfg(test)]
-mod stories;
 #[cfg(test)]
 mod waits;
 #[cfg(test)]

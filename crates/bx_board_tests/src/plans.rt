@@ -1,10 +1,9 @@
 //! Plans and their readings, worked out by hand.
 
-use bx_plan::{Chains, Plan, Run as Repeat, Schedule, chains_of, read_choices, read_plan};
+use bx_plan::{Plan, Run as Repeat, Schedule, chains_of, read_choices, read_plan};
 use bx_terms::Fault;
+use bx_world::Choice;
 use bx_world::Choice::{Deliver, Expire, Run};
-use bx_world::{Choice, choice_text};
-use std::alloc::Global;
 use std::test::Fail;
 
 /// What a plan's text is: how many schedules, or the number of the refusal and its line.
@@ -93,65 +92,6 @@ fn texts_and_their_outcomes(rt: HostRuntime) -> Result<(), Fail> {
         let got = outcome(&rt, text)?;
         assert_eq!(rt; got.0, want.0, "case {number}");
         assert_eq!(rt; got.1, want.1, "case {number}");
-    }
-    Ok(())
-}
-
-/// Tells of a chain by the one that it stands on and its choices; of none past the last.
-fn push_chain(
-    alloc: Global,
-    told: &mut String,
-    plan: &Plan,
-    chains: &Chains,
-    number: usize,
-) -> Result<(), Fault> {
-    if number >= chains.len() {
-        return Ok(());
-    }
-    let head = chains.head(number);
-    let Some(schedule) = plan.schedule(alloc, head.line) else {
-        return Ok(());
-    };
-    let choices = schedule?.to_choices(alloc)?;
-    write!(told, "{}:", head.above)?;
-    for choice in choices.get(head.first..head.past).unwrap_or(&[]) {
-        told.push_str(" ")?;
-        told.push_str(choice_text(alloc, *choice)?.as_str())?;
-    }
-    told.push_str("\n")?;
-    Ok(())
-}
-
-/// The chains of a plan below the root.
-fn told_of_chains(alloc: Global, text: &str) -> Result<String, Fault> {
-    let plan = read_plan(alloc, text.as_bytes())?;
-    let chains = chains_of(alloc, &plan)?;
-    let mut told = String::new(alloc);
-    for number in 1..chains.len() {
-        push_chain(alloc, &mut told, &plan, &chains, number)?;
-    }
-    Ok(told)
-}
-
-#[test]
-fn schedules_end_and_part(rt: HostRuntime) -> Result<(), Fail> {
-    let rows = [
-        ("", ""),
-        ("a:\nb:", ""),
-        // r0; r1 behind it, where two schedules end; r1 behind that; d0>1 behind r0
-        (
-            "a: r0 r1\nb: r0 d0>1\nc: r0 r1 r1\nd:\ne: r0 r1",
-            "0: r0\n1: r1\n2: r1\n1: d0>1\n",
-        ),
-        // within runs: schedules end or part behind r0*3, r0*5, r0*8, r0*5 r1
-        (
-            "a: r0*5 r1*2\nb: r0*3\nc: r0*3 r1*2\nd: r0*8\ne: r0 r0*4 r1\nf: r0*9",
-            "0: r0 r0 r0\n1: r0 r0\n2: r0 r0 r0\n3: r0\n2: r1\n5: r1\n1: r1 r1\n",
-        ),
-    ];
-    for (text, want) in rows {
-        let told = told_of_chains(rt.alloc(), text)?;
-        assert!(rt; told.as_str() == want, "{text}\n{told}");
     }
     Ok(())
 }

@@ -8,7 +8,6 @@ use crate::samples::{BELOW, BELOW_TEXT, book, image, plan, text_of};
 use bx_board::{ArcEnd, Book, Gate, Lease, Piece, campaign, work};
 use bx_load::Image;
 use bx_plan::Plan;
-use bx_share::Same;
 use bx_terms::Fault;
 use bx_world::{ArcWorld, Choice, advance};
 use bxemu_testkit::atom;
@@ -49,17 +48,14 @@ fn leased<'a>(
     }
 }
 
-/// The piece of a lease, worked once more where memory ran out; and whether the lease that came back then was of the same path, from
-/// the same start, over the same code.
+/// The piece of a lease, worked once more where memory ran out; and whether the lease that came back then was of the same path.
 fn worked<'a>(alloc: Global, lease: Lease<'a>) -> Result<(Piece<'a>, bool), Fault> {
-    let (path, start, image) = (lease.path(alloc)?, lease.start(), lease.image());
+    let path = lease.path(alloc)?;
     let lease = match work(alloc, lease) {
         Ok(piece) => return Ok((piece, true)),
         Err((_, lease)) => lease,
     };
-    let stayed = lease.path(alloc)?.same(&path)
-        && lease.start() == start
-        && lease.image().same(image);
+    let stayed = lease.path(alloc)?.same(&path);
     match work(alloc, lease) {
         Ok(piece) => Ok((piece, stayed)),
         Err((fault, _)) => Err(fault),
@@ -132,7 +128,7 @@ fn finished_again(alloc: Global, image: &Image, book: Book<'_>) -> Result<String
 }
 
 /// A book with chains that are not done, as it comes back where it is to end; none where it ended.
-pub fn unfinished<'a>(alloc: Global, book: Book<'a>) -> Result<Option<Book<'a>>, Fault> {
+fn unfinished<'a>(alloc: Global, book: Book<'a>) -> Result<Option<Book<'a>>, Fault> {
     match book.finish(alloc) {
         Ok(_) => Ok(None),
         Err((fault, book)) => match fault {

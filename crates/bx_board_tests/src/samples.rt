@@ -11,20 +11,6 @@ use std::alloc::Global;
 const LISTING: &str = "{module,m}. {exports,[{f,0}]}. {labels,3}. {function,f,0,2}.
 {label,1}. {func_info,{atom,m},{atom,f},0}. {label,2}. {move,{atom,ok},{x,0}}. return.";
 
-/// `f/0` of `m` spawns two `g/2` that each send it a message, and shows the first that it receives.
-pub const SENDERS: &str =
-    "{module,m}. {exports,[{f,0},{g,2}]}. {attributes,[]}. {labels,9}. {function,f,0,2}.
-{label,1}. {func_info,{atom,m},{atom,f},0}. {label,2}.
-{bif,self,{f,0},[],{x,3}}. {put_list,{atom,a},nil,{x,2}}.
-{put_list,{x,3},{x,2},{x,2}}. {move,{atom,g},{x,1}}.
-{move,{atom,m},{x,0}}. {call_ext,3,{extfunc,erlang,spawn,3}}.
-{put_list,{atom,b},nil,{x,2}}. {put_list,{x,3},{x,2},{x,2}}.
-{move,{atom,m},{x,0}}. {call_ext,3,{extfunc,erlang,spawn,3}}.
-{label,3}. {loop_rec,{f,4},{x,0}}. remove_message.
-{call_ext_only,1,{extfunc,erlang,display,1}}. {label,4}. {wait,{f,3}}.
-{function,g,2,6}. {label,5}. {func_info,{atom,m},{atom,g},2}. {label,6}.
-send. return.";
-
 /// Two schedules that share nothing; the second one's choice is refused.
 pub const APART: &str = "x: r0\ny: r1\n";
 
@@ -42,11 +28,6 @@ schedule y\napplied 1\nstate stopped r1\nprocess <0.0.0> ready\nend\n";
 /// The module, loaded.
 pub fn image(alloc: Global) -> Result<Image, Fault> {
     bxemu_testkit::image(alloc, &[LISTING])
-}
-
-/// The module of the senders, loaded.
-pub fn senders(alloc: Global) -> Result<Image, Fault> {
-    bxemu_testkit::image(alloc, &[SENDERS])
 }
 
 /// A plan's text, read.
