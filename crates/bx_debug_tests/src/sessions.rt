@@ -242,18 +242,27 @@ fn is_right(
     Ok(answer == (number, stop) && again == answer && stayed && stands && shown)
 }
 
-/// How many rows, from the first on, are right.
-fn right_rows(alloc: Global, listing: &str, rows: &[Row<'_>]) -> Result<usize, Fault> {
-    let image = image(alloc, &[listing])?;
-    let (module, function) = (atom(&image, "m"), atom(&image, "f"));
-    let mut session = Session::new(alloc, &image, module, function)?;
-    let mut other = Session::new(alloc, &image, module, function)?;
+/// A session from `f`. It promises nothing, so that what calls it is proved beside few clauses.
+fn opened<'a>(alloc: Global, image: &'a Image) -> Result<Session<'a>, Fault> {
+    Session::new(alloc, image, atom(image, "m"), atom(image, "f"))
+}
+
+/// How many rows, from the first on, are right in two sessions over that code.
+fn right_in(alloc: Global, image: &Image, rows: &[Row<'_>]) -> Result<usize, Fault> {
+    let mut session = opened(alloc, image)?;
+    let mut other = opened(alloc, image)?;
     for (number, row) in rows.iter().enumerate() {
-        if !is_right(alloc, &image, &mut session, &mut other, row)? {
+        if !is_right(alloc, image, &mut session, &mut other, row)? {
             return Ok(number);
         }
     }
     Ok(rows.len())
+}
+
+/// The same over the code of a listing.
+fn right_rows(alloc: Global, listing: &str, rows: &[Row<'_>]) -> Result<usize, Fault> {
+    let image = image(alloc, &[listing])?;
+    right_in(alloc, &image, rows)
 }
 
 #[test]
