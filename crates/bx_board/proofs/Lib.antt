@@ -11,3 +11,4 @@ pub mod Idle
 pub mod Found
 pub mod Runs
 pub mod Crossing
+pub mod Passing

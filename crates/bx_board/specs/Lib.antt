@@ -8,3 +8,4 @@ pub mod Texts
 pub mod Counted
 pub mod Reported
 pub mod Alone
+pub mod Walks

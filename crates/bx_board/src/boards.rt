@@ -148,7 +148,6 @@ impl<'a, J: Campaign> Shelf<'a, J> {
 pub struct Board<'a, J: Campaign> {
     shelf: Mutex<Shelf<'a, J>>,
     changed: Condvar,
-    crew: Crew,
 }
 
 impl<'a, J: Campaign> Board<'a, J> {
@@ -156,17 +155,9 @@ impl<'a, J: Campaign> Board<'a, J> {
     pub fn new(book: Book<'a>) -> Board<'a, J>
         requires { book.job ≡ J.job }
     {
-        Board::of(book, Crew::Several)
-    }
-
-    /// A board of that book for so many workers.
-    pub(crate) fn of(book: Book<'a>, crew: Crew) -> Board<'a, J>
-        requires { book.job ≡ J.job }
-    {
         Board {
             shelf: Mutex::new(Shelf::new(book)),
             changed: Condvar::new(),
-            crew,
         }
     }
 
@@ -174,16 +165,12 @@ impl<'a, J: Campaign> Board<'a, J> {
     pub fn close(self) -> Book<'a>
         ensures { result.job ≡ J.job }
     {
-        let Board {
-            shelf,
-            changed: _,
-            crew: _,
-        } = self;
+        let Board { shelf, changed: _ } = self;
         shelf.into_inner().into_book()
     }
 
-    /// Leases, works and submits until nothing is left for this worker. Where it is not the only one, it does so over a copy of the
-    /// code that it makes once it has a lease. Where memory runs out, the worker's lease is given back: what it did before stays
+    /// Leases, works and submits until nothing is left for this worker, over a copy of the code that it makes once it has a lease, so
+    /// that it waits for no other worker's count of references. Where memory runs out, the worker's lease is given back: what it did before stays
     /// done.
     pub fn serve<R: Wait, G: Gate>(
         &self,
@@ -196,7 +183,7 @@ impl<'a, J: Campaign> Board<'a, J> {
     {
         let shared = self.code(rt);
         let mut own = None;
-        let mut copies = matches!(self.crew, Crew::Several);
+        let mut copies = true;
         for _ in rt.forever() {
             let Some((chain, lease)) = self.next(rt, alloc, worker)? else {
                 return Ok(());
@@ -207,7 +194,7 @@ impl<'a, J: Campaign> Board<'a, J> {
                 copies = false;
             }
             let code = own.as_ref().unwrap_or(shared);
-            match work_over(alloc, code, lease, self.crew) {
+            match work_over(alloc, code, lease, Crew::Several) {
                 Ok(piece) => {
                     gate.worked(worker, &piece);
                     if !self.hand_in(rt, worker, chain, piece) {

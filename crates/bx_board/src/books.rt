@@ -12,7 +12,6 @@ mod opening;
 mod reporting;
 
 use crate::slots::{Counts, Event, Slot};
-pub use alone::report_alone;
 use bx_load::Image;
 use bx_plan::{Chains, Plan};
 use bx_terms::AtomId;

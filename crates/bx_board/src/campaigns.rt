@@ -8,9 +8,9 @@ ghost use Rattle.bx_plan.specs.Planned.{schedules};
 ghost use Rattle.bx_board.specs.Reported.{report_by, report_from};
 
 use crate::boards::{Board, Campaign, Gate};
-use crate::books::{Book, report_alone};
+use crate::books::Book;
 use crate::reports::Report;
-use crate::working::Crew;
+use crate::walks::report_alone;
 use bx_load::Image;
 use bx_plan::Plan;
 use bx_terms::{AtomId, Fault};
@@ -58,12 +58,7 @@ fn served<'a, J: Campaign + Send + Sync, R: Threads + Wait + Sync, G: Gate + Syn
     requires { book.job ≡ J.job }
     ensures { result.1.job ≡ J.job }
 {
-    let crew = if workers == 1 {
-        Crew::One
-    } else {
-        Crew::Several
-    };
-    let board = Board::<J>::of(book, crew);
+    let board = Board::<J>::new(book);
     let well = serve_all(rt, alloc, &board, workers, gate);
     (well, board.close())
 }
@@ -91,7 +86,8 @@ fn settle(
 }
 
 /// The report of the plan's schedules, each as if it were run alone from the start, by 1 to 64 workers that share the chains
-/// of the plan's tree. The caller's thread is worker 0; a thread that cannot be started is done without.
+/// of the plan's tree. The caller's thread is worker 0; a thread that cannot be started is done without. One worker alone leases
+/// nothing, and the gate is told nothing.
 ///
 /// `Workers` exactly where they are not 1 to 64; else `NoEntry` exactly where the module does not export that function of no
 /// arguments. `Memory` where it ran out for a worker and chains are left, or for the report, and only where neither of these
@@ -111,6 +107,9 @@ pub fn campaign<R: Threads + Wait + Sync, G: Gate + Sync>(
 {
     if workers == 0 || workers > MOST_WORKERS {
         return Err(Fault::Workers);
+    }
+    if workers == 1 {
+        return report_alone(alloc, image, module, function, plan);
     }
     let book = Book::new(alloc, image, module, function, plan)?;
     let counts = book.counts();

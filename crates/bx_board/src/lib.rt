@@ -8,12 +8,14 @@ pub mod laws;
 mod reports;
 mod slots;
 mod texts;
+mod walks;
 mod working;
 
 pub use boards::{Board, Campaign, FreeGate, Gate};
-pub use books::{Book, report_alone};
+pub use books::Book;
 pub use campaigns::campaign;
 pub use reports::{Report, Scheduled};
 pub use slots::{ArcEnd, Counts, Event, Slot};
 pub use texts::report_text;
+pub use walks::report_alone;
 pub use working::{Lease, Piece, work};

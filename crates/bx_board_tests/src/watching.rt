@@ -138,7 +138,7 @@ fn a_gate_is_told_of_every_chain(rt: HostRuntime) -> Result<(), Fail> {
     let alloc = rt.alloc();
     let image = image(alloc)?;
     let branching = plan(alloc, BRANCHING)?;
-    for workers in [1, 3, 64] {
+    for workers in [2, 3, 64] {
         assert_eq!(&rt;
             told(&rt, alloc, &image, "f", &branching, workers)?,
             [1, 4, 4, 0, 4, 9, 5, 6, 1, 0]
@@ -148,11 +148,11 @@ fn a_gate_is_told_of_every_chain(rt: HostRuntime) -> Result<(), Fail> {
 }
 
 #[test]
-fn a_gate_is_told_where_nothing_is_run(rt: HostRuntime) -> Result<(), Fail> {
+fn a_gate_is_told_where_nothing_is_leased(rt: HostRuntime) -> Result<(), Fail> {
     let alloc = rt.alloc();
     let image = image(alloc)?;
     let branching = plan(alloc, BRANCHING)?;
-    for (workers, function) in [(0, "f"), (65, "f"), (2, "ok")] {
+    for (workers, function) in [(0, "f"), (65, "f"), (2, "ok"), (1, "f")] {
         assert_eq!(&rt;
             told(&rt, alloc, &image, function, &branching, workers)?,
             [0; 10]

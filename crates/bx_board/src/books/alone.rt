@@ -1,19 +1,14 @@
 //! A campaign that one worker goes on with alone, in a plain loop.
 
-ghost use Rattle.std.specs.Prelude.{◌≡◌, IfErr, IfOk, IsSome, MatchBool};
-ghost use Rattle.bx_terms.specs.Outcomes.{Gives};
-ghost use Rattle.bx_load.specs.Image.{export};
+ghost use Rattle.std.specs.Prelude.{◌≡◌, IfErr, IfOk, MatchBool};
 ghost use Rattle.bx_board.specs.Alone.{GoesOn, IsIdle, IsUnheld, TakesBack};
 ghost use Rattle.bx_board.specs.Kept.{IsAllDone};
-ghost use Rattle.bx_plan.specs.Planned.{schedules};
-ghost use Rattle.bx_board.specs.Reported.{report_from, report_of};
+ghost use Rattle.bx_board.specs.Reported.{report_of};
 
 use crate::books::Book;
 use crate::reports::Report;
 use crate::working::{Crew, work_over};
-use bx_load::Image;
-use bx_plan::Plan;
-use bx_terms::{AtomId, Fault};
+use bx_terms::Fault;
 use std::alloc::Global;
 
 impl<'a> Book<'a> {
@@ -73,22 +68,4 @@ impl<'a> Book<'a> {
     {
         while self.take_back() {}
     }
-}
-
-/// The report of the plan's schedules, each as if it were run alone from the start; what schedules begin with in common is
-/// run once.
-///
-/// `NoEntry` exactly where the module does not export that function of no arguments; memory is taken only where it does.
-pub fn report_alone(
-    alloc: Global,
-    image: &Image,
-    module: AtomId,
-    function: AtomId,
-    plan: &Plan,
-) -> Result<Report, Fault>
-    ensures { Gives (IsSome (export image.now «module» function 0)) (λ report. report) result
-        (report_from image.now («module», function) (schedules plan.now)) }
-{
-    let book = Book::new(alloc, image, module, function, plan)?;
-    book.finish_alone(alloc)
 }

@@ -5,31 +5,14 @@ ghost use Rattle.bx_world.specs.declared.choices.Choice.{Choice};
 ghost use Rattle.bx_plan.specs.Planned.{schedules};
 ghost use Rattle.bx_board.specs.Jobs.{run_alone};
 ghost use Rattle.bx_board.specs.Kept.{IsAllDone};
-ghost use Rattle.bx_board.specs.Reported.{report_of, told, told_alone};
+ghost use Rattle.bx_board.specs.Reported.{report_of, told_alone};
 
 use crate::books::Book;
 use crate::reports::{Report, Scheduled};
 use crate::slots::{ArcEnd, Slot};
 use bx_share::Hold;
-use bx_terms::{Fault, Name};
+use bx_terms::Fault;
 use std::alloc::{AllocError, Global};
-
-/// What the end of a run shows under a schedule's name.
-fn told(alloc: Global, name: &str, end: &ArcEnd) -> Result<Scheduled, AllocError>
-    ensures { IfOk result (λ one. one ≡ told name.now end.now) }
-{
-    let name = Name::new(alloc, name)?;
-    let outcome = match end.world.outcome(alloc) {
-        Ok(outcome) => outcome,
-        Err(_) => return Err(AllocError),
-    };
-    Ok(Scheduled {
-        name,
-        applied: end.applied,
-        refused: end.refused,
-        outcome,
-    })
-}
 
 impl<'a> Book<'a> {
     /// Whether all chains are done.
@@ -63,7 +46,7 @@ impl<'a> Book<'a> {
         let Some(name) = self.plan.label(number) else {
             unreachable!()
         };
-        let one = told(alloc, name, self.end_at(number))?;
+        let one = Scheduled::of(alloc, name, self.end_at(number))?;
         Ok(one)
     }
 
