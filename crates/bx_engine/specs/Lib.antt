@@ -5,6 +5,7 @@ pub mod Starts
 pub mod Units
 pub mod Sources
 pub mod Loads
+pub mod Forms
 pub mod Runs
 pub mod Listings
 pub mod Campaigns

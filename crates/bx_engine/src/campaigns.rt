@@ -1,4 +1,4 @@
-//! `campaign`: the report that `run` gives, by several workers.
+//! `campaign`: what `run` writes, by several workers.
 
 ghost use Rattle.std.specs.Prelude.{⊤, ◌≡◌, ◌⊎◌, List, ℕ, IfErr, Some, map, string_bytes};
 ghost use Rattle.std.specs.Io.KnownBytes.{Keeps};
@@ -7,13 +7,14 @@ ghost use Rattle.bx_plan.specs.Planned.{schedules};
 ghost use Rattle.bx_engine.specs.Loads.{ClearUpTo};
 ghost use Rattle.bx_engine.specs.Units.{FilesGive};
 ghost use Rattle.bx_engine.specs.Runs.{ClearStart, TakesMemory, Writes};
-ghost use Rattle.bx_engine.specs.Campaigns.{campaign_behind, campaign_in, campaign_of};
+ghost use Rattle.bx_engine.specs.Campaigns.{campaign_as, campaign_behind, campaign_in, campaign_of};
 
 use crate::failures::Failure;
+use crate::forms::Form;
 use crate::loads::{image_of, plan_in};
 use crate::runs::entry_in;
 use crate::starts::{Start, start_of};
-use bx_board::{FreeGate, Gate, campaign, report_text};
+use bx_board::{FreeGate, Gate, campaign};
 use bx_load::Image;
 use bx_plan::Plan;
 use bx_terms::Fault;
@@ -22,23 +23,31 @@ use std::io::{Read, Write};
 use std::sync::Wait;
 use std::thread::Threads;
 
-/// The workers of a campaign: how many they are, the runtime that their threads are of, and the gate that is called as they go on.
+/// The workers of a campaign: how many they are, the form in which is written what comes of it, the runtime that their threads are of,
+/// and the gate that is called as they go on.
 #[derive(Drop)]
 pub struct Workers<'a, T, G> {
     rt: &'a T,
     pub count: u32,
+    pub form: Form,
     gate: &'a G,
 }
 
 impl<'a, T: Threads + Wait + Sync, G: Gate> Workers<'a, T, G> {
-    pub fn new(rt: &'a T, count: u32, gate: &'a G) -> Workers<'a, T, G>
-        ensures { result.count ≡ count }
+    pub fn new(rt: &'a T, count: u32, form: Form, gate: &'a G) -> Workers<'a, T, G>
+        ensures count { result.count ≡ count }
+        ensures form { result.form ≡ form }
     {
-        Workers { rt, count, gate }
+        Workers {
+            rt,
+            count,
+            form,
+            gate,
+        }
     }
 
-    /// The text of the report of the plan's schedules.
-    fn report_of(
+    /// The text of what comes of the plan's schedules.
+    fn written(
         &self,
         alloc: Global,
         image: &Image,
@@ -46,7 +55,7 @@ impl<'a, T: Threads + Wait + Sync, G: Gate> Workers<'a, T, G> {
         plan: &Plan,
     ) -> Result<String, Fault>
         ensures { Gives ⊤ (λ text. string_bytes text) result
-            (campaign_in self.now.count image.now start.now (schedules plan.now)) }
+            (campaign_in self.now.form self.now.count image.now start.now (schedules plan.now)) }
     {
         let workers = self.count;
         if workers == 0 || workers > 64 {
@@ -58,7 +67,7 @@ impl<'a, T: Threads + Wait + Sync, G: Gate> Workers<'a, T, G> {
         let report = campaign(
             self.rt, alloc, image, module, function, plan, workers, self.gate,
         )?;
-        report_text(alloc, image.atoms(), &report)
+        self.form.text(alloc, image.atoms(), &report)
     }
 
     /// The text that a campaign from that start writes, or the first fault of the files.
@@ -70,7 +79,7 @@ impl<'a, T: Threads + Wait + Sync, G: Gate> Workers<'a, T, G> {
         plan: &mut R,
     ) -> Result<String, Failure>
         ensures { (given : List (List ℕ)) → (planned : List ℕ) → map R.remaining listings.old ≡ map (λ text. Some text) given → R.remaining plan.old ≡ Some planned
-            → FilesGive (λ text. string_bytes text) result (ClearUpTo given) (campaign_behind self.now.count start.now given planned) }
+            → FilesGive (λ text. string_bytes text) result (ClearUpTo given) (campaign_behind self.now.form self.now.count start.now given planned) }
     {
         let file = listings.len();
         let image = match image_of(alloc, listings) {
@@ -81,14 +90,14 @@ impl<'a, T: Threads + Wait + Sync, G: Gate> Workers<'a, T, G> {
             Ok(plan) => plan,
             Err(failure) => return Err(failure),
         };
-        match self.report_of(alloc, &image, start, &plan) {
+        match self.written(alloc, &image, start, &plan) {
             Ok(text) => Ok(text),
             Err(fault) => Err(Failure::Refused(fault, None)),
         }
     }
 
-    /// Writes the report of the plan's schedules, as `campaign_text` does. The gate is told of the end of the workers' work before
-    /// anything is written.
+    /// Writes in the workers' form what comes of the plan's schedules, as `campaign_text` does their report. The gate is told of the
+    /// end of the workers' work before anything is written.
     pub fn campaign_text<R: Read, W: Write>(
         &self,
         alloc: Global,
@@ -98,7 +107,7 @@ impl<'a, T: Threads + Wait + Sync, G: Gate> Workers<'a, T, G> {
         writer: &mut W,
     ) -> Result<(), Failure>
         ensures written { (given : List (List ℕ)) → (planned : List ℕ) → map R.remaining listings.old ≡ map (λ text. Some text) given → R.remaining plan.old ≡ Some planned
-            → Writes (TakesMemory start.now) (W.contents writer.old) (W.contents writer.new) result (ClearStart start.now given) (campaign_of self.now.count start.now given planned) }
+            → Writes (TakesMemory start.now) (W.contents writer.old) (W.contents writer.new) result (ClearStart start.now given) (campaign_as self.now.form self.now.count start.now given planned) }
         ensures unwritten { IfErr result (λ failure. (failure ≡ Failure.Write) ⊎ Keeps
             (W.contents writer.old) (W.contents writer.new)) }
     {
@@ -139,6 +148,6 @@ pub fn campaign_text<T: Threads + Wait + Sync, R: Read, W: Write>(
     ensures unwritten { IfErr result (λ failure. (failure ≡ Failure.Write) ⊎ Keeps
         (W.contents writer.old) (W.contents writer.new)) }
 {
-    let workers = Workers::new(rt, workers, &FreeGate);
+    let workers = Workers::new(rt, workers, Form::Report, &FreeGate);
     workers.campaign_text(alloc, listings, start, plan, writer)
 }

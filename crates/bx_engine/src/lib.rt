@@ -4,6 +4,7 @@
 mod campaigns;
 mod dis;
 mod failures;
+mod forms;
 mod inputs;
 pub mod laws;
 mod loads;
@@ -17,6 +18,7 @@ mod units;
 pub use campaigns::{Workers, campaign_text};
 pub use dis::dis_text;
 pub use failures::{Failure, fault_line};
+pub use forms::Form;
 pub use inputs::{INPUT_LIMIT, MOST_ASKS, Unread, read_input};
 pub use loads::{image_of, located_image_of};
 pub use plan_lines::push_plan;

@@ -1,4 +1,4 @@
-//! `run`: the report of a plan's schedules, as if each were run alone from the start.
+//! `run`: what comes of a plan's schedules, as if each were run alone from the start.
 
 ghost use Rattle.std.specs.Prelude.{⊤, ◌≡◌, ◌⊎◌, List, ℕ, IfErr, Some, map, string_bytes};
 ghost use Rattle.std.specs.Io.KnownBytes.{Keeps};
@@ -6,12 +6,13 @@ ghost use Rattle.bx_terms.specs.Outcomes.{Gives};
 ghost use Rattle.bx_plan.specs.Planned.{schedules};
 ghost use Rattle.bx_engine.specs.Loads.{ClearUpTo};
 ghost use Rattle.bx_engine.specs.Units.{FilesGive};
-ghost use Rattle.bx_engine.specs.Runs.{ClearStart, TakesMemory, Writes, entry_in, report_in, reported, run_behind, run_of};
+ghost use Rattle.bx_engine.specs.Runs.{ClearStart, TakesMemory, Writes, entry_in, reported, run_as, run_of, written_behind, written_in};
 
 use crate::failures::Failure;
+use crate::forms::Form;
 use crate::loads::{image_of, plan_in};
 use crate::starts::{Start, start_of};
-use bx_board::{Report, report_alone, report_text};
+use bx_board::{Report, report_alone};
 use bx_load::Image;
 use bx_plan::Plan;
 use bx_terms::{AtomId, Fault};
@@ -40,37 +41,74 @@ fn reported(alloc: Global, image: &Image, start: &Start, plan: &Plan) -> Result<
     }
 }
 
-/// The text of the report of the plan's schedules.
-fn report_of(alloc: Global, image: &Image, start: &Start, plan: &Plan) -> Result<String, Fault>
-    ensures { Gives ⊤ (λ text. string_bytes text) result
-        (report_in image.now start.now (schedules plan.now)) }
-{
-    let report = reported(alloc, image, start, plan)?;
-    report_text(alloc, image.atoms(), &report)
-}
+impl Form {
+    /// The text of what comes of the plan's schedules.
+    fn written(
+        self,
+        alloc: Global,
+        image: &Image,
+        start: &Start,
+        plan: &Plan,
+    ) -> Result<String, Fault>
+        ensures { Gives ⊤ (λ text. string_bytes text) result
+            (written_in self image.now start.now (schedules plan.now)) }
+    {
+        let report = reported(alloc, image, start, plan)?;
+        self.text(alloc, image.atoms(), &report)
+    }
 
-/// The text that a run from that start writes, or the first fault of the files.
-fn text_of<R: Read>(
-    alloc: Global,
-    listings: &mut [R],
-    start: &Start,
-    plan: &mut R,
-) -> Result<String, Failure>
-    ensures { (given : List (List ℕ)) → (planned : List ℕ) → map R.remaining listings.old ≡ map (λ text. Some text) given → R.remaining plan.old ≡ Some planned
-        → FilesGive (λ text. string_bytes text) result (ClearUpTo given) (run_behind start.now given planned) }
-{
-    let file = listings.len();
-    let image = match image_of(alloc, listings) {
-        Ok(image) => image,
-        Err(failure) => return Err(failure),
-    };
-    let plan = match plan_in(alloc, file, plan) {
-        Ok(plan) => plan,
-        Err(failure) => return Err(failure),
-    };
-    match report_of(alloc, &image, start, &plan) {
-        Ok(text) => Ok(text),
-        Err(fault) => Err(Failure::Refused(fault, None)),
+    /// The text that a run from that start writes, or the first fault of the files.
+    fn text_of<R: Read>(
+        self,
+        alloc: Global,
+        listings: &mut [R],
+        start: &Start,
+        plan: &mut R,
+    ) -> Result<String, Failure>
+        ensures { (given : List (List ℕ)) → (planned : List ℕ) → map R.remaining listings.old ≡ map (λ text. Some text) given → R.remaining plan.old ≡ Some planned
+            → FilesGive (λ text. string_bytes text) result (ClearUpTo given) (written_behind self start.now given planned) }
+    {
+        let file = listings.len();
+        let image = match image_of(alloc, listings) {
+            Ok(image) => image,
+            Err(failure) => return Err(failure),
+        };
+        let plan = match plan_in(alloc, file, plan) {
+            Ok(plan) => plan,
+            Err(failure) => return Err(failure),
+        };
+        match self.written(alloc, &image, start, &plan) {
+            Ok(text) => Ok(text),
+            Err(fault) => Err(Failure::Refused(fault, None)),
+        }
+    }
+
+    /// Writes in this form what comes of the plan's schedules, as `run_text` does their report.
+    pub fn run_text<R: Read, W: Write>(
+        self,
+        alloc: Global,
+        listings: &mut [R],
+        start: &str,
+        plan: &mut R,
+        writer: &mut W,
+    ) -> Result<(), Failure>
+        ensures written { (given : List (List ℕ)) → (planned : List ℕ) → map R.remaining listings.old ≡ map (λ text. Some text) given → R.remaining plan.old ≡ Some planned
+            → Writes (TakesMemory start.now) (W.contents writer.old) (W.contents writer.new) result (ClearStart start.now given) (run_as self start.now given planned) }
+        ensures unwritten { IfErr result (λ failure. (failure ≡ Failure.Write) ⊎ Keeps
+            (W.contents writer.old) (W.contents writer.new)) }
+    {
+        let start = match start_of(alloc, start) {
+            Ok(start) => start,
+            Err(failure) => return Err(failure),
+        };
+        let text = match self.text_of(alloc, listings, &start, plan) {
+            Ok(text) => text,
+            Err(failure) => return Err(failure),
+        };
+        match writer.write_all(text.as_bytes()) {
+            Ok(()) => Ok(()),
+            Err(_) => Err(Failure::Write),
+        }
     }
 }
 
@@ -92,16 +130,5 @@ pub fn run_text<R: Read, W: Write>(
     ensures unwritten { IfErr result (λ failure. (failure ≡ Failure.Write) ⊎ Keeps
         (W.contents writer.old) (W.contents writer.new)) }
 {
-    let start = match start_of(alloc, start) {
-        Ok(start) => start,
-        Err(failure) => return Err(failure),
-    };
-    let text = match text_of(alloc, listings, &start, plan) {
-        Ok(text) => text,
-        Err(failure) => return Err(failure),
-    };
-    match writer.write_all(text.as_bytes()) {
-        Ok(()) => Ok(()),
-        Err(_) => Err(Failure::Write),
-    }
+    Form::Report.run_text(alloc, listings, start, plan, writer)
 }

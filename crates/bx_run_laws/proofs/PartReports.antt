@@ -9,14 +9,15 @@ use Rattle.bx_plan.specs.Plans.{Named, plan_of}
 use Rattle.bx_board.specs.Reported.{reported_alone, told_alone}
 use Rattle.bx_board.specs.Texts.{report_lines, schedule_lines}
 use Rattle.bx_board.specs.declared.reports.Scheduled.{Scheduled}
-use Rattle.bx_engine.specs.Campaigns.{campaign_behind, campaign_in, campaign_of}
+use Rattle.bx_engine.specs.Campaigns.{campaign_as, campaign_behind, campaign_in}
 use Rattle.bx_engine.specs.Inputs.{input_limit}
 use Rattle.bx_engine.specs.Loads.{image_of, of_no_file, plan_in}
-use Rattle.bx_engine.specs.Runs.{Names, or_start, report_in, report_of, run_behind, run_of}
+use Rattle.bx_engine.specs.Runs.{Names, or_start, report_of, run_as, run_behind, run_of, written_behind, written_in}
 use Rattle.bx_engine.specs.Starts.{start_in}
 use Rattle.bx_engine.specs.Units.{◌>>=◌, in_file}
 use Rattle.bx_engine.specs.declared.failures.Failure.{Failure}
 use Rattle.bx_engine.specs.declared.failures.Failure.TheVariants.{Refused}
+use Rattle.bx_engine.specs.declared.forms.Form.{Form}
 use Rattle.bx_run_laws.specs.Parted.{AreWhole, IsCutInto, IsReadable, joined}
 use Rattle.bx_run_laws.proofs.Parting.{IsRefused, IsTold, halved, is_told, readable_halves}
 
@@ -82,16 +83,17 @@ cut_reports start given text (part ∷ next ∷ parts) good (whole, rest, more, 
 
 -- ---- by workers
 
-pub campaign_is_run : (workers : ℕ) (start : List ℕ) (given : List (List ℕ)) (planned : List ℕ) → 1 ≤ workers → workers ≤ 64 → campaign_of workers start given planned ≡ run_of start given planned
-campaign_is_run workers start given planned some few = begun (or_start (start_in start)) where
+pub campaign_is_run : (form : Form) (workers : ℕ) (start : List ℕ) (given : List (List ℕ)) (planned : List ℕ) → 1 ≤ workers → workers ≤ 64
+    → campaign_as form workers start given planned ≡ run_as form start given planned
+campaign_is_run form workers start given planned some few = begun (or_start (start_in start)) where
   may : ((workers == 0) || nat_lt 64 workers) ≡ false
   may = grind (arith, nat_tests, some, few)
 
-  begun : (names : Result Names Failure) → (names >>= λ m. campaign_behind workers m given planned) ≡ (names >>= λ m. run_behind m given planned)
+  begun : (names : Result Names Failure) → (names >>= λ m. campaign_behind form workers m given planned) ≡ (names >>= λ m. written_behind form m given planned)
   begun (Err failure) = refl
   begun (Ok names) = loaded (image_of given) (plan_in (length given) planned) where
     loaded : (image : Result Loaded Failure) (plan : Result (List Named) Failure)
-        → (image >>= λ i. plan >>= λ p. of_no_file (campaign_in workers i names p)) ≡ (image >>= λ i. plan >>= λ p. report_of i names p)
+        → (image >>= λ i. plan >>= λ p. of_no_file (campaign_in form workers i names p)) ≡ (image >>= λ i. plan >>= λ p. of_no_file (written_in form i names p))
     loaded (Err failure) plan = refl
     loaded (Ok image) (Err failure) = refl
-    loaded (Ok image) (Ok plan) = ap (λ refused. of_no_file (cond refused (Err Workers) (report_in image names plan))) may
+    loaded (Ok image) (Ok plan) = ap (λ refused. of_no_file (cond refused (Err Workers) (written_in form image names plan))) may

@@ -5,5 +5,5 @@ use Rattle.bx_engine.proofs.campaigns.Workers.campaign_text.Goals as goal
 
 pub returns-in-Err-text_of-clause-written : goal.returns-in-Err-text_of-clause-written
 returns-in-Err-text_of-clause-written g c given planned known there =
-    nothing_written {X = List ℕ} (λ text. text) c.in-Err-text_of.failure c.in-Ok.start c.args.start.now given (λ names. campaign_behind c.args.self.now.count names given planned) (g.W.Write.contents c.args.writer.now)
+    nothing_written {X = List ℕ} (λ text. text) c.in-Err-text_of.failure c.in-Ok.start c.args.start.now given (λ names. campaign_behind c.args.self.now.form c.args.self.now.count names given planned) (g.W.Write.contents c.args.writer.now)
     c.in-Ok.ensures.ok (c.in-Err-text_of.ensures given planned known there)

@@ -1,9 +1,9 @@
 use Rattle.std.proofs.Common.{List, ℕ}
-use Rattle.bx_engine.specs.Runs.{run_behind}
+use Rattle.bx_engine.specs.Runs.{written_behind}
 use Rattle.bx_engine.proofs.Failing.{nothing_written}
-use Rattle.bx_engine.proofs.runs.run_text.Goals as goal
+use Rattle.bx_engine.proofs.forms.Form.run_text.Goals as goal
 
 pub returns-in-Err-text_of-clause-written : goal.returns-in-Err-text_of-clause-written
 returns-in-Err-text_of-clause-written g c given planned known there =
-    nothing_written {X = List ℕ} (λ text. text) c.in-Err-text_of.failure c.in-Ok.start c.args.start.now given (λ names. run_behind names given planned) (g.W.Write.contents c.args.writer.now)
+    nothing_written {X = List ℕ} (λ text. text) c.in-Err-text_of.failure c.in-Ok.start c.args.start.now given (λ names. written_behind c.args.self names given planned) (g.W.Write.contents c.args.writer.now)
     c.in-Ok.ensures.ok (c.in-Err-text_of.ensures given planned known there)
