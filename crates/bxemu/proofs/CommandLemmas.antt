@@ -55,72 +55,72 @@ module _ (rows : List Row) where
   OrdersNone name = (order : Order) → Orders (Some (name, rows)) order → ⊥
 
   pub run_lacks_start : first_of (codes "start") rows ≡ None → OrdersNone (codes "run")
-  run_lacks_start none (Run start plan files) h = let there = h.1 in cc
-  run_lacks_start none (Campaign start plan workers files) h = run_is_no_campaign h.0
+  run_lacks_start none (Run start plan form files) h = let there = h.1 in cc
+  run_lacks_start none (Campaign start plan workers form files) h = run_is_no_campaign h.0
   run_lacks_start none (Tidy start plan files) h = run_is_not_tidy h.0
   run_lacks_start none (Debug start files) h = run_is_not_debug h.0
   run_lacks_start none (Dis file) h = run_is_not_dis h.0
 
   pub run_lacks_plan : first_of (codes "plan") rows ≡ None → OrdersNone (codes "run")
-  run_lacks_plan none (Run start plan files) h = let there = h.2 in cc
-  run_lacks_plan none (Campaign start plan workers files) h = run_is_no_campaign h.0
+  run_lacks_plan none (Run start plan form files) h = let there = h.2 in cc
+  run_lacks_plan none (Campaign start plan workers form files) h = run_is_no_campaign h.0
   run_lacks_plan none (Tidy start plan files) h = run_is_not_tidy h.0
   run_lacks_plan none (Debug start files) h = run_is_not_debug h.0
   run_lacks_plan none (Dis file) h = run_is_not_dis h.0
 
   pub run_lacks_files : all_of (codes "FILES") rows ≡ None → OrdersNone (codes "run")
-  run_lacks_files none (Run start plan files) h = let there = h.3 in cc
-  run_lacks_files none (Campaign start plan workers files) h = run_is_no_campaign h.0
+  run_lacks_files none (Run start plan form files) h = let there = h.4 in cc
+  run_lacks_files none (Campaign start plan workers form files) h = run_is_no_campaign h.0
   run_lacks_files none (Tidy start plan files) h = run_is_not_tidy h.0
   run_lacks_files none (Debug start files) h = run_is_not_debug h.0
   run_lacks_files none (Dis file) h = run_is_not_dis h.0
 
   pub tidy_lacks_start : first_of (codes "start") rows ≡ None → OrdersNone (codes "tidy")
-  tidy_lacks_start none (Run start plan files) h = run_is_not_tidy (sym h.0)
-  tidy_lacks_start none (Campaign start plan workers files) h = tidy_is_no_campaign h.0
+  tidy_lacks_start none (Run start plan form files) h = run_is_not_tidy (sym h.0)
+  tidy_lacks_start none (Campaign start plan workers form files) h = tidy_is_no_campaign h.0
   tidy_lacks_start none (Tidy start plan files) h = let there = h.1 in cc
   tidy_lacks_start none (Debug start files) h = debug_is_not_tidy (sym h.0)
   tidy_lacks_start none (Dis file) h = dis_is_not_tidy (sym h.0)
 
   pub tidy_lacks_plan : first_of (codes "plan") rows ≡ None → OrdersNone (codes "tidy")
-  tidy_lacks_plan none (Run start plan files) h = run_is_not_tidy (sym h.0)
-  tidy_lacks_plan none (Campaign start plan workers files) h = tidy_is_no_campaign h.0
+  tidy_lacks_plan none (Run start plan form files) h = run_is_not_tidy (sym h.0)
+  tidy_lacks_plan none (Campaign start plan workers form files) h = tidy_is_no_campaign h.0
   tidy_lacks_plan none (Tidy start plan files) h = let there = h.2 in cc
   tidy_lacks_plan none (Debug start files) h = debug_is_not_tidy (sym h.0)
   tidy_lacks_plan none (Dis file) h = dis_is_not_tidy (sym h.0)
 
   pub tidy_lacks_files : all_of (codes "FILES") rows ≡ None → OrdersNone (codes "tidy")
-  tidy_lacks_files none (Run start plan files) h = run_is_not_tidy (sym h.0)
-  tidy_lacks_files none (Campaign start plan workers files) h = tidy_is_no_campaign h.0
+  tidy_lacks_files none (Run start plan form files) h = run_is_not_tidy (sym h.0)
+  tidy_lacks_files none (Campaign start plan workers form files) h = tidy_is_no_campaign h.0
   tidy_lacks_files none (Tidy start plan files) h = let there = h.3 in cc
   tidy_lacks_files none (Debug start files) h = debug_is_not_tidy (sym h.0)
   tidy_lacks_files none (Dis file) h = dis_is_not_tidy (sym h.0)
 
   pub campaign_lacks_start : first_of (codes "start") rows ≡ None → OrdersNone (codes "campaign")
-  campaign_lacks_start none (Run start plan files) h = run_is_no_campaign (sym h.0)
-  campaign_lacks_start none (Campaign start plan workers files) h = let there = h.1 in cc
+  campaign_lacks_start none (Run start plan form files) h = run_is_no_campaign (sym h.0)
+  campaign_lacks_start none (Campaign start plan workers form files) h = let there = h.1 in cc
   campaign_lacks_start none (Tidy start plan files) h = tidy_is_no_campaign (sym h.0)
   campaign_lacks_start none (Debug start files) h = debug_is_no_campaign (sym h.0)
   campaign_lacks_start none (Dis file) h = dis_is_no_campaign (sym h.0)
 
   pub campaign_lacks_plan : first_of (codes "plan") rows ≡ None → OrdersNone (codes "campaign")
-  campaign_lacks_plan none (Run start plan files) h = run_is_no_campaign (sym h.0)
-  campaign_lacks_plan none (Campaign start plan workers files) h = let there = h.2 in cc
+  campaign_lacks_plan none (Run start plan form files) h = run_is_no_campaign (sym h.0)
+  campaign_lacks_plan none (Campaign start plan workers form files) h = let there = h.2 in cc
   campaign_lacks_plan none (Tidy start plan files) h = tidy_is_no_campaign (sym h.0)
   campaign_lacks_plan none (Debug start files) h = debug_is_no_campaign (sym h.0)
   campaign_lacks_plan none (Dis file) h = dis_is_no_campaign (sym h.0)
 
   pub campaign_lacks_workers : first_of (codes "workers") rows ≡ None → OrdersNone (codes "campaign")
-  campaign_lacks_workers none (Run start plan files) h = run_is_no_campaign (sym h.0)
-  campaign_lacks_workers none (Campaign start plan workers files) h = let there = h.3.1 in cc
+  campaign_lacks_workers none (Run start plan form files) h = run_is_no_campaign (sym h.0)
+  campaign_lacks_workers none (Campaign start plan workers form files) h = let there = h.3.1 in cc
   campaign_lacks_workers none (Tidy start plan files) h = tidy_is_no_campaign (sym h.0)
   campaign_lacks_workers none (Debug start files) h = debug_is_no_campaign (sym h.0)
   campaign_lacks_workers none (Dis file) h = dis_is_no_campaign (sym h.0)
 
   -- the text of the option spells no number of workers
   pub campaign_misspelt : (text : Text) → first_of (codes "workers") rows ≡ Some text → ((n : ℕ) → Spells text n → ⊥) → OrdersNone (codes "campaign")
-  campaign_misspelt text is none (Run start plan files) h = run_is_no_campaign (sym h.0)
-  campaign_misspelt text is none (Campaign start plan workers files) h = none workers (subst (λ t. Spells t workers) (same h.3.0 text (sym h.3.1 ∙ is)) h.3.2) where
+  campaign_misspelt text is none (Run start plan form files) h = run_is_no_campaign (sym h.0)
+  campaign_misspelt text is none (Campaign start plan workers form files) h = none workers (subst (λ t. Spells t workers) (same h.3.0 text (sym h.3.1 ∙ is)) h.3.2) where
     same : (one other : Text) → Some one ≡ Some other → one ≡ other
     same one other e = cc
   campaign_misspelt text is none (Tidy start plan files) h = tidy_is_no_campaign (sym h.0)
@@ -128,29 +128,29 @@ module _ (rows : List Row) where
   campaign_misspelt text is none (Dis file) h = dis_is_no_campaign (sym h.0)
 
   pub campaign_lacks_files : all_of (codes "FILES") rows ≡ None → OrdersNone (codes "campaign")
-  campaign_lacks_files none (Run start plan files) h = run_is_no_campaign (sym h.0)
-  campaign_lacks_files none (Campaign start plan workers files) h = let there = h.4 in cc
+  campaign_lacks_files none (Run start plan form files) h = run_is_no_campaign (sym h.0)
+  campaign_lacks_files none (Campaign start plan workers form files) h = let there = h.5 in cc
   campaign_lacks_files none (Tidy start plan files) h = tidy_is_no_campaign (sym h.0)
   campaign_lacks_files none (Debug start files) h = debug_is_no_campaign (sym h.0)
   campaign_lacks_files none (Dis file) h = dis_is_no_campaign (sym h.0)
 
   pub debug_lacks_start : first_of (codes "start") rows ≡ None → OrdersNone (codes "debug")
-  debug_lacks_start none (Run start plan files) h = run_is_not_debug (sym h.0)
-  debug_lacks_start none (Campaign start plan workers files) h = debug_is_no_campaign h.0
+  debug_lacks_start none (Run start plan form files) h = run_is_not_debug (sym h.0)
+  debug_lacks_start none (Campaign start plan workers form files) h = debug_is_no_campaign h.0
   debug_lacks_start none (Tidy start plan files) h = debug_is_not_tidy h.0
   debug_lacks_start none (Debug start files) h = let there = h.1 in cc
   debug_lacks_start none (Dis file) h = dis_is_not_debug (sym h.0)
 
   pub debug_lacks_files : all_of (codes "FILES") rows ≡ None → OrdersNone (codes "debug")
-  debug_lacks_files none (Run start plan files) h = run_is_not_debug (sym h.0)
-  debug_lacks_files none (Campaign start plan workers files) h = debug_is_no_campaign h.0
+  debug_lacks_files none (Run start plan form files) h = run_is_not_debug (sym h.0)
+  debug_lacks_files none (Campaign start plan workers form files) h = debug_is_no_campaign h.0
   debug_lacks_files none (Tidy start plan files) h = debug_is_not_tidy h.0
   debug_lacks_files none (Debug start files) h = let there = h.2 in cc
   debug_lacks_files none (Dis file) h = dis_is_not_debug (sym h.0)
 
   pub dis_lacks_file : first_of (codes "FILE") rows ≡ None → OrdersNone (codes "dis")
-  dis_lacks_file none (Run start plan files) h = run_is_not_dis (sym h.0)
-  dis_lacks_file none (Campaign start plan workers files) h = dis_is_no_campaign h.0
+  dis_lacks_file none (Run start plan form files) h = run_is_not_dis (sym h.0)
+  dis_lacks_file none (Campaign start plan workers form files) h = dis_is_no_campaign h.0
   dis_lacks_file none (Tidy start plan files) h = dis_is_not_tidy h.0
   dis_lacks_file none (Debug start files) h = dis_is_not_debug h.0
   dis_lacks_file none (Dis file) h = let there = h.1 in cc

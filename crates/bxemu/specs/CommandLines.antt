@@ -1,16 +1,19 @@
 -- The command lines of the program, and what each orders, by the meaning that `clap` gives to the
 -- words of simple commands.
-use Rattle.std.specs.Prelude.{◌≡◌, ◌≢◌, ◌⊎◌, ◌<◌, ◌^◌, ℕ, pos, true, false, List, [], ◌∷◌, Option, Some, None, codes, map}
+use Rattle.std.specs.Prelude.{◌≡◌, ◌≢◌, ◌⊎◌, ◌<◌, ◌^◌, ℕ, pos, true, false, List, [], ◌∷◌, Option, Some, None, codes, if◌then◌else◌, map}
+use Rattle.std.specs.Str.{bytes_eq}
 use Rattle.std.specs.Str.Parse.{IsNumeral, signed_digits_value, without_leading_sign}
 use Rattle.clap.specs.Kinds.{HasKind, IsAmong}
 use Rattle.clap.specs.Faults.{fault_of}
 use Rattle.clap.specs.Values.{kind_of}
 use Rattle.clap.specs.Simple.{App, new_app, new_rule, on_top, subcommand_of, with_rule, with_subcommand}
 use Rattle.clap.specs.Walk.{Row, Rule, Text, all_of, first_of}
-use Rattle.clap.specs.declared.builder.action.ArgAction.TheVariants.{Set, Append}
+use Rattle.clap.specs.declared.builder.action.ArgAction.TheVariants.{Set, SetTrue, Append}
 use Rattle.clap.specs.declared.builder.value_parser.ValueParser.TheVariants.{Signed}
 use Rattle.clap.specs.declared.error.Error.{Error}
 use Rattle.clap.specs.declared.error.kind.ErrorKind.TheVariants.{DisplayHelp, DisplayVersion, MissingSubcommand, OutOfMemory}
+use Rattle.bx_engine.specs.declared.forms.Form.{Form}
+use Rattle.bx_engine.specs.declared.forms.Form.TheVariants.{Report, Summary}
 use Rattle.bxemu.specs.declared.commands.Order.{Order}
 use Rattle.bxemu.specs.declared.commands.Order.TheVariants.{Campaign, Debug, Dis, Run, Tidy}
 
@@ -39,20 +42,25 @@ workers_rule = record (option_rule (codes "workers")) {
   parser = Some (Signed (pos 0) (pos 4294967295));
 }
 
--- `run --start M:F --plan FILE FILES..`
-abbrev pub run_command : App
-run_command = with_rule (with_rule (with_rule (new_app (codes "run")) (option_rule (codes "start")))
-    (option_rule (codes "plan"))) files_rule
+-- `--summary`, which may be left out
+abbrev pub summary_rule : Rule
+summary_rule = record (new_rule (codes "summary")) { long = Some (codes "summary"); action = Some SetTrue }
 
--- `campaign --start M:F --plan FILE --workers N FILES..`
+-- `NAME --start M:F --plan FILE`
+abbrev pub over_plan : Text → App
+over_plan name = with_rule (with_rule (new_app name) (option_rule (codes "start"))) (option_rule (codes "plan"))
+
+-- `run --start M:F --plan FILE --summary FILES..`
+abbrev pub run_command : App
+run_command = with_rule (with_rule (over_plan (codes "run")) summary_rule) files_rule
+
+-- `campaign --start M:F --plan FILE --workers N --summary FILES..`
 abbrev pub campaign_command : App
-campaign_command = with_rule (with_rule (with_rule (with_rule (new_app (codes "campaign")) (option_rule (codes "start")))
-    (option_rule (codes "plan"))) workers_rule) files_rule
+campaign_command = with_rule (with_rule (with_rule (over_plan (codes "campaign")) workers_rule) summary_rule) files_rule
 
 -- `tidy --start M:F --plan FILE FILES..`
 abbrev pub tidy_command : App
-tidy_command = with_rule (with_rule (with_rule (new_app (codes "tidy")) (option_rule (codes "start")))
-    (option_rule (codes "plan"))) files_rule
+tidy_command = with_rule (over_plan (codes "tidy")) files_rule
 
 -- `debug --start M:F FILES..`
 abbrev pub debug_command : App
@@ -82,21 +90,28 @@ program = with_subcommand (with_subcommand plan_program debug_command.top) dis_c
 abbrev pub Spells : Text → ℕ → Type 0
 Spells text n = IsNumeral 10 (without_leading_sign text) × (signed_digits_value 10 text ≡ pos n) × (n < 2 ^ 32)
 
+-- the form that the value of the flag asks for
+abbrev pub form_by : Option Text → Form
+form_by None = Report
+form_by (Some value) = if bytes_eq value (codes "true") then Summary else Report
+
 -- a run with these parts is what the subcommand's values say
-abbrev pub IsRun : Option (Text × List Row) → Text → Text → List Text → Type 0
-IsRun None start plan files = ⊥
-IsRun (Some p) start plan files = (p.0 ≡ codes "run")
+abbrev pub IsRun : Option (Text × List Row) → Text → Text → Form → List Text → Type 0
+IsRun None start plan form files = ⊥
+IsRun (Some p) start plan form files = (p.0 ≡ codes "run")
     × (first_of (codes "start") p.1 ≡ Some start)
     × (first_of (codes "plan") p.1 ≡ Some plan)
+    × (form_by (first_of (codes "summary") p.1) ≡ form)
     × (all_of (codes "FILES") p.1 ≡ Some files)
 
 -- a campaign with these parts is what the subcommand's values say
-abbrev pub IsCampaign : Option (Text × List Row) → Text → Text → ℕ → List Text → Type 0
-IsCampaign None start plan workers files = ⊥
-IsCampaign (Some p) start plan workers files = (p.0 ≡ codes "campaign")
+abbrev pub IsCampaign : Option (Text × List Row) → Text → Text → ℕ → Form → List Text → Type 0
+IsCampaign None start plan workers form files = ⊥
+IsCampaign (Some p) start plan workers form files = (p.0 ≡ codes "campaign")
     × (first_of (codes "start") p.1 ≡ Some start)
     × (first_of (codes "plan") p.1 ≡ Some plan)
     × ((text : Text) × (first_of (codes "workers") p.1 ≡ Some text) × Spells text workers)
+    × (form_by (first_of (codes "summary") p.1) ≡ form)
     × (all_of (codes "FILES") p.1 ≡ Some files)
 
 -- a tidying with these parts is what the subcommand's values say
@@ -121,10 +136,10 @@ IsDis (Some p) file = (p.0 ≡ codes "dis") × (first_of (codes "FILE") p.1 ≡ 
 
 -- the order is the one that the subcommand's values say
 abbrev pub Orders : Option (Text × List Row) → Order → Type 0
-Orders named (Run start plan files) =
-    IsRun named start.now plan.now (map (λ file. file.now) files.items)
-Orders named (Campaign start plan workers files) =
-    IsCampaign named start.now plan.now workers (map (λ file. file.now) files.items)
+Orders named (Run start plan form files) =
+    IsRun named start.now plan.now form (map (λ file. file.now) files.items)
+Orders named (Campaign start plan workers form files) =
+    IsCampaign named start.now plan.now workers form (map (λ file. file.now) files.items)
 Orders named (Tidy start plan files) =
     IsTidy named start.now plan.now (map (λ file. file.now) files.items)
 Orders named (Debug start files) = IsDebug named start.now (map (λ file. file.now) files.items)
@@ -132,23 +147,23 @@ Orders named (Dis file) = IsDis named file.now
 
 -- the files that it names before the last, and the last: the plan, or the only file; the lines of a session stand for its last
 abbrev pub first_files : Order → List Text
-first_files (Run start plan files) = map (λ file. file.now) files.items
-first_files (Campaign start plan workers files) = map (λ file. file.now) files.items
+first_files (Run start plan form files) = map (λ file. file.now) files.items
+first_files (Campaign start plan workers form files) = map (λ file. file.now) files.items
 first_files (Tidy start plan files) = map (λ file. file.now) files.items
 first_files (Debug start files) = map (λ file. file.now) files.items
 first_files (Dis file) = []
 
 abbrev pub last_file : Order → Text
-last_file (Run start plan files) = plan.now
-last_file (Campaign start plan workers files) = plan.now
+last_file (Run start plan form files) = plan.now
+last_file (Campaign start plan workers form files) = plan.now
 last_file (Tidy start plan files) = plan.now
 last_file (Debug start files) = codes "-"
 last_file (Dis file) = file.now
 
 -- an order whose text goes out line by line, so that some of it may be out where it fails
 abbrev pub TellsByLine : Order → Type 0
-TellsByLine (Run start plan files) = ⊥
-TellsByLine (Campaign start plan workers files) = ⊥
+TellsByLine (Run start plan form files) = ⊥
+TellsByLine (Campaign start plan workers form files) = ⊥
 TellsByLine (Tidy start plan files) = ⊥
 TellsByLine (Debug start files) = Unit {0}
 TellsByLine (Dis file) = ⊥
@@ -186,14 +201,14 @@ RefusesWords words status = (status ≡ 2) ⊎ (status ≡ 3)
     ⊎ (MayAskHelp words × ((status ≡ 0) ⊎ (status ≡ 4)))
 
 -- the words order a run with these parts, and have no fault
-abbrev pub OrdersRun : List Text → Text → Text → List Text → Type 0
-OrdersRun words start plan files =
-    (fault_of program words ≡ []) × IsRun (subcommand_of program words) start plan files
+abbrev pub OrdersRun : List Text → Text → Text → Form → List Text → Type 0
+OrdersRun words start plan form files =
+    (fault_of program words ≡ []) × IsRun (subcommand_of program words) start plan form files
 
 -- the words order a campaign with these parts, and have no fault
-abbrev pub OrdersCampaign : List Text → Text → Text → ℕ → List Text → Type 0
-OrdersCampaign words start plan workers files =
-    (fault_of program words ≡ []) × IsCampaign (subcommand_of program words) start plan workers files
+abbrev pub OrdersCampaign : List Text → Text → Text → ℕ → Form → List Text → Type 0
+OrdersCampaign words start plan workers form files =
+    (fault_of program words ≡ []) × IsCampaign (subcommand_of program words) start plan workers form files
 
 -- the words order a tidying with these parts, and have no fault
 abbrev pub OrdersTidy : List Text → Text → Text → List Text → Type 0

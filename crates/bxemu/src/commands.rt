@@ -2,9 +2,11 @@
 ghost use Rattle.std.specs.Prelude.{◌≡◌, ◌⊎◌, ℕ, [], IfErr, IfNone, IfOk, IfSome, codes, map, string_bytes};
 ghost use Rattle.clap.specs.Words.{found_of, kind_of, rows_of, subcommand_of, subcommand_rows_of};
 ghost use Rattle.clap.specs.Faults.{fault_of};
-ghost use Rattle.bxemu.specs.CommandLines.{Lacks, Orders, OrdersNothing, Spells, program};
+ghost use Rattle.clap.specs.Walk.{first_of};
+ghost use Rattle.bxemu.specs.CommandLines.{Lacks, Orders, OrdersNothing, Spells, form_by, program};
 
 use crate::syntax::program_command;
+use bx_engine::Form;
 use clap::error::ErrorKind;
 use clap::{ArgMatches, Error};
 use std::alloc::{AllocError, Global};
@@ -18,6 +20,8 @@ pub enum Order<'a> {
         start: &'a str,
         /// The file of the plan.
         plan: &'a str,
+        /// The form of what is written.
+        form: Form,
         /// The files of the listings, in order.
         files: Vec<&'a str>,
     },
@@ -29,6 +33,8 @@ pub enum Order<'a> {
         plan: &'a str,
         /// How many workers there are.
         workers: u32,
+        /// The form of what is written.
+        form: Form,
         /// The files of the listings, in order.
         files: Vec<&'a str>,
     },
@@ -101,7 +107,13 @@ fn run_order<'a>(alloc: Global, values: &ArgMatches<'a>) -> Result<Order<'a>, Er
         return Err(incomplete(alloc));
     };
     let files = Vec::from_slice(alloc, files)?;
-    Ok(Order::Run { start, plan, files })
+    let form = form_of(values);
+    Ok(Order::Run {
+        start,
+        plan,
+        form,
+        files,
+    })
 }
 
 /// The order of a campaign, by the values of `campaign`.
@@ -125,12 +137,24 @@ fn campaign_order<'a>(alloc: Global, values: &ArgMatches<'a>) -> Result<Order<'a
         return Err(incomplete(alloc));
     };
     let files = Vec::from_slice(alloc, files)?;
+    let form = form_of(values);
     Ok(Order::Campaign {
         start,
         plan,
         workers,
+        form,
         files,
     })
+}
+
+/// The form that the values of `run` or `campaign` ask for.
+fn form_of(values: &ArgMatches<'_>) -> Form
+    ensures { result ≡ form_by (first_of (codes "summary") (rows_of (found_of values.now))) }
+{
+    match values.get_str("summary") {
+        Some(value) if value == "true" => Form::Summary,
+        _ => Form::Report,
+    }
 }
 
 /// The number of workers that a text spells.

@@ -1,26 +1,39 @@
 //! What the program's command lines come to. Each function has an empty body; its clause is the law.
 ghost use Rattle.std.specs.Prelude.{◌∷◌, [], codes};
+ghost use Rattle.bx_engine.specs.declared.forms.Form.TheVariants.{Report, Summary};
 ghost use Rattle.bxemu.specs.CommandLines.{OrdersCampaign, OrdersDebug, OrdersDis, OrdersRun, OrdersTidy};
 
 /// `run` names the start, the plan and each file, in this order or with the options last; what
 /// stands behind `--` is a file, and so is `-`.
 pub fn a_run_names_its_parts()
     ensures in_order { OrdersRun (codes "bxemu" ∷ codes "run" ∷ codes "--start" ∷ codes "m:f" ∷ codes "--plan" ∷ codes "p"
-        ∷ codes "a.S" ∷ codes "b.S" ∷ []) (codes "m:f") (codes "p") (codes "a.S" ∷ codes "b.S" ∷ []) }
+        ∷ codes "a.S" ∷ codes "b.S" ∷ []) (codes "m:f") (codes "p") Report (codes "a.S" ∷ codes "b.S" ∷ []) }
     ensures options_last { OrdersRun (codes "bxemu" ∷ codes "run" ∷ codes "a.S" ∷ codes "--plan=p" ∷ codes "--start=m:f" ∷ [])
-        (codes "m:f") (codes "p") (codes "a.S" ∷ []) }
+        (codes "m:f") (codes "p") Report (codes "a.S" ∷ []) }
     ensures files_only { OrdersRun (codes "bxemu" ∷ codes "run" ∷ codes "--start" ∷ codes "m:f" ∷ codes "--plan" ∷ codes "p"
-        ∷ codes "-" ∷ codes "--" ∷ codes "--plan" ∷ []) (codes "m:f") (codes "p") (codes "-" ∷ codes "--plan" ∷ []) }
+        ∷ codes "-" ∷ codes "--" ∷ codes "--plan" ∷ []) (codes "m:f") (codes "p") Report (codes "-" ∷ codes "--plan" ∷ []) }
 {}
 
 /// `campaign` names the same and the number of workers, which is 4 where none is named.
 pub fn a_campaign_names_its_parts()
     ensures named { OrdersCampaign (codes "bxemu" ∷ codes "campaign" ∷ codes "--start" ∷ codes "m:f" ∷ codes "--plan" ∷ codes "p"
-        ∷ codes "--workers" ∷ codes "64" ∷ codes "a.S" ∷ []) (codes "m:f") (codes "p") 64 (codes "a.S" ∷ []) }
+        ∷ codes "--workers" ∷ codes "64" ∷ codes "a.S" ∷ []) (codes "m:f") (codes "p") 64 Report (codes "a.S" ∷ []) }
     ensures signed { OrdersCampaign (codes "bxemu" ∷ codes "campaign" ∷ codes "a.S" ∷ codes "--workers=+2" ∷ codes "--plan=p"
-        ∷ codes "--start=m:f" ∷ []) (codes "m:f") (codes "p") 2 (codes "a.S" ∷ []) }
+        ∷ codes "--start=m:f" ∷ []) (codes "m:f") (codes "p") 2 Report (codes "a.S" ∷ []) }
     ensures left_out { OrdersCampaign (codes "bxemu" ∷ codes "campaign" ∷ codes "--start" ∷ codes "m:f" ∷ codes "--plan" ∷ codes "p"
-        ∷ codes "a.S" ∷ codes "b.S" ∷ []) (codes "m:f") (codes "p") 4 (codes "a.S" ∷ codes "b.S" ∷ []) }
+        ∷ codes "a.S" ∷ codes "b.S" ∷ []) (codes "m:f") (codes "p") 4 Report (codes "a.S" ∷ codes "b.S" ∷ []) }
+{}
+
+/// `run` and `campaign` write a summary where `--summary` stands among their words, and else the report.
+pub fn a_flag_asks_for_a_summary()
+    ensures run { OrdersRun (codes "bxemu" ∷ codes "run" ∷ codes "--start" ∷ codes "m:f" ∷ codes "--plan" ∷ codes "p" ∷ codes "--summary"
+        ∷ codes "a.S" ∷ []) (codes "m:f") (codes "p") Summary (codes "a.S" ∷ []) }
+    ensures flag_first { OrdersRun (codes "bxemu" ∷ codes "run" ∷ codes "--summary" ∷ codes "a.S" ∷ codes "--plan=p" ∷ codes "--start=m:f" ∷ [])
+        (codes "m:f") (codes "p") Summary (codes "a.S" ∷ []) }
+    ensures campaign { OrdersCampaign (codes "bxemu" ∷ codes "campaign" ∷ codes "--start" ∷ codes "m:f" ∷ codes "--plan" ∷ codes "p"
+        ∷ codes "a.S" ∷ codes "--summary" ∷ []) (codes "m:f") (codes "p") 4 Summary (codes "a.S" ∷ []) }
+    ensures left_out { OrdersRun (codes "bxemu" ∷ codes "run" ∷ codes "--start" ∷ codes "m:f" ∷ codes "--plan" ∷ codes "p"
+        ∷ codes "a.S" ∷ codes "--" ∷ codes "--summary" ∷ []) (codes "m:f") (codes "p") Report (codes "a.S" ∷ codes "--summary" ∷ []) }
 {}
 
 /// `tidy` names the parts that `run` names.

@@ -14,7 +14,7 @@ use crate::progress::Progress;
 use crate::prompt::Asking;
 use bx_board::{FreeGate, Gate};
 use bx_debugger::{Prompted, debug_text};
-use bx_engine::{Failure, Workers, dis_text, fault_line, run_text, start_of, tidy_text};
+use bx_engine::{Failure, Form, Workers, dis_text, fault_line, start_of, tidy_text};
 use bx_terms::Fault;
 use clap::Error;
 use clap::error::ErrorKind;
@@ -112,18 +112,28 @@ where
     };
     let names = names.as_slice();
     match order {
-        Order::Run { start, .. } => {
-            let ended = run(rt, Task { start, names }, input, output);
+        Order::Run { start, form, .. } => {
+            let ended = run(rt, *form, Task { start, names }, input, output);
             told(&ended, names, errors)
         }
-        Order::Campaign { start, workers, .. } if errors.is_terminal() => {
+        Order::Campaign {
+            start,
+            workers,
+            form,
+            ..
+        } if errors.is_terminal() => {
             let gate = Progress::new(rt);
-            let workers = Workers::new(rt, *workers, &gate);
+            let workers = Workers::new(rt, *workers, *form, &gate);
             let ended = campaign(rt, &workers, Task { start, names }, input, output);
             told(&ended, names, errors)
         }
-        Order::Campaign { start, workers, .. } => {
-            let workers = Workers::new(rt, *workers, &FreeGate);
+        Order::Campaign {
+            start,
+            workers,
+            form,
+            ..
+        } => {
+            let workers = Workers::new(rt, *workers, *form, &FreeGate);
             let ended = campaign(rt, &workers, Task { start, names }, input, output);
             told(&ended, names, errors)
         }
@@ -228,8 +238,14 @@ fn names_of(alloc: Global, files: &[&str], last: &str) -> Result<Vec<String>, Al
     Ok(names)
 }
 
-/// Looks at the start, opens all the files, the plan last, and then writes the report of the run.
-fn run<R, I, O>(rt: &R, task: Task<'_>, input: &mut I, output: &mut O) -> Result<(), Failure>
+/// Looks at the start, opens all the files, the plan last, and then writes in that form what comes of the run.
+fn run<R, I, O>(
+    rt: &R,
+    form: Form,
+    task: Task<'_>,
+    input: &mut I,
+    output: &mut O,
+) -> Result<(), Failure>
 where
     R: Files + AllocGlobal,
     I: Read,
@@ -241,12 +257,12 @@ where
     let _ = start_of(rt.alloc(), start)?;
     let mut inputs = open_with_plan(rt, names, input)?;
     match inputs.split_last_mut() {
-        Some((plan, listings)) => run_text(rt.alloc(), listings, start, plan, output),
+        Some((plan, listings)) => form.run_text(rt.alloc(), listings, start, plan, output),
         None => Ok(()),
     }
 }
 
-/// Looks at the start, opens all the files, the plan last, and then writes the report of the workers' campaign.
+/// Looks at the start, opens all the files, the plan last, and then writes what comes of the workers' campaign.
 fn campaign<R, G, I, O>(
     rt: &R,
     workers: &Workers<'_, R, G>,

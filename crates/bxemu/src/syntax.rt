@@ -2,7 +2,7 @@
 ghost use Rattle.std.specs.Prelude.{◌≡◌, IfOk, codes, false};
 ghost use Rattle.clap.specs.Words.{app_of, rule_of};
 ghost use Rattle.clap.specs.declared.builder.command.Command.TheViews.{out-Command as fields_of};
-ghost use Rattle.bxemu.specs.CommandLines.{campaign_command, debug_command, dis_command, file_rule, files_rule, option_rule, plan_program, program, run_command, running_program, tidy_command, workers_rule};
+ghost use Rattle.bxemu.specs.CommandLines.{campaign_command, debug_command, dis_command, file_rule, files_rule, option_rule, over_plan, plan_program, program, run_command, running_program, summary_rule, tidy_command, workers_rule};
 
 use bx_debugger::SESSION_HELP;
 use clap::{Arg, ArgAction, Command};
@@ -39,15 +39,24 @@ fn running_program<'a>(alloc: Global) -> Result<Command<'a>, AllocError>
         .subcommand(campaign_subcommand(alloc)?)
 }
 
+/// A subcommand that runs the schedules of a plan, with its start and the plan.
+fn over_plan<'a>(alloc: Global, name: &'a str) -> Result<Command<'a>, AllocError>
+    ensures app { IfOk result (λ c. app_of c ≡ over_plan name.now) }
+    ensures local { IfOk result (λ c. (fields_of c).has_globals ≡ false) }
+{
+    Command::new(alloc, name)
+        .arg(start_option(alloc))?
+        .arg(plan_option(alloc))
+}
+
 /// `run`, with its options and files.
 fn run_subcommand<'a>(alloc: Global) -> Result<Command<'a>, AllocError>
     ensures app { IfOk result (λ c. app_of c ≡ run_command) }
     ensures local { IfOk result (λ c. (fields_of c).has_globals ≡ false) }
 {
-    Command::new(alloc, "run")
+    over_plan(alloc, "run")?
         .about("Runs each schedule of a plan and prints the report")
-        .arg(start_option(alloc))?
-        .arg(plan_option(alloc))?
+        .arg(summary_option(alloc))?
         .arg(files_argument(alloc))
 }
 
@@ -56,11 +65,10 @@ fn campaign_subcommand<'a>(alloc: Global) -> Result<Command<'a>, AllocError>
     ensures app { IfOk result (λ c. app_of c ≡ campaign_command) }
     ensures local { IfOk result (λ c. (fields_of c).has_globals ≡ false) }
 {
-    Command::new(alloc, "campaign")
+    over_plan(alloc, "campaign")?
         .about("Runs each schedule of a plan by several workers and prints the same report")
-        .arg(start_option(alloc))?
-        .arg(plan_option(alloc))?
         .arg(workers_option(alloc))?
+        .arg(summary_option(alloc))?
         .arg(files_argument(alloc))
 }
 
@@ -69,12 +77,10 @@ fn tidy_subcommand<'a>(alloc: Global) -> Result<Command<'a>, AllocError>
     ensures app { IfOk result (λ c. app_of c ≡ tidy_command) }
     ensures local { IfOk result (λ c. (fields_of c).has_globals ≡ false) }
 {
-    Command::new(alloc, "tidy")
+    over_plan(alloc, "tidy")?
         .about(
             "Exchanges independent choices of each schedule of a plan, so that those of one process stand together, and prints the plan",
         )
-        .arg(start_option(alloc))?
-        .arg(plan_option(alloc))?
         .arg(files_argument(alloc))
 }
 
@@ -138,6 +144,19 @@ fn workers_option<'a>(alloc: Global) -> Arg<'a>
         .action(ArgAction::Set)
         .value_parser(clap::value_parser!(u32))
         .default_value("4")
+}
+
+/// `--summary`.
+fn summary_option<'a>(alloc: Global) -> Arg<'a>
+    ensures rule { rule_of result ≡ summary_rule }
+    ensures local { result.global ≡ false }
+{
+    Arg::new(alloc, "summary")
+        .long("summary")
+        .help(
+            "Prints each distinct outcome once, with how many schedules have it, in place of the reports",
+        )
+        .action(ArgAction::SetTrue)
 }
 
 /// The files of the listings.

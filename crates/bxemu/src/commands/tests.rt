@@ -1,4 +1,5 @@
 use crate::commands::{Order, command_of};
+use bx_engine::Form;
 use clap::error::ErrorKind;
 use std::alloc::{AllocError, Global};
 use std::process::Abort;
@@ -28,6 +29,7 @@ fn assert_run(rt: &impl Abort, order: &Order<'_>, start: &str, plan: &str, files
         start: start_given,
         plan: plan_given,
         files: files_given,
+        ..
     } = order
     else {
         assert!(rt; false, "another order");
@@ -79,6 +81,7 @@ fn assert_campaign(rt: &impl Abort, order: &Order<'_>, workers: u32, files: &str
         plan,
         workers: workers_given,
         files: files_given,
+        ..
     } = order
     else {
         assert!(rt; false, "another order");
@@ -112,6 +115,37 @@ fn orders_campaigns(rt: HostRuntime) -> Result<(), Fail> {
         let words = words(rt.alloc(), line)?;
         let order = command_of(rt.alloc(), words.as_slice())?;
         assert_campaign(&rt, &order, workers, files);
+    }
+    Ok(())
+}
+
+/// The form that a line's words order.
+fn form_of_line(alloc: Global, line: &str) -> Result<Option<Form>, Fail> {
+    let words = words(alloc, line)?;
+    match command_of(alloc, words.as_slice())? {
+        Order::Run { form, .. } => Ok(Some(form)),
+        Order::Campaign { form, .. } => Ok(Some(form)),
+        _ => Ok(None),
+    }
+}
+
+#[test]
+fn orders_summaries(rt: HostRuntime) -> Result<(), Fail> {
+    let rows = [
+        ("run --start m:f --plan p a.S", Form::Report),
+        ("run --start m:f --plan p --summary a.S", Form::Summary),
+        ("run a.S --plan p --start m:f --summary", Form::Summary),
+        ("run --start m:f --plan=--summary a.S", Form::Report),
+        ("run --start m:f --plan p -- --summary", Form::Report),
+        ("campaign --start m:f --plan p a.S", Form::Report),
+        ("campaign --summary a.S --plan p --start m:f", Form::Summary),
+    ];
+    for (words, form) in rows {
+        let line = format!(in rt.alloc(); "bxemu {words}")?;
+        assert!(rt;
+            form_of_line(rt.alloc(), line.as_str())? == Some(form),
+            "{line}"
+        );
     }
     Ok(())
 }
@@ -195,6 +229,18 @@ fn refuses_other_words_over_plans(rt: HostRuntime) -> Result<(), Fail> {
         ("run --start -1 --plan p a.S", ErrorKind::UnknownArgument),
         (
             "run --start m:f --plan p --workers 1 a.S",
+            ErrorKind::UnknownArgument,
+        ),
+        (
+            "run --start m:f --plan p --summary --summary a.S",
+            ErrorKind::ArgumentConflict,
+        ),
+        (
+            "run --start m:f --plan p --summary=true a.S",
+            ErrorKind::TooManyValues,
+        ),
+        (
+            "tidy --start m:f --plan p --summary a.S",
             ErrorKind::UnknownArgument,
         ),
         (

@@ -2,7 +2,7 @@ mod desk;
 mod orders;
 
 use crate::program::{Task, names_of, run};
-use bx_engine::fault_line;
+use bx_engine::{Form, fault_line};
 use std::alloc::Global;
 use std::test::Fail;
 
@@ -16,7 +16,7 @@ fn line_of_run(rt: &HostRuntime, alloc: Global, start: &str, files: &str) -> Res
         start,
         names: names.as_slice(),
     };
-    if let Err(failure) = run(rt, task, &mut b"".as_slice(), &mut report) {
+    if let Err(failure) = run(rt, Form::Report, task, &mut b"".as_slice(), &mut report) {
         fault_line(&failure, names.as_slice(), &mut written);
     }
     Ok(String::from_utf8(written).ok().ok_or("text")?)

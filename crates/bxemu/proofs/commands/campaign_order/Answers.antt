@@ -36,6 +36,7 @@ returns-clause-ok c =
       sym (first_value-rows found (codes "start")) ∙ sym c.in-Some.ensures,
       sym (first_value-rows found (codes "plan")) ∙ sym c.in-Some-get_str.ensures,
       (c.in-Some-get_str-2.text.now, sym (first_value-rows found (codes "workers")) ∙ sym c.in-Some-get_str-2.ensures, c.in-Some-workers_of.ensures.some),
+      sym c.form_of-form.ensures,
       sym (raw_values-rows found (codes "FILES")) ∙ sym c.in-Some-get_raw.ensures
           ∙ ap (λ texts. Some (map (λ file. file.now) texts)) (sym c.in_ok-files.ensures.items),
     )

@@ -25,6 +25,7 @@ returns-clause-ok c =
       refl,
       sym (first_value-rows found (codes "start")) ∙ sym c.in-Some.ensures,
       sym (first_value-rows found (codes "plan")) ∙ sym c.in-Some-get_str.ensures,
+      sym c.form_of-form.ensures,
       sym (raw_values-rows found (codes "FILES")) ∙ sym c.in-Some-get_raw.ensures
           ∙ ap (λ texts. Some (map (λ file. file.now) texts)) (sym c.in_ok-files.ensures.items),
     )

@@ -43,6 +43,14 @@ const REPORT: &str =
     "schedule a\napplied 2\nstate trapped Unset <0.0.0>\nprocess <0.0.0> ready\nend\n\
     schedule b\napplied 0\nstate open r0\nprocess <0.0.0> ready\nend\n";
 
+/// `PLAN`, with a schedule that ends as `a` does, and one with other choices that ends as `b` does.
+const AGAIN: &str = "a: r0*2\nb:\nc: r0*2\nd: r0\n";
+
+/// What comes of `AGAIN`, each outcome once.
+const SUMMARY: &str =
+    "outcome of 2 schedules, first a\nstate trapped Unset <0.0.0>\nprocess <0.0.0> ready\nend\n\
+    outcome of 2 schedules, first b\nstate open\nprocess <0.0.0> ready\nend\n4 schedules, 2 outcomes\n";
+
 const COMMANDS: &str = "step r0\nback 2\nshow\nquit\nstep r0\n";
 
 const ANSWERS: &str = "at 1 of 1\nrefused R22 BeforeStart line 2\napplied 1\nstate open r0\n\
@@ -205,6 +213,21 @@ fn a_plan_may_come_from_standard_input(rt: HostRuntime) -> Result<(), Fail> {
             REPORT,
         ),
         ("bxemu run --start m:f --plan - m.S -", PLAN, REPORT),
+        (
+            "bxemu run --start m:f --plan - --summary m.S n.S",
+            AGAIN,
+            SUMMARY,
+        ),
+        (
+            "bxemu campaign --summary --start m:f --plan - --workers 3 m.S n.S",
+            AGAIN,
+            SUMMARY,
+        ),
+        (
+            "bxemu run --start m:f --plan - --summary m.S n.S",
+            "",
+            "0 schedules, 0 outcomes\n",
+        ),
         ("bxemu tidy --start m:f --plan - m.S -", PLAN, PLAN),
         ("bxemu tidy --start l:f --plan - loops.S", MIXED, TIDIED),
     ];
@@ -275,6 +298,12 @@ fn the_first_failure_ends_an_order(rt: HostRuntime) -> Result<(), Fail> {
         ),
         (
             "bxemu run --start m:g --plan plan m.S n.S",
+            "",
+            "bxemu: R32 NoEntry\n",
+            1,
+        ),
+        (
+            "bxemu run --start m:g --plan plan --summary m.S n.S",
             "",
             "bxemu: R32 NoEntry\n",
             1,
