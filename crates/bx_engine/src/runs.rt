@@ -20,7 +20,7 @@ use std::alloc::Global;
 use std::io::{Read, Write};
 
 /// Where a process begins by the names of a start; none where the image does not hold both.
-pub(crate) fn entry_in(image: &Image, start: &Start) -> Option<(AtomId, AtomId)>
+pub fn entry_in(image: &Image, start: &Start) -> Option<(AtomId, AtomId)>
     ensures { result ≡ entry_in image.now start.now }
 {
     let atoms = image.atoms();
