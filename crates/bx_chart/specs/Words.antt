@@ -1,0 +1,165 @@
+-- What a drawing says: of events, of signals, of processes and of the run.
+use Rattle.std.specs.Prelude.{ℕ, ◌==◌, List, ◌++◌, [], Option, Some, None, bytes_eq, codes, chars, decimal, if◌then◌else◌, length, nat_lt, take}
+use Rattle.std.proofs.Math.Utf8.{encodes}
+use Rattle.bx_terms.specs.Kinds.{trap_name}
+use Rattle.bx_terms.specs.Printed.{printed, printed_pid}
+use Rattle.bx_terms.specs.Tree.{Tree}
+use Rattle.bx_terms.specs.declared.places.Place.{Place}
+use Rattle.bx_signals.specs.declared.signal.Signal.{Signal}
+use Rattle.bx_signals.specs.declared.signal.Signal.TheVariants.{Message, Link, Unlink, LinkExit, Exit}
+use Rattle.bx_listing.specs.Items.{Item}
+use Rattle.bx_listing.specs.Locations.{Location}
+use Rattle.bx_listing.specs.Writing.{item_words}
+use Rattle.bx_load.specs.Image.{Loaded}
+use Rattle.bx_load.specs.Numbering.{numbered_at}
+use Rattle.bx_proc.specs.declared.parts.Status.{Status}
+use Rattle.bx_proc.specs.declared.parts.Status.TheVariants.{Ready, Waiting, Ended}
+use Rattle.bx_world.specs.Texts.{spelling}
+use Rattle.bx_world.specs.declared.choices.Choice.{Choice}
+use Rattle.bx_world.specs.declared.outcomes.Standing.{Standing}
+use Rattle.bx_world.specs.declared.outcomes.Standing.TheVariants.{Trapped, Quiet, Open}
+use Rattle.bx_events.specs.declared.events.Effect.{Effect}
+use Rattle.bx_events.specs.declared.events.Effect.TheVariants as effects
+use Rattle.bx_events.specs.declared.events.Event.{Event}
+use Rattle.bx_events.specs.declared.events.Stands.{Stands}
+use Rattle.bx_events.specs.declared.events.Stands.TheVariants as stand
+use Rattle.bx_events.specs.declared.events.What.{What}
+use Rattle.bx_events.specs.declared.events.What.TheVariants as whats
+use Rattle.bx_events.specs.declared.stories.Story.{Story}
+use Rattle.bx_engine.specs.Sources.{Sources, location_at}
+
+-- a text of over 40 characters is cut
+abbrev pub short : List ℕ → List ℕ
+short text = if nat_lt 40 (length (chars text)) then encodes (take 40 (chars text)) ++ codes ".." else text
+
+-- ---- signals
+
+-- a message is its term; other signals are named
+abbrev pub signal_words : List (List ℕ) → Signal → List ℕ
+signal_words texts (Message term) = printed texts term
+signal_words texts Link = codes "link"
+signal_words texts Unlink = codes "unlink"
+signal_words texts (LinkExit reason) = codes "exit " ++ printed texts reason
+signal_words texts (Exit reason) = codes "exit/2 " ++ printed texts reason
+
+-- what is said where a signal came to nothing
+abbrev pub effect_words : Effect → List ℕ
+effect_words effects.Dropped = codes " dropped"
+effect_words effects.Answered = codes " answered by noproc"
+effect_words effects.Lost = codes " lost"
+effect_words effect = []
+
+-- ---- where a process stands in its source
+
+-- `race.erl:11`
+abbrev pub location_words : Location → List ℕ
+location_words l = l.0 ++ (codes ":" ++ decimal l.1)
+
+-- one goes on at another line of the file, or in another file
+abbrev pub onward_words : Location → Location → List ℕ
+onward_words from to =
+    if bytes_eq from.0 to.0 then (if from.1 == to.1 then [] else codes " .. " ++ decimal to.1)
+    else codes " .. " ++ location_words to
+
+abbrev pub then_words : Location → Option Location → List ℕ
+then_words from None = []
+then_words from (Some to) = onward_words from to
+
+-- `race.erl:11 .. 14`
+abbrev pub span_words : Option Location → Option Location → List ℕ
+span_words None to = []
+span_words (Some from) to = location_words from ++ then_words from to
+
+abbrev pub found : Sources → Option Place → Option Location
+found sources None = None
+found sources (Some place) = location_at sources place
+
+-- ---- events
+
+abbrev pub wait_words : Stands → List ℕ
+wait_words stand.Waits = codes ", waits"
+wait_words stands = []
+
+-- from where to where a process ran, and whether it waits there
+abbrev pub run_words : Sources → Event → List ℕ
+run_words sources event = span_words (found sources event.from) (found sources event.to) ++ wait_words event.stands
+
+abbrev pub what_words : Loaded → Sources → Event → What → List ℕ
+what_words image sources event whats.Ran = run_words sources event
+what_words image sources event (whats.Took message) = codes "takes " ++ run_words sources event
+what_words image sources event (whats.Arrived sent effect) = signal_words image.atoms sent.signal ++ effect_words effect
+what_words image sources event whats.Expired = codes "wait over"
+
+-- what was displayed goes before where that was
+abbrev pub shown_words : Loaded → Sources → Event → Option Tree → List ℕ
+shown_words image sources event None = what_words image sources event event.what
+shown_words image sources event (Some term) = printed image.atoms term
+
+-- a trap goes before all else
+abbrev pub stands_words : Loaded → Sources → Event → Stands → List ℕ
+stands_words image sources event (stand.Trapped kind) = codes "trapped " ++ trap_name kind
+stands_words image sources event stands = shown_words image sources event event.shown
+
+abbrev pub event_words : Loaded → Sources → Event → List ℕ
+event_words image sources event = stands_words image sources event event.stands
+
+-- ---- what shows where one points at an event
+
+-- an item as a listing writes it, without its full stop
+abbrev pub item_or_nothing : Loaded → Option Item → List ℕ
+item_or_nothing image None = []
+item_or_nothing image (Some item) = codes ": " ++ item_words image.atoms item
+
+abbrev pub item_at : Loaded → Option Place → List ℕ
+item_at image None = []
+item_at image (Some place) = item_or_nothing image (numbered_at image place)
+
+-- a run's first item, or the message that was taken
+abbrev pub detail_words : Loaded → Event → What → List ℕ
+detail_words image event whats.Ran = item_at image event.from
+detail_words image event (whats.Took message) = codes ": " ++ printed image.atoms message
+detail_words image event what = []
+
+-- in full, of whatever length
+abbrev pub tip_words : Loaded → Sources → Event → List ℕ
+tip_words image sources event = event_words image sources event ++ detail_words image event event.what
+
+-- ---- numbers of choices
+
+abbrev pub last_words : ℕ → ℕ → List ℕ
+last_words first last = if first == last then [] else codes ".." ++ decimal last
+
+-- `26..28`, or one number
+abbrev pub number_words : ℕ → ℕ → List ℕ
+number_words first last = decimal first ++ last_words first last
+
+-- ---- processes, and the run
+
+abbrev pub status_words : List (List ℕ) → Status → List ℕ
+status_words texts Ready = codes "ready"
+status_words texts Waiting = codes "waiting"
+status_words texts (Ended reason) = codes "ended " ++ printed texts reason
+
+-- as in a report, but without the choices that are open
+abbrev pub standing_words : Standing → List ℕ
+standing_words (Trapped kind p) = codes "trapped " ++ (trap_name kind ++ (codes " " ++ printed_pid p))
+standing_words Quiet = codes "quiet"
+standing_words (Open choices) = codes "open"
+
+-- a refused choice goes before all else
+abbrev pub state_words : Option Choice → Standing → List ℕ
+state_words (Some choice) state = codes "stopped " ++ spelling choice
+state_words None state = standing_words state
+
+abbrev pub title_words : List ℕ → List ℕ
+title_words name = codes "Schedule " ++ name
+
+abbrev pub count_words : Story → List ℕ
+count_words story = codes ": " ++ decimal story.applied ++ codes " choices, state "
+
+abbrev pub end_words : Story → List ℕ
+end_words story = count_words story ++ state_words story.refused story.outcome.state
+
+-- which schedule it is, how many of its choices were applied, and where they led
+abbrev pub sentence : List ℕ → Story → List ℕ
+sentence name story = title_words name ++ end_words story

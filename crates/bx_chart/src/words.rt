@@ -1,0 +1,476 @@
+//! What a drawing says: of events, of signals, of processes and of the run.
+
+ghost use Rattle.std.specs.Prelude.{◌≡◌, ◌++◌, IfOk, OnOk, chars, codes, length, option_map, string_bytes, take};
+ghost use Rattle.std.proofs.Math.Utf8.{encodes};
+ghost use Rattle.bx_terms.specs.Kinds.{trap_name};
+ghost use Rattle.bx_terms.specs.Printed.{printed, printed_pid};
+ghost use Rattle.bx_load.specs.Numbering.{numbered_at};
+ghost use Rattle.bx_world.specs.Texts.{spelling};
+ghost use Rattle.bx_chart.specs.Words.{count_words, detail_words, effect_words, end_words, event_words, found, item_at, item_or_nothing, location_words, last_words, number_words, onward_words, run_words, sentence, short, shown_words, signal_words, span_words, stands_words, standing_words, state_words, status_words, then_words, tip_words, title_words, wait_words, what_words};
+
+use bx_dis::item_text;
+use bx_engine::Sources;
+use bx_events::{Effect, Event, Stands, Story, What};
+use bx_load::Image;
+use bx_signals::Signal;
+use bx_terms::{Atoms, Place, Term, Trap, print, push_pid};
+use bx_world::{Choice, Standing, Status, choice_text};
+use std::alloc::{AllocError, Global};
+
+/// Loaded code, and where its items stand in their sources.
+#[derive(Drop)]
+pub(crate) struct Code<'a> {
+    pub(crate) image: &'a Image,
+    pub(crate) sources: &'a Sources,
+}
+
+/// A text that is cut where it has over 40 characters.
+pub(crate) fn short(alloc: Global, text: &str) -> Result<String, AllocError>
+    ensures { IfOk result (λ cut. string_bytes cut ≡ short text.now) }
+{
+    if length_of(text) <= 40 {
+        return String::from_str(alloc, text);
+    }
+    let mut cut = front(alloc, text)?;
+    cut.push_str("..")?;
+    Ok(cut)
+}
+
+/// How many characters a text has.
+#[tactic(auto, using(std::proofs::lemmas::Str::chars_from_encodes))]
+fn length_of(text: &str) -> usize
+    ensures { result ≡ length (chars text.now) }
+{
+    text.chars().count()
+}
+
+/// The first 40 characters of a text.
+fn front(alloc: Global, text: &str) -> Result<String, AllocError>
+    ensures { IfOk result (λ front. string_bytes front ≡ encodes (take 40 (chars text.now))) }
+{
+    text.chars().take(40).collect(alloc)
+}
+
+/// Adds a term as reports print it.
+fn push_term(alloc: Global, out: &mut String, atoms: &Atoms, term: &Term) -> Result<(), AllocError>
+    ensures { OnOk result
+        (string_bytes out.new ≡ string_bytes out.old ++ printed atoms.now term.now) }
+{
+    let text = print(alloc, atoms, term)?;
+    out.push_str(text.as_str())
+}
+
+/// Adds a word, and a term behind it.
+fn push_behind(
+    alloc: Global,
+    out: &mut String,
+    atoms: &Atoms,
+    word: &str,
+    term: &Term,
+) -> Result<(), AllocError>
+    ensures { OnOk result (string_bytes out.new
+        ≡ string_bytes out.old ++ (word.now ++ printed atoms.now term.now)) }
+{
+    out.push_str(word)?;
+    push_term(alloc, out, atoms, term)
+}
+
+/// Adds a message's term, or what another signal is.
+pub(crate) fn push_signal(
+    alloc: Global,
+    out: &mut String,
+    atoms: &Atoms,
+    signal: &Signal,
+) -> Result<(), AllocError>
+    ensures { OnOk result
+        (string_bytes out.new ≡ string_bytes out.old ++ signal_words atoms.now signal.now) }
+{
+    match signal {
+        Signal::Message(term) => push_term(alloc, out, atoms, term),
+        Signal::Link => out.push_str("link"),
+        Signal::Unlink => out.push_str("unlink"),
+        Signal::LinkExit(reason) => push_behind(alloc, out, atoms, "exit ", reason),
+        Signal::Exit(reason) => push_behind(alloc, out, atoms, "exit/2 ", reason),
+    }
+}
+
+/// What is said where a signal came to nothing.
+fn effect_words(effect: Effect) -> &'static str
+    ensures { result.now ≡ effect_words effect }
+{
+    match effect {
+        Effect::Dropped => " dropped",
+        Effect::Answered => " answered by noproc",
+        Effect::Lost => " lost",
+        _ => "",
+    }
+}
+
+/// Adds the name of a file and a line in it.
+fn push_location(out: &mut String, file: &str, line: u32) -> Result<(), AllocError>
+    ensures { OnOk result
+        (string_bytes out.new ≡ string_bytes out.old ++ location_words (file.now, line)) }
+{
+    out.push_str(file)?;
+    write!(out, ":{line}")
+}
+
+/// Adds that one goes on in another file.
+fn push_elsewhere(out: &mut String, file: &str, line: u32) -> Result<(), AllocError>
+    ensures { OnOk result (string_bytes out.new
+        ≡ string_bytes out.old ++ (codes " .. " ++ location_words (file.now, line))) }
+{
+    out.push_str(" .. ")?;
+    push_location(out, file, line)
+}
+
+/// Adds where one goes on, where that is another line.
+fn push_onward(out: &mut String, from: (&str, u32), to: (&str, u32)) -> Result<(), AllocError>
+    ensures { OnOk result (string_bytes out.new
+        ≡ string_bytes out.old ++ onward_words (from.entry.0.now, from.entry.1) (to.entry.0.now, to.entry.1)) }
+{
+    if from.0 != to.0 {
+        return push_elsewhere(out, to.0, to.1);
+    }
+    if from.1 == to.1 {
+        return Ok(());
+    }
+    let line = to.1;
+    write!(out, " .. {line}")
+}
+
+fn push_then(out: &mut String, from: (&str, u32), to: Option<(&str, u32)>) -> Result<(), AllocError>
+    ensures { OnOk result (string_bytes out.new ≡ string_bytes out.old
+        ++ then_words (from.entry.0.now, from.entry.1) (option_map (λ l. (l.0.now, l.1)) to.entry)) }
+{
+    match to {
+        None => Ok(()),
+        Some(to) => push_onward(out, from, to),
+    }
+}
+
+fn push_span(
+    out: &mut String,
+    from: Option<(&str, u32)>,
+    to: Option<(&str, u32)>,
+) -> Result<(), AllocError>
+    ensures { OnOk result (string_bytes out.new ≡ string_bytes out.old
+        ++ span_words (option_map (λ l. (l.0.now, l.1)) from.entry) (option_map (λ l. (l.0.now, l.1)) to.entry)) }
+{
+    let Some(from) = from else {
+        return Ok(());
+    };
+    push_location(out, from.0, from.1)?;
+    push_then(out, from, to)
+}
+
+fn found<'a>(sources: &'a Sources, place: Option<Place>) -> Option<(&'a str, u32)>
+    ensures { option_map (λ l. (l.0.now, l.1)) result ≡ found sources.now place }
+{
+    match place {
+        None => None,
+        Some(place) => sources.at(place),
+    }
+}
+
+fn wait_words(stands: &Stands) -> &'static str
+    ensures { result.now ≡ wait_words stands.now }
+{
+    match stands {
+        Stands::Waits => ", waits",
+        _ => "",
+    }
+}
+
+/// Adds from where to where a process ran, and whether it waits there.
+fn push_run(out: &mut String, sources: &Sources, event: &Event) -> Result<(), AllocError>
+    ensures { OnOk result
+        (string_bytes out.new ≡ string_bytes out.old ++ run_words sources.now event.now) }
+{
+    push_span(out, found(sources, event.from), found(sources, event.to))?;
+    out.push_str(wait_words(&event.stands))
+}
+
+fn push_taken(out: &mut String, sources: &Sources, event: &Event) -> Result<(), AllocError>
+    ensures { OnOk result (string_bytes out.new
+        ≡ string_bytes out.old ++ (codes "takes " ++ run_words sources.now event.now)) }
+{
+    out.push_str("takes ")?;
+    push_run(out, sources, event)
+}
+
+fn push_arrived(
+    alloc: Global,
+    out: &mut String,
+    atoms: &Atoms,
+    signal: &Signal,
+    effect: Effect,
+) -> Result<(), AllocError>
+    ensures { OnOk result (string_bytes out.new
+        ≡ string_bytes out.old ++ (signal_words atoms.now signal.now ++ effect_words effect)) }
+{
+    push_signal(alloc, out, atoms, signal)?;
+    out.push_str(effect_words(effect))
+}
+
+/// Adds what an event was.
+fn push_what(
+    alloc: Global,
+    out: &mut String,
+    code: &Code<'_>,
+    event: &Event,
+) -> Result<(), AllocError>
+    ensures { OnOk result (string_bytes out.new ≡ string_bytes out.old
+        ++ what_words code.now.image.now code.now.sources.now event.now event.now.what) }
+{
+    match &event.what {
+        What::Ran => push_run(out, code.sources, event),
+        What::Took(_) => push_taken(out, code.sources, event),
+        What::Arrived { signal, effect } => {
+            push_arrived(alloc, out, code.image.atoms(), &signal.signal, *effect)
+        }
+        What::Expired => out.push_str("wait over"),
+    }
+}
+
+/// Adds what was displayed, or else what the event was.
+fn push_shown(
+    alloc: Global,
+    out: &mut String,
+    code: &Code<'_>,
+    event: &Event,
+) -> Result<(), AllocError>
+    ensures { OnOk result (string_bytes out.new ≡ string_bytes out.old
+        ++ shown_words code.now.image.now code.now.sources.now event.now event.now.shown) }
+{
+    match &event.shown {
+        None => push_what(alloc, out, code, event),
+        Some(term) => push_term(alloc, out, code.image.atoms(), term),
+    }
+}
+
+/// Adds what an event was, in a line.
+fn push_event(
+    alloc: Global,
+    out: &mut String,
+    code: &Code<'_>,
+    event: &Event,
+) -> Result<(), AllocError>
+    ensures { OnOk result (string_bytes out.new ≡ string_bytes out.old
+        ++ event_words code.now.image.now code.now.sources.now event.now) }
+{
+    match &event.stands {
+        Stands::Trapped(kind) => {
+            out.push_str("trapped ")?;
+            out.push_str(kind.name())
+        }
+        _ => push_shown(alloc, out, code, event),
+    }
+}
+
+/// What an event was, in a line.
+pub(crate) fn event_text(
+    alloc: Global,
+    code: &Code<'_>,
+    event: &Event,
+) -> Result<String, AllocError>
+    ensures { IfOk result (λ text. string_bytes text
+        ≡ event_words code.now.image.now code.now.sources.now event.now) }
+{
+    let mut out = String::new(alloc);
+    push_event(alloc, &mut out, code, event)?;
+    Ok(out)
+}
+
+/// Adds the item at an address, where there is one.
+fn push_item(alloc: Global, out: &mut String, image: &Image, place: Place) -> Result<(), AllocError>
+    ensures { OnOk result
+        (string_bytes out.new ≡ string_bytes out.old ++ item_or_nothing image.now (numbered_at image.now place)) }
+{
+    match image.item(place) {
+        Some(item) => {
+            let text = item_text(alloc, image.atoms(), item)?;
+            out.push_str(": ")?;
+            out.push_str(text.as_str())
+        }
+        None => Ok(()),
+    }
+}
+
+fn push_item_at(
+    alloc: Global,
+    out: &mut String,
+    image: &Image,
+    place: Option<Place>,
+) -> Result<(), AllocError>
+    ensures { OnOk result
+        (string_bytes out.new ≡ string_bytes out.old ++ item_at image.now place) }
+{
+    match place {
+        None => Ok(()),
+        Some(place) => push_item(alloc, out, image, place),
+    }
+}
+
+/// Adds a run's first item, or the message that was taken.
+fn push_detail(
+    alloc: Global,
+    out: &mut String,
+    image: &Image,
+    event: &Event,
+) -> Result<(), AllocError>
+    ensures { OnOk result (string_bytes out.new
+        ≡ string_bytes out.old ++ detail_words image.now event.now event.now.what) }
+{
+    match &event.what {
+        What::Ran => push_item_at(alloc, out, image, event.from),
+        What::Took(message) => push_behind(alloc, out, image.atoms(), ": ", message),
+        _ => Ok(()),
+    }
+}
+
+/// What shows where one points at an event.
+pub(crate) fn tip_text(alloc: Global, code: &Code<'_>, event: &Event) -> Result<String, AllocError>
+    ensures { IfOk result (λ text. string_bytes text
+        ≡ tip_words code.now.image.now code.now.sources.now event.now) }
+{
+    let mut out = event_text(alloc, code, event)?;
+    push_detail(alloc, &mut out, code.image, event)?;
+    Ok(out)
+}
+
+/// Adds the last number behind the first, where it is another.
+fn push_last(out: &mut String, first: u64, last: u64) -> Result<(), AllocError>
+    ensures { OnOk result (string_bytes out.new ≡ string_bytes out.old ++ last_words first last) }
+{
+    if first == last {
+        return Ok(());
+    }
+    write!(out, "..{last}")
+}
+
+/// The numbers of an event's choices.
+pub(crate) fn number_text(alloc: Global, first: u64, last: u64) -> Result<String, AllocError>
+    ensures { IfOk result (λ text. string_bytes text ≡ number_words first last) }
+{
+    let mut out = format!(in alloc; "{first}")?;
+    push_last(&mut out, first, last)?;
+    Ok(out)
+}
+
+/// How a process stands.
+pub(crate) fn status_text(
+    alloc: Global,
+    atoms: &Atoms,
+    status: &Status,
+) -> Result<String, AllocError>
+    ensures { IfOk result (λ text. string_bytes text ≡ status_words atoms.now status.now) }
+{
+    let mut out = String::new(alloc);
+    match status {
+        Status::Ready => out.push_str("ready")?,
+        Status::Waiting => out.push_str("waiting")?,
+        Status::Ended(reason) => push_behind(alloc, &mut out, atoms, "ended ", reason)?,
+    }
+    Ok(out)
+}
+
+/// Adds the process of that pid behind a space.
+fn push_spaced_pid(alloc: Global, out: &mut String, pid: u32) -> Result<(), AllocError>
+    ensures { OnOk result
+        (string_bytes out.new ≡ string_bytes out.old ++ (codes " " ++ printed_pid pid)) }
+{
+    out.push_str(" ")?;
+    push_pid(alloc, out, pid)
+}
+
+/// Adds a trap's kind, and the process that trapped.
+fn push_trap(alloc: Global, out: &mut String, kind: Trap, pid: u32) -> Result<(), AllocError>
+    ensures { OnOk result (string_bytes out.new
+        ≡ string_bytes out.old ++ (trap_name kind ++ (codes " " ++ printed_pid pid))) }
+{
+    out.push_str(kind.name())?;
+    push_spaced_pid(alloc, out, pid)
+}
+
+fn push_trapped(alloc: Global, out: &mut String, kind: Trap, pid: u32) -> Result<(), AllocError>
+    ensures { OnOk result (string_bytes out.new
+        ≡ string_bytes out.old ++ (codes "trapped " ++ (trap_name kind ++ (codes " " ++ printed_pid pid)))) }
+{
+    out.push_str("trapped ")?;
+    push_trap(alloc, out, kind, pid)
+}
+
+fn push_standing(alloc: Global, out: &mut String, state: &Standing) -> Result<(), AllocError>
+    ensures { OnOk result
+        (string_bytes out.new ≡ string_bytes out.old ++ standing_words state.now) }
+{
+    match state {
+        Standing::Trapped(kind, pid) => push_trapped(alloc, out, *kind, *pid),
+        Standing::Quiet => out.push_str("quiet"),
+        Standing::Open(_) => out.push_str("open"),
+    }
+}
+
+/// Adds the choice that was refused, behind a word.
+fn push_stopped(alloc: Global, out: &mut String, choice: Choice) -> Result<(), AllocError>
+    ensures { OnOk result
+        (string_bytes out.new ≡ string_bytes out.old ++ (codes "stopped " ++ spelling choice)) }
+{
+    let Ok(text) = choice_text(alloc, choice) else {
+        return Err(AllocError);
+    };
+    out.push_str("stopped ")?;
+    out.push_str(text.as_str())
+}
+
+/// Adds where a run led.
+pub(crate) fn push_state(
+    alloc: Global,
+    out: &mut String,
+    refused: Option<Choice>,
+    state: &Standing,
+) -> Result<(), AllocError>
+    ensures { OnOk result
+        (string_bytes out.new ≡ string_bytes out.old ++ state_words refused state.now) }
+{
+    match refused {
+        Some(choice) => push_stopped(alloc, out, choice),
+        None => push_standing(alloc, out, state),
+    }
+}
+
+/// Adds how many choices were applied.
+fn push_count(out: &mut String, story: &Story) -> Result<(), AllocError>
+    ensures { OnOk result
+        (string_bytes out.new ≡ string_bytes out.old ++ count_words story.now) }
+{
+    let applied = story.applied;
+    write!(out, ": {applied} choices, state ")
+}
+
+/// Adds how many choices were applied, and where they led.
+fn push_end(alloc: Global, out: &mut String, story: &Story) -> Result<(), AllocError>
+    ensures { OnOk result (string_bytes out.new ≡ string_bytes out.old ++ end_words story.now) }
+{
+    push_count(out, story)?;
+    push_state(alloc, out, story.refused, &story.outcome.state)
+}
+
+/// Which schedule it is.
+pub(crate) fn title_text(alloc: Global, name: &str) -> Result<String, AllocError>
+    ensures { IfOk result (λ text. string_bytes text ≡ title_words name.now) }
+{
+    let mut out = String::from_str(alloc, "Schedule ")?;
+    out.push_str(name)?;
+    Ok(out)
+}
+
+/// Which schedule it is, how many of its choices were applied, and where they led.
+pub(crate) fn sentence(alloc: Global, name: &str, story: &Story) -> Result<String, AllocError>
+    ensures { IfOk result (λ text. string_bytes text ≡ sentence name.now story.now) }
+{
+    let mut out = title_text(alloc, name)?;
+    push_end(alloc, &mut out, story)?;
+    Ok(out)
+}
