@@ -11,7 +11,7 @@ use Rattle.clap.specs.declared.error.Error.{Error}
 use Rattle.clap.specs.declared.error.kind.ErrorKind.TheVariants.{MissingSubcommand, OutOfMemory}
 use Rattle.bxemu.specs.CommandLines.{IsMistaken, IsUnordered, Lacks, Orders, RefusesWords, Spells, program}
 use Rattle.bxemu.specs.declared.commands.Order.{Order}
-use Rattle.bxemu.specs.declared.commands.Order.TheVariants.{Campaign, Debug, Dis, Run, Tidy}
+use Rattle.bxemu.specs.declared.commands.Order.TheVariants.{Campaign, Chart, Debug, Dis, Run, Tidy}
 
 -- two subcommands differ in the first letters of their names, or in the second
 run_is_not_dis : codes "run" ≡ codes "dis" → ⊥
@@ -44,6 +44,21 @@ debug_is_not_tidy e = let first : ◌≡◌ {A = ℕ} 100 116 = ap (λ (text : L
 tidy_is_no_campaign : codes "tidy" ≡ codes "campaign" → ⊥
 tidy_is_no_campaign e = let first : ◌≡◌ {A = ℕ} 116 99 = ap (λ (text : List ℕ). get_or text 0 0) e in omega (arith, first)
 
+run_is_no_chart : codes "run" ≡ codes "chart" → ⊥
+run_is_no_chart e = let first : ◌≡◌ {A = ℕ} 114 99 = ap (λ (text : List ℕ). get_or text 0 0) e in omega (arith, first)
+
+dis_is_no_chart : codes "dis" ≡ codes "chart" → ⊥
+dis_is_no_chart e = let first : ◌≡◌ {A = ℕ} 100 99 = ap (λ (text : List ℕ). get_or text 0 0) e in omega (arith, first)
+
+debug_is_no_chart : codes "debug" ≡ codes "chart" → ⊥
+debug_is_no_chart e = let first : ◌≡◌ {A = ℕ} 100 99 = ap (λ (text : List ℕ). get_or text 0 0) e in omega (arith, first)
+
+tidy_is_no_chart : codes "tidy" ≡ codes "chart" → ⊥
+tidy_is_no_chart e = let first : ◌≡◌ {A = ℕ} 116 99 = ap (λ (text : List ℕ). get_or text 0 0) e in omega (arith, first)
+
+campaign_is_no_chart : codes "campaign" ≡ codes "chart" → ⊥
+campaign_is_no_chart e = let second : ◌≡◌ {A = ℕ} 97 104 = ap (λ (text : List ℕ). get_or text 1 0) e in omega (arith, second)
+
 -- an error that tells of a missing part, or of memory, where no order has these values
 pub lacking : (named : Option (Text × List Row)) (e : Error) → (kind_of e ≡ MissingSubcommand) ⊎ (kind_of e ≡ OutOfMemory) → IsUnordered named → Lacks named e
 lacking named e (inl missing) none = inr (missing, none)
@@ -58,6 +73,7 @@ module _ (rows : List Row) where
   run_lacks_start none (Run start plan form files) h = let there = h.1 in cc
   run_lacks_start none (Campaign start plan workers form files) h = run_is_no_campaign h.0
   run_lacks_start none (Tidy start plan files) h = run_is_not_tidy h.0
+  run_lacks_start none (Chart start plan schedule files) h = run_is_no_chart h.0
   run_lacks_start none (Debug start files) h = run_is_not_debug h.0
   run_lacks_start none (Dis file) h = run_is_not_dis h.0
 
@@ -65,6 +81,7 @@ module _ (rows : List Row) where
   run_lacks_plan none (Run start plan form files) h = let there = h.2 in cc
   run_lacks_plan none (Campaign start plan workers form files) h = run_is_no_campaign h.0
   run_lacks_plan none (Tidy start plan files) h = run_is_not_tidy h.0
+  run_lacks_plan none (Chart start plan schedule files) h = run_is_no_chart h.0
   run_lacks_plan none (Debug start files) h = run_is_not_debug h.0
   run_lacks_plan none (Dis file) h = run_is_not_dis h.0
 
@@ -72,6 +89,7 @@ module _ (rows : List Row) where
   run_lacks_files none (Run start plan form files) h = let there = h.4 in cc
   run_lacks_files none (Campaign start plan workers form files) h = run_is_no_campaign h.0
   run_lacks_files none (Tidy start plan files) h = run_is_not_tidy h.0
+  run_lacks_files none (Chart start plan schedule files) h = run_is_no_chart h.0
   run_lacks_files none (Debug start files) h = run_is_not_debug h.0
   run_lacks_files none (Dis file) h = run_is_not_dis h.0
 
@@ -79,6 +97,7 @@ module _ (rows : List Row) where
   tidy_lacks_start none (Run start plan form files) h = run_is_not_tidy (sym h.0)
   tidy_lacks_start none (Campaign start plan workers form files) h = tidy_is_no_campaign h.0
   tidy_lacks_start none (Tidy start plan files) h = let there = h.1 in cc
+  tidy_lacks_start none (Chart start plan schedule files) h = tidy_is_no_chart h.0
   tidy_lacks_start none (Debug start files) h = debug_is_not_tidy (sym h.0)
   tidy_lacks_start none (Dis file) h = dis_is_not_tidy (sym h.0)
 
@@ -86,6 +105,7 @@ module _ (rows : List Row) where
   tidy_lacks_plan none (Run start plan form files) h = run_is_not_tidy (sym h.0)
   tidy_lacks_plan none (Campaign start plan workers form files) h = tidy_is_no_campaign h.0
   tidy_lacks_plan none (Tidy start plan files) h = let there = h.2 in cc
+  tidy_lacks_plan none (Chart start plan schedule files) h = tidy_is_no_chart h.0
   tidy_lacks_plan none (Debug start files) h = debug_is_not_tidy (sym h.0)
   tidy_lacks_plan none (Dis file) h = dis_is_not_tidy (sym h.0)
 
@@ -93,13 +113,39 @@ module _ (rows : List Row) where
   tidy_lacks_files none (Run start plan form files) h = run_is_not_tidy (sym h.0)
   tidy_lacks_files none (Campaign start plan workers form files) h = tidy_is_no_campaign h.0
   tidy_lacks_files none (Tidy start plan files) h = let there = h.3 in cc
+  tidy_lacks_files none (Chart start plan schedule files) h = tidy_is_no_chart h.0
   tidy_lacks_files none (Debug start files) h = debug_is_not_tidy (sym h.0)
   tidy_lacks_files none (Dis file) h = dis_is_not_tidy (sym h.0)
+
+  pub chart_lacks_start : first_of (codes "start") rows ≡ None → OrdersNone (codes "chart")
+  chart_lacks_start none (Run start plan form files) h = run_is_no_chart (sym h.0)
+  chart_lacks_start none (Campaign start plan workers form files) h = campaign_is_no_chart (sym h.0)
+  chart_lacks_start none (Tidy start plan files) h = tidy_is_no_chart (sym h.0)
+  chart_lacks_start none (Chart start plan schedule files) h = let there = h.1 in cc
+  chart_lacks_start none (Debug start files) h = debug_is_no_chart (sym h.0)
+  chart_lacks_start none (Dis file) h = dis_is_no_chart (sym h.0)
+
+  pub chart_lacks_plan : first_of (codes "plan") rows ≡ None → OrdersNone (codes "chart")
+  chart_lacks_plan none (Run start plan form files) h = run_is_no_chart (sym h.0)
+  chart_lacks_plan none (Campaign start plan workers form files) h = campaign_is_no_chart (sym h.0)
+  chart_lacks_plan none (Tidy start plan files) h = tidy_is_no_chart (sym h.0)
+  chart_lacks_plan none (Chart start plan schedule files) h = let there = h.2 in cc
+  chart_lacks_plan none (Debug start files) h = debug_is_no_chart (sym h.0)
+  chart_lacks_plan none (Dis file) h = dis_is_no_chart (sym h.0)
+
+  pub chart_lacks_files : all_of (codes "FILES") rows ≡ None → OrdersNone (codes "chart")
+  chart_lacks_files none (Run start plan form files) h = run_is_no_chart (sym h.0)
+  chart_lacks_files none (Campaign start plan workers form files) h = campaign_is_no_chart (sym h.0)
+  chart_lacks_files none (Tidy start plan files) h = tidy_is_no_chart (sym h.0)
+  chart_lacks_files none (Chart start plan schedule files) h = let there = h.4 in cc
+  chart_lacks_files none (Debug start files) h = debug_is_no_chart (sym h.0)
+  chart_lacks_files none (Dis file) h = dis_is_no_chart (sym h.0)
 
   pub campaign_lacks_start : first_of (codes "start") rows ≡ None → OrdersNone (codes "campaign")
   campaign_lacks_start none (Run start plan form files) h = run_is_no_campaign (sym h.0)
   campaign_lacks_start none (Campaign start plan workers form files) h = let there = h.1 in cc
   campaign_lacks_start none (Tidy start plan files) h = tidy_is_no_campaign (sym h.0)
+  campaign_lacks_start none (Chart start plan schedule files) h = campaign_is_no_chart h.0
   campaign_lacks_start none (Debug start files) h = debug_is_no_campaign (sym h.0)
   campaign_lacks_start none (Dis file) h = dis_is_no_campaign (sym h.0)
 
@@ -107,6 +153,7 @@ module _ (rows : List Row) where
   campaign_lacks_plan none (Run start plan form files) h = run_is_no_campaign (sym h.0)
   campaign_lacks_plan none (Campaign start plan workers form files) h = let there = h.2 in cc
   campaign_lacks_plan none (Tidy start plan files) h = tidy_is_no_campaign (sym h.0)
+  campaign_lacks_plan none (Chart start plan schedule files) h = campaign_is_no_chart h.0
   campaign_lacks_plan none (Debug start files) h = debug_is_no_campaign (sym h.0)
   campaign_lacks_plan none (Dis file) h = dis_is_no_campaign (sym h.0)
 
@@ -114,6 +161,7 @@ module _ (rows : List Row) where
   campaign_lacks_workers none (Run start plan form files) h = run_is_no_campaign (sym h.0)
   campaign_lacks_workers none (Campaign start plan workers form files) h = let there = h.3.1 in cc
   campaign_lacks_workers none (Tidy start plan files) h = tidy_is_no_campaign (sym h.0)
+  campaign_lacks_workers none (Chart start plan schedule files) h = campaign_is_no_chart h.0
   campaign_lacks_workers none (Debug start files) h = debug_is_no_campaign (sym h.0)
   campaign_lacks_workers none (Dis file) h = dis_is_no_campaign (sym h.0)
 
@@ -124,6 +172,7 @@ module _ (rows : List Row) where
     same : (one other : Text) → Some one ≡ Some other → one ≡ other
     same one other e = cc
   campaign_misspelt text is none (Tidy start plan files) h = tidy_is_no_campaign (sym h.0)
+  campaign_misspelt text is none (Chart start plan schedule files) h = campaign_is_no_chart h.0
   campaign_misspelt text is none (Debug start files) h = debug_is_no_campaign (sym h.0)
   campaign_misspelt text is none (Dis file) h = dis_is_no_campaign (sym h.0)
 
@@ -131,6 +180,7 @@ module _ (rows : List Row) where
   campaign_lacks_files none (Run start plan form files) h = run_is_no_campaign (sym h.0)
   campaign_lacks_files none (Campaign start plan workers form files) h = let there = h.5 in cc
   campaign_lacks_files none (Tidy start plan files) h = tidy_is_no_campaign (sym h.0)
+  campaign_lacks_files none (Chart start plan schedule files) h = campaign_is_no_chart h.0
   campaign_lacks_files none (Debug start files) h = debug_is_no_campaign (sym h.0)
   campaign_lacks_files none (Dis file) h = dis_is_no_campaign (sym h.0)
 
@@ -138,6 +188,7 @@ module _ (rows : List Row) where
   debug_lacks_start none (Run start plan form files) h = run_is_not_debug (sym h.0)
   debug_lacks_start none (Campaign start plan workers form files) h = debug_is_no_campaign h.0
   debug_lacks_start none (Tidy start plan files) h = debug_is_not_tidy h.0
+  debug_lacks_start none (Chart start plan schedule files) h = debug_is_no_chart h.0
   debug_lacks_start none (Debug start files) h = let there = h.1 in cc
   debug_lacks_start none (Dis file) h = dis_is_not_debug (sym h.0)
 
@@ -145,6 +196,7 @@ module _ (rows : List Row) where
   debug_lacks_files none (Run start plan form files) h = run_is_not_debug (sym h.0)
   debug_lacks_files none (Campaign start plan workers form files) h = debug_is_no_campaign h.0
   debug_lacks_files none (Tidy start plan files) h = debug_is_not_tidy h.0
+  debug_lacks_files none (Chart start plan schedule files) h = debug_is_no_chart h.0
   debug_lacks_files none (Debug start files) h = let there = h.2 in cc
   debug_lacks_files none (Dis file) h = dis_is_not_debug (sym h.0)
 
@@ -152,6 +204,7 @@ module _ (rows : List Row) where
   dis_lacks_file none (Run start plan form files) h = run_is_not_dis (sym h.0)
   dis_lacks_file none (Campaign start plan workers form files) h = dis_is_no_campaign h.0
   dis_lacks_file none (Tidy start plan files) h = dis_is_not_tidy h.0
+  dis_lacks_file none (Chart start plan schedule files) h = dis_is_no_chart h.0
   dis_lacks_file none (Debug start files) h = dis_is_not_debug h.0
   dis_lacks_file none (Dis file) h = let there = h.1 in cc
 

@@ -1,6 +1,6 @@
 -- The command lines of the program, and what each orders, by the meaning that `clap` gives to the
 -- words of simple commands.
-use Rattle.std.specs.Prelude.{◌≡◌, ◌≢◌, ◌⊎◌, ◌<◌, ◌^◌, ℕ, pos, true, false, List, [], ◌∷◌, Option, Some, None, codes, if◌then◌else◌, map}
+use Rattle.std.specs.Prelude.{◌≡◌, ◌≢◌, ◌⊎◌, ◌<◌, ◌^◌, ℕ, pos, true, false, List, [], ◌∷◌, ◌++◌, Option, Some, None, codes, if◌then◌else◌, map, option_map}
 use Rattle.std.specs.Str.{bytes_eq}
 use Rattle.std.specs.Str.Parse.{IsNumeral, signed_digits_value, without_leading_sign}
 use Rattle.clap.specs.Kinds.{HasKind, IsAmong}
@@ -15,7 +15,7 @@ use Rattle.clap.specs.declared.error.kind.ErrorKind.TheVariants.{DisplayHelp, Di
 use Rattle.bx_engine.specs.declared.forms.Form.{Form}
 use Rattle.bx_engine.specs.declared.forms.Form.TheVariants.{Report, Summary}
 use Rattle.bxemu.specs.declared.commands.Order.{Order}
-use Rattle.bxemu.specs.declared.commands.Order.TheVariants.{Campaign, Debug, Dis, Run, Tidy}
+use Rattle.bxemu.specs.declared.commands.Order.TheVariants.{Campaign, Chart, Debug, Dis, Run, Tidy}
 
 -- `--NAME VALUE`, which stands once
 abbrev pub option_rule : Text → Rule
@@ -46,6 +46,10 @@ workers_rule = record (option_rule (codes "workers")) {
 abbrev pub summary_rule : Rule
 summary_rule = record (new_rule (codes "summary")) { long = Some (codes "summary"); action = Some SetTrue }
 
+-- `--schedule NAME`, which may be left out
+abbrev pub schedule_rule : Rule
+schedule_rule = record (option_rule (codes "schedule")) { required = false }
+
 -- `NAME --start M:F --plan FILE`
 abbrev pub over_plan : Text → App
 over_plan name = with_rule (with_rule (new_app name) (option_rule (codes "start"))) (option_rule (codes "plan"))
@@ -61,6 +65,10 @@ campaign_command = with_rule (with_rule (with_rule (over_plan (codes "campaign")
 -- `tidy --start M:F --plan FILE FILES..`
 abbrev pub tidy_command : App
 tidy_command = with_rule (over_plan (codes "tidy")) files_rule
+
+-- `chart --start M:F --plan FILE --schedule NAME FILES..`
+abbrev pub chart_command : App
+chart_command = with_rule (with_rule (over_plan (codes "chart")) schedule_rule) files_rule
 
 -- `debug --start M:F FILES..`
 abbrev pub debug_command : App
@@ -80,7 +88,7 @@ running_program = with_subcommand (with_subcommand bare_program run_command.top)
 
 -- with the subcommands that take a plan
 abbrev pub plan_program : App
-plan_program = with_subcommand running_program tidy_command.top
+plan_program = with_subcommand (with_subcommand running_program tidy_command.top) chart_command.top
 
 -- with all its subcommands
 abbrev pub program : App
@@ -122,6 +130,15 @@ IsTidy (Some p) start plan files = (p.0 ≡ codes "tidy")
     × (first_of (codes "plan") p.1 ≡ Some plan)
     × (all_of (codes "FILES") p.1 ≡ Some files)
 
+-- a drawing with these parts is what the subcommand's values say
+abbrev pub IsChart : Option (Text × List Row) → Text → Text → Option Text → List Text → Type 0
+IsChart None start plan schedule files = ⊥
+IsChart (Some p) start plan schedule files = (p.0 ≡ codes "chart")
+    × (first_of (codes "start") p.1 ≡ Some start)
+    × (first_of (codes "plan") p.1 ≡ Some plan)
+    × (first_of (codes "schedule") p.1 ≡ schedule)
+    × (all_of (codes "FILES") p.1 ≡ Some files)
+
 -- a session with these parts is what the subcommand's values say
 abbrev pub IsDebug : Option (Text × List Row) → Text → List Text → Type 0
 IsDebug None start files = ⊥
@@ -142,29 +159,33 @@ Orders named (Campaign start plan workers form files) =
     IsCampaign named start.now plan.now workers form (map (λ file. file.now) files.items)
 Orders named (Tidy start plan files) =
     IsTidy named start.now plan.now (map (λ file. file.now) files.items)
+Orders named (Chart start plan schedule files) =
+    IsChart named start.now plan.now (option_map (λ name. name.now) schedule) (map (λ file. file.now) files.items)
 Orders named (Debug start files) = IsDebug named start.now (map (λ file. file.now) files.items)
 Orders named (Dis file) = IsDis named file.now
 
--- the files that it names before the last, and the last: the plan, or the only file; the lines of a session stand for its last
-abbrev pub first_files : Order → List Text
-first_files (Run start plan form files) = map (λ file. file.now) files.items
-first_files (Campaign start plan workers form files) = map (λ file. file.now) files.items
-first_files (Tidy start plan files) = map (λ file. file.now) files.items
-first_files (Debug start files) = map (λ file. file.now) files.items
-first_files (Dis file) = []
+-- a name that may be left out
+abbrev pub or_none : Option Text → List Text
+or_none None = []
+or_none (Some name) = name ∷ []
 
-abbrev pub last_file : Order → Text
-last_file (Run start plan form files) = plan.now
-last_file (Campaign start plan workers form files) = plan.now
-last_file (Tidy start plan files) = plan.now
-last_file (Debug start files) = codes "-"
-last_file (Dis file) = file.now
+-- what it names, in the order by which a failure numbers it: the listings, then the plan, then the schedule, where one is named; or
+-- the only file; the lines of a session stand behind its listings
+abbrev pub names_in : Order → List Text
+names_in (Run start plan form files) = map (λ file. file.now) files.items ++ plan.now ∷ []
+names_in (Campaign start plan workers form files) = map (λ file. file.now) files.items ++ plan.now ∷ []
+names_in (Tidy start plan files) = map (λ file. file.now) files.items ++ plan.now ∷ []
+names_in (Chart start plan schedule files) =
+    (map (λ file. file.now) files.items ++ plan.now ∷ []) ++ or_none (option_map (λ name. name.now) schedule)
+names_in (Debug start files) = map (λ file. file.now) files.items ++ codes "-" ∷ []
+names_in (Dis file) = file.now ∷ []
 
 -- an order whose text goes out line by line, so that some of it may be out where it fails
 abbrev pub TellsByLine : Order → Type 0
 TellsByLine (Run start plan form files) = ⊥
 TellsByLine (Campaign start plan workers form files) = ⊥
 TellsByLine (Tidy start plan files) = ⊥
+TellsByLine (Chart start plan schedule files) = ⊥
 TellsByLine (Debug start files) = Unit {0}
 TellsByLine (Dis file) = ⊥
 
@@ -214,6 +235,11 @@ OrdersCampaign words start plan workers form files =
 abbrev pub OrdersTidy : List Text → Text → Text → List Text → Type 0
 OrdersTidy words start plan files =
     (fault_of program words ≡ []) × IsTidy (subcommand_of program words) start plan files
+
+-- the words order a drawing with these parts, and have no fault
+abbrev pub OrdersChart : List Text → Text → Text → Option Text → List Text → Type 0
+OrdersChart words start plan schedule files =
+    (fault_of program words ≡ []) × IsChart (subcommand_of program words) start plan schedule files
 
 -- the words order a session with these parts, and have no fault
 abbrev pub OrdersDebug : List Text → Text → List Text → Type 0

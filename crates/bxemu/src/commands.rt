@@ -47,6 +47,17 @@ pub enum Order<'a> {
         /// The files of the listings, in order.
         files: Vec<&'a str>,
     },
+    /// Draws a schedule of a plan.
+    Chart {
+        /// The function to start with, as `M:F`.
+        start: &'a str,
+        /// The file of the plan.
+        plan: &'a str,
+        /// The name of the schedule, where one is named.
+        schedule: Option<&'a str>,
+        /// The files of the listings, in order.
+        files: Vec<&'a str>,
+    },
     /// Opens a session, and does what lines of standard input say.
     Debug {
         /// The function to start with, as `M:F`.
@@ -86,6 +97,7 @@ fn order_of<'a>(alloc: Global, matches: &ArgMatches<'a>) -> Result<Order<'a>, Er
         "run" => run_order(alloc, values),
         "campaign" => campaign_order(alloc, values),
         "tidy" => tidy_order(alloc, values),
+        "chart" => chart_order(alloc, values),
         "debug" => debug_order(alloc, values),
         "dis" => dis_order(alloc, values),
         _ => Err(incomplete(alloc)),
@@ -187,6 +199,30 @@ fn tidy_order<'a>(alloc: Global, values: &ArgMatches<'a>) -> Result<Order<'a>, E
     };
     let files = Vec::from_slice(alloc, files)?;
     Ok(Order::Tidy { start, plan, files })
+}
+
+/// The order to draw, by the values of `chart`.
+fn chart_order<'a>(alloc: Global, values: &ArgMatches<'a>) -> Result<Order<'a>, Error>
+    ensures ok { IfOk result (Orders (Some (codes "chart", rows_of (found_of values.now)))) }
+    ensures err { IfErr result (Lacks (Some (codes "chart", rows_of (found_of values.now)))) }
+{
+    let Some(start) = values.get_str("start") else {
+        return Err(incomplete(alloc));
+    };
+    let Some(plan) = values.get_str("plan") else {
+        return Err(incomplete(alloc));
+    };
+    let Some(files) = values.get_raw("FILES") else {
+        return Err(incomplete(alloc));
+    };
+    let files = Vec::from_slice(alloc, files)?;
+    let schedule = values.get_str("schedule");
+    Ok(Order::Chart {
+        start,
+        plan,
+        schedule,
+        files,
+    })
 }
 
 /// The order to open a session, by the values of `debug`.

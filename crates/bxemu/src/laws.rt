@@ -1,7 +1,7 @@
 //! What the program's command lines come to. Each function has an empty body; its clause is the law.
-ghost use Rattle.std.specs.Prelude.{◌∷◌, [], codes};
+ghost use Rattle.std.specs.Prelude.{◌∷◌, [], None, Some, codes};
 ghost use Rattle.bx_engine.specs.declared.forms.Form.TheVariants.{Report, Summary};
-ghost use Rattle.bxemu.specs.CommandLines.{OrdersCampaign, OrdersDebug, OrdersDis, OrdersRun, OrdersTidy};
+ghost use Rattle.bxemu.specs.CommandLines.{OrdersCampaign, OrdersChart, OrdersDebug, OrdersDis, OrdersRun, OrdersTidy};
 
 /// `run` names the start, the plan and each file, in this order or with the options last; what
 /// stands behind `--` is a file, and so is `-`.
@@ -42,6 +42,14 @@ pub fn a_tidying_names_its_parts()
         ∷ codes "a.S" ∷ codes "b.S" ∷ []) (codes "m:f") (codes "p") (codes "a.S" ∷ codes "b.S" ∷ []) }
     ensures options_last { OrdersTidy (codes "bxemu" ∷ codes "tidy" ∷ codes "a.S" ∷ codes "--plan=p" ∷ codes "--start=m:f" ∷ [])
         (codes "m:f") (codes "p") (codes "a.S" ∷ []) }
+{}
+
+/// `chart` names the parts that `run` names, and the schedule, which may be left out.
+pub fn a_chart_names_its_parts()
+    ensures named { OrdersChart (codes "bxemu" ∷ codes "chart" ∷ codes "--start" ∷ codes "m:f" ∷ codes "--plan" ∷ codes "p"
+        ∷ codes "--schedule" ∷ codes "s" ∷ codes "a.S" ∷ codes "b.S" ∷ []) (codes "m:f") (codes "p") (Some (codes "s")) (codes "a.S" ∷ codes "b.S" ∷ []) }
+    ensures left_out { OrdersChart (codes "bxemu" ∷ codes "chart" ∷ codes "a.S" ∷ codes "--plan=p" ∷ codes "--start=m:f" ∷ [])
+        (codes "m:f") (codes "p") None (codes "a.S" ∷ []) }
 {}
 
 /// `debug` names its start and each file, in this order or with the option last; what stands behind `--` is a file.

@@ -1,18 +1,19 @@
 //! The program over a runtime: its words, its files, and the status that it ends with.
-ghost use Rattle.std.specs.Prelude.{◌≡◌, ◌≢◌, ◌≤◌, ◌↔◌, ◌⊎◌, ◌++◌, ◌∷◌, [], IfErr, IfOk, IsOk, IsOkAnd, map, string_bytes};
+ghost use Rattle.std.specs.Prelude.{◌≡◌, ◌≢◌, ◌≤◌, ◌↔◌, ◌⊎◌, ◌++◌, ◌∷◌, [], IfErr, IfOk, IsOk, IsOkAnd, map, option_map, string_bytes};
 ghost use Rattle.std.specs.Io.KnownBytes.{Keeps};
 ghost use Rattle.std.specs.IoError.{error_kind};
 ghost use Rattle.std.specs.declared.io.ErrorKind.TheVariants.{OutOfMemory};
 ghost use Rattle.clap.specs.Words.{kind_of, subcommand_of};
 ghost use Rattle.bx_terms.specs.declared.faults.Fault.TheVariants.{Memory};
-ghost use Rattle.bxemu.specs.CommandLines.{IsMistaken, NamesSession, RefusesWords, TellsByLine, first_files, last_file, program};
-ghost use Rattle.bxemu.specs.Statuses.{EndsByKind, status_after};
+ghost use Rattle.bxemu.specs.CommandLines.{IsMistaken, NamesSession, RefusesWords, TellsByLine, names_in, or_none, program};
+ghost use Rattle.bxemu.specs.Statuses.{EndsByKind, by_name, status_after};
 
 use crate::commands::{Order, command_of};
 use crate::opened::{Opened, open_all, open_with_plan};
 use crate::progress::Progress;
 use crate::prompt::Asking;
 use bx_board::{FreeGate, Gate};
+use bx_chart::chart_text;
 use bx_debugger::{Prompted, debug_text};
 use bx_engine::{Failure, Form, Workers, dis_text, fault_line, start_of, tidy_text};
 use bx_terms::Fault;
@@ -141,6 +142,14 @@ where
             let ended = tidy(rt, Task { start, names }, input, output);
             told(&ended, names, errors)
         }
+        Order::Chart {
+            start,
+            schedule,
+            ..
+        } => {
+            let ended = chart(rt, *schedule, Task { start, names }, input, output);
+            told(&ended, names, errors)
+        }
         Order::Debug { start, .. } => {
             let asks = input.is_terminal() && errors.is_terminal();
             let ended = debug(rt, start, names, asks, Talk { input, output });
@@ -150,15 +159,20 @@ where
     }
 }
 
-/// The names of an order's files, by which a failure numbers them. The lines of a session stand for its last.
+/// What an order names, in the order by which a failure numbers it. The lines of a session stand behind its listings.
 fn files_of(alloc: Global, order: &Order<'_>) -> Result<Vec<String>, AllocError>
-    ensures { IfOk result (λ names. map string_bytes names.items
-        ≡ first_files order.now ++ last_file order.now ∷ []) }
+    ensures { IfOk result (λ names. map string_bytes names.items ≡ names_in order.now) }
 {
     match order {
         Order::Run { plan, files, .. } => names_of(alloc, files.as_slice(), plan),
         Order::Campaign { plan, files, .. } => names_of(alloc, files.as_slice(), plan),
         Order::Tidy { plan, files, .. } => names_of(alloc, files.as_slice(), plan),
+        Order::Chart {
+            plan,
+            schedule,
+            files,
+            ..
+        } => names_with(alloc, files.as_slice(), plan, *schedule),
         Order::Debug { files, .. } => names_of(alloc, files.as_slice(), "-"),
         Order::Dis { file } => names_of(alloc, &[], file),
     }
@@ -238,6 +252,31 @@ fn names_of(alloc: Global, files: &[&str], last: &str) -> Result<Vec<String>, Al
     Ok(names)
 }
 
+/// The same, and behind them the name of a schedule, where one is named.
+fn names_with(
+    alloc: Global,
+    files: &[&str],
+    plan: &str,
+    schedule: Option<&str>,
+) -> Result<Vec<String>, AllocError>
+    ensures { IfOk result (λ names. map string_bytes names.items ≡ (map (λ file. file.now) files.now ++ plan.now ∷ [])
+        ++ or_none (option_map (λ name. name.now) schedule.entry)) }
+{
+    let mut names = names_of(alloc, files, plan)?;
+    if let Some(name) = schedule {
+        names.push(String::from_str(alloc, name)?)?;
+    }
+    Ok(names)
+}
+
+/// The names without that of the schedule, where one is named.
+fn without_schedule<'n>(names: &'n [String], schedule: Option<&str>) -> &'n [String] {
+    match (schedule, names.split_last()) {
+        (Some(_), Some((_, files))) => files,
+        _ => names,
+    }
+}
+
 /// Looks at the start, opens all the files, the plan last, and then writes in that form what comes of the run.
 fn run<R, I, O>(
     rt: &R,
@@ -302,6 +341,47 @@ where
     match inputs.split_last_mut() {
         Some((plan, listings)) => tidy_text(rt.alloc(), listings, start, plan, output),
         None => Ok(()),
+    }
+}
+
+/// Looks at the start, opens all the files, the plan last, and then writes the drawing of the schedule, or of the plan's only one.
+fn chart<R, I, O>(
+    rt: &R,
+    schedule: Option<&str>,
+    task: Task<'_>,
+    input: &mut I,
+    output: &mut O,
+) -> Result<(), Failure>
+where
+    R: Files + AllocGlobal,
+    I: Read,
+    O: Write,
+    ensures { IfErr result (λ failure. (failure ≡ Failure.Write) ⊎ Keeps (O.contents output.old)
+        (O.contents output.new)) }
+{
+    let Task { start, names } = task;
+    let files = without_schedule(names, schedule);
+    let _ = start_of(rt.alloc(), start)?;
+    let mut inputs = open_with_plan(rt, files, input)?;
+    let Some((plan, listings)) = inputs.split_last_mut() else {
+        return Ok(());
+    };
+    match chart_text(rt.alloc(), listings, start, plan, schedule, output) {
+        Ok(()) => Ok(()),
+        Err(failure) => Err(by_name(failure, files.len())),
+    }
+}
+
+/// The failure of a drawing. That the plan lacks the schedule is told as of the command's line, and of the schedule's name, which has
+/// that number.
+fn by_name(failure: Failure, number: usize) -> Failure
+    ensures { result ≡ by_name number failure }
+{
+    match failure {
+        Failure::Refused(Fault::BadCommand { .. }, _) => {
+            Failure::Refused(Fault::BadCommand { line: 1 }, Some(number))
+        }
+        failure => failure,
     }
 }
 

@@ -2,7 +2,7 @@
 ghost use Rattle.std.specs.Prelude.{◌≡◌, IfOk, codes, false};
 ghost use Rattle.clap.specs.Words.{app_of, rule_of};
 ghost use Rattle.clap.specs.declared.builder.command.Command.TheViews.{out-Command as fields_of};
-ghost use Rattle.bxemu.specs.CommandLines.{campaign_command, debug_command, dis_command, file_rule, files_rule, option_rule, over_plan, plan_program, program, run_command, running_program, summary_rule, tidy_command, workers_rule};
+ghost use Rattle.bxemu.specs.CommandLines.{campaign_command, chart_command, debug_command, dis_command, file_rule, files_rule, option_rule, over_plan, plan_program, program, run_command, running_program, schedule_rule, summary_rule, tidy_command, workers_rule};
 
 use bx_debugger::SESSION_HELP;
 use clap::{Arg, ArgAction, Command};
@@ -24,7 +24,9 @@ pub fn program_command<'a>(alloc: Global) -> Result<Command<'a>, AllocError>
 fn plan_program<'a>(alloc: Global) -> Result<Command<'a>, AllocError>
     ensures app { IfOk result (λ c. app_of c ≡ plan_program) }
 {
-    running_program(alloc)?.subcommand(tidy_subcommand(alloc)?)
+    running_program(alloc)?
+        .subcommand(tidy_subcommand(alloc)?)?
+        .subcommand(chart_subcommand(alloc)?)
 }
 
 /// The program with the subcommands that run the schedules of a plan.
@@ -81,6 +83,17 @@ fn tidy_subcommand<'a>(alloc: Global) -> Result<Command<'a>, AllocError>
         .about(
             "Exchanges independent choices of each schedule of a plan, so that those of one process stand together, and prints the plan",
         )
+        .arg(files_argument(alloc))
+}
+
+/// `chart`, with its options and files.
+fn chart_subcommand<'a>(alloc: Global) -> Result<Command<'a>, AllocError>
+    ensures app { IfOk result (λ c. app_of c ≡ chart_command) }
+    ensures local { IfOk result (λ c. (fields_of c).has_globals ≡ false) }
+{
+    over_plan(alloc, "chart")?
+        .about("Draws who sent what to whom in a schedule of a plan, and when it arrived, as SVG")
+        .arg(schedule_option(alloc))?
         .arg(files_argument(alloc))
 }
 
@@ -157,6 +170,18 @@ fn summary_option<'a>(alloc: Global) -> Arg<'a>
             "Prints each distinct outcome once, with how many schedules have it, in place of the reports",
         )
         .action(ArgAction::SetTrue)
+}
+
+/// `--schedule NAME`.
+fn schedule_option<'a>(alloc: Global) -> Arg<'a>
+    ensures rule { rule_of result ≡ schedule_rule }
+    ensures local { result.global ≡ false }
+{
+    Arg::new(alloc, "schedule")
+        .long("schedule")
+        .value_name("NAME")
+        .help("The schedule to draw, where the plan has several")
+        .action(ArgAction::Set)
 }
 
 /// The files of the listings.

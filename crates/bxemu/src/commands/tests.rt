@@ -162,6 +162,41 @@ fn orders_tidyings(rt: HostRuntime) -> Result<(), Fail> {
     Ok(())
 }
 
+/// The schedule that a line's words name, and its files; none where they order no drawing.
+fn chart_of<'a>(
+    alloc: Global,
+    words: &'a [String],
+) -> Result<Option<(Option<&'a str>, Vec<&'a str>)>, Fail> {
+    match command_of(alloc, words)? {
+        Order::Chart {
+            schedule,
+            files,
+            ..
+        } => Ok(Some((schedule, files))),
+        _ => Ok(None),
+    }
+}
+
+#[test]
+fn orders_drawings(rt: HostRuntime) -> Result<(), Fail> {
+    let rows = [
+        ("chart --start m:f --plan p --schedule s a.S", Some("s")),
+        ("chart a.S --schedule= --plan p --start m:f", Some("")),
+        ("chart --plan p --start m:f a.S", None),
+    ];
+    for (line, schedule) in rows {
+        let line = format!(in rt.alloc(); "bxemu {line}")?;
+        let words = words(rt.alloc(), line.as_str())?;
+        let Some((given, files)) = chart_of(rt.alloc(), words.as_slice())? else {
+            assert!(rt; false, "another order");
+            return Ok(());
+        };
+        assert!(rt; given == schedule, "{line}");
+        assert_files(&rt, &files, "a.S");
+    }
+    Ok(())
+}
+
 #[test]
 fn orders_sessions(rt: HostRuntime) -> Result<(), Fail> {
     let words = words(rt.alloc(), "bxemu debug b.S --start m:f -- --plan")?;
@@ -241,6 +276,14 @@ fn refuses_other_words_over_plans(rt: HostRuntime) -> Result<(), Fail> {
         ),
         (
             "tidy --start m:f --plan p --summary a.S",
+            ErrorKind::UnknownArgument,
+        ),
+        (
+            "chart --start m:f --plan p --schedule a --schedule b a.S",
+            ErrorKind::ArgumentConflict,
+        ),
+        (
+            "run --start m:f --plan p --schedule a a.S",
             ErrorKind::UnknownArgument,
         ),
         (

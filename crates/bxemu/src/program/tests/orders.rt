@@ -386,6 +386,72 @@ fn the_first_failure_ends_a_tidying(rt: HostRuntime) -> Result<(), Fail> {
 }
 
 #[test]
+fn a_schedule_is_drawn(rt: HostRuntime) -> Result<(), Fail> {
+    let wide = Room {
+        output: 100_000,
+        ..WIDE
+    };
+    let rows = [
+        (
+            "bxemu chart --start m:f --plan plan --schedule a m.S n.S",
+            COMMANDS,
+        ),
+        ("bxemu chart --start m:f --plan - m.S n.S", "a: r0*2\n"),
+    ];
+    for (line, input) in rows {
+        let outcome = ended(&rt, rt.alloc(), line.as_bytes(), input, wide);
+        assert!(rt; outcome.output.starts_with(b"<svg "), "{line}");
+        assert!(rt; outcome.output.ends_with(b"</svg>\n"), "{line}");
+        assert!(rt; outcome.status == 0 && outcome.errors.is_empty(), "{line}");
+    }
+    Ok(())
+}
+
+#[test]
+fn the_first_failure_ends_a_drawing(rt: HostRuntime) -> Result<(), Fail> {
+    let rows = [
+        (
+            "bxemu chart --start m --plan away --schedule a away.S",
+            "",
+            "bxemu: start\n",
+            2,
+        ),
+        (
+            "bxemu chart --start m:f --plan away --schedule a empty.S torn",
+            "",
+            "bxemu: read away\n",
+            4,
+        ),
+        (
+            "bxemu chart --start m:f --plan - --schedule a m.S n.S",
+            "",
+            "bxemu: R24 BadLine line 1 in -\n",
+            1,
+        ),
+        (
+            "bxemu chart --start m:g --plan plan --schedule x m.S n.S",
+            "",
+            "bxemu: R32 NoEntry\n",
+            1,
+        ),
+        (
+            "bxemu chart --start m:f --plan plan --schedule x m.S n.S",
+            "",
+            "bxemu: R33 BadCommand line 1 in x\n",
+            1,
+        ),
+        (
+            "bxemu chart --start m:f --plan plan m.S n.S",
+            "",
+            "bxemu: R33 BadCommand line 1\n",
+            1,
+        ),
+    ];
+    assert_rows(&rt, rt.alloc(), &rows)?;
+    Ok(())
+}
+
+#[test]
 fn a_tidied_plan_has_the_same_report(rt: HostRuntime) -> Result<(), Fail> {
     let given = ends(
         &rt,
@@ -478,6 +544,7 @@ fn a_stream_that_fails_ends_an_order(rt: HostRuntime) -> Result<(), Fail> {
         "bxemu run --start m:f --plan plan m.S n.S",
         "bxemu campaign --start m:f --plan plan m.S n.S",
         "bxemu tidy --start m:f --plan plan m.S n.S",
+        "bxemu chart --start m:f --plan plan --schedule a m.S n.S",
         "bxemu debug --start m:f m.S n.S",
         "bxemu dis n.S",
     ];
