@@ -40,7 +40,7 @@ const UNLINKS: &str =
 {move,{atom,kill},{x,0}}. {call_ext_only,1,{extfunc,erlang,exit,1}}.";
 
 /// By the listing, of several processes and of several schedules.
-const TOGETHER: [Row; 11] = [
+const TOGETHER: [Row; 12] = [
     (ENDS, "", ""),
     (
         ENDS,
@@ -86,6 +86,11 @@ const TOGETHER: [Row; 11] = [
         SENDERS,
         "p: r0*3\nq: r0*6\n",
         "schedule p\napplied 3\nstate open r0\nprocess <0.0.0> ready\nend\nschedule q\napplied 6\nstate open r0 r1\nprocess <0.0.0> ready\nprocess <0.1.0> ready\nend\n",
+    ),
+    (
+        SENDERS,
+        "x: r0\ny: r1\n",
+        "schedule x\napplied 1\nstate open r0\nprocess <0.0.0> ready\nend\nschedule y\napplied 0\nstate stopped r1\nprocess <0.0.0> ready\nend\n",
     ),
     (
         SENDERS,
