@@ -59,7 +59,7 @@ fn append(alloc: Global, list: &Term, rest: &Term) -> Result<Given, AllocError>
     }
 }
 
-/// The same where the elements are so many, and leave the whole low enough.
+/// The elements of a proper list of that length before any term, where the whole is low enough.
 #[tactic(auto, using(crate::proofs::Joining::joined_low, crate::proofs::Joining::joined))]
 fn join(alloc: Global, list: &Term, count: u32, rest: &Term) -> Result<Given, AllocError>
     requires counted { Some count ≡ length_of list.now }
@@ -92,7 +92,7 @@ fn list_to_tuple(alloc: Global, list: &Term) -> Result<Given, AllocError>
     }
 }
 
-/// The same of a proper list.
+/// The tuple of a proper list's elements.
 #[tactic(auto, using(crate::proofs::Joining::tupled_low, crate::proofs::Joining::tupled_is))]
 fn tuple_from(alloc: Global, list: &Term) -> Result<Given, AllocError>
     requires low { IsWithinHeight list.now }
@@ -175,7 +175,7 @@ pub fn elements(alloc: Global, list: &Term) -> Result<Option<Vec<Term>>, AllocEr
     }
 }
 
-/// The same of a list whose length is known.
+/// The elements of a list whose length is known.
 #[tactic(auto, using(crate::proofs::Building::one_more, crate::proofs::Building::at_start, crate::proofs::Building::at_end))]
 fn gather(alloc: Global, list: &Term) -> Result<Option<Vec<Term>>, AllocError>
     ensures { IfOk result (λ found. option_map (λ v. v.items) found ≡ elements_of list.now) }

@@ -151,7 +151,7 @@ pub struct Board<'a, J: Campaign> {
 }
 
 impl<'a, J: Campaign> Board<'a, J> {
-    /// A board of that book.
+    /// A board of that book, of which no chain should be leased: workers would wait for one that nobody hands in.
     pub fn new(book: Book<'a>) -> Board<'a, J>
         requires { book.job ≡ J.job }
     {

@@ -225,7 +225,7 @@ pub fn work<'a>(alloc: Global, lease: Lease<'a>) -> Result<Piece<'a>, (Fault, Le
     work_over(alloc, code, lease, Crew::Several)
 }
 
-/// The same over code that equals the lease's, as a worker's own, and by one worker of that crew.
+/// Runs a leased chain over code that equals the lease's, as a worker's own, and by one worker of that crew.
 pub(crate) fn work_over<'a>(
     alloc: Global,
     code: &Image,

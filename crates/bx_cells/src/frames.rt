@@ -173,7 +173,7 @@ impl Frames {
         catcher(&self.heads, &self.cells)
     }
 
-    /// The same for a stack without its topmost frame, which is counted among those above.
+    /// Where a fault is caught in a stack without its topmost frame, which is counted among those above.
     pub fn handler_below(&self) -> Option<(usize, Place)>
         ensures { MatchOption result (unwound (drop 1 self.now) ≡ None) (λ h. unwound (drop 1 self.now) ≡ Some (h.1, drop h.0 self.now)) }
     {

@@ -38,7 +38,7 @@ fn stretch(
     Ok((made, None))
 }
 
-/// The same of one choice, so many times in a row.
+/// Applies one choice so many times in a row, as far as nothing stops it.
 fn stretch_run(
     alloc: Global,
     image: &Image,
@@ -60,7 +60,7 @@ fn stretch_run(
     Ok((run.times, None))
 }
 
-/// The same where no run breaks off: equal ones in a row are made in one call. Once a choice was refused or the world has trapped
+/// Applies choices in order where no run breaks off: equal ones in a row are made in one call. Once a choice was refused or the world has trapped
 /// nothing changes any more, so why it stopped is looked at behind the last one.
 #[inline(never)]
 fn stretch_unbroken(

@@ -74,7 +74,7 @@ fn listing_of(
     }
 }
 
-/// The same of the text of the file of that number.
+/// The numbered code of the text of the file of that number.
 fn unit_in(
     alloc: Global,
     atoms: &mut Atoms,

@@ -54,7 +54,7 @@ pub fn told_story(
     tell_from(alloc, image, world, schedule)
 }
 
-/// The same from that world on.
+/// What a run of a schedule brings about from that world on.
 #[tactic(auto, using(crate::proofs::Going::tells_gives, crate::proofs::Going::story_is))]
 fn tell_from(
     alloc: Global,

@@ -79,7 +79,7 @@ impl Proc {
         ran
     }
 
-    /// The same with a message to the process itself: where the answer is a value with which it goes on, the message joins
+    /// Ends what the process asked for or sent, with a message to itself: where the answer is a value with which it goes on, the message joins
     /// its mailbox, and else there is none.
     #[tactic(auto, unfolding(crate::specs::Stepping::settled_with))]
     pub fn settle_with(
@@ -98,7 +98,7 @@ impl Proc {
         }
     }
 
-    /// The same with a value.
+    /// Ends what the process asked for with a value and a message to itself.
     #[tactic(auto, using(crate::proofs::Resuming::noted_told))]
     fn settle_noting(
         &mut self,
@@ -182,7 +182,7 @@ impl Proc {
         }
     }
 
-    /// The same with a message to itself.
+    /// The answer's value goes into x0, and a message to the process itself into its mailbox.
     fn note(
         &mut self,
         alloc: Global,
@@ -249,7 +249,7 @@ fn called_there(image: &Image, here: Place) -> Result<CallKind, Trap>
     called_as(item)
 }
 
-/// The same of an item.
+/// In which way an item calls that may have asked others.
 #[tactic(auto, unfolding(bx_asm::specs::Meaning::taken))]
 fn called_as(item: Numbered<'_>) -> Result<CallKind, Trap>
     ensures { result ≡ called_in (Some (item_of item.entry)) }

@@ -32,7 +32,7 @@ impl Proc {
         Ok(())
     }
 
-    /// The same, wherever the label stands. It is the last call of each that makes it, so that none of them needs a frame.
+    /// On at a label, wherever it stands. It is the last call of each that makes it, so that none of them needs a frame.
     #[inline(never)]
     fn go_anywhere(&mut self, image: &Image, here: Place, label: u32) -> Result<(), Stop>
         ensures { Turns ⊥ self.old self.new result (goes image.now here label self.old) }
@@ -103,7 +103,7 @@ impl Proc {
         Ok(())
     }
 
-    /// The same, wherever the label stands.
+    /// Calls the function that begins at a label, wherever that stands.
     #[inline(never)]
     fn enter_anywhere(
         &mut self,

@@ -27,7 +27,7 @@ pub(crate) enum Seen<'a> {
 }
 
 impl Seen<'_> {
-    /// The same, to be kept.
+    /// The term, to be kept.
     #[inline(always)]
     pub(crate) fn kept(self, alloc: Global) -> Result<Term, AllocError>
         ensures kept { IfOk result (λ t. t ≡ tree_of self.entry) }

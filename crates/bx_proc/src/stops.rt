@@ -25,7 +25,7 @@ pub enum Why {
     Ends,
 }
 
-/// The same as one byte.
+/// Why an instruction stopped, as one byte.
 #[derive(Clone, Copy, Debug, PartialEq, Eq)]
 enum Code {
     Memory,

@@ -84,7 +84,7 @@ impl Queue {
         self.put_behind(alloc, signal)
     }
 
-    /// The same where others wait, or waited.
+    /// Puts a signal behind others that wait, or waited, or hands it back where memory ran out.
     #[inline(never)]
     fn put_behind(&mut self, alloc: Global, signal: Signal) -> Result<(), Signal>
         ensures ok { OnOk result (self.new ≡ self.old ++ signal ∷ []) }
@@ -203,7 +203,7 @@ impl Queue {
         self.hand_any(mailbox)
     }
 
-    /// The same, however many wait.
+    /// Moves the first signal of any queue into a mailbox, where it is a message.
     #[inline(never)]
     fn hand_any(&mut self, mailbox: &mut Mailbox) -> Result<bool, AllocError>
         ensures { Hands added (message_of (first self.old)) mailbox.old mailbox.new

@@ -283,7 +283,7 @@ fn place_near(lines: &[(u32, Queue)], near: usize, to: u32) -> Result<usize, usi
     place_beside(lines, near, to)
 }
 
-/// The same by the places beside `near`, and then among all.
+/// The place of a receiver's queue, or its gap, by the places beside `near`, and then among all.
 #[inline(never)]
 fn place_beside(lines: &[(u32, Queue)], near: usize, to: u32) -> Result<usize, usize>
     requires { IsRising lines.now }

@@ -43,7 +43,7 @@ pub(crate) fn is_accented(b: u8) -> bool
     0x80 <= b && b <= 0xBF && !(b == 0x97) && !(b == 0xB7)
 }
 
-/// The same of a letter that may begin an atom.
+/// Whether the byte, behind 0xC3, is a letter's that may begin an atom.
 pub(crate) fn is_accented_lower(b: u8) -> bool
     ensures { result ≡ is_accented_lower b }
 {

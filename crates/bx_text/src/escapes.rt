@@ -240,7 +240,7 @@ fn coded(code: u32) -> Option<char>
     char::from_u32(code)
 }
 
-/// The same where the escape is a good one.
+/// The character of a code, where the escape is a good one.
 fn coded_if(good: bool, code: u32) -> Option<char>
     ensures { escapes.one_of result ≡ escapes.coded_if good code }
 {
@@ -368,7 +368,7 @@ fn rest_behind(left: &[u8], c: char) -> Option<&[u8]>
     }
 }
 
-/// The same, where there may be no character.
+/// What is left of a text behind a character, where there may be none.
 #[tactic(auto, using(crate::proofs::Lefts::none_more, crate::proofs::Lefts::one_more, crate::proofs::Lefts::no_more, crate::proofs::Lefts::none_left))]
 fn left_behind<'w>(left: Option<&'w [u8]>, c: Option<char>) -> Option<&'w [u8]>
     ensures { (word : List ℕ) (ks : List ℕ) → IsLeft word ks left.entry → IsLeft word (ks ++ escapes.one_of c) result }

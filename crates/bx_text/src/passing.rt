@@ -53,7 +53,7 @@ fn pass_group<'a>(l: &mut Lexeme<'a>, depth: u32) -> Result<(), Fault>
     pass_bracket(l, depth - 1)
 }
 
-/// The same, where those in it may nest `depth` deep.
+/// Passes over a bracketed term, in which others may nest `depth` deep.
 #[cycle(pass)]
 fn pass_bracket<'a>(l: &mut Lexeme<'a>, depth: u32) -> Result<(), Fault>
     requires { IsToken (lexeme_of l.old) }

@@ -61,7 +61,7 @@ fn group<'a>(alloc: Global, l: &mut Lexeme<'a>, depth: u32) -> Result<Node<'a>, 
     bracket(alloc, l, depth - 1)
 }
 
-/// The same, where those in it may nest `depth` deep.
+/// A bracketed term, in which others may nest `depth` deep.
 #[cycle(term)]
 fn bracket<'a>(alloc: Global, l: &mut Lexeme<'a>, depth: u32) -> Result<Node<'a>, Fault>
     requires { IsToken (lexeme_of l.old) }

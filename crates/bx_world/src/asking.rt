@@ -131,7 +131,7 @@ impl Actor<'_> {
         }
     }
 
-    /// The same with a message to itself.
+    /// Gives a process its answer, and a message to itself.
     #[tactic(auto, using(crate::proofs::Undoing::whole_alone_with, crate::proofs::Halting::went_on, crate::proofs::Halting::any_takes))]
     fn note(
         self,

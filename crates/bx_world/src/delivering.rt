@@ -36,7 +36,7 @@ pub(crate) fn receive(
     }
 }
 
-/// The same of a signal that is no message. It is taken last, when nothing can be refused any more.
+/// The first signal between two processes, which is no message, takes effect. It is taken last, when nothing can be refused any more.
 #[cold]
 #[inline(never)]
 fn receive_other(

@@ -81,7 +81,7 @@ impl Same for Lanes {
 }
 
 impl Copied for Lanes {
-    /// The same. Terms are shared.
+    /// The same lanes. Terms are shared.
     fn copy(&self, alloc: Global) -> Result<Lanes, AllocError> {
         let channels = self.channels.copy(alloc)?;
         let output = self.output.copy(alloc)?;

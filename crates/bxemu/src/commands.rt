@@ -25,7 +25,7 @@ pub enum Order<'a> {
         /// The files of the listings, in order.
         files: Vec<&'a str>,
     },
-    /// The same by several workers.
+    /// Runs each schedule of a plan by several workers.
     Campaign {
         /// The function to start with, as `M:F`.
         start: &'a str,
