@@ -4,6 +4,7 @@ use bx_plan::{Plan, Run as Repeat, Schedule, chains_of, read_choices, read_plan}
 use bx_terms::Fault;
 use bx_world::Choice;
 use bx_world::Choice::{Deliver, Expire, Run};
+use std::alloc::Global;
 use std::test::Fail;
 
 /// What a plan's text is: how many schedules, or the number of the refusal and its line.
@@ -175,6 +176,41 @@ fn neighbours_of_one_choice_are_one_run(rt: HostRuntime) -> Result<(), Fail> {
     assert!(rt; !Schedule::new(rt.alloc()).same(&schedule));
     assert!(rt; read_choices(rt.alloc(), b"r0*0")?.is_none());
     Ok(())
+}
+
+/// The schedule of so many entries `r0*100000`.
+fn hundred_thousands(alloc: Global, entries: usize) -> Option<Schedule> {
+    let mut text = String::from_str(alloc, "r0*100000").ok()?;
+    for _more in 1..entries {
+        text.push_str(" r0*100000").ok()?;
+    }
+    read_choices(alloc, text.as_bytes()).ok()?
+}
+
+/// How long it is then, and whether process 0 could be run so many times more.
+fn lengthened(schedule: &mut Schedule, times: usize) -> (bool, usize) {
+    let made = schedule.push(Run(0), times).is_ok();
+    (made, schedule.len())
+}
+
+/// The most choices that a schedule holds.
+const MOST: usize = usize::MAX / 2;
+
+/// What comes of lengthening a schedule of 1,100,000 choices three times.
+fn lengths(alloc: Global) -> Option<[(bool, usize); 3]> {
+    let mut long = hundred_thousands(alloc, 11)?;
+    let first = lengthened(&mut long, 0);
+    let second = lengthened(&mut long, MOST - 1_100_000);
+    let third = lengthened(&mut long, 1);
+    Some([first, second, third])
+}
+
+#[test]
+fn a_schedule_holds_as_many_choices_as_can_be_counted(rt: HostRuntime) {
+    assert_eq!(&rt;
+        lengths(rt.alloc()),
+        Some([(true, 1_100_000), (true, MOST), (false, MOST)])
+    );
 }
 
 #[test]
