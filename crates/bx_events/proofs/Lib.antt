@@ -2,3 +2,9 @@ pub mod Noting
 pub mod Going
 pub mod Told
 pub mod Ordered
+pub mod Flowing
+pub mod Outlines
+pub mod Outlined
+pub mod Lined
+pub mod Posted
+pub mod Matched

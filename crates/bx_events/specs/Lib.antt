@@ -6,3 +6,5 @@ pub mod Answers
 pub mod Lanes
 pub mod Stories
 pub mod Ordered
+pub mod Flows
+pub mod Births

@@ -61,6 +61,7 @@ told_by n choice events made before w = record {
   last = n;
   actor = actor choice;
   from = before.place;
+  last_from = before.place;
   to = place_in (actor choice) w;
   what = what_of (actor choice) events before.met before (mail_of (slice_get w.processes (actor choice))) (stands_in (actor choice) w);
   puts = puts_of made events;
@@ -96,7 +97,7 @@ abbrev pub joins : Event → Event → Bool
 joins last event = (last.actor == event.actor) && (is_plain last && is_plain event)
 
 abbrev pub joined : Event → Event → Event
-joined last event = record last { last = event.last; to = event.to; stands = event.stands }
+joined last event = record last { last = event.last; last_from = event.last_from; to = event.to; stands = event.stands }
 
 abbrev pub last_of : List Event → Option Event
 last_of events = slice_get events (length events - 1)

@@ -90,6 +90,8 @@ pub struct Event {
     pub actor: u32,
     /// Where that process stood before the event.
     pub from: Option<Place>,
+    /// Where it stood before the event's last choice.
+    pub last_from: Option<Place>,
     /// Where it stands behind the event.
     pub to: Option<Place>,
     pub what: What,

@@ -132,6 +132,7 @@ impl Teller {
             last: self.end.applied,
             actor,
             from: place,
+            last_from: place,
             to: world.place(actor),
             what,
             puts: self.puts_of(alloc, made)?,
@@ -248,6 +249,7 @@ fn join_last(events: &mut Vec<Event>, event: Event)
     }
     let last = &mut events[count - 1];
     last.last = event.last;
+    last.last_from = event.last_from;
     last.to = event.to;
     last.stands = event.stands;
 }
