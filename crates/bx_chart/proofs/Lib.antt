@@ -1,3 +1,4 @@
 pub mod Framing
 pub mod Asking
 pub mod Rowing
+pub mod Arriving

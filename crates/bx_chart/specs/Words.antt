@@ -105,18 +105,25 @@ event_words image sources event = stands_words image sources event event.stands
 
 -- ---- what shows where one points at an event
 
--- an item as a listing writes it, without its full stop
-abbrev pub item_or_nothing : Loaded → Option Item → List ℕ
-item_or_nothing image None = []
-item_or_nothing image (Some item) = codes ": " ++ item_words image.atoms item
+-- an item as a listing writes it, without its full stop, behind a mark
+abbrev pub item_or_nothing : List ℕ → Loaded → Option Item → List ℕ
+item_or_nothing mark image None = []
+item_or_nothing mark image (Some item) = mark ++ item_words image.atoms item
 
-abbrev pub item_at : Loaded → Option Place → List ℕ
-item_at image None = []
-item_at image (Some place) = item_or_nothing image (numbered_at image place)
+abbrev pub item_at : List ℕ → Loaded → Option Place → List ℕ
+item_at mark image None = []
+item_at mark image (Some place) = item_or_nothing mark image (numbered_at image place)
 
--- a run's first item, or the message that was taken
+abbrev pub last_item : Loaded → Event → List ℕ
+last_item image event = if event.first == event.last then [] else item_at (codes " .. ") image event.last_from
+
+-- the first item of a run, and the last one
+abbrev pub items_words : Loaded → Event → List ℕ
+items_words image event = item_at (codes ": ") image event.from ++ last_item image event
+
+-- what was run, or the message that was taken
 abbrev pub detail_words : Loaded → Event → What → List ℕ
-detail_words image event whats.Ran = item_at image event.from
+detail_words image event whats.Ran = items_words image event
 detail_words image event (whats.Took message) = codes ": " ++ printed image.atoms message
 detail_words image event what = []
 

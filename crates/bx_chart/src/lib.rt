@@ -5,6 +5,7 @@ mod arrows;
 mod charts;
 mod classes;
 mod lanes;
+pub mod laws;
 mod points;
 mod rows;
 mod sheets;

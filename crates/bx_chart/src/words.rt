@@ -6,7 +6,7 @@ ghost use Rattle.bx_terms.specs.Kinds.{trap_name};
 ghost use Rattle.bx_terms.specs.Printed.{printed, printed_pid};
 ghost use Rattle.bx_load.specs.Numbering.{numbered_at};
 ghost use Rattle.bx_world.specs.Texts.{spelling};
-ghost use Rattle.bx_chart.specs.Words.{count_words, detail_words, effect_words, end_words, event_words, found, item_at, item_or_nothing, location_words, last_words, number_words, onward_words, run_words, sentence, short, shown_words, signal_words, span_words, stands_words, standing_words, state_words, status_words, then_words, tip_words, title_words, wait_words, what_words};
+ghost use Rattle.bx_chart.specs.Words.{count_words, detail_words, effect_words, end_words, event_words, found, item_at, item_or_nothing, items_words, last_item, location_words, last_words, number_words, onward_words, run_words, sentence, short, shown_words, signal_words, span_words, stands_words, standing_words, state_words, status_words, then_words, tip_words, title_words, wait_words, what_words};
 
 use bx_dis::item_text;
 use bx_engine::Sources;
@@ -282,15 +282,21 @@ pub(crate) fn event_text(
     Ok(out)
 }
 
-/// Adds the item at an address, where there is one.
-fn push_item(alloc: Global, out: &mut String, image: &Image, place: Place) -> Result<(), AllocError>
-    ensures { OnOk result
-        (string_bytes out.new ≡ string_bytes out.old ++ item_or_nothing image.now (numbered_at image.now place)) }
+/// Adds the item at an address behind a mark, where there is one.
+fn push_item(
+    alloc: Global,
+    out: &mut String,
+    mark: &str,
+    image: &Image,
+    place: Place,
+) -> Result<(), AllocError>
+    ensures { OnOk result (string_bytes out.new
+        ≡ string_bytes out.old ++ item_or_nothing mark.now image.now (numbered_at image.now place)) }
 {
     match image.item(place) {
         Some(item) => {
             let text = item_text(alloc, image.atoms(), item)?;
-            out.push_str(": ")?;
+            out.push_str(mark)?;
             out.push_str(text.as_str())
         }
         None => Ok(()),
@@ -300,19 +306,50 @@ fn push_item(alloc: Global, out: &mut String, image: &Image, place: Place) -> Re
 fn push_item_at(
     alloc: Global,
     out: &mut String,
+    mark: &str,
     image: &Image,
     place: Option<Place>,
 ) -> Result<(), AllocError>
     ensures { OnOk result
-        (string_bytes out.new ≡ string_bytes out.old ++ item_at image.now place) }
+        (string_bytes out.new ≡ string_bytes out.old ++ item_at mark.now image.now place) }
 {
     match place {
         None => Ok(()),
-        Some(place) => push_item(alloc, out, image, place),
+        Some(place) => push_item(alloc, out, mark, image, place),
     }
 }
 
-/// Adds a run's first item, or the message that was taken.
+/// Adds the last item of a run of several.
+fn push_last_item(
+    alloc: Global,
+    out: &mut String,
+    image: &Image,
+    event: &Event,
+) -> Result<(), AllocError>
+    ensures { OnOk result
+        (string_bytes out.new ≡ string_bytes out.old ++ last_item image.now event.now) }
+{
+    if event.first == event.last {
+        return Ok(());
+    }
+    push_item_at(alloc, out, " .. ", image, event.last_from)
+}
+
+/// Adds the first item of a run, and the last one.
+fn push_items(
+    alloc: Global,
+    out: &mut String,
+    image: &Image,
+    event: &Event,
+) -> Result<(), AllocError>
+    ensures { OnOk result
+        (string_bytes out.new ≡ string_bytes out.old ++ items_words image.now event.now) }
+{
+    push_item_at(alloc, out, ": ", image, event.from)?;
+    push_last_item(alloc, out, image, event)
+}
+
+/// Adds what was run, or the message that was taken.
 fn push_detail(
     alloc: Global,
     out: &mut String,
@@ -323,7 +360,7 @@ fn push_detail(
         ≡ string_bytes out.old ++ detail_words image.now event.now event.now.what) }
 {
     match &event.what {
-        What::Ran => push_item_at(alloc, out, image, event.from),
+        What::Ran => push_items(alloc, out, image, event),
         What::Took(message) => push_behind(alloc, out, image.atoms(), ": ", message),
         _ => Ok(()),
     }
