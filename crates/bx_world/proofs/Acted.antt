@@ -1,28 +1,16 @@
 -- What is asked of one process, carried to its life and to the others.
-use Rattle.std.proofs.Common.{◌≡◌, ◌≢◌, ◌<◌, ℕ, true, false, length, get_or, map, refl, ap, sym, subst, ◌∙◌}
+use Rattle.bx_world.proofs.Words.{◌≡◌, ◌≢◌, ◌<◌, ℕ, true, false, length, get_or, map, refl, ap, sym, subst, ◌∙◌, Bool, option_map, List, Some, Result, Ok, Err, slice_get, if◌then◌else◌, set, map-set_same, Tree}
+use Rattle.bx_world.proofs.Words.{Does, Fault, NotEnabled, Memory, Place, Loaded, Process, can_run, Lanes, life, Turn, Life, Live, Exited, lived, lived_if, exited_if, put_back, life_acted, acted_at, lives_acted}
+use Rattle.bx_world.proofs.Words.{MayLack}
 use Rattle.std.proofs.lemmas.Option.{slice_get-map, slice_get-get_or}
-use Rattle.std.specs.Prelude.{Bool, option_map, List, Some, Result, Ok, Err, slice_get, if◌then◌else◌}
-use Rattle.std.proofs.Math.ListN.{set}
-use Rattle.std.proofs.Math.Seq.{map-set_same}
 use Rattle.std.proofs.lemmas.List.{map-set}
-use Rattle.bx_terms.specs.Tree.{Tree}
-use Rattle.bx_terms.specs.Outcomes.{Does}
-use Rattle.bx_terms.specs.declared.faults.Fault.{Fault}
-use Rattle.bx_terms.specs.declared.faults.Fault.TheVariants.{NotEnabled, Memory}
-use Rattle.bx_terms.specs.declared.places.Place.{Place}
-use Rattle.bx_load.specs.Image.{Loaded}
-use Rattle.bx_proc.specs.Process.{Process, can_run, can_run_in}
+use Rattle.bx_proc.specs.Process.{can_run_in}
 use Rattle.bx_proc.specs.Stepping.{StandsFree}
 use Rattle.bx_world.specs.declared.acts.Act.{Act}
-use Rattle.bx_world.specs.declared.lanes.Lanes.{Lanes}
 use Rattle.bx_world.specs.declared.slots.Slot.{Slot}
 use Rattle.bx_world.specs.declared.slots.Slot.TheVariants as slots
-use Rattle.bx_world.specs.Lives.{life}
-use Rattle.bx_world.specs.declared.turns.Turn.{Turn}
 use Rattle.bx_world.specs.declared.turns.Turn.TheVariants as turns
-use Rattle.bx_world.specs.World.{Life, Live, Exited}
-use Rattle.bx_world.specs.Lifetimes.{lived, lived_if, exited_if, put_back}
-use Rattle.bx_world.specs.Acting.{process_acted, exited_acted, life_acted, acted_at, lives_acted, MayLack}
+use Rattle.bx_world.specs.Acting.{process_acted, exited_acted}
 use Rattle.bx_world.proofs.Changing.{does_through, err_through}
 
 -- the life that is seen at a place

@@ -1,20 +1,9 @@
 -- A choice finds the same where nothing but what it takes is on its way, so it does the same there.
-use Rattle.std.proofs.Common.{◌≡◌, [], ◌∷◌, ◌++◌, Option, Some, None, Ok, Err, length, refl, sym, ap, ◌∙◌}
-use Rattle.std.specs.Prelude.{IsTrue, ◌&&◌, is_some, is_none, if◌then◌else◌, slice_get}
-use Rattle.bx_terms.specs.Outcomes.{Does, Gives}
-use Rattle.bx_terms.specs.declared.faults.Fault.{Fault}
-use Rattle.bx_terms.specs.declared.faults.Fault.TheVariants.{NotEnabled, Halted, Memory}
-use Rattle.bx_load.specs.Image.{Loaded}
-use Rattle.bx_signals.specs.Waiting.{first}
-use Rattle.bx_signals.specs.Channels.{Channels, waiting}
-use Rattle.bx_signals.specs.declared.signal.Signal.{Signal}
-use Rattle.bx_signals.proofs.Maps.{waiting_same, waiting_empty}
-use Rattle.bx_world.specs.declared.choices.Choice.{Choice}
-use Rattle.bx_world.specs.declared.choices.Choice.TheVariants.{Run, Deliver, Expire}
-use Rattle.bx_world.specs.World.{State}
-use Rattle.bx_world.specs.Enabled.{able, can, actor}
-use Rattle.bx_world.specs.Changes.{change_of, heeds, coming, after}
-use Rattle.bx_world.specs.Choosing.{chosen, refusal, unless_refused, applied, put_alone, bare, shown_if, shown_alone}
+use Rattle.bx_world.proofs.Words.{◌≡◌, [], ◌∷◌, ◌++◌, Option, Some, None, Ok, Err, length, refl, sym, ap, ◌∙◌, IsTrue, ◌&&◌, is_some, is_none, if◌then◌else◌, slice_get, Does, Fault, NotEnabled, Halted, Memory}
+use Rattle.bx_world.proofs.Words.{Loaded, first, Channels, waiting, Signal, waiting_empty, Choice, Run, Deliver, Expire, State, able, can, actor, change_of, heeds, coming, after, chosen, unless_refused, applied}
+use Rattle.bx_terms.specs.Outcomes.{Gives}
+use Rattle.bx_signals.proofs.Maps.{waiting_same}
+use Rattle.bx_world.specs.Choosing.{refusal, put_alone, bare, shown_if, shown_alone}
 
 heeds_alone : (c : Choice) (o : Option Signal) (m : Channels Signal) → heeds c m ≡ o → heeds c (put_alone c o) ≡ o
 heeds_alone (Run p) o m is = is

@@ -1,52 +1,27 @@
 -- What a choice makes of processes and lanes is its change, applied; and it makes something exactly where it is enabled.
-use Rattle.std.proofs.Common.{◌≡◌, ℕ, zero, suc, List, [], ◌∷◌, ◌++◌, Option, Some, None, Result, Ok, Err, Bool, true, false, length, refl, sym, ap, subst, ◌∙◌}
-use Rattle.std.specs.Prelude.{IsTrue, ◌&&◌, if◌then◌else◌, is_some, is_none, slice_get, slice_set}
-use Rattle.std.proofs.Math.ListN.{set}
+use Rattle.bx_world.proofs.Words.{◌≡◌, ℕ, zero, suc, List, [], ◌∷◌, ◌++◌, Option, Some, None, Result, Ok, Err, Bool, true, false, length, refl, sym, ap, subst, ◌∙◌, IsTrue, ◌&&◌, if◌then◌else◌, is_some, is_none}
+use Rattle.bx_world.proofs.Words.{slice_get, slice_set, set, pid, Fault, NotEnabled, Halted, Trap, Loaded, first, waiting, Signal, Process, can_run, can_expire, expired, Value, Choice, Run, Deliver, Expire}
+use Rattle.bx_world.proofs.Words.{Lanes, SpawnRequest, Turn, Life, Live, Exited, State, Done, whole, done, runs, heard, able, can, actor, may_at, may_run, may_expire, Spawned, acted_at, lives_acted, Among, lived}
+use Rattle.bx_world.proofs.Words.{lived_if, exited_if, life_run, put_back, at_life, lives_run, childless_at_trap, lives_with_child, lives_spawned, tell, world_if, spawned_too, made, unless_refused, chosen}
+use Rattle.bx_world.proofs.Words.{applied, Deed, alone, past_limits, system_limit, other_if, is_answered, new_child, instruction, signalled, Coming, change, spawned, run_turn, run_coming, signal_coming}
+use Rattle.bx_world.proofs.Words.{expire_coming, coming, after}
 use Rattle.std.proofs.lemmas.List.{set-get_or}
-use Rattle.std.proofs.lemmas.Option.{get_or_from_slice_get}
-use Rattle.bx_terms.specs.Tree.{pid}
-use Rattle.bx_terms.specs.declared.faults.Fault.{Fault}
-use Rattle.bx_terms.specs.declared.faults.Fault.TheVariants.{NotEnabled, Halted}
-use Rattle.bx_terms.specs.declared.kinds.Trap.{Trap}
-use Rattle.bx_load.specs.Image.{Loaded}
-use Rattle.bx_signals.specs.Waiting.{first}
-use Rattle.bx_signals.specs.Channels.{waiting}
-use Rattle.bx_signals.specs.declared.signal.Signal.{Signal}
+use Rattle.std.proofs.lemmas.Option.{get_or_from_slice_get, slice_get_within}
 use Rattle.bx_signals.specs.declared.signal.Signal.TheVariants as signals
-use Rattle.bx_proc.specs.Process.{Process, can_run, can_expire}
-use Rattle.bx_proc.specs.Signals.{expired}
-use Rattle.bx_proc.specs.declared.parts.Answer.TheVariants.{Value}
-use Rattle.bx_world.specs.declared.choices.Choice.{Choice}
-use Rattle.bx_world.specs.declared.choices.Choice.TheVariants.{Run, Deliver, Expire}
-use Rattle.bx_world.specs.declared.lanes.Lanes.{Lanes}
-use Rattle.bx_world.specs.declared.requests.SpawnRequest.{SpawnRequest}
 use Rattle.bx_world.specs.declared.requests.Request.TheVariants as requests
-use Rattle.bx_world.specs.declared.turns.Turn.{Turn}
 use Rattle.bx_world.specs.declared.turns.Turn.TheVariants as turns
-use Rattle.bx_world.specs.World.{Life, Live, Exited, State}
-use Rattle.bx_world.specs.Asking.{Done, whole, done}
-use Rattle.bx_world.specs.Turning.{runs}
-use Rattle.bx_world.specs.Delivering.{heard, exited_heard, lost}
-use Rattle.bx_world.specs.Enabled.{able, can, actor, may_at, may_run, may_expire}
+use Rattle.bx_world.specs.Delivering.{exited_heard, lost}
 use Rattle.bx_world.specs.declared.acts.Act.TheVariants as acts
-use Rattle.bx_world.specs.declared.acts.Act.TheVariants.{Hear, Spawned, Unspawned}
-use Rattle.bx_world.specs.Acting.{acted_at, lives_acted}
-use Rattle.bx_world.specs.Lifetimes.{Among, lived, lived_if, exited_if, life_run, put_back, at_life, lives_run, lost_if}
-use Rattle.bx_world.specs.Spawning.{childless_at_trap, lives_with_child, lives_spawned}
-use Rattle.bx_world.specs.Batches.{trap_in, tell, pinned, world_if}
-use Rattle.bx_world.specs.Choosing.{spawned_too, made, trap_of, world_of, unless_refused, chosen, applied}
-use Rattle.bx_world.specs.Deeds.{Deed, alone, past_limits, system_limit, other_if, is_answered, new_child, instruction, signalled}
-use Rattle.bx_world.specs.Changes.{Coming, change, spawned, run_turn, run_coming, signal_coming, expire_coming, coming, after}
+use Rattle.bx_world.specs.declared.acts.Act.TheVariants.{Hear, Unspawned}
+use Rattle.bx_world.specs.Lifetimes.{lost_if}
+use Rattle.bx_world.specs.Batches.{trap_in, pinned}
+use Rattle.bx_world.specs.Choosing.{trap_of, world_of}
+use Rattle.bx_world.proofs.Confined.{get_first}
 use Rattle.bx_world.proofs.Deeds.{Quiet, plain, Spawns, asked, spawns, spawns_alone}
 
 -- what stood at a place, put there again
 pub set_back : {A : Type 0} (xs : List A) (p : ℕ) (x : A) → slice_get xs p ≡ Some x → slice_set xs p x ≡ xs
 set_back xs p x at = ap (λ y. set xs p y) (sym (get_or_from_slice_get xs p x x at)) ∙ set-get_or xs p x
-
-pub got_before : {A : Type 0} (xs ys : List A) (p : ℕ) (x : A) → slice_get xs p ≡ Some x → slice_get (xs ++ ys) p ≡ Some x
-got_before [] ys p x at = cc
-got_before (y ∷ xs) ys zero x at = at
-got_before (y ∷ xs) ys (suc p) x at = got_before xs ys p x at
 
 -- ---- what is made is the change, applied
 
@@ -92,7 +67,7 @@ module _ (image : Loaded) (p : ℕ) (w : State) (x : Process) (at : slice_get w.
       (subst (λ (o : Option Life). Mirrors (Run p) w (acted_at image p Unspawned w.lanes w.processes o) (Ok (change None (is_answered image None system_limit x)))) (sym at)
       (deed_mirrors (Run p) w x (is_answered image None system_limit x) at))
       (subst (λ (o : Option Life). Mirrors (Run p) w (childless_at_trap w.processes w.lanes (acted_at image p (Spawned count spawn.linked) w.lanes more o)) (Ok (change (Some child) (is_answered image other value x))))
-      (sym (got_before w.processes (Live child ∷ []) p (Live x) at))
+      (sym (get_first w.processes (Live child ∷ []) p (slice_get_within w.processes p (Live x) at) ∙ at))
       (child_mirrors p w x child (is_answered image other value x)))
     where
       go : (b : Bool) (r s : Result Among Fault) (d e : Deed) (child : Option Process) → Mirrors (Run p) w r (Ok (change None d)) → Mirrors (Run p) w s (Ok (change child e))

@@ -1,21 +1,12 @@
 -- What choices make of channels, told by what they put and take.
-use Rattle.std.proofs.Common.{◌≡◌, ℕ, List, [], ◌∷◌, ◌++◌, Bool, true, false, cond, Ok, Err, refl, sym, ap, ◌∙◌, append_assoc, append-nil}
-use Rattle.std.specs.Prelude.{◌&&◌, is_some, is_none, if◌then◌else◌}
-use Rattle.bx_terms.specs.declared.places.Place.{Place}
-use Rattle.bx_load.specs.Image.{Loaded}
-use Rattle.bx_signals.specs.Waiting.{first, rest}
-use Rattle.bx_signals.specs.Channels.{Channels, waiting, put}
-use Rattle.bx_signals.specs.declared.signal.Signal.{Signal}
-use Rattle.bx_signals.proofs.Maps.{waiting_with, waiting_empty, equal_pair}
-use Rattle.bx_world.specs.declared.choices.Choice.{Choice}
-use Rattle.bx_world.specs.declared.choices.Choice.TheVariants.{Run, Deliver, Expire}
-use Rattle.bx_world.specs.World.{State, begun}
-use Rattle.bx_world.specs.Enabled.{able, can, actor}
-use Rattle.bx_world.specs.Deeds.{Posts}
-use Rattle.bx_world.specs.Sharing.{all_posted, heeded}
-use Rattle.bx_world.specs.Changes.{Coming, coming, after}
-use Rattle.bx_world.specs.Choosing.{chosen}
-use Rattle.bx_world.specs.Posting.{same_pair, in_channel, as_row, first_of, put_by, taken_by, put_in, taken_from, behind, all_behind, all_put, all_taken}
+use Rattle.bx_world.proofs.Words.{◌≡◌, ℕ, List, [], ◌∷◌, ◌++◌, Bool, true, false, cond, Ok, Err, refl, sym, ap, ◌∙◌, append_assoc, append-nil, ◌&&◌, is_some, is_none, if◌then◌else◌, Place, Loaded, first}
+use Rattle.bx_world.proofs.Words.{Channels, waiting, put, Signal, waiting_empty, equal_pair, Choice, Run, Deliver, Expire, State, begun, able, can, actor, Posts, all_posted, Coming, coming, after, chosen}
+use Rattle.bx_world.proofs.Words.{same_pair, in_channel, as_row, first_of, put_by, taken_by, behind, all_behind}
+use Rattle.std.proofs.lemmas.Bool.{and_parts}
+use Rattle.bx_signals.specs.Waiting.{rest}
+use Rattle.bx_signals.proofs.Maps.{waiting_with}
+use Rattle.bx_world.specs.Sharing.{heeded}
+use Rattle.bx_world.specs.Posting.{put_in, taken_from, all_put, all_taken}
 
 -- a put, channel by channel
 put_one : (b : Bool) (pair own : ℕ × ℕ) (s : Signal) (m : Channels Signal) → (b ≡ true → pair ≡ own) → waiting m pair ++ (cond b (s ∷ []) []) ≡ cond b (waiting m own ++ s ∷ []) (waiting m pair)
@@ -65,12 +56,8 @@ came c w pair (Ok (Err kind)) can = append-nil (waiting w.lanes.channels pair)
 came c w pair (Err fault) can = append-nil (waiting w.lanes.channels pair)
 
 -- one choice
-and_right : (a b : Bool) → (a && b) ≡ true → b ≡ true
-and_right true b e = e
-and_right false b e = cc
-
 step : (image : Loaded) (c : Choice) (w : State) (pair : ℕ × ℕ) → waiting w.lanes.channels pair ++ put_in image c w pair ≡ taken_from image c w pair ++ waiting (behind image c w).lanes.channels pair
-step image c w pair = go (can w c) (and_right (is_none w.trap) (able c w.processes w.lanes))
+step image c w pair = go (can w c) (λ h. (and_parts (is_none w.trap) (able c w.processes w.lanes) h).1)
   where
     go : (b : Bool) → (b ≡ true → able c w.processes w.lanes ≡ true) → waiting w.lanes.channels pair ++ (if b then put_by c pair (coming image c w) else [])
         ≡ (if b then taken_by c pair w.lanes.channels (coming image c w) else []) ++ waiting (if b then chosen image c w else w).lanes.channels pair

@@ -1,9 +1,5 @@
 -- Answers of changes, carried from a part to the whole.
-use Rattle.std.proofs.Common.{◌≡◌, Result, Ok, Err}
-use Rattle.std.specs.Prelude.{OnErr}
-use Rattle.bx_terms.specs.Outcomes.{Does}
-use Rattle.bx_terms.specs.declared.faults.Fault.{Fault}
-use Rattle.bx_terms.specs.declared.faults.Fault.TheVariants.{Memory}
+use Rattle.bx_world.proofs.Words.{◌≡◌, Result, Ok, Err, OnErr, Does, Fault, Memory}
 
 pub does_through : {S T A : Type 0} (takes taken : Type 0) (old new : S) (before after : T) (r : Result A Fault) (said : Result (S × A) Fault) (told : Result (T × A) Fault)
     → (takes → taken) → ((x : A) → said ≡ Ok (new, x) → told ≡ Ok (after, x)) → ((fault : Fault) → said ≡ Err fault → told ≡ Err fault) → (new ≡ old → after ≡ before)

@@ -1,23 +1,11 @@
 -- A local choice and any other of another actor are independent where both orders leave the process of the local one the same: all else is then the
 -- same by itself, even where that process is spawned by the other.
-use Rattle.std.proofs.Common.{◌≡◌, ◌≢◌, ℕ, ◌<◌, ◌≤◌, [], Bool, true, false, Option, Some, None, Ok, length, refl, sym, ap, ◌∙◌, arith}
-use Rattle.std.specs.Prelude.{nat_lt, slice_get}
+use Rattle.bx_world.proofs.Words.{◌≡◌, ◌≢◌, ℕ, ◌<◌, ◌≤◌, [], Bool, true, false, Option, Some, None, Ok, length, refl, sym, ap, ◌∙◌, arith, nat_lt, slice_get, Loaded, Channels, Signal, Choice, Run, Deliver}
+use Rattle.bx_world.proofs.Words.{Expire, Turn, Life, Live, Exited, State, can, actor, may_run, may_expire, Deed, signalled, turned_to, signal_coming, heeds, coming, after, chosen, in_channel, first_of, put_by}
+use Rattle.bx_world.proofs.Words.{taken_by, AreIndependent, IsLocal}
 use Rattle.std.proofs.lemmas.Bool.{ltb-true, ltb-false}
 use Rattle.std.proofs.lemmas.Option.{slice_get_within, slice_get_past}
-use Rattle.bx_load.specs.Image.{Loaded}
-use Rattle.bx_signals.specs.Channels.{Channels}
-use Rattle.bx_signals.specs.declared.signal.Signal.{Signal}
-use Rattle.bx_world.specs.declared.choices.Choice.{Choice}
-use Rattle.bx_world.specs.declared.choices.Choice.TheVariants.{Run, Deliver, Expire}
-use Rattle.bx_world.specs.declared.turns.Turn.{Turn}
 use Rattle.bx_world.specs.declared.turns.Turn.TheVariants as turns
-use Rattle.bx_world.specs.World.{Life, Live, Exited, State}
-use Rattle.bx_world.specs.Enabled.{can, actor, may_run, may_expire}
-use Rattle.bx_world.specs.Deeds.{Deed, signalled}
-use Rattle.bx_world.specs.Changes.{turned_to, signal_coming, heeds, coming, after}
-use Rattle.bx_world.specs.Choosing.{chosen}
-use Rattle.bx_world.specs.Posting.{in_channel, first_of, put_by, taken_by}
-use Rattle.bx_world.specs.Independent.{AreIndependent, IsLocal}
 use Rattle.bx_world.proofs.Deeds.{Quiet, plain}
 use Rattle.bx_world.proofs.Confined.{IsNotExited, get_set_same, chosen_confined}
 use Rattle.bx_world.proofs.Commuting.{able_of, may_within, chosen_kept, takes_alike, first_stays, b_alike, b_first, may_exchange, beside_any}

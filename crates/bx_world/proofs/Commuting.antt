@@ -1,39 +1,23 @@
 -- Choices of different actors, of which one at least is local, lead to the same world in both orders: their changes are the same in both.
-use Rattle.std.proofs.Common.{◌≡◌, ◌≢◌, ℕ, zero, suc, ◌<◌, List, [], ◌∷◌, ◌++◌, Bool, true, false, ◌⊎◌, inl, inr, Option, Some, None, Result, Ok, Err, length, refl, sym, ap, subst, ◌∙◌, arith, append_assoc, append-nil, length-append, length-set}
-use Rattle.std.specs.Prelude.{◌&&◌, ◌||◌, is_some, is_none, if◌then◌else◌, slice_get, slice_set}
-use Rattle.std.proofs.lemmas.Bool.{cases_eq, false_from_ne_true}
+use Rattle.bx_world.proofs.Words.{◌≡◌, ◌≢◌, ℕ, zero, suc, ◌<◌, List, [], ◌∷◌, ◌++◌, Bool, true, false, ◌⊎◌, inl, inr, Option, Some, None, Result, Ok, Err, length, refl, sym, ap, subst, ◌∙◌, arith, append_assoc}
+use Rattle.bx_world.proofs.Words.{append-nil, length-append, length-set, ◌==◌, ◌&&◌, ◌||◌, is_some, is_none, if◌then◌else◌, slice_get, slice_set, option_map, Tree, NotEnabled, Trap, Loaded, first, Channels}
+use Rattle.bx_world.proofs.Words.{waiting, Signal, equal_pair, Process, can_run, can_expire, expired, attempted, Effect, to_itself, Choice, Run, Deliver, Expire, Turn, Life, Live, Exited, State, able, can, actor}
+use Rattle.bx_world.proofs.Words.{may_at, may_run, may_expire, Posts, Deed, did, instruction, signalled, Coming, turned_to, run_turn, run_coming, signal_coming, expire_coming, change_of, heeds, coming, with_life}
+use Rattle.bx_world.proofs.Words.{with_child, after, chosen, same_pair, in_channel, as_row, first_of, put_by, taken_by, behind, all_behind, is_local_at, runs_local, one_is_local, AreIndependent, IsLocal}
+use Rattle.std.proofs.lemmas.Bool.{cases_eq, false_from_ne_true, and_parts}
 use Rattle.std.proofs.lemmas.Option.{slice_get_within}
-use Rattle.bx_terms.specs.Tree.{Tree}
-use Rattle.bx_terms.specs.declared.faults.Fault.TheVariants.{NotEnabled}
-use Rattle.bx_terms.specs.declared.kinds.Trap.{Trap}
-use Rattle.bx_load.specs.Image.{Loaded}
-use Rattle.bx_signals.specs.Waiting.{first}
-use Rattle.bx_signals.specs.Channels.{Channels, waiting}
-use Rattle.bx_signals.specs.declared.signal.Signal.{Signal}
-use Rattle.bx_signals.proofs.Maps.{same_channels, equal_pair}
+use Rattle.std.proofs.lemmas.List.{append_cancel_left}
+use Rattle.bx_signals.proofs.Maps.{same_channels}
 use Rattle.bx_signals.proofs.Turned.{same_everywhere}
-use Rattle.bx_proc.specs.Process.{Process, can_run, can_expire}
-use Rattle.bx_proc.specs.Signals.{expired}
-use Rattle.bx_proc.specs.Stepping.{attempted}
-use Rattle.bx_proc.specs.declared.parts.Effect.{Effect}
 use Rattle.bx_proc.specs.declared.parts.Effect.TheVariants as effects
-use Rattle.bx_proc.proofs.Own.{to_itself}
-use Rattle.bx_world.specs.declared.choices.Choice.{Choice}
-use Rattle.bx_world.specs.declared.choices.Choice.TheVariants.{Run, Deliver, Expire}
-use Rattle.bx_world.specs.declared.turns.Turn.{Turn}
 use Rattle.bx_world.specs.declared.turns.Turn.TheVariants as turns
-use Rattle.bx_world.specs.World.{Life, Live, Exited, State}
-use Rattle.bx_world.specs.Enabled.{able, can, actor, may_at, may_run, may_expire}
 use Rattle.bx_world.specs.Seen.{place_at}
 use Rattle.bx_world.specs.Sharing.{displayed}
-use Rattle.bx_world.specs.Deeds.{Posts, Deed, did, instruction, signalled}
-use Rattle.bx_world.specs.Changes.{Change, Coming, turned_to, run_turn, run_coming, signal_coming, expire_coming, change_of, heeds, coming, with_life, with_child, after}
-use Rattle.bx_world.specs.Choosing.{chosen}
-use Rattle.bx_world.specs.Posting.{same_pair, in_channel, as_row, first_of, put_by, taken_by, behind, all_behind}
-use Rattle.bx_world.specs.Independent.{is_local_at, runs_local, one_is_local, AreIndependent, IsNoRun, IsLocal}
+use Rattle.bx_world.specs.Changes.{Change}
+use Rattle.bx_world.specs.Independent.{IsNoRun}
 use Rattle.bx_world.proofs.Arriving.{came}
 use Rattle.bx_world.proofs.Applying.{ComesAs, comes_as}
-use Rattle.bx_world.proofs.Confined.{get_set_other, chosen_confined}
+use Rattle.bx_world.proofs.Confined.{got_here, get_set_other, chosen_confined}
 use Rattle.bx_world.proofs.Deeds.{plain}
 use Rattle.bx_world.proofs.Own.{attempt_own}
 
@@ -134,31 +118,21 @@ local_coming image c w v local finds = local_among image c w local (length w.pro
 -- ---- one change in two worlds
 
 module _ {A : Type 0} where
-  set_alike : (xs ys : List A) (p k : ℕ) (x : A) → length xs ≡ length ys → slice_get xs k ≡ slice_get ys k → slice_get (slice_set xs p x) k ≡ slice_get (slice_set ys p x) k
-  set_alike [] [] p k x e h = refl
-  set_alike [] (b ∷ ys) p k x e h = absurd (omega arith)
-  set_alike (a ∷ xs) [] p k x e h = absurd (omega arith)
-  set_alike (a ∷ xs) (b ∷ ys) zero zero x e h = refl
-  set_alike (a ∷ xs) (b ∷ ys) zero (suc k) x e h = h
-  set_alike (a ∷ xs) (b ∷ ys) (suc p) zero x e h = h
-  set_alike (a ∷ xs) (b ∷ ys) (suc p) (suc k) x e h = set_alike xs ys p k x (omega arith) h
-
-  -- where it is put itself, it doesn't matter how many there are
-  set_here : (xs ys : List A) (p : ℕ) (x : A) → slice_get xs p ≡ slice_get ys p → slice_get (slice_set xs p x) p ≡ slice_get (slice_set ys p x) p
-  set_here [] [] p x h = refl
-  set_here [] (b ∷ ys) zero x h = cc
-  set_here [] (b ∷ ys) (suc p) x h = set_here [] ys p x h
-  set_here (a ∷ xs) [] zero x h = cc
-  set_here (a ∷ xs) [] (suc p) x h = set_here xs [] p x h
-  set_here (a ∷ xs) (b ∷ ys) zero x h = refl
-  set_here (a ∷ xs) (b ∷ ys) (suc p) x h = set_here xs ys p x h
+  set_alike : (xs ys : List A) (p k : ℕ) (x : A) → slice_get xs k ≡ slice_get ys k → slice_get (slice_set xs p x) k ≡ slice_get (slice_set ys p x) k
+  set_alike xs ys p k x h = one (cases_eq k p)
+    where
+      one : (k ≡ p) ⊎ (k ≢ p) → slice_get (slice_set xs p x) k ≡ slice_get (slice_set ys p x) k
+      one (inl same) =
+          let here = subst (λ n. slice_get xs n ≡ slice_get ys n) same h in
+          subst (λ n. slice_get (slice_set xs p x) n ≡ slice_get (slice_set ys p x) n) (sym same) (got_here xs p x ∙ ap (option_map (λ z. x)) here ∙ sym (got_here ys p x))
+      one (inr other) = get_set_other xs p k x other ∙ h ∙ sym (get_set_other ys p k x other)
 
   more_alike : (xs ys zs : List A) (k : ℕ) → length xs ≡ length ys → slice_get xs k ≡ slice_get ys k → slice_get (xs ++ zs) k ≡ slice_get (ys ++ zs) k
   more_alike [] [] zs k e h = refl
-  more_alike [] (b ∷ ys) zs k e h = absurd (omega arith)
-  more_alike (a ∷ xs) [] zs k e h = absurd (omega arith)
+  more_alike [] (b ∷ ys) zs k e h = absurd (omega (arith, e))
+  more_alike (a ∷ xs) [] zs k e h = absurd (omega (arith, e))
   more_alike (a ∷ xs) (b ∷ ys) zs zero e h = h
-  more_alike (a ∷ xs) (b ∷ ys) zs (suc k) e h = more_alike xs ys zs k (omega arith) h
+  more_alike (a ∷ xs) (b ∷ ys) zs (suc k) e h = more_alike xs ys zs k (omega (arith, e)) h
 
 child_count : (child : Option Process) (xs ys : List Life) → length xs ≡ length ys → length (with_child child xs) ≡ length (with_child child ys)
 child_count None xs ys e = e
@@ -172,13 +146,9 @@ life_count : (p : ℕ) (one : Option Life) (xs : List Life) → length (with_lif
 life_count p None xs = refl
 life_count p (Some one) xs = length-set xs p one
 
-life_alike : (p : ℕ) (one : Option Life) (xs ys : List Life) (k : ℕ) → length xs ≡ length ys → slice_get xs k ≡ slice_get ys k → slice_get (with_life p one xs) k ≡ slice_get (with_life p one ys) k
-life_alike p None xs ys k e h = h
-life_alike p (Some one) xs ys k e h = set_alike xs ys p k one e h
-
-life_here : (p : ℕ) (one : Option Life) (xs ys : List Life) → slice_get xs p ≡ slice_get ys p → slice_get (with_life p one xs) p ≡ slice_get (with_life p one ys) p
-life_here p None xs ys h = h
-life_here p (Some one) xs ys h = set_here xs ys p one h
+life_alike : (p : ℕ) (one : Option Life) (xs ys : List Life) (k : ℕ) → slice_get xs k ≡ slice_get ys k → slice_get (with_life p one xs) k ≡ slice_get (with_life p one ys) k
+life_alike p None xs ys k h = h
+life_alike p (Some one) xs ys k h = set_alike xs ys p k one h
 
 module _ (c : Choice) (w v : State) where
   after_count : (x : Coming) → length w.processes ≡ length v.processes → length (after c w x).processes ≡ length (after c v x).processes
@@ -189,7 +159,7 @@ module _ (c : Choice) (w v : State) where
 
   after_alike : (x : Coming) (k : ℕ) → length w.processes ≡ length v.processes → slice_get w.processes k ≡ slice_get v.processes k → slice_get (after c w x).processes k ≡ slice_get (after c v x).processes k
   after_alike (Ok (Ok made)) k e h =
-      life_alike (actor c) made.life (with_child made.child w.processes) (with_child made.child v.processes) k (child_count made.child w.processes v.processes e) (child_alike made.child w.processes v.processes k e h)
+      life_alike (actor c) made.life (with_child made.child w.processes) (with_child made.child v.processes) k (child_alike made.child w.processes v.processes k e h)
   after_alike (Ok (Err kind)) k e h = h
   after_alike (Err fault) k e h = h
 
@@ -206,8 +176,8 @@ module _ (c : Choice) (w v : State) where
   -- of a local choice
   calm_here : (x : Coming) → Calm x → slice_get w.processes (actor c) ≡ slice_get v.processes (actor c) → slice_get (after c w x).processes (actor c) ≡ slice_get (after c v x).processes (actor c)
   calm_here (Ok (Ok made)) h same =
-      let here = life_here (actor c) made.life w.processes v.processes same in
-      ap (λ (o : Option Process). slice_get (with_life (actor c) made.life (with_child o w.processes)) (actor c)) h.0 ∙ here
+      ap (λ (o : Option Process). slice_get (with_life (actor c) made.life (with_child o w.processes)) (actor c)) h.0
+      ∙ life_alike (actor c) made.life w.processes v.processes (actor c) same
       ∙ ap (λ (o : Option Process). slice_get (with_life (actor c) made.life (with_child o v.processes)) (actor c)) (sym h.0)
   calm_here (Ok (Err kind)) h same = same
   calm_here (Err fault) h same = same
@@ -285,10 +255,6 @@ takes_alike c pair m n (Err fault) signal = refl
 
 -- ---- one beside the other
 
-pub and_parts : (a b : Bool) → (a && b) ≡ true → (a ≡ true) × (b ≡ true)
-and_parts true b h = (refl, h)
-and_parts false b h = cc
-
 pub able_of : (w : State) (c : Choice) → can w c ≡ true → able c w.processes w.lanes ≡ true
 able_of w c h = (and_parts (is_none w.trap) (able c w.processes w.lanes) h).1
 
@@ -323,10 +289,6 @@ finds_again image c d w stays apart enabled also = record {
   one (Deliver p q) other able_there = sym (first_stays image c w enabled (p, q) (λ e. other (sym e)) able_there)
   one (Expire p) other able_there = refl
 
-cancel : (xs ys zs : List Signal) → xs ++ ys ≡ xs ++ zs → ys ≡ zs
-cancel [] ys zs h = h
-cancel (x ∷ xs) ys zs h = cancel xs ys zs cc
-
 -- rows of which one is empty are the same in both orders
 either_order : (xs ys : List Signal) → (xs ≡ []) ⊎ (ys ≡ []) → xs ++ ys ≡ ys ++ xs
 either_order xs ys (inl none) = ap (λ zs. zs ++ ys) none ∙ sym (append-nil ys) ∙ ap (λ zs. ys ++ zs) (sym none)
@@ -335,7 +297,7 @@ either_order xs ys (inr none) = ap (λ zs. xs ++ zs) none ∙ append-nil xs ∙ 
 -- what waits behind both, from what each puts and takes
 both_rows : (w wa wb wab wba pa pb ta tb : List Signal) → w ++ pa ≡ ta ++ wa → wa ++ pb ≡ tb ++ wab → w ++ pb ≡ tb ++ wb → wb ++ pa ≡ ta ++ wba
     → (pa ≡ []) ⊎ (pb ≡ []) → (ta ≡ []) ⊎ (tb ≡ []) → wab ≡ wba
-both_rows w wa wb wab wba pa pb ta tb first second third fourth puts takes = cancel (ta ++ tb) wab wba (sym ahead ∙ turned ∙ behind) where
+both_rows w wa wb wab wba pa pb ta tb first second third fourth puts takes = append_cancel_left (ta ++ tb) wab wba (sym ahead ∙ turned ∙ behind) where
   ahead : w ++ (pa ++ pb) ≡ (ta ++ tb) ++ wab
   ahead =
       sym (append_assoc w pa pb) ∙ ap (λ xs. xs ++ pb) first ∙ append_assoc ta wa pb ∙ ap (λ xs. ta ++ xs) second ∙ sym (append_assoc ta tb wab)

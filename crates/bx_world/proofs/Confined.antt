@@ -1,19 +1,10 @@
 -- What a change leaves of the other processes, and of one that has ended.
-use Rattle.std.proofs.Common.{◌≡◌, ◌≢◌, ℕ, zero, suc, ◌+◌, ◌<◌, ◌≤◌, List, [], ◌∷◌, ◌++◌, Bool, true, false, ◌⊎◌, inl, inr, Option, Some, None, Ok, Err, length, refl, sym, ap, subst, ◌∙◌, arith, length-append, length-set}
-use Rattle.std.specs.Prelude.{◌&&◌, if◌then◌else◌, is_none, slice_get, slice_set}
-use Rattle.std.proofs.lemmas.Bool.{cases_eq}
+use Rattle.bx_world.proofs.Words.{◌≡◌, ◌≢◌, ℕ, zero, suc, ◌+◌, ◌<◌, ◌≤◌, List, [], ◌∷◌, ◌++◌, Bool, true, false, ◌⊎◌, inl, inr, Option, Some, None, Ok, Err, length, refl, sym, ap, subst, ◌∙◌, arith}
+use Rattle.bx_world.proofs.Words.{length-append, length-set, ◌&&◌, ◌==◌, if◌then◌else◌, is_none, option_map, slice_get, slice_set, Tree, Loaded, Signal, Process, Choice, Run, Deliver, Expire, Life, Live, Exited}
+use Rattle.bx_world.proofs.Words.{State, can, actor, may_at, may_run, may_expire, Coming, change_of, heeds, coming, with_life, with_child, after, chosen, behind, all_behind}
+use Rattle.std.proofs.lemmas.Bool.{cases_eq, and_right}
 use Rattle.std.proofs.lemmas.Option.{slice_get_within, slice_get_past}
-use Rattle.bx_terms.specs.Tree.{Tree}
-use Rattle.bx_load.specs.Image.{Loaded}
-use Rattle.bx_signals.specs.declared.signal.Signal.{Signal}
-use Rattle.bx_proc.specs.Process.{Process}
-use Rattle.bx_world.specs.declared.choices.Choice.{Choice}
-use Rattle.bx_world.specs.declared.choices.Choice.TheVariants.{Run, Deliver, Expire}
-use Rattle.bx_world.specs.World.{Life, Live, Exited, State}
-use Rattle.bx_world.specs.Enabled.{can, actor, may_at, may_run, may_expire}
-use Rattle.bx_world.specs.Changes.{Coming, change_of, heeds, coming, with_life, with_child, after}
-use Rattle.bx_world.specs.Choosing.{chosen}
-use Rattle.bx_world.specs.Posting.{behind, all_behind}
+use Rattle.bx_world.proofs.Deeds.{either}
 
 pub get_set_other : {A : Type 0} (xs : List A) (n k : ℕ) (y : A) → k ≢ n → slice_get (slice_set xs n y) k ≡ slice_get xs k
 get_set_other [] n k y other = refl
@@ -27,10 +18,16 @@ get_set_same [] n y h = absurd (omega arith)
 get_set_same (z ∷ xs) zero y h = refl
 get_set_same (z ∷ xs) (suc n) y h = get_set_same xs n y (omega arith)
 
-get_first : {A : Type 0} (xs ys : List A) (k : ℕ) → k < length xs → slice_get (xs ++ ys) k ≡ slice_get xs k
+pub get_first : {A : Type 0} (xs ys : List A) (k : ℕ) → k < length xs → slice_get (xs ++ ys) k ≡ slice_get xs k
 get_first [] ys k h = absurd (omega arith)
 get_first (x ∷ xs) ys zero h = refl
 get_first (x ∷ xs) ys (suc k) h = get_first xs ys k (omega arith)
+
+-- what stands at the place that was written
+pub got_here : {A : Type 0} (xs : List A) (n : ℕ) (y : A) → slice_get (slice_set xs n y) n ≡ option_map (λ z. y) (slice_get xs n)
+got_here [] n y = refl
+got_here (z ∷ xs) zero y = refl
+got_here (z ∷ xs) (suc n) y = got_here xs n y
 
 -- whoever is there has not ended
 abbrev pub IsNotExited : Option Life → Type 0
@@ -105,21 +102,13 @@ exited_stays image choice w p reason exited = one (cases_eq p (actor choice))
     one (inl same) = subst (λ q. HasExited (chosen image choice w) q reason) (sym same) (exited_here image choice w reason (subst (λ q. HasExited w q reason) same exited))
     one (inr other) = (chosen_confined image choice w).2 p other (slice_get_within w.processes p (Exited reason) exited) ∙ exited
 
-if_exited : (b : Bool) (v w : State) (p : ℕ) (reason : Tree) → HasExited v p reason → HasExited w p reason → HasExited (if b then v else w) p reason
-if_exited true v w p reason h k = h
-if_exited false v w p reason h k = k
-
 pub exited_for_ever : (image : Loaded) (choices : List Choice) (w : State) (p : ℕ) (reason : Tree) → HasExited w p reason → HasExited (all_behind image choices w) p reason
 exited_for_ever image [] w p reason exited = exited
 exited_for_ever image (choice ∷ more) w p reason exited =
-    exited_for_ever image more (behind image choice w) p reason (if_exited (can w choice) (chosen image choice w) w p reason (exited_stays image choice w p reason exited) exited)
-
-no_and : (b : Bool) → (b && false) ≡ false
-no_and true = refl
-no_and false = refl
+    exited_for_ever image more (behind image choice w) p reason (either (λ v. HasExited v p reason) (can w choice) (chosen image choice w) w (exited_stays image choice w p reason exited) exited)
 
 pub exited_cannot : (w : State) (p : ℕ) (reason : Tree) → HasExited w p reason → (can w (Run p) ≡ false) × (can w (Expire p) ≡ false)
 exited_cannot w p reason exited = (
-  ap (λ o. is_none w.trap && may_at may_run o) exited ∙ no_and (is_none w.trap),
-  ap (λ o. is_none w.trap && may_at may_expire o) exited ∙ no_and (is_none w.trap),
+  ap (λ o. is_none w.trap && may_at may_run o) exited ∙ and_right (is_none w.trap) false refl,
+  ap (λ o. is_none w.trap && may_at may_expire o) exited ∙ and_right (is_none w.trap) false refl,
 )

@@ -1,30 +1,16 @@
 -- What holds of all deeds of an instruction, and of all of a signal.
-use Rattle.std.proofs.Common.{◌≡◌, ℕ, [], Bool, true, false, Option, Some, None, refl, ap}
-use Rattle.std.specs.Prelude.{if◌then◌else◌, ◌==◌, ◌||◌, not}
-use Rattle.bx_terms.specs.Tree.{Tree, atom}
-use Rattle.bx_terms.specs.declared.fixed.TheConstants.{KILLED}
+use Rattle.bx_world.proofs.Words.{◌≡◌, ℕ, [], Bool, true, false, Option, Some, None, refl, ap, if◌then◌else◌, ◌==◌, ◌||◌, not, Tree, atom, KILLED, Loaded, Signal, among, Process, with_link, without_link}
+use Rattle.bx_world.proofs.Words.{attempted, settled, settled_with, Answer, Value, Effect, SpawnRequest, Request, Turn, requested, request_in, Deed, alone, closes, puts, yes, exit_message, is_kill, is_normal}
+use Rattle.bx_world.proofs.Words.{low_enough, performs, did, instruction, hears, dies, is_told, exit_comes, signalled}
 use Rattle.bx_terms.specs.declared.kinds.Trap.TheVariants.{TermHeight}
-use Rattle.bx_load.specs.Image.{Loaded}
-use Rattle.bx_signals.specs.declared.signal.Signal.{Signal}
 use Rattle.bx_signals.specs.declared.signal.Signal.TheVariants as signals
-use Rattle.bx_cells.specs.Links.{among}
-use Rattle.bx_proc.specs.Process.{Process}
-use Rattle.bx_proc.specs.Signals.{with_link, without_link}
-use Rattle.bx_proc.specs.Stepping.{attempted, settled, settled_with}
-use Rattle.bx_proc.specs.declared.parts.Answer.{Answer}
-use Rattle.bx_proc.specs.declared.parts.Answer.TheVariants.{Value}
-use Rattle.bx_proc.specs.declared.parts.Effect.{Effect}
 use Rattle.bx_proc.specs.declared.parts.Effect.TheVariants as effects
-use Rattle.bx_world.specs.declared.requests.SpawnRequest.{SpawnRequest}
-use Rattle.bx_world.specs.declared.requests.Request.{Request}
 use Rattle.bx_world.specs.declared.requests.Request.TheVariants as requests
-use Rattle.bx_world.specs.declared.turns.Turn.{Turn}
 use Rattle.bx_world.specs.declared.turns.Turn.TheVariants as turns
-use Rattle.bx_world.specs.Requests.{requested}
-use Rattle.bx_world.specs.Entering.{request_in}
-use Rattle.bx_world.specs.Deeds.{Deed, alone, leaves, closes, puts, yes, badarg, exit_message, is_kill, is_normal, low_enough, unlinked_done, notes, exits_itself, performs, did, instruction, hears, dies, is_told, exit_comes, signalled}
+use Rattle.bx_world.specs.Deeds.{leaves, badarg, unlinked_done, notes, exits_itself}
 
-either : (P : Deed → Type 0) (b : Bool) (d e : Deed) → P d → P e → P (if b then d else e)
+-- what holds of both holds of either
+pub either : {A : Type 0} (P : A → Type 0) (b : Bool) (d e : A) → P d → P e → P (if b then d else e)
 either P true d e h k = h
 either P false d e h k = k
 

@@ -1,54 +1,28 @@
 -- What stands in a set of links behind a choice stood there before it, or entered by it.
-use Rattle.std.proofs.Common.{◌≡◌, ℕ, zero, suc, ◌==◌, List, [], ◌∷◌, ◌++◌, Bool, true, false, cond, ◌⊎◌, inl, inr, ⊎_elim, Option, Some, None, Ok, Err, length, refl, sym, ap, subst, ◌∙◌, arith}
-use Rattle.std.specs.Prelude.{◌||◌, not, if◌then◌else◌, nat_lt, slice_get, slice_set}
+use Rattle.bx_world.proofs.Words.{◌≡◌, ℕ, zero, suc, List, [], ◌∷◌, ◌++◌, Bool, true, false, cond, ◌⊎◌, inl, inr, Option, Some, None, Ok, Err, length, refl, sym, ap, subst, ◌∙◌, arith, ◌||◌, not, if◌then◌else◌}
+use Rattle.bx_world.proofs.Words.{nat_lt, slice_get, slice_set, Tree, atom, pid, KILLED, NotEnabled, Place, Loaded, first, waiting, Signal, among, Process, can_run, can_expire, with_link, without_link, expired}
+use Rattle.bx_world.proofs.Words.{attempted, settled, settled_with, Whole, Answer, Effect, settled_whole, settled_with_whole, Choice, Run, Deliver, Expire, SpawnRequest, Request, Turn, Life, Live, Exited, State}
+use Rattle.bx_world.proofs.Words.{begun, requested, can, actor, Deed, closes, yes, exit_message, is_kill, is_normal, low_enough, past_limits, system_limit, other_if, is_answered, new_child, performs, did}
+use Rattle.bx_world.proofs.Words.{instruction, hears, dies, is_told, exit_comes, signalled, Coming, change, turned_to, spawned, run_turn, run_coming, signal_coming, expire_coming, coming, with_life, with_child}
+use Rattle.bx_world.proofs.Words.{after, chosen, behind, all_behind, request_in}
+use Rattle.std.proofs.Common.{◌==◌, ⊎_elim}
+use Rattle.std.proofs.lemmas.Bool.{or_cases, or_left, or_right}
 use Rattle.std.proofs.lemmas.Bool.Decides.{nat_tests}
-use Rattle.bx_terms.specs.Tree.{Tree, atom, pid}
-use Rattle.bx_terms.specs.declared.fixed.TheConstants.{KILLED}
-use Rattle.bx_terms.specs.declared.faults.Fault.TheVariants.{NotEnabled}
-use Rattle.bx_terms.specs.declared.places.Place.{Place}
-use Rattle.bx_load.specs.Image.{Loaded, export}
-use Rattle.bx_signals.specs.Waiting.{first}
-use Rattle.bx_signals.specs.Channels.{waiting}
-use Rattle.bx_signals.specs.declared.signal.Signal.{Signal}
+use Rattle.bx_load.specs.Image.{export}
 use Rattle.bx_signals.specs.declared.signal.Signal.TheVariants as signals
-use Rattle.bx_cells.specs.Links.{among, placed, linked, unlinked}
-use Rattle.bx_proc.specs.Process.{Process, new_process, can_run, can_expire}
-use Rattle.bx_proc.specs.Signals.{with_link, without_link, expired, expired_if}
-use Rattle.bx_proc.specs.Stepping.{attempted, settled, settled_with, Whole}
-use Rattle.bx_proc.specs.declared.parts.Answer.{Answer}
+use Rattle.bx_cells.specs.Links.{placed, linked, unlinked}
+use Rattle.bx_proc.specs.Process.{new_process}
+use Rattle.bx_proc.specs.Signals.{expired_if}
 use Rattle.bx_proc.specs.declared.parts.Answer.TheVariants as answers
-use Rattle.bx_proc.specs.declared.parts.Effect.{Effect}
 use Rattle.bx_proc.specs.declared.parts.Effect.TheVariants as effects
-use Rattle.bx_proc.proofs.Attempts.{whole, settled_whole, settled_with_whole}
-use Rattle.bx_world.specs.declared.choices.Choice.{Choice}
-use Rattle.bx_world.specs.declared.choices.Choice.TheVariants.{Run, Deliver, Expire}
-use Rattle.bx_world.specs.declared.requests.SpawnRequest.{SpawnRequest}
-use Rattle.bx_world.specs.declared.requests.Request.{Request}
+use Rattle.bx_proc.proofs.Attempts.{whole}
 use Rattle.bx_world.specs.declared.requests.Request.TheVariants as requests
-use Rattle.bx_world.specs.declared.turns.Turn.{Turn}
 use Rattle.bx_world.specs.declared.turns.Turn.TheVariants as turns
-use Rattle.bx_world.specs.World.{Life, Live, Exited, State, begun}
-use Rattle.bx_world.specs.Requests.{requested}
-use Rattle.bx_world.specs.Enabled.{can, actor}
-use Rattle.bx_world.specs.Deeds.{Deed, closes, yes, exit_message, is_kill, is_normal, low_enough, past_limits, system_limit, other_if, linked_to, is_answered, new_child, performs, did, instruction, hears, dies, is_told, exit_comes, signalled}
-use Rattle.bx_world.specs.Changes.{Coming, change, turned_to, spawned, run_turn, run_coming, signal_coming, expire_coming, coming, with_life, with_child, after}
-use Rattle.bx_world.specs.Choosing.{chosen}
-use Rattle.bx_world.specs.Posting.{behind, all_behind}
-use Rattle.bx_world.specs.Entering.{holds, is_linked, request_in, request_of, asks, SpawnsLinked, EntersByRun, Enters, Entered}
-use Rattle.bx_world.proofs.Deeds.{each, Spawns, spawns}
+use Rattle.bx_world.specs.Deeds.{linked_to}
+use Rattle.bx_world.specs.Entering.{holds, is_linked, request_of, asks, SpawnsLinked, EntersByRun, Enters, Entered}
+use Rattle.bx_world.proofs.Deeds.{either, each, Spawns, spawns}
 
 -- sets of links
-or_cases : (a b : Bool) → (a || b) ≡ true → (a ≡ true) ⊎ (b ≡ true)
-or_cases true b h = inl refl
-or_cases false b h = inr h
-
-or_left : (a b : Bool) → a ≡ true → (a || b) ≡ true
-or_left a b h = ap (λ c. c || b) h
-
-or_right : (a b : Bool) → b ≡ true → (a || b) ≡ true
-or_right true b h = refl
-or_right false b h = h
-
 is_that : (m n : ℕ) → (m == n) ≡ true → n ≡ m
 is_that m n h = grind (arith, nat_tests)
 
@@ -109,10 +83,6 @@ module _ (E : ℕ → Type 0) (x : Process) where
   abbrev DeedGrows : Deed → Type 0
   DeedGrows d = Grows E x d.process
 
-  either : (b : Bool) (d e : Deed) → DeedGrows d → DeedGrows e → DeedGrows (if b then d else e)
-  either true d e h k = h
-  either false d e h k = k
-
   closes_grows : (y : Process) (e : Effect) → Grows E x y → DeedGrows (closes (y, e))
   closes_grows y effects.Ran h = h
   closes_grows y (effects.Ended reason) h = h
@@ -152,8 +122,8 @@ module _ (p : ℕ) (x : Process) (E : ℕ → Type 0) where
   exit_grows : (y : Process) (reason : Tree) → Grows E x y → DeedGrows E x (exit_comes p x y reason)
   exit_grows y reason h =
       let message = low_enough (exit_message p reason) in
-      either E x x.trap_exit (is_told x y message) (if is_normal reason then hears y turns.Ran else dies y reason) (told message)
-      (either E x (is_normal reason) (hears y turns.Ran) (dies y reason) h h)
+      either (DeedGrows E x) x.trap_exit (is_told x y message) (if is_normal reason then hears y turns.Ran else dies y reason) (told message)
+      (either (DeedGrows E x) (is_normal reason) (hears y turns.Ran) (dies y reason) h h)
     where
       told : (o : Option Tree) → DeedGrows E x (is_told x y o)
       told None = no_more E x
@@ -165,10 +135,10 @@ signal_grows p x signals.Link = linked_grows p (λ q. (p ≡ q) × (signals.Link
 signal_grows p x signals.Unlink = let E : ℕ → Type 0 = λ q. (p ≡ q) × (signals.Unlink ≡ signals.Link) in unlinked_grows p E x x (no_more E x)
 signal_grows p x (signals.LinkExit reason) =
     let E : ℕ → Type 0 = λ q. (p ≡ q) × (signals.LinkExit reason ≡ signals.Link) in
-    either E x (among p x.links) (exit_comes p x (without_link p x) reason) (hears x turns.Ran) (exit_grows p x E (without_link p x) reason (unlinked_grows p E x x (no_more E x))) (no_more E x)
+    either (DeedGrows E x) (among p x.links) (exit_comes p x (without_link p x) reason) (hears x turns.Ran) (exit_grows p x E (without_link p x) reason (unlinked_grows p E x x (no_more E x))) (no_more E x)
 signal_grows p x (signals.Exit reason) =
     let E : ℕ → Type 0 = λ q. (p ≡ q) × (signals.Exit reason ≡ signals.Link) in
-    either E x (is_kill reason) (dies x (atom KILLED.0)) (exit_comes p x x reason) (no_more E x) (exit_grows p x E x reason (no_more E x))
+    either (DeedGrows E x) (is_kill reason) (dies x (atom KILLED.0)) (exit_comes p x x reason) (no_more E x) (exit_grows p x E x reason (no_more E x))
 
 -- a process that is answered for a spawn lets its child in, and a child its parent
 child_asked : (child : Option ℕ) (x y : Process) → Grows (λ q. child ≡ Some q) (linked_to child x) y → Grows (λ q. child ≡ Some q) x y
@@ -242,10 +212,6 @@ module _ (R : ℕ → ℕ → Type 0) (lives : List Life) where
   turned_gains p x child d (turns.Trapped kind) at h born = tt
   turned_gains p x child d (turns.Spawns spawn) at h born = (λ q is. ⊎_elim (λ t. inl (ap (holds q) at ∙ t)) (λ r. inr r) (h q is), born)
 
-  either_gains : (p : ℕ) (b : Bool) (x y : Coming) → ComingGains p x → ComingGains p y → ComingGains p (if b then x else y)
-  either_gains p true x y h k = h
-  either_gains p false x y h k = k
-
 by_reason : (E F : ℕ → Type 0) (x y : Process) → ((q : ℕ) → E q → F q) → Grows E x y → Grows F x y
 by_reason E F x y more h q is = ⊎_elim (λ t. inl t) (λ e. inr (more q e)) (h q is)
 
@@ -298,7 +264,7 @@ coming_gains image (Run p) w = go (slice_get w.processes p) refl
     go None at = tt
     go (Some (Exited reason)) at = tt
     go (Some (Live x)) at =
-        either_gains (Enters image w (Run p)) w.processes p (can_run x) (Ok (run_turn (instruction image p x).turn image p (length w.processes) x (instruction image p x))) (Err NotEnabled)
+        either (ComingGains (Enters image w (Run p)) w.processes p) (can_run x) (Ok (run_turn (instruction image p x).turn image p (length w.processes) x (instruction image p x))) (Err NotEnabled)
         (instruction_gains image p w.processes x at) tt
 coming_gains image (Deliver p r) w = go (slice_get w.processes r) (first (waiting w.lanes.channels (p, r))) refl refl
   where
@@ -321,7 +287,7 @@ coming_gains image (Expire p) w = go (slice_get w.processes p) refl
     go None at = tt
     go (Some (Exited reason)) at = tt
     go (Some (Live x)) at =
-        either_gains (Enters image w (Expire p)) w.processes p (can_expire x) (Ok (Ok (record { life = Some (Live (expired x)); child = None; posts = []; takes = false; shows = None }))) (Err NotEnabled)
+        either (ComingGains (Enters image w (Expire p)) w.processes p) (can_expire x) (Ok (Ok (record { life = Some (Live (expired x)); child = None; posts = []; takes = false; shows = None }))) (Err NotEnabled)
         (λ q h. inl (ap (holds q) at ∙ ap (among q) (sym (links (can_expire x) x)) ∙ h), tt) tt
 
 pub chosen_gains : (image : Loaded) (choice : Choice) (w : State) → Gains (Enters image w choice) w.processes (chosen image choice w).processes

@@ -1,9 +1,8 @@
 -- The message that an exit signal becomes is one higher than the reason.
-use Rattle.std.proofs.Common.{◌≡◌, ◌≢◌, ◌≤◌, ◌+◌, ℕ, Bool, true, false, Some, None, refl, arith}
-use Rattle.std.specs.Prelude.{Result, Ok, Err, OnErr, IsSome, nat_le, if◌then◌else◌}
+use Rattle.bx_world.proofs.Words.{◌≡◌, ◌≢◌, ◌≤◌, ◌+◌, ℕ, Bool, true, false, Some, None, refl, arith, Result, Ok, Err, OnErr, IsSome, if◌then◌else◌, Tree, exit_message, low_enough}
+use Rattle.std.specs.Prelude.{nat_le}
 use Rattle.std.proofs.lemmas.Bool.Decides.{nat_tests}
-use Rattle.bx_terms.specs.Tree.{Tree, height}
-use Rattle.bx_world.specs.Deeds.{exit_message, low_enough}
+use Rattle.bx_terms.specs.Tree.{height}
 
 message_height : (p : ℕ) (reason : Tree) → height (exit_message p reason) ≡ 1 + height reason
 message_height p reason = omega arith

@@ -1,9 +1,6 @@
 -- The choices that are found from a place on.
-use Rattle.std.proofs.Common.{◌≡◌, ◌≢◌, ℕ, ◌+◌, ◌<◌, ◌≤◌, Bool, List, [], ◌∷◌, ◌++◌, true, false, length, get_or, drop, map, sym, ap, ◌∙◌, append_assoc, arith, length-append}
-use Rattle.std.specs.Prelude.{if◌then◌else◌}
-use Rattle.bx_world.specs.declared.choices.Choice.{Choice}
-use Rattle.bx_world.specs.World.{Life}
-use Rattle.bx_world.specs.Enabled.{choices_from}
+use Rattle.bx_world.proofs.Words.{◌≡◌, ◌≢◌, ℕ, ◌+◌, ◌<◌, ◌≤◌, Bool, List, [], ◌∷◌, ◌++◌, true, false, length, get_or, drop, map, sym, ap, ◌∙◌, append_assoc, arith, length-append, if◌then◌else◌, Choice, Life}
+use Rattle.bx_world.proofs.Words.{choices_from}
 use Rattle.bx_world.proofs.Viewed.{rest_seen}
 
 -- a row that goes on behind all that was there before adds something

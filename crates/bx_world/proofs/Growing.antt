@@ -1,13 +1,6 @@
 -- A child that was put last and taken away again leaves no trace.
-use Rattle.std.proofs.Common.{◌≡◌, List, [], ◌∷◌, ◌++◌, Result, Ok, refl, sym, ap, subst, ◌∙◌}
-use Rattle.bx_terms.specs.declared.faults.Fault.{Fault}
-use Rattle.bx_terms.specs.declared.kinds.Trap.{Trap}
-use Rattle.bx_signals.specs.Waiting.{front}
-use Rattle.bx_world.specs.declared.lanes.Lanes.{Lanes}
+use Rattle.bx_world.proofs.Words.{◌≡◌, List, [], ◌∷◌, ◌++◌, Result, Ok, refl, sym, ap, subst, ◌∙◌, Fault, Trap, front, Lanes, Life, Among, childless_at_trap}
 use Rattle.bx_world.specs.declared.turns.Turn.TheVariants as turns
-use Rattle.bx_world.specs.World.{Life}
-use Rattle.bx_world.specs.Lifetimes.{Among}
-use Rattle.bx_world.specs.Spawning.{childless_at_trap}
 use Rattle.bx_world.proofs.Applying.{KeptIf, is_trap}
 use Rattle.bx_world.proofs.Undoing.{front_last}
 

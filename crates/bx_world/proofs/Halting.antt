@@ -1,17 +1,9 @@
 -- An answer that a process was given, told.
-use Rattle.std.proofs.Common.{◌≡◌, ℕ, ap, ◌∙◌}
-use Rattle.std.specs.Prelude.{Result, Ok, Err}
-use Rattle.bx_terms.specs.declared.faults.Fault.{Fault}
-use Rattle.bx_proc.specs.Process.{Process}
+use Rattle.bx_world.proofs.Words.{◌≡◌, ℕ, ap, ◌∙◌, Result, Ok, Err, Fault, Process, Effect, Why, Lanes, Done, closing, TakenBack}
 use Rattle.bx_proc.specs.Telling.{Settles}
-use Rattle.bx_proc.specs.declared.parts.Effect.{Effect}
 use Rattle.bx_proc.specs.declared.parts.Effect.TheVariants as effects
-use Rattle.bx_proc.specs.declared.stops.Why.{Why}
 use Rattle.bx_proc.specs.declared.stops.Why.TheVariants as stops
-use Rattle.bx_world.specs.declared.lanes.Lanes.{Lanes}
 use Rattle.bx_world.specs.declared.turns.Turn.TheVariants as turns
-use Rattle.bx_world.specs.Asking.{Done, closing}
-use Rattle.bx_world.specs.Batches.{TakenBack}
 
 -- wherever memory may run out
 pub any_takes : (takes : Type 0) (old new : Process) (r : Result (Unit {0}) Why) (said : Process × Effect) → Settles takes old new r said → Settles (Unit {0}) old new r said

@@ -1,14 +1,8 @@
 -- What is true of every world and every run.
-use Rattle.std.proofs.Common.{◌≡◌, ℕ, ◌+◌, ◌≤◌, List, [], ◌∷◌, ◌++◌, Option, Some, None, Ok, Err, Bool, true, false, length, refl, sym, ap, ◌∙◌, arith}
-use Rattle.std.specs.Prelude.{IsSome, ◌||◌, if◌then◌else◌, is_some}
-use Rattle.bx_terms.specs.declared.kinds.Trap.{Trap}
-use Rattle.bx_load.specs.Image.{Loaded}
-use Rattle.bx_world.specs.declared.choices.Choice.{Choice}
-use Rattle.bx_world.specs.World.{State}
-use Rattle.bx_world.specs.Enabled.{open_choices, unless_trapped, enabled, can}
-use Rattle.bx_world.specs.Changes.{Coming, coming, after}
-use Rattle.bx_world.specs.Choosing.{chosen}
-use Rattle.bx_world.specs.Running.{Ended, tried, advanced, ran}
+use Rattle.bx_world.proofs.Words.{◌≡◌, ℕ, ◌+◌, ◌≤◌, List, [], ◌∷◌, ◌++◌, Option, Some, None, Ok, Err, Bool, true, false, length, refl, sym, ap, ◌∙◌, arith, IsSome, ◌||◌, if◌then◌else◌, is_some, Trap, Loaded}
+use Rattle.bx_world.proofs.Words.{Choice, State, open_choices, unless_trapped, enabled, can, Coming, coming, after, chosen, Ended, advanced, ran}
+use Rattle.std.proofs.lemmas.Bool.{or_right}
+use Rattle.bx_world.specs.Running.{tried}
 
 none_enabled : (t : Option (Trap × ℕ)) (choices : List Choice) → IsSome t → unless_trapped t choices ≡ []
 none_enabled None choices h = cc
@@ -42,10 +36,6 @@ some_is : {A : Type 0} (o : Option A) → IsSome o → is_some o ≡ true
 some_is None h = cc
 some_is (Some x) h = refl
 
-over : (a b : Bool) → b ≡ true → (a || b) ≡ true
-over true b h = refl
-over false b h = h
-
 stays : (image : Loaded) (choice : Choice) (end : Ended) → (is_some end.refused || is_some end.world.trap) ≡ true → advanced image choice end ≡ end
 stays image choice end ended = ap (λ b. if b then end else tried image choice end) ended
 
@@ -57,7 +47,7 @@ pub after_refusal : (image : Loaded) (choices : List Choice) (end : Ended) → I
 after_refusal image choices end refused = ran_stays image choices end (ap (λ b. b || is_some end.world.trap) (some_is end.refused refused))
 
 pub after_trap : (image : Loaded) (choices : List Choice) (end : Ended) → IsSome end.world.trap → ran image choices end ≡ end
-after_trap image choices end trapped = ran_stays image choices end (over (is_some end.refused) (is_some end.world.trap) (some_is end.world.trap trapped))
+after_trap image choices end trapped = ran_stays image choices end (or_right (is_some end.refused) (is_some end.world.trap) (some_is end.world.trap trapped))
 
 pub ran_on : (image : Loaded) (first more : List Choice) (end : Ended) → ran image (first ++ more) end ≡ ran image more (ran image first end)
 ran_on image [] more end = refl

@@ -1,6 +1,6 @@
+pub mod Words
 pub mod Viewed
 pub mod Changing
-pub mod Compared
 pub mod Finding
 pub mod Acted
 pub mod Heard

@@ -1,15 +1,7 @@
 -- Choices that are independent one way are independent the other way: each stays enabled beside the other.
-use Rattle.std.proofs.Common.{◌≡◌, ◌≢◌, ℕ, ◌<◌, [], ◌∷◌, Bool, true, false, Option, Some, None, length, refl, sym, ap, ◌∙◌}
-use Rattle.std.specs.Prelude.{◌&&◌, ◌||◌, is_some, is_none, if◌then◌else◌}
-use Rattle.bx_terms.specs.declared.kinds.Trap.{Trap}
-use Rattle.bx_load.specs.Image.{Loaded}
-use Rattle.bx_world.specs.declared.choices.Choice.{Choice}
-use Rattle.bx_world.specs.declared.choices.Choice.TheVariants.{Run, Deliver, Expire}
-use Rattle.bx_world.specs.World.{State}
-use Rattle.bx_world.specs.Enabled.{able, can, actor, may_at, may_run, may_expire}
-use Rattle.bx_world.specs.Choosing.{chosen}
-use Rattle.bx_world.specs.Posting.{behind, all_behind}
-use Rattle.bx_world.specs.Independent.{runs_local, one_is_local, AreIndependent, IsLocal}
+use Rattle.bx_world.proofs.Words.{◌≡◌, ◌≢◌, ℕ, ◌<◌, [], ◌∷◌, Bool, true, false, Option, Some, None, length, refl, sym, ap, ◌∙◌, ◌&&◌, ◌||◌, is_some, is_none, if◌then◌else◌, Trap, Loaded, Choice, Run, Deliver}
+use Rattle.bx_world.proofs.Words.{Expire, State, able, can, actor, may_at, may_run, may_expire, chosen, behind, all_behind, runs_local, one_is_local, AreIndependent, IsLocal}
+use Rattle.std.proofs.Math.Bool.{or_comm}
 use Rattle.bx_world.proofs.Confined.{chosen_confined}
 use Rattle.bx_world.proofs.Commuting.{able_of, can_from, local_coming, trap_alike, b_trap, first_stays, may_within, one_then, finds_again, untouched, beside_any}
 
@@ -25,14 +17,8 @@ stays_enabled image c (Expire p) w apart enabled runs also =
     let may = able_of w (Expire p) also in
     can_from (chosen image c w) (Expire p) runs (ap (may_at may_expire) ((chosen_confined image c w).2 p (λ e. apart (sym e)) (may_within may_expire w p may)) ∙ may)
 
-or_turned : (a b : Bool) → (a || b) ≡ (b || a)
-or_turned true true = refl
-or_turned true false = refl
-or_turned false true = refl
-or_turned false false = refl
-
 local_turned : (image : Loaded) (w : State) (a b : Choice) → one_is_local image w a b ≡ one_is_local image w b a
-local_turned image w (Run p) (Run q) = or_turned (runs_local image p w) (runs_local image q w)
+local_turned image w (Run p) (Run q) = or_comm (runs_local image p w) (runs_local image q w)
 local_turned image w (Run p) (Deliver r s) = refl
 local_turned image w (Run p) (Expire r) = refl
 local_turned image w (Deliver p q) (Run r) = refl

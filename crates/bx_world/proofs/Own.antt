@@ -1,23 +1,17 @@
 -- A run of a local item does something to its own process, ends it, or traps; it neither sends nor asks.
-use Rattle.std.proofs.Common.{◌≡◌, ℕ, true, false, refl}
-use Rattle.std.specs.Prelude.{Bool, Option, Some, None, Result, Ok, Err}
+use Rattle.bx_world.proofs.Words.{◌≡◌, ℕ, true, false, refl, Bool, Option, Some, None, Result, Ok, Err, Trap, Place, Loaded, Effect, Process, to_itself, is_local_at}
 use Rattle.bx_terms.specs.Outcomes.{◌>>=◌}
-use Rattle.bx_terms.specs.declared.kinds.Trap.{Trap}
-use Rattle.bx_terms.specs.declared.places.Place.{Place}
 use Rattle.bx_ops.specs.Classes.{is_local}
 use Rattle.bx_listing.specs.Items.{Item}
 use Rattle.bx_bifs.specs.declared.natives.Native.{Native}
-use Rattle.bx_load.specs.Image.{Loaded}
 use Rattle.bx_load.specs.Numbering.{numbered_at}
-use Rattle.bx_proc.specs.declared.parts.Effect.{Effect}
 use Rattle.bx_proc.specs.declared.parts.Effect.TheVariants as effects
 use Rattle.bx_proc.specs.declared.parts.Status.{Status}
 use Rattle.bx_proc.specs.declared.parts.Status.TheVariants as states
-use Rattle.bx_proc.specs.Process.{Process}
 use Rattle.bx_proc.specs.Table.{row}
 use Rattle.bx_proc.specs.Stepping.{run, tried, told, attempted, there, allowed, allowed_if, is_held_up, woken}
-use Rattle.bx_proc.proofs.Own.{to_itself, Own, own_row}
-use Rattle.bx_world.specs.Independent.{is_local_item, is_local_at}
+use Rattle.bx_proc.proofs.Own.{Own, own_row}
+use Rattle.bx_world.specs.Independent.{is_local_item}
 
 allowed_row : (number : ℕ) (image : Loaded) (here : Place) (b : Bool) (i : Item) (p : Process) → is_local i.op ≡ true → Own (allowed_if b i >>= λ j. row number image here j p)
 allowed_row number image here true i p local = tt

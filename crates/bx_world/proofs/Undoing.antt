@@ -1,35 +1,19 @@
 -- What was put is taken back, and then nothing has changed.
-use Rattle.std.proofs.Common.{◌≡◌, ◌≢◌, ℕ, ◌-◌, ◌∷◌, ◌++◌, [], List, true, false, arith, length, take, Some, Result, Ok, Err, refl, sym, ap, ◌∙◌}
+use Rattle.bx_world.proofs.Words.{◌≡◌, ◌≢◌, ℕ, ◌-◌, ◌∷◌, ◌++◌, [], List, true, false, arith, length, take, Some, Result, Ok, Err, refl, sym, ap, ◌∙◌, Tree, Does, Fault, Memory, Trap, Loaded, front, Channels, put}
+use Rattle.bx_world.proofs.Words.{Signal, among, Process, with_link, without_link, settled, settled_with, Whole, Answer, Effect, settled_whole, settled_with_whole, Run, Lanes, Turn, all_posted, closes, Done}
+use Rattle.bx_world.proofs.Words.{whole, done, closing}
 use Rattle.std.proofs.lemmas.List.{length-append}
 use Rattle.std.proofs.Math.Seq.{take-append_seam}
-use Rattle.bx_terms.specs.Tree.{Tree}
-use Rattle.bx_terms.specs.Outcomes.{Does}
-use Rattle.bx_terms.specs.declared.faults.Fault.{Fault}
-use Rattle.bx_terms.specs.declared.faults.Fault.TheVariants.{Memory}
-use Rattle.bx_terms.specs.declared.kinds.Trap.{Trap}
 use Rattle.bx_terms.specs.declared.kinds.Trap.TheVariants.{BadPlace}
-use Rattle.bx_load.specs.Image.{Loaded}
-use Rattle.bx_signals.specs.Waiting.{front}
-use Rattle.bx_signals.specs.Channels.{Channels, put, taken_back, put_to_all}
-use Rattle.bx_signals.specs.declared.signal.Signal.{Signal}
+use Rattle.bx_signals.specs.Channels.{taken_back, put_to_all}
 use Rattle.bx_signals.specs.declared.signal.Signal.TheVariants as signals
 use Rattle.bx_signals.proofs.Maps.{taken_back_put}
-use Rattle.bx_cells.specs.Links.{among, IsRising}
-use Rattle.bx_proc.specs.Process.{Process}
-use Rattle.bx_proc.specs.Signals.{with_link, without_link}
-use Rattle.bx_proc.specs.Stepping.{settled, settled_with, Whole}
-use Rattle.bx_proc.specs.declared.parts.Answer.{Answer}
-use Rattle.bx_proc.specs.declared.parts.Effect.{Effect}
+use Rattle.bx_cells.specs.Links.{IsRising}
 use Rattle.bx_proc.specs.declared.parts.Effect.TheVariants as effects
-use Rattle.bx_proc.proofs.Attempts.{settled_whole, settled_with_whole}
-use Rattle.bx_proc.proofs.Linking.{link_undone, linked_there}
-use Rattle.bx_world.specs.declared.choices.Choice.TheVariants.{Run}
-use Rattle.bx_world.specs.declared.lanes.Lanes.{Lanes}
-use Rattle.bx_world.specs.declared.turns.Turn.{Turn}
+use Rattle.bx_proc.proofs.Linking.{link_undone}
 use Rattle.bx_world.specs.declared.turns.Turn.TheVariants as turns
-use Rattle.bx_world.specs.Sharing.{telling, showing, all_posted}
-use Rattle.bx_world.specs.Deeds.{closes, exits}
-use Rattle.bx_world.specs.Asking.{Done, whole, done, closing}
+use Rattle.bx_world.specs.Sharing.{telling, showing}
+use Rattle.bx_world.specs.Deeds.{exits}
 
 abbrev Answered : Type 0
 Answered = Result Done Fault
@@ -139,7 +123,3 @@ no_refusal d f e = cc
 pub refused_back : (old mid new after : Process × Lanes) (f : Fault) (said told : Done) → (new ≡ mid → after ≡ old) → Does {A = Turn} (Unit {0}) mid new (Err f) (Ok said) → Does {A = Turn} (Unit {0}) old after (Err f) (Ok told)
 refused_back old mid new after Memory said told back h = (h.0, back h.1)
 refused_back old mid new after fault said told back h = absurd (no_refusal said fault h.0)
-
--- a link that is there already changes nothing
-pub linked_already : (q : ℕ) (x : Process) → among q x.links ≡ true → with_link q x ≡ x
-linked_already q x there = linked_there q x there

@@ -1,8 +1,6 @@
 -- Rows that are seen through a view.
-use Rattle.std.proofs.Common.{◌≡◌, ◌≢◌, ℕ, ◌+◌, ◌<◌, ◌≤◌, List, [], ◌∷◌, ◌++◌, length, get_or, take, drop, map, sym, ap, ◌∙◌, arith}
-use Rattle.std.proofs.Math.ListN.{set}
-use Rattle.std.proofs.Math.Seq.{map-set_same}
-use Rattle.std.proofs.lemmas.List.{take_more, take_all, drop_more, map-set, get_or-map, length-map, map-append}
+use Rattle.bx_world.proofs.Words.{◌≡◌, ◌≢◌, ℕ, ◌+◌, ◌<◌, ◌≤◌, List, [], ◌∷◌, ◌++◌, length, get_or, take, drop, map, sym, ap, ◌∙◌, arith, set, map-set_same}
+use Rattle.std.proofs.lemmas.List.{take_more, take_all, drop_more, get_or-map, length-map, map-append}
 
 -- what is seen of the next element comes next
 pub rest_seen : {A B : Type 0} (f : A → B) (xs : List A) (i : ℕ) (x : A) → i < length xs → x ≡ get_or xs i x → drop i (map f xs) ≡ f x ∷ drop (i + 1) (map f xs)
@@ -24,9 +22,6 @@ seen_same f xs ys i x y hx hy ex ey e =
 pub goes_on : {A : Type 0} (xs : List A) (y : A) (ys zs : List A) → xs ++ y ∷ ys ≡ zs → zs ≢ []
 goes_on [] y ys zs e nothing = cc
 goes_on (x ∷ xs) y ys zs e nothing = cc
-
-pub seen_set : {A B : Type 0} (f : A → B) (xs : List A) (i : ℕ) (x : A) → map f (set xs i x) ≡ set (map f xs) i (f x)
-seen_set f xs i x = map-set f xs i x
 
 -- an element that is seen as the one in its place
 pub seen_again : {A B : Type 0} (f : A → B) (xs : List A) (i : ℕ) (x y : A) → x ≡ get_or xs i x → f y ≡ f x → map f (set xs i y) ≡ map f xs

@@ -359,7 +359,7 @@ impl Actor<'_> {
     }
 
     /// A process enters another into its set, and gets its answer.
-    #[tactic(auto, using(crate::proofs::Undoing::link_trapped, crate::proofs::Undoing::rewhole, crate::proofs::Undoing::unlinked_back, crate::proofs::Undoing::linked_already))]
+    #[tactic(auto, using(crate::proofs::Undoing::link_trapped, crate::proofs::Undoing::rewhole, crate::proofs::Undoing::unlinked_back, bx_proc::proofs::Linking::linked_there))]
     pub(crate) fn close_linked(
         self,
         process: &mut Proc,

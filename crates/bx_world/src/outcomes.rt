@@ -58,7 +58,7 @@ impl Outcome {
 }
 
 /// Whether processes stand the same, pid by pid.
-#[tactic(auto, using(crate::proofs::Compared::same_so_far, crate::proofs::Compared::same_whole))]
+#[tactic(auto, using(bx_share::specs::Rows::same_so_far, bx_share::specs::Rows::same_whole))]
 fn same_statuses(xs: &[Status], ys: &[Status]) -> bool
     ensures { IsTrue result ↔ (xs.now ≡ ys.now) }
 {

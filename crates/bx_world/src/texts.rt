@@ -8,8 +8,11 @@ ghost use Rattle.bx_world.specs.Texts.{spelling, spellings, state_words, status_
 use crate::choices::Choice;
 use crate::outcomes::{Outcome, Standing};
 use bx_proc::Status;
-use bx_terms::{Atoms, Fault, Term, print, push_pid};
+use bx_terms::{Atoms, Fault, Term, View, print, push_name, push_pid};
 use std::alloc::{AllocError, Global};
+
+/// Room for the text of an outcome of some ten processes. A longer one grows past it.
+const USUAL_LENGTH: usize = 512;
 
 /// The text of a choice: `r0` runs process 0, `d0>1` delivers from 0 to 1, `e0` lets the wait of process 0 expire.
 ///
@@ -38,7 +41,7 @@ pub fn outcome_text(
     ensures { Gives (Unit {0}) (λ text. string_bytes text) result
         (Ok (outcome_lines atoms.now applied refused outcome.now)) }
 {
-    let mut out = String::new(alloc);
+    let mut out = String::with_capacity(alloc, USUAL_LENGTH)?;
     write!(out, "applied {applied}\nstate ")?;
     push_state(alloc, &mut out, refused, &outcome.state)?;
     out.push_str("\n")?;
@@ -114,7 +117,7 @@ fn push_status(
     }
 }
 
-#[tactic(auto, using(crate::proofs::Compared::rest_at))]
+#[tactic(auto, using(bx_share::specs::Rows::rest_at))]
 fn push_processes(
     alloc: Global,
     out: &mut String,
@@ -167,6 +170,9 @@ fn push_term(alloc: Global, out: &mut String, atoms: &Atoms, term: &Term) -> Res
     ensures { OnOk result
         (string_bytes out.new ≡ string_bytes out.old ++ printed atoms.now term.now) }
 {
+    if let View::Atom(id) = term.view() {
+        return push_name(alloc, out, atoms.text(id));
+    }
     let text = print(alloc, atoms, term)?;
     out.push_str(text.as_str())
 }

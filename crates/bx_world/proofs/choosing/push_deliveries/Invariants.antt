@@ -1,5 +1,4 @@
-use Rattle.std.proofs.Common.{◌≡◌, ◌++◌, drop, map}
-use Rattle.bx_world.specs.Enabled.{delivery}
+use Rattle.bx_world.proofs.Words.{◌≡◌, ◌++◌, drop, map, delivery}
 use Rattle.bx_world.proofs.choosing.push_deliveries.Given as goal
 
 -- the deliveries that were put and those that are left make all

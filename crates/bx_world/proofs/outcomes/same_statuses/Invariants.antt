@@ -1,4 +1,4 @@
-use Rattle.std.proofs.Common.{◌≡◌, take, length}
+use Rattle.bx_world.proofs.Words.{◌≡◌, take, length}
 use Rattle.bx_world.proofs.outcomes.same_statuses.Given as goal
 
 -- rows of one length that are the same so far

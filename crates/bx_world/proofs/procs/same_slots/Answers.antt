@@ -1,5 +1,4 @@
-use Rattle.std.proofs.Common.{◌<◌, length, refl, arith}
-use Rattle.bx_world.specs.Lives.{life}
+use Rattle.bx_world.proofs.Words.{◌<◌, length, refl, arith, life}
 use Rattle.bx_world.proofs.Viewed.{same_further}
 use Rattle.bx_world.proofs.procs.same_slots.Goals as goal
 

@@ -1,5 +1,4 @@
-use Rattle.std.proofs.Common.{◌≡◌, take, map, length}
-use Rattle.bx_world.specs.Lives.{life}
+use Rattle.bx_world.proofs.Words.{◌≡◌, take, map, length, life}
 use Rattle.bx_world.proofs.procs.same_slots.Given as goal
 
 -- rows of one length that are seen the same so far

@@ -1,5 +1,4 @@
-use Rattle.std.proofs.Common.{◌∙◌, length-set}
-use Rattle.bx_world.specs.Lives.{life}
+use Rattle.bx_world.proofs.Words.{◌∙◌, length-set, life}
 use Rattle.bx_world.proofs.Viewed.{seen_again}
 use Rattle.bx_world.proofs.procs.unshare_slots.Goals as goal
 

@@ -1,5 +1,4 @@
-use Rattle.std.proofs.Common.{◌≡◌, length, map}
-use Rattle.bx_world.specs.Lives.{life}
+use Rattle.bx_world.proofs.Words.{◌≡◌, length, map, life}
 use Rattle.bx_world.proofs.procs.unshare_slots.Given as goal
 
 -- each process is seen as it was

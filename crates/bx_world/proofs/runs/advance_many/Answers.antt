@@ -1,4 +1,4 @@
-use Rattle.std.proofs.Common.{◌-◌, arith}
+use Rattle.bx_world.proofs.Words.{◌-◌, arith}
 use Rattle.bx_world.proofs.Many.{few_made, more_made, lacks_later}
 use Rattle.bx_world.proofs.runs.advance_many.Goals as goal
 

@@ -1,5 +1,4 @@
-use Rattle.std.proofs.Common.{◌≡◌, ◌≤◌, ◌-◌, replicate}
-use Rattle.bx_world.specs.Running.{ran}
+use Rattle.bx_world.proofs.Words.{◌≡◌, ◌≤◌, ◌-◌, replicate, ran}
 use Rattle.bx_world.proofs.runs.advance_many.Given as goal
 
 -- those that are made so far

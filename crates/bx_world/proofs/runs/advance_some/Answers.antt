@@ -1,8 +1,4 @@
-use Rattle.std.proofs.Common.{◌≡◌, ◌<◌, ◌+◌, false, None, Some, Ok, refl, sym, ap, subst, ◌∙◌, arith}
-use Rattle.std.specs.Prelude.{Option, Bool, is_some, ◌||◌}
-use Rattle.bx_world.specs.declared.turns.Tried.{Tried}
-use Rattle.bx_world.specs.Batches.{Fits, WorldRunsOn}
-use Rattle.bx_world.specs.Running.{Ended, DoesSome, Lacks}
+use Rattle.bx_world.proofs.Words.{◌≡◌, ◌<◌, ◌+◌, false, None, Some, Ok, refl, sym, ap, subst, ◌∙◌, arith, Option, Bool, is_some, ◌||◌, Tried, Fits, WorldRunsOn, Ended, DoesSome, Lacks}
 use Rattle.bx_world.proofs.Many.{some_ended, none_tried, noted_ok, noted_err}
 use Rattle.bx_world.proofs.runs.advance_some.Goals as goal
 

@@ -1,6 +1,4 @@
-use Rattle.std.specs.Prelude.{Some}
-use Rattle.bx_world.specs.World.{Exited}
-use Rattle.bx_world.specs.Acting.{MayLack}
+use Rattle.bx_world.proofs.Words.{Some, Exited, MayLack}
 use Rattle.bx_world.proofs.Acted.{exited_went, exited_refused}
 use Rattle.bx_world.proofs.slots.act_exited.Goals as goal
 

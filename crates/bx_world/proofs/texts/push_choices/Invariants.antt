@@ -1,4 +1,4 @@
-use Rattle.std.proofs.Common.{◌≡◌, ◌++◌, drop, string_bytes}
+use Rattle.bx_world.proofs.Words.{◌≡◌, ◌++◌, drop, string_bytes}
 use Rattle.bx_world.specs.Texts.{spellings}
 use Rattle.bx_world.proofs.texts.push_choices.Given as goal
 

@@ -1,4 +1,4 @@
-use Rattle.std.proofs.Common.{append_assoc}
+use Rattle.bx_world.proofs.Words.{append_assoc}
 use Rattle.bx_world.proofs.texts.push_process.Goals as goal
 
 pub returns : goal.returns

@@ -1,8 +1,6 @@
-use Rattle.std.proofs.Common.{◌<◌, length, map, sym, ap, ◌∙◌, arith}
+use Rattle.bx_world.proofs.Words.{◌<◌, length, map, sym, ap, ◌∙◌, arith, life_cells, life}
 use Rattle.std.proofs.lemmas.List.{get_or-map, length-map}
 use Rattle.bx_signals.proofs.Weights.{heavier}
-use Rattle.bx_world.specs.Cells.{life_cells}
-use Rattle.bx_world.specs.Lives.{life}
 use Rattle.bx_world.proofs.weights.lives_cells.Goals as goal
 
 pub loop-slot-preserved : goal.loop-slot-preserved

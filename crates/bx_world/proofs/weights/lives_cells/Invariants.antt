@@ -1,6 +1,5 @@
-use Rattle.std.proofs.Common.{◌≤◌, min, map, take, sum_by}
-use Rattle.bx_world.specs.Cells.{life_cells}
-use Rattle.bx_world.specs.Lives.{life}
+use Rattle.bx_world.proofs.Words.{◌≤◌, map, take, life_cells, life}
+use Rattle.std.proofs.Common.{min, sum_by}
 use Rattle.bx_world.proofs.weights.lives_cells.Given as goal
 
 abbrev pub invariant-loop-slot : goal.invariant-loop-slot

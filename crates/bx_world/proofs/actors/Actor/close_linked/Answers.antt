@@ -1,12 +1,5 @@
-use Rattle.std.proofs.Common.{◌≡◌, false, Ok, Result, sym, ap, ◌∙◌}
-use Rattle.bx_terms.specs.declared.faults.Fault.{Fault}
-use Rattle.bx_cells.specs.Links.{among}
-use Rattle.bx_proc.specs.Process.{Process}
-use Rattle.bx_proc.specs.Signals.{with_link}
-use Rattle.bx_proc.specs.Stepping.{settled}
-use Rattle.bx_world.specs.declared.turns.Turn.{Turn}
+use Rattle.bx_world.proofs.Words.{◌≡◌, false, Ok, Result, sym, ap, ◌∙◌, Fault, among, Process, with_link, settled, Turn, Done, whole, closing}
 use Rattle.bx_world.specs.declared.turns.Turn.TheVariants as turns
-use Rattle.bx_world.specs.Asking.{Done, whole, closing}
 use Rattle.bx_world.proofs.Undoing.{became, refused_back, unlinked_back, link_trapped, rewhole}
 use Rattle.bx_world.proofs.actors.Actor.close_linked.Goals as goal
 use Rattle.bx_world.proofs.actors.Actor.close_linked.Goals.{in-Trapped, in_default}

@@ -1,10 +1,4 @@
-use Rattle.std.proofs.Common.{◌<◌, length, map, subst, arith}
-use Rattle.std.specs.Prelude.{List, slice_get}
-use Rattle.std.proofs.Math.ListN.{set}
-use Rattle.bx_terms.specs.Outcomes.{Does}
-use Rattle.bx_world.specs.World.{Life}
-use Rattle.bx_world.specs.Lives.{life}
-use Rattle.bx_world.specs.Acting.{lives_acted, MayLack}
+use Rattle.bx_world.proofs.Words.{◌<◌, length, map, subst, arith, List, slice_get, set, Does, Life, life, lives_acted, MayLack}
 use Rattle.bx_world.proofs.Acted.{acted_among}
 use Rattle.bx_world.proofs.procs.Procs.act.Goals as goal
 

@@ -1,14 +1,6 @@
-use Rattle.std.proofs.Common.{◌≡◌, Ok, sym, ap, ◌∙◌, arith}
+use Rattle.bx_world.proofs.Words.{◌≡◌, Ok, sym, ap, ◌∙◌, arith, ℕ, List, [], ◌∷◌, ◌++◌, length, Turn, Life, Live, life, Spawned, lives_acted, new_child, childless_at_trap, lives_with_child}
 use Rattle.std.proofs.lemmas.List.{length-map}
-use Rattle.std.specs.Prelude.{ℕ, List, [], ◌∷◌, ◌++◌, length}
-use Rattle.bx_world.specs.declared.turns.Turn.{Turn}
 use Rattle.bx_world.specs.declared.turns.Turn.TheVariants.{Trapped}
-use Rattle.bx_world.specs.World.{Life, Live}
-use Rattle.bx_world.specs.Lives.{life}
-use Rattle.bx_world.specs.declared.acts.Act.TheVariants.{Spawned}
-use Rattle.bx_world.specs.Acting.{lives_acted}
-use Rattle.bx_world.specs.Deeds.{new_child}
-use Rattle.bx_world.specs.Spawning.{childless_at_trap, lives_with_child}
 use Rattle.bx_world.proofs.Changing.{err_through}
 use Rattle.bx_world.proofs.Applying.{answered_kept}
 use Rattle.bx_world.proofs.Growing.{popped, grown_trapped}

@@ -1,13 +1,5 @@
-use Rattle.std.proofs.Common.{◌≡◌, ◌<◌, Some, length, map, refl, sym, ap, subst, ◌∙◌, arith}
-use Rattle.std.specs.Prelude.{List, Option, IsOk, OnErr, slice_get}
-use Rattle.std.proofs.Math.ListN.{set}
-use Rattle.std.proofs.Math.Seq.{map-set_same}
-use Rattle.bx_world.specs.declared.lanes.Lanes.{Lanes}
+use Rattle.bx_world.proofs.Words.{◌≡◌, ◌<◌, Some, length, map, refl, sym, ap, subst, ◌∙◌, arith, List, Option, IsOk, OnErr, slice_get, set, map-set_same, Lanes, LivesRunOn, StopsAt, may_at, may_run, life, Life, Live}
 use Rattle.bx_world.specs.declared.slots.Slot.TheVariants as slots
-use Rattle.bx_world.specs.Batches.{LivesRunOn, StopsAt}
-use Rattle.bx_world.specs.Enabled.{may_at, may_run}
-use Rattle.bx_world.specs.Lives.{life}
-use Rattle.bx_world.specs.World.{Life, Live}
 use Rattle.bx_world.proofs.Acted.{seen_at}
 use Rattle.bx_world.proofs.Batches.{stopped_among, one_whole, whole_alone}
 use Rattle.bx_world.proofs.procs.Procs.halt_at.Goals as goal

@@ -1,8 +1,4 @@
-use Rattle.std.proofs.Common.{◌≡◌, ◌≢◌, List, ◌<◌, ◌+◌, ◌++◌, ◌∷◌, [], true, false, length, drop, map, sym, ap, subst, ◌∙◌, arith, length-append}
-use Rattle.bx_world.specs.declared.choices.Choice.TheVariants.{Expire}
-use Rattle.bx_world.specs.World.{Life}
-use Rattle.bx_world.specs.Lives.{life}
-use Rattle.bx_world.specs.Enabled.{may_expire, choices_from}
+use Rattle.bx_world.proofs.Words.{◌≡◌, ◌≢◌, List, ◌<◌, ◌+◌, ◌++◌, ◌∷◌, [], true, false, length, drop, map, sym, ap, subst, ◌∙◌, arith, length-append, Expire, Life, life, may_expire, choices_from}
 use Rattle.bx_world.proofs.Changing.{on_err}
 use Rattle.bx_world.proofs.Finding.{one_found, one_passed, one_there}
 use Rattle.bx_world.proofs.procs.Procs.push_expirations.Goals as goal

@@ -1,7 +1,4 @@
-use Rattle.std.proofs.Common.{◌≡◌, ◌≤◌, ◌++◌, length, drop, map}
-use Rattle.bx_world.specs.declared.choices.Choice.TheVariants.{Expire}
-use Rattle.bx_world.specs.Lives.{life}
-use Rattle.bx_world.specs.Enabled.{may_expire, choices_from}
+use Rattle.bx_world.proofs.Words.{◌≡◌, ◌≤◌, ◌++◌, length, drop, map, Expire, life, may_expire, choices_from}
 use Rattle.bx_world.proofs.procs.Procs.push_expirations.Given as goal
 
 -- the choices that were found and those that are left to find make all

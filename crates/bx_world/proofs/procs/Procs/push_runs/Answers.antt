@@ -1,8 +1,4 @@
-use Rattle.std.proofs.Common.{◌≡◌, ◌≢◌, List, ◌<◌, ◌+◌, ◌++◌, ◌∷◌, [], true, false, length, drop, map, sym, ap, subst, ◌∙◌, arith, length-append}
-use Rattle.bx_world.specs.declared.choices.Choice.TheVariants.{Run}
-use Rattle.bx_world.specs.World.{Life}
-use Rattle.bx_world.specs.Lives.{life}
-use Rattle.bx_world.specs.Enabled.{may_run, choices_from}
+use Rattle.bx_world.proofs.Words.{◌≡◌, ◌≢◌, List, ◌<◌, ◌+◌, ◌++◌, ◌∷◌, [], true, false, length, drop, map, sym, ap, subst, ◌∙◌, arith, length-append, Run, Life, life, may_run, choices_from}
 use Rattle.bx_world.proofs.Changing.{on_err}
 use Rattle.bx_world.proofs.Finding.{one_found, one_passed, one_there}
 use Rattle.bx_world.proofs.procs.Procs.push_runs.Goals as goal

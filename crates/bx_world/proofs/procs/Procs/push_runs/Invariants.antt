@@ -1,7 +1,4 @@
-use Rattle.std.proofs.Common.{◌≡◌, ◌≤◌, ◌++◌, length, drop, map}
-use Rattle.bx_world.specs.declared.choices.Choice.TheVariants.{Run}
-use Rattle.bx_world.specs.Lives.{life}
-use Rattle.bx_world.specs.Enabled.{may_run, choices_from}
+use Rattle.bx_world.proofs.Words.{◌≡◌, ◌≤◌, ◌++◌, length, drop, map, Run, life, may_run, choices_from}
 use Rattle.bx_world.proofs.procs.Procs.push_runs.Given as goal
 
 -- the choices that were found and those that are left to find make all

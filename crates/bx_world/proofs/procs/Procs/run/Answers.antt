@@ -1,18 +1,9 @@
-use Rattle.std.proofs.Common.{◌≡◌, ◌<◌, ◌≤◌, true, false, None, Some, length, map, refl, sym, ap, subst, ◌∙◌, arith}
+use Rattle.bx_world.proofs.Words.{◌≡◌, ◌<◌, ◌≤◌, true, false, None, Some, length, map, refl, sym, ap, subst, ◌∙◌, arith, List, Option, IsOk, OnErr, slice_get, set, map-set_same, can_run, Why, Lanes, Tried}
+use Rattle.bx_world.proofs.Words.{GoesOn, LivesRunOn, StopsAt, sent_so, may_at, may_run, life, Life, Live}
 use Rattle.std.proofs.lemmas.List.{length-map}
 use Rattle.std.proofs.lemmas.Option.{slice_get_past}
-use Rattle.std.specs.Prelude.{List, Option, IsOk, OnErr, slice_get}
-use Rattle.std.proofs.Math.ListN.{set}
-use Rattle.std.proofs.Math.Seq.{map-set_same}
-use Rattle.bx_proc.specs.Process.{can_run}
-use Rattle.bx_proc.specs.declared.stops.Why.{Why}
-use Rattle.bx_world.specs.declared.lanes.Lanes.{Lanes}
 use Rattle.bx_world.specs.declared.turns.Tried.TheVariants as tries
-use Rattle.bx_world.specs.declared.turns.Tried.{Tried}
-use Rattle.bx_world.specs.Batches.{GoesOn, LivesRunOn, StopsIf, StopsAt, sent_so}
-use Rattle.bx_world.specs.Enabled.{may_at, may_run}
-use Rattle.bx_world.specs.Lives.{life}
-use Rattle.bx_world.specs.World.{Life, Live}
+use Rattle.bx_world.specs.Batches.{StopsIf}
 use Rattle.bx_world.specs.declared.slots.Slot.TheVariants as slots
 use Rattle.bx_world.proofs.Acted.{seen_at}
 use Rattle.bx_world.proofs.Batches.{one_told, unable_among, lacked_among, live_at, went_among, went_on, sent_among, stands_sending, one_behind}

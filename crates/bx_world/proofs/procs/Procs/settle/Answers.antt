@@ -1,15 +1,6 @@
-use Rattle.std.proofs.Common.{Ok, map, sym, ap, subst, ◌∙◌}
-use Rattle.std.specs.Prelude.{List, Result}
-use Rattle.std.proofs.Math.ListN.{set}
+use Rattle.bx_world.proofs.Words.{Ok, map, sym, ap, subst, ◌∙◌, List, Result, set, Fault, Lanes, Turn, Tried, RunsOnce, RunsWhole, lives_after, turn_after, life, Life, Exited}
 use Rattle.std.proofs.lemmas.List.{map-set}
-use Rattle.bx_terms.specs.declared.faults.Fault.{Fault}
-use Rattle.bx_world.specs.declared.lanes.Lanes.{Lanes}
 use Rattle.bx_world.specs.declared.slots.Slot.TheVariants as slots
-use Rattle.bx_world.specs.declared.turns.Turn.{Turn}
-use Rattle.bx_world.specs.declared.turns.Tried.{Tried}
-use Rattle.bx_world.specs.Batches.{RunsOnce, RunsWhole, lives_after, turn_after}
-use Rattle.bx_world.specs.Lives.{life}
-use Rattle.bx_world.specs.World.{Life, Exited}
 use Rattle.bx_world.proofs.Batches.{an_end, a_child}
 use Rattle.bx_world.proofs.procs.Procs.settle.Goals as goal
 

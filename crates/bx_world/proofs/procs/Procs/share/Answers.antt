@@ -1,5 +1,4 @@
-use Rattle.std.proofs.Common.{◌<◌, length, arith}
-use Rattle.bx_world.specs.Lives.{life}
+use Rattle.bx_world.proofs.Words.{◌<◌, length, arith, life}
 use Rattle.bx_world.proofs.Viewed.{seen_further}
 use Rattle.bx_world.proofs.procs.Procs.share.Goals as goal
 

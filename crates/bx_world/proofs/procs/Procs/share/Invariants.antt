@@ -1,5 +1,4 @@
-use Rattle.std.proofs.Common.{◌≡◌, take, map}
-use Rattle.bx_world.specs.Lives.{life}
+use Rattle.bx_world.proofs.Words.{◌≡◌, take, map, life}
 use Rattle.bx_world.proofs.procs.Procs.share.Given as goal
 
 -- those that are shared so far are seen as they were

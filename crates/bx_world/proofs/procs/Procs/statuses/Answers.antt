@@ -1,6 +1,4 @@
-use Rattle.std.proofs.Common.{◌<◌, length, arith}
-use Rattle.bx_world.specs.Lives.{life}
-use Rattle.bx_world.specs.Seen.{status_of}
+use Rattle.bx_world.proofs.Words.{◌<◌, length, arith, life, status_of}
 use Rattle.bx_world.proofs.Viewed.{made_further}
 use Rattle.bx_world.proofs.procs.Procs.statuses.Goals as goal
 

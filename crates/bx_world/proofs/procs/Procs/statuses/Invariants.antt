@@ -1,6 +1,4 @@
-use Rattle.std.proofs.Common.{◌≡◌, take, map}
-use Rattle.bx_world.specs.Lives.{life}
-use Rattle.bx_world.specs.Seen.{status_of}
+use Rattle.bx_world.proofs.Words.{◌≡◌, take, map, life, status_of}
 use Rattle.bx_world.proofs.procs.Procs.statuses.Given as goal
 
 -- the statuses so far

@@ -1,7 +1,4 @@
-use Rattle.std.specs.Prelude.{Some}
-use Rattle.bx_terms.specs.Outcomes.{Does}
-use Rattle.bx_world.specs.World.{Life}
-use Rattle.bx_world.specs.Acting.{life_acted, MayLack}
+use Rattle.bx_world.proofs.Words.{Some, Does, Life, life_acted, MayLack}
 use Rattle.bx_world.proofs.Acted.{only_exited}
 use Rattle.bx_world.proofs.slots.Slot.act.Goals as goal
 

@@ -1,9 +1,4 @@
-use Rattle.std.proofs.Common.{◌≡◌, None, sym, ap, subst, ◌∙◌}
-use Rattle.std.specs.Prelude.{slice_get}
-use Rattle.bx_world.specs.declared.turns.Tried.{Tried}
-use Rattle.bx_world.specs.Acting.{lives_acted, MayLack}
-use Rattle.bx_world.specs.Batches.{WorldActs, state_after}
-use Rattle.bx_world.specs.World.{State}
+use Rattle.bx_world.proofs.Words.{◌≡◌, None, sym, ap, subst, ◌∙◌, slice_get, Tried, lives_acted, MayLack, WorldActs, state_after, State}
 use Rattle.bx_world.proofs.Batches.{acted_there}
 use Rattle.bx_world.proofs.world.World.act.Goals as goal
 

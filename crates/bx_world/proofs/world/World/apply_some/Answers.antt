@@ -1,8 +1,4 @@
-use Rattle.std.proofs.Common.{ℕ, Some, sym, subst}
-use Rattle.std.specs.Prelude.{Option}
-use Rattle.bx_world.specs.declared.choices.Choice.{Choice}
-use Rattle.bx_world.specs.declared.turns.Tried.{Tried}
-use Rattle.bx_world.specs.Batches.{WorldRunsOn}
+use Rattle.bx_world.proofs.Words.{ℕ, Some, sym, subst, Option, Choice, Tried, WorldRunsOn}
 use Rattle.bx_world.proofs.Batches.{heard_in_world, expired_in_world}
 use Rattle.bx_world.proofs.world.World.apply_some.Goals as goal
 

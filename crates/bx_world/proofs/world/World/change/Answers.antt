@@ -1,4 +1,4 @@
-use Rattle.std.proofs.Common.{sym, ◌∙◌}
+use Rattle.bx_world.proofs.Words.{sym, ◌∙◌}
 use Rattle.bx_world.proofs.Alone.{done_alone, lacked_alone}
 use Rattle.bx_world.proofs.world.World.change.Goals as goal
 

@@ -1,10 +1,4 @@
-use Rattle.std.proofs.Common.{◌≡◌, ℕ, None, Some, sym, ap, subst, ◌∙◌}
-use Rattle.std.specs.Prelude.{Option}
-use Rattle.bx_terms.specs.declared.kinds.Trap.{Trap}
-use Rattle.bx_world.specs.declared.choices.Choice.TheVariants.{Run}
-use Rattle.bx_world.specs.declared.turns.Tried.{Tried}
-use Rattle.bx_world.specs.Batches.{LivesRunOn, WorldRunsOn, state_after}
-use Rattle.bx_world.specs.World.{State}
+use Rattle.bx_world.proofs.Words.{◌≡◌, ℕ, None, Some, sym, ap, subst, ◌∙◌, Option, Trap, Run, Tried, LivesRunOn, WorldRunsOn, state_after, State}
 use Rattle.bx_world.proofs.Batches.{in_world, stopped_in_world}
 use Rattle.bx_world.proofs.world.World.run.Goals as goal
 
