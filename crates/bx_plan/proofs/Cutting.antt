@@ -1,274 +1,194 @@
 -- Where the chains of the schedules of a row end.
-use Rattle.std.proofs.Common.{◌≡◌, ◌≢◌, ◌⊎◌, inl, inr, ℕ, zero, suc, ◌+◌, ◌-◌, ◌<◌, ◌≤◌, min, max, Bool, true, false, cond, List, [], ◌∷◌, ◌++◌, length, get_or, reverse, refl, sym, ap, subst, ◌∙◌, arith, add-one, length-append}
+use Rattle.std.proofs.Common.{◌≡◌, ◌≢◌, ◌⊎◌, inl, inr, ℕ, zero, suc, ◌+◌, ◌-◌, ◌<◌, ◌≤◌, min, true, false, List, [], ◌∷◌, ◌++◌, length, get_or, refl, sym, ap, subst, ◌∙◌, arith, append_assoc}
 use Rattle.std.specs.Prelude.{nat_lt}
-use Rattle.std.proofs.Math.ListN.{get_or-append}
-use Rattle.std.proofs.Math.Seq.{get_or-append_seam}
-use Rattle.std.proofs.lemmas.Bool.{cases_eq, cases_lt, lt-ltb, le-ltb, ltb-true, ltb-false}
-use Rattle.std.proofs.lemmas.List.{length_push}
+use Rattle.std.specs.List.{Contains}
+use Rattle.std.proofs.lemmas.Bool.{cases_eq, cases_lt, cond_both, ltb-true, ltb-false}
+use Rattle.std.proofs.lemmas.List.{append-nil}
+use Rattle.std.proofs.lemmas.List.Elements.{Contains-append_cases, Contains-append_left, Contains-append_right, Contains-push_cases}
 use Rattle.bx_world.specs.declared.choices.Choice.{Choice}
 use Rattle.bx_plan.specs.declared.plans.Row.{Row}
-use Rattle.bx_plan.specs.Cuts.{marked, top, AllCuts, AreCuts, AreRising, AreSteps, IsCutBy, IsIn}
-use Rattle.bx_plan.specs.Gathered.{common, common_before, placed, row_at, AreRows}
-use Rattle.bx_plan.proofs.Counting.{before, common_least, common_short}
-use Rattle.bx_plan.proofs.Ordering.{common_turned}
+use Rattle.bx_plan.specs.Cuts.{deepest, marked, AllCuts, AreCuts, IsCutBy, Rise}
+use Rattle.bx_plan.specs.Gathered.{common, placed, row_at, AreRows}
+use Rattle.bx_plan.proofs.Commons.{common_short, common_turned}
+use Rattle.bx_plan.proofs.Counting.{before, before_is, passed}
 
 -- ---- depths that rise
 
-rise_far : (marks : List ℕ) → AreRising marks → (i d : ℕ) → i + d < length marks → get_or marks i 0 ≤ get_or marks (i + d) 0
-rise_far marks r i zero h = omega (arith, ap (λ k. get_or marks k 0) (let same : i + 0 ≡ i = omega arith in same))
-rise_far marks r i (suc d) h =
-    let shift : i + suc d ≡ i + d + 1 = omega arith in
-    omega (arith, rise_far marks r i d (omega (arith, h)), r.rises (i + d) (omega (arith, h)), ap (λ k. get_or marks k 0) shift)
+pub deepest_push : (m : ℕ) (xs : List ℕ) (x : ℕ) → deepest m (xs ++ x ∷ []) ≡ x
+deepest_push m [] x = refl
+deepest_push m (y ∷ xs) x = deepest_push y xs x
 
-pub in_below : (marks : List ℕ) → AreRising marks → (m : ℕ) → IsIn m marks → m ≤ top marks
-in_below marks r m (i, h, e) =
-    let whole : i + (length marks - 1 - i) ≡ length marks - 1 = omega (arith, h) in
-    omega (arith, e, rise_far marks r i (length marks - 1 - i) (omega (arith, h)), ap (λ k. get_or marks k 0) whole)
+pub deepest_last : (m : ℕ) (xs : List ℕ) (n d : ℕ) → n + 1 ≡ length xs → get_or xs n d ≡ deepest m xs
+deepest_last m [] n d e = absurd (omega (arith, e))
+deepest_last m (x ∷ []) zero d e = refl
+deepest_last m (x ∷ []) (suc n) d e = absurd (omega (arith, e))
+deepest_last m (x ∷ y ∷ xs) zero d e = absurd (omega (arith, e))
+deepest_last m (x ∷ y ∷ xs) (suc n) d e = deepest_last x (y ∷ xs) n d (omega (arith, e))
 
-pub top_in : (marks : List ℕ) → 0 < length marks → IsIn (top marks) marks
-top_in marks h = (length marks - 1, omega (arith, h), refl)
+rise_push : (m : ℕ) (xs : List ℕ) (x : ℕ) → Rise m xs → deepest m xs < x → Rise m (xs ++ x ∷ [])
+rise_push m [] x r l = (l, tt)
+rise_push m (y ∷ xs) x r l = (r.0, rise_push y xs x r.1 l)
 
-in_append : (xs ys : List ℕ) (m : ℕ) → IsIn m xs → IsIn m (xs ++ ys)
-in_append xs ys m (i, h, e) = (i, omega (arith, h, length-append xs ys), get_or-append xs ys 0 i h ∙ e)
+pub rise_apart : (m : ℕ) (xs ys : List ℕ) → Rise m (xs ++ ys) → Rise m xs × Rise (deepest m xs) ys
+rise_apart m [] ys r = (tt, r)
+rise_apart m (x ∷ xs) ys r = let more = rise_apart x xs ys r.1 in ((r.0, more.0), more.1)
 
-last_in : (xs : List ℕ) (x : ℕ) → IsIn x (xs ++ x ∷ [])
-last_in xs x = (length xs, omega (arith, length_push xs x), get_or-append_seam xs x [] 0)
+rise_far : (m : ℕ) (xs : List ℕ) → Rise m xs → m ≤ deepest m xs
+rise_far m [] r = omega arith
+rise_far m (x ∷ xs) r = omega (arith, r.0, rise_far x xs r.1)
 
-in_push : (xs : List ℕ) (x m : ℕ) → IsIn m (xs ++ x ∷ []) → IsIn m xs ⊎ (m ≡ x)
-in_push xs x m (i, h, e) = one (cases_lt i (length xs)) where
-  one : (i < length xs) ⊎ (length xs ≤ i) → IsIn m xs ⊎ (m ≡ x)
-  one (inl l) = inl (i, l, sym (get_or-append xs (x ∷ []) 0 i l) ∙ e)
-  one (inr l) = let same : i ≡ length xs = omega (arith, h, l, length_push xs x) in inr (sym e ∙ ap (λ k. get_or (xs ++ x ∷ []) k 0) same ∙ get_or-append_seam xs x [] 0)
+rise_in : (m : ℕ) (xs : List ℕ) (n : ℕ) → Rise m xs → Contains xs n → (m < n) × (n ≤ deepest m xs)
+rise_in m [] n r (i, h, e) = absurd (omega (arith, h))
+rise_in m (x ∷ xs) n r (zero, h, e) = (omega (arith, r.0, e), omega (arith, e, rise_far x xs r.1))
+rise_in m (x ∷ xs) n r (suc i, h, e) = let rest = rise_in x xs n r.1 (i, omega (arith, h), e) in (omega (arith, r.0, rest.0), rest.1)
 
-pub top_push : (xs : List ℕ) (x : ℕ) → top (xs ++ x ∷ []) ≡ x
-top_push xs x = let same : length (xs ++ x ∷ []) - 1 ≡ length xs = omega (arith, length_push xs x) in ap (λ k. get_or (xs ++ x ∷ []) k 0) same ∙ get_or-append_seam xs x [] 0
-
-rising_push : (xs : List ℕ) (x : ℕ) → AreRising xs → top xs < x → AreRising (xs ++ x ∷ [])
-rising_push xs x r l = record {
-  some = omega (arith, length_push xs x);
-  root = get_or-append xs (x ∷ []) 0 0 r.some ∙ r.root;
-  rises = λ i h. one i h (cases_lt (i + 1) (length xs));
-} where
-  one : (i : ℕ) → i + 1 < length (xs ++ x ∷ []) → (i + 1 < length xs) ⊎ (length xs ≤ i + 1) → get_or (xs ++ x ∷ []) i 0 < get_or (xs ++ x ∷ []) (i + 1) 0
-  one i h (inl m) = omega (arith, get_or-append xs (x ∷ []) 0 i (omega (arith, m)), get_or-append xs (x ∷ []) 0 (i + 1) m, r.rises i m)
-  one i h (inr m) =
-      let same : i + 1 ≡ length xs = omega (arith, h, m, length_push xs x) in
-      let place : i ≡ length xs - 1 = omega (arith, same) in
-      omega (arith, l, get_or-append xs (x ∷ []) 0 i (omega (arith, same)), ap (λ k. get_or xs k 0) place, ap (λ k. get_or (xs ++ x ∷ []) k 0) same, get_or-append_seam xs x [] 0)
-
-rising_front : (xs : List ℕ) (x : ℕ) → 0 < length xs → AreRising (xs ++ x ∷ []) → AreRising xs × (top xs < x)
-rising_front xs x some r = (
-  record {
-    some = some;
-    root = sym (get_or-append xs (x ∷ []) 0 0 some) ∙ r.root;
-    rises = λ i h. omega (arith, r.rises i (omega (arith, h, length_push xs x)), get_or-append xs (x ∷ []) 0 i (omega (arith, h)), get_or-append xs (x ∷ []) 0 (i + 1) h);
-  },
-  let next : length xs - 1 + 1 ≡ length xs = omega (arith, some) in
-      omega (arith, r.rises (length xs - 1) (omega (arith, some, length_push xs x)), get_or-append xs (x ∷ []) 0 (length xs - 1) (omega (arith, some)), ap (λ k. get_or (xs ++ x ∷ []) k 0) next, get_or-append_seam xs x [] 0),
-)
+deepest_there : (m : ℕ) (xs : List ℕ) → Rise m xs → m < deepest m xs → Contains xs (deepest m xs)
+deepest_there m [] r h = absurd (omega (arith, h))
+deepest_there m (x ∷ xs) r h = one (deepest_there x xs r.1) (cases_lt x (deepest x xs)) where
+  one : (x < deepest x xs → Contains xs (deepest x xs)) → (x < deepest x xs) ⊎ (deepest x xs ≤ x) → Contains (x ∷ xs) (deepest x xs)
+  one later (inl l) = Contains-append_right (x ∷ []) xs (deepest x xs) (later l)
+  one later (inr l) = (0, omega arith, omega (arith, l, rise_far x xs r.1))
 
 -- ---- one more depth, where it is below all others
 
-module _ (marks : List ℕ) (d : ℕ) where
-  marked_more : top marks < d → marked marks d ≡ marks ++ d ∷ []
-  marked_more l = ap (λ b. cond b (marks ++ d ∷ []) marks) (lt-ltb (top marks) d l)
+module _ (marks : List ℕ) (rise : Rise 0 marks) (d : ℕ) where
+  pub marked_rise : Rise 0 (marked marks d)
+  marked_rise = cond_both (nat_lt (deepest 0 marks) d) (marks ++ d ∷ []) marks (Rise 0) (λ t. rise_push 0 marks d rise (ltb-true (deepest 0 marks) d t)) (λ f. rise)
 
-  marked_same : d ≤ top marks → marked marks d ≡ marks
-  marked_same l = ap (λ b. cond b (marks ++ d ∷ []) marks) (le-ltb (top marks) d l)
+  in_marked : (m : ℕ) → Contains (marked marks d) m → Contains marks m ⊎ (d ≡ m)
+  in_marked m = cond_both (nat_lt (deepest 0 marks) d) (marks ++ d ∷ []) marks (λ xs. Contains xs m → Contains marks m ⊎ (d ≡ m)) (λ t. Contains-push_cases marks d m) (λ f h. inl h)
 
-  pub marked_rising : AreRising marks → AreRising (marked marks d)
-  marked_rising r = one (cases_lt (top marks) d) where
-    one : (top marks < d) ⊎ (d ≤ top marks) → AreRising (marked marks d)
-    one (inl l) = subst AreRising (sym (marked_more l)) (rising_push marks d r l)
-    one (inr l) = subst AreRising (sym (marked_same l)) r
+  marked_has : (m : ℕ) → Contains marks m → Contains (marked marks d) m
+  marked_has m h = cond_both (nat_lt (deepest 0 marks) d) (marks ++ d ∷ []) marks (λ xs. Contains xs m) (λ t. Contains-append_left marks (d ∷ []) m h) (λ f. h)
 
-  pub in_marked : (m : ℕ) → IsIn m (marked marks d) → IsIn m marks ⊎ (m ≡ d)
-  in_marked m h = one (cases_lt (top marks) d) where
-    one : (top marks < d) ⊎ (d ≤ top marks) → IsIn m marks ⊎ (m ≡ d)
-    one (inl l) = in_push marks d m (subst (IsIn m) (marked_more l) h)
-    one (inr l) = inl (subst (IsIn m) (marked_same l) h)
+  module _ (deep : deepest 0 marks ≤ d) where
+    marked_top : deepest 0 (marked marks d) ≡ d
+    marked_top = cond_both (nat_lt (deepest 0 marks) d) (marks ++ d ∷ []) marks (λ xs. deepest 0 xs ≡ d) (λ t. deepest_push 0 marks d) (λ f. omega (arith, deep, ltb-false (deepest 0 marks) d f))
 
-  pub marked_has : (m : ℕ) → IsIn m marks → IsIn m (marked marks d)
-  marked_has m h = one (cases_lt (top marks) d) where
-    one : (top marks < d) ⊎ (d ≤ top marks) → IsIn m (marked marks d)
-    one (inl l) = subst (IsIn m) (sym (marked_more l)) (in_append marks (d ∷ []) m h)
-    one (inr l) = subst (IsIn m) (sym (marked_same l)) h
-
-  pub marked_itself : 0 < length marks → top marks ≤ d → IsIn d (marked marks d)
-  marked_itself some deep = one (cases_lt (top marks) d) where
-    one : (top marks < d) ⊎ (d ≤ top marks) → IsIn d (marked marks d)
-    one (inl l) = subst (IsIn d) (sym (marked_more l)) (last_in marks d)
-    one (inr l) = subst (IsIn d) (sym (marked_same l)) (let same : top marks ≡ d = omega (arith, l, deep) in subst (λ m. IsIn m marks) same (top_in marks some))
-
-  pub marked_top : top marks ≤ d → top (marked marks d) ≡ d
-  marked_top deep = one (cases_lt (top marks) d) where
-    one : (top marks < d) ⊎ (d ≤ top marks) → top (marked marks d) ≡ d
-    one (inl l) = ap top (marked_more l) ∙ top_push marks d
-    one (inr l) = ap top (marked_same l) ∙ omega (arith, l, deep)
+    marked_itself : 0 < d → Contains (marked marks d) d
+    marked_itself some = subst (Contains (marked marks d)) marked_top (deepest_there 0 (marked marks d) marked_rise (omega (arith, some, marked_top)))
 
 -- ---- marks that are taken off
 
--- the marks that are left, and the steps over those that were taken off
-pub record AreTaken (common : ℕ) (all marks cuts done : List ℕ) : Type 0 where
-  pub rising : AreRising marks
-  pub steps : List ℕ
-  pub are : AreSteps all (max (top marks) common) steps
-  pub order : done ≡ steps ++ cuts
-  pub kept : (m : ℕ) → IsIn m marks → IsIn m all
-  pub left : (m : ℕ) → IsIn m all → IsIn m marks ⊎ ((top marks < m) × (common < m))
+pub record AreTaken (least : ℕ) (all marks cuts done : List ℕ) : Type 0 where
+  pub taken : List ℕ
+  pub whole : all ≡ marks ++ taken
+  pub above : Rise least taken
+  pub order : done ≡ taken ++ cuts
 
-pub taken_first : (common length : ℕ) (marks cuts : List ℕ) → AreRising marks → top marks ≤ length → common ≤ length → AreTaken common (marked marks length) (marked marks length) cuts cuts
-taken_first common length marks cuts r deep short = record {
-  rising = marked_rising marks length r;
-  steps = [];
-  are = omega (arith, marked_top marks length deep, short);
-  order = refl;
-  kept = λ m h. h;
-  left = λ m h. inl h;
-}
-
-pub taken_next : (common c : ℕ) (all marks rest cuts done more : List ℕ) → AreTaken common all marks cuts done → common < c → marks ≡ rest ++ c ∷ [] → more ≡ c ∷ done → AreTaken common all rest cuts more
-taken_next common c all marks rest cuts done more is l e f = record {
-  rising = front.0;
-  steps = c ∷ is.steps;
-  are = (omega (arith, l, front.1), is.kept c (subst (IsIn c) (sym e) (last_in rest c)), between, subst (λ n. AreSteps all n is.steps) (let same : max (top marks) common ≡ c = omega (arith, l, ap top e, top_push rest c) in same) is.are);
-  order = f ∙ ap (λ xs. c ∷ xs) is.order;
-  kept = λ m h. is.kept m (subst (IsIn m) (sym e) (in_append rest (c ∷ []) m h));
-  left = λ m h. one m (is.left m h);
-} where
-  some : 0 < length rest
-  some = one rest refl where
-    one : (xs : List ℕ) → rest ≡ xs → 0 < length xs
-    one [] g = let root : c ≡ 0 = sym (ap (λ xs. get_or (xs ++ c ∷ []) 0 0) g) ∙ ap (λ xs. get_or xs 0 0) (sym e) ∙ is.rising.root in absurd (omega (arith, l, root))
-    one (x ∷ xs) g = omega arith
-
-  front : AreRising rest × (top rest < c)
-  front = rising_front rest c some (subst AreRising e is.rising)
-
-  at_top : top marks ≡ c
-  at_top = ap top e ∙ top_push rest c
-
-  between : (m : ℕ) → IsIn m all → max (top rest) common < m → m < c → ⊥
-  between m h a b = two (is.left m h) where
-    three : IsIn m rest ⊎ (m ≡ c) → ⊥
-    three (inl k) = omega (arith, a, in_below rest front.0 m k)
-    three (inr k) = omega (arith, b, k)
-
-    two : IsIn m marks ⊎ ((top marks < m) × (common < m)) → ⊥
-    two (inl k) = three (in_push rest c m (subst (IsIn m) e k))
-    two (inr (k, _)) = omega (arith, k, b, at_top)
-
-  one : (m : ℕ) → IsIn m marks ⊎ ((top marks < m) × (common < m)) → IsIn m rest ⊎ ((top rest < m) × (common < m))
-  one m (inl k) = two (in_push rest c m (subst (IsIn m) e k)) where
-    two : IsIn m rest ⊎ (m ≡ c) → IsIn m rest ⊎ ((top rest < m) × (common < m))
-    two (inl a) = inl a
-    two (inr a) = inr (omega (arith, a, front.1), omega (arith, a, l))
-  one m (inr (a, b)) = inr (omega (arith, a, at_top, front.1), b)
-
-pub taken_all : (common length : ℕ) (old marks cuts done : List ℕ) → AreTaken common (marked old length) marks cuts done → top marks ≤ common → IsCutBy common length old cuts (marked marks common) done
-taken_all common length old marks cuts done is low = record {
-  steps = is.steps;
-  are = subst (λ n. AreSteps (marked old length) n is.steps) (let same : max (top marks) common ≡ common = omega (arith, low) in same) is.are;
-  order = is.order;
-  rising = marked_rising marks common is.rising;
-  kept = λ m h. one m (in_marked marks common m h);
-  all = two;
-} where
-  one : (m : ℕ) → IsIn m marks ⊎ (m ≡ common) → (m ≡ common) ⊎ (IsIn m (marked old length) × (m ≤ common))
-  one m (inl k) = inr (is.kept m k, omega (arith, low, in_below marks is.rising m k))
-  one m (inr k) = inl k
-
-  two : (m : ℕ) → (m ≡ common) ⊎ (IsIn m (marked old length) × (m ≤ common)) → IsIn m (marked marks common)
-  two m (inl e) = subst (λ n. IsIn n (marked marks common)) (sym e) (marked_itself marks common is.rising.some low)
-  two m (inr (h, l)) = three (is.left m h) where
-    three : IsIn m marks ⊎ ((top marks < m) × (common < m)) → IsIn m (marked marks common)
-    three (inl k) = marked_has marks common m k
-    three (inr (_, k)) = absurd (omega (arith, k, l))
+pub taken_next : (least mark : ℕ) (all marks rest cuts done more : List ℕ) → Rise 0 all → AreTaken least all marks cuts done → least < mark → marks ≡ rest ++ mark ∷ [] → more ≡ mark ∷ done → AreTaken least all rest cuts more
+taken_next least mark all marks rest cuts done more rise is l e f =
+    let whole : all ≡ (rest ++ mark ∷ []) ++ is.taken = is.whole ∙ ap (λ xs. xs ++ is.taken) e in
+    record {
+      taken = mark ∷ is.taken;
+      whole = whole ∙ append_assoc rest (mark ∷ []) is.taken;
+      above = (l, subst (λ m. Rise m is.taken) (deepest_push 0 rest mark) (rise_apart 0 (rest ++ mark ∷ []) is.taken (subst (Rise 0) whole rise)).1);
+      order = f ∙ ap (λ xs. mark ∷ xs) is.order;
+    }
 
 -- ---- the marks of schedules
 
 -- where the schedules from a place on part from one before them
 pub record AreMarks (schedules : List (List Choice)) (rows : List Row) (s : List Choice) (k : ℕ) (marks : List ℕ) : Type 0 where
-  pub rising : AreRising marks
-  pub each : (m : ℕ) → IsIn m marks → (m ≡ 0) ⊎ ((j : ℕ) × (k ≤ j) × (j < length rows) × (common (placed schedules rows j) s ≡ m))
-  pub all : (j : ℕ) → k ≤ j → j < length rows → IsIn (common (placed schedules rows j) s) marks
+  pub rise : Rise 0 marks
+  pub each : (m : ℕ) → Contains marks m → (j : ℕ) × (k ≤ j) × (j < length rows) × (common (placed schedules rows j) s ≡ m)
+  pub all : (j : ℕ) → k ≤ j → j < length rows → 0 < common (placed schedules rows j) s → Contains marks (common (placed schedules rows j) s)
 
 module _ (schedules : List (List Choice)) (rows : List Row) (are : AreRows schedules rows) where
-  pub no_marks : (s : List Choice) → AreMarks schedules rows s (length rows) (0 ∷ [])
-  no_marks s = record {
-    rising = record { some = omega arith; root = refl; rises = λ i h. absurd (omega (arith, h)) };
-    each = λ m (i, h, e). let first : i ≡ 0 = omega (arith, h) in inl (sym e ∙ ap (λ k. get_or (0 ∷ []) k 0) first);
-    all = λ j a b. absurd (omega (arith, a, b));
-  }
+  module _ (k : ℕ) (h : k < length rows) (marks cuts next done : List ℕ) (is : AreMarks schedules rows (placed schedules rows k) (k + 1) marks)
+      (cut : IsCutBy (row_at rows k).common (length (placed schedules rows k)) marks cuts next done) where
+    abbrev s : List Choice
+    s = placed schedules rows k
 
-  pub deep : (s : List Choice) (k : ℕ) (marks : List ℕ) → AreMarks schedules rows s k marks → top marks ≤ length s
-  deep s k marks is = one (is.each (top marks) (top_in marks is.rising.some)) where
-    one : (top marks ≡ 0) ⊎ ((j : ℕ) × (k ≤ j) × (j < length rows) × (common (placed schedules rows j) s ≡ top marks)) → top marks ≤ length s
-    one (inl e) = omega (arith, e)
-    one (inr (j, _, _, e)) = omega (arith, e, (common_short (placed schedules rows j) s).1)
+    abbrev whole : List ℕ
+    whole = marked marks (length s)
 
-  -- what one behind it and the one before it begin with alike
-  pub passed : (k j : ℕ) → k < j → j < length rows → common (placed schedules rows j) (before schedules rows k) ≡ min (row_at rows k).common (common (placed schedules rows j) (placed schedules rows k))
-  passed zero j l h = omega (arith, are.commons 0 (omega (arith, l, h)), (common_short (placed schedules rows j) []).1)
-  passed (suc i) j l h =
-      let a = placed schedules rows i in let b = placed schedules rows (suc i) in let c = placed schedules rows j in
-      let sides = are.gathered i (suc i) j (omega arith) (omega (arith, l)) h in
-      omega (arith, sides.0, sides.1, common_least a b c (min (common a b) (common b c)) (omega arith) (omega arith), are.commons (suc i) (omega (arith, l, h)), common_turned a c, common_turned b c)
+    -- what a schedule and this one begin with alike
+    abbrev shared : ℕ → ℕ
+    shared j = common (placed schedules rows j) s
 
-  module _ (k : ℕ) (h : k < length rows) (marks cuts after done : List ℕ) (is : AreMarks schedules rows (placed schedules rows k) (k + 1) marks)
-      (cut : IsCutBy (row_at rows k).common (length (placed schedules rows k)) marks cuts after done) where
-    here : List Choice
-    here = placed schedules rows k
+    abbrev back : ℕ → ℕ
+    back j = common (placed schedules rows j) (before schedules rows k)
 
-    steps_cuts : (first : ℕ) (steps : List ℕ) → AreSteps (marked marks (length (placed schedules rows k))) first steps → AreCuts schedules rows k first steps
-    steps_cuts first [] e = e ∙ marked_top marks (length (placed schedules rows k)) (deep (placed schedules rows k) (k + 1) marks is)
-    steps_cuts first (c ∷ steps) (l, there, between, rest) = (l, one (in_marked marks (length (placed schedules rows k)) c there), (λ j a b. between (common (placed schedules rows j) (placed schedules rows k)) (marked_has marks (length (placed schedules rows k)) (common (placed schedules rows j) (placed schedules rows k)) (is.all j (omega (arith, a)) b))), steps_cuts c steps rest) where
-      one : IsIn c marks ⊎ (c ≡ length (placed schedules rows k)) → (c ≡ length (placed schedules rows k)) ⊎ ((j : ℕ) × (k < j) × (j < length rows) × (common (placed schedules rows j) (placed schedules rows k) ≡ c))
-      one (inr e) = inl e
-      one (inl m) = two (is.each c m) where
-        two : (c ≡ 0) ⊎ ((j : ℕ) × (k + 1 ≤ j) × (j < length rows) × (common (placed schedules rows j) (placed schedules rows k) ≡ c)) → (c ≡ length (placed schedules rows k)) ⊎ ((j : ℕ) × (k < j) × (j < length rows) × (common (placed schedules rows j) (placed schedules rows k) ≡ c))
-        two (inl e) = absurd (omega (arith, l, e))
-        two (inr (j, a, b, e)) = inr (j, omega (arith, a), b, e)
+    deep : deepest 0 marks ≤ length s
+    deep = one (cases_lt 0 (deepest 0 marks)) where
+      one : (0 < deepest 0 marks) ⊎ (deepest 0 marks ≤ 0) → deepest 0 marks ≤ length s
+      one (inl l) = let at = is.each (deepest 0 marks) (deepest_there 0 marks is.rise l) in omega (arith, at.3, (common_short (placed schedules rows at.0) s).1)
+      one (inr l) = omega (arith, l)
 
-    pub marks_before : AreMarks schedules rows (before schedules rows k) k after
-    marks_before = record { rising = cut.rising; each = λ m there. one m (cut.kept m there); all = all } where
-      own : common (placed schedules rows k) (before schedules rows k) ≡ (row_at rows k).common
-      own = first k h where
-        first : (k : ℕ) → k < length rows → common (placed schedules rows k) (before schedules rows k) ≡ (row_at rows k).common
-        first zero h = omega (arith, are.commons 0 h, (common_short (placed schedules rows 0) []).1)
-        first (suc i) h = common_turned (placed schedules rows (suc i)) (placed schedules rows i) ∙ sym (are.commons (suc i) h)
+    rise : Rise 0 (cut.kept ++ cut.taken)
+    rise = subst (Rise 0) cut.all (marked_rise marks is.rise (length s))
 
-      one : (m : ℕ) → (m ≡ (row_at rows k).common) ⊎ (IsIn m (marked marks (length (placed schedules rows k))) × (m ≤ (row_at rows k).common)) → (m ≡ 0) ⊎ ((j : ℕ) × (k ≤ j) × (j < length rows) × (common (placed schedules rows j) (before schedules rows k) ≡ m))
-      one m (inl e) = inr (k, omega arith, h, own ∙ sym e)
-      one m (inr (there, low)) = two (in_marked marks (length (placed schedules rows k)) m there) where
-        three : (m ≡ 0) ⊎ ((j : ℕ) × (k + 1 ≤ j) × (j < length rows) × (common (placed schedules rows j) (placed schedules rows k) ≡ m)) → (m ≡ 0) ⊎ ((j : ℕ) × (k ≤ j) × (j < length rows) × (common (placed schedules rows j) (before schedules rows k) ≡ m))
-        three (inl e) = inl e
-        three (inr (j, a, b, e)) = inr (j, omega (arith, a), b, omega (arith, e, low, passed k j (omega (arith, a)) b))
+    shallow : (m : ℕ) → Contains whole m → m ≤ length s
+    shallow m c = omega (arith, (rise_in 0 whole m (marked_rise marks is.rise (length s)) c).1, marked_top marks is.rise (length s) deep)
 
-        two : IsIn m marks ⊎ (m ≡ length (placed schedules rows k)) → (m ≡ 0) ⊎ ((j : ℕ) × (k ≤ j) × (j < length rows) × (common (placed schedules rows j) (before schedules rows k) ≡ m))
-        two (inl k) = three (is.each m k)
-        two (inr e) = inr (k, omega arith, h, omega (arith, e, low, own, (common_short (placed schedules rows k) (before schedules rows k)).0))
+    steps : (first : ℕ) (low high : List ℕ) → whole ≡ low ++ high → Rise 0 low → deepest 0 low ≤ first → Rise first high → first ≤ length s → AreCuts schedules rows k first high
+    steps first low [] e r below above short = one (cases_lt first (length s)) where
+      one : (first < length s) ⊎ (length s ≤ first) → first ≡ length s
+      one (inl l) =
+          let last = subst (λ xs. Contains xs (length s)) (e ∙ append-nil low) (marked_itself marks is.rise (length s) deep (omega (arith, l))) in
+          absurd (omega (arith, l, below, (rise_in 0 low (length s) r last).1))
+      one (inr l) = omega (arith, l, short)
+    steps first low (c ∷ high) e r below above short =
+        let all : whole ≡ (low ++ c ∷ []) ++ high = e ∙ sym (append_assoc low (c ∷ []) high) in
+        let front = (rise_apart 0 (low ++ c ∷ []) high (subst (Rise 0) all (marked_rise marks is.rise (length s)))).0 in
+        let rest = steps c (low ++ c ∷ []) high all front (omega (arith, deepest_push 0 low c)) above.1 (shallow c here) in
+        (above.0, ends (in_marked marks is.rise (length s) c here), between, rest)
+      where
+        here : Contains whole c
+        here = subst (λ xs. Contains xs c) (sym e) (Contains-append_right low (c ∷ high) c (0, omega arith, refl))
 
-      all : (j : ℕ) → k ≤ j → j < length rows → IsIn (common (placed schedules rows j) (before schedules rows k)) after
-      all j a b = two (cases_eq k j) where
-        three : (k < j) → ((row_at rows k).common ≤ common (placed schedules rows j) (placed schedules rows k)) ⊎ (common (placed schedules rows j) (placed schedules rows k) ≤ (row_at rows k).common) → IsIn (common (placed schedules rows j) (before schedules rows k)) after
-        three l (inl c) = cut.all (common (placed schedules rows j) (before schedules rows k)) (inl (omega (arith, passed k j l b, c)))
-        three l (inr c) =
-            let same : common (placed schedules rows j) (before schedules rows k) ≡ common (placed schedules rows j) (placed schedules rows k) = omega (arith, passed k j l b, c) in
-            cut.all (common (placed schedules rows j) (before schedules rows k)) (inr (subst (λ m. IsIn m (marked marks (length (placed schedules rows k)))) (sym same) (marked_has marks (length (placed schedules rows k)) (common (placed schedules rows j) (placed schedules rows k)) (is.all j (omega (arith, l)) b)), omega (arith, same, c)))
+        ends : Contains marks c ⊎ (length s ≡ c) → (c ≡ length s) ⊎ ((j : ℕ) × (k < j) × (j < length rows) × (shared j ≡ c))
+        ends (inl m) = let at = is.each c m in inr (at.0, omega (arith, at.1), at.2, at.3)
+        ends (inr f) = inl (sym f)
 
-        either : (m n : ℕ) → (m ≤ n) ⊎ (n ≤ m)
-        either m n = four (cases_lt m n) where
-          four : (m < n) ⊎ (n ≤ m) → (m ≤ n) ⊎ (n ≤ m)
-          four (inl l) = inl (omega (arith, l))
-          four (inr l) = inr l
+        between : (j : ℕ) → k < j → j < length rows → first < shared j → shared j < c → ⊥
+        between j a b p q = one (Contains-append_cases low (c ∷ high) (shared j) (subst (λ xs. Contains xs (shared j)) e (marked_has marks is.rise (length s) (shared j) (is.all j (omega (arith, a)) b (omega (arith, p)))))) where
+          one : Contains low (shared j) ⊎ Contains (c ∷ high) (shared j) → ⊥
+          one (inl m) = omega (arith, p, below, (rise_in 0 low (shared j) r m).1)
+          one (inr (zero, _, f)) = omega (arith, q, f)
+          one (inr (suc i, m, f)) = omega (arith, q, (rise_in c high (shared j) above.1 (i, omega (arith, m), f)).0)
 
-        two : (k ≡ j) ⊎ (k ≢ j) → IsIn (common (placed schedules rows j) (before schedules rows k)) after
-        two (inl e) = cut.all (common (placed schedules rows j) (before schedules rows k)) (inl (ap (λ i. common (placed schedules rows i) (before schedules rows k)) (sym e) ∙ own))
-        two (inr n) = let l : k < j = omega (arith, a, n) in three l (either (row_at rows k).common (common (placed schedules rows j) (placed schedules rows k)))
+    own : back k ≡ (row_at rows k).common
+    own = common_turned s (before schedules rows k) ∙ sym (before_is schedules rows are k h)
+
+    short : (row_at rows k).common ≤ length s
+    short = omega (arith, before_is schedules rows are k h, (common_short (before schedules rows k) s).1)
+
+    back_is : (j : ℕ) → k < j → j < length rows → back j ≡ min (row_at rows k).common (shared j)
+    back_is j a b = omega (arith, common_turned (placed schedules rows j) (before schedules rows k), common_turned (placed schedules rows j) s, passed schedules rows are k j (omega (arith, a)) b)
+
+    kept : Rise 0 cut.kept
+    kept = (rise_apart 0 cut.kept cut.taken rise).0
+
+    marks_before : AreMarks schedules rows (before schedules rows k) k next
+    marks_before = record { rise = subst (Rise 0) (sym cut.after) (marked_rise cut.kept kept (row_at rows k).common); each = λ m c. one m (in_marked cut.kept kept (row_at rows k).common m (subst (λ xs. Contains xs m) cut.after c)); all = λ j a b c. three j a b c (cases_eq k j) (cases_lt (shared j) (row_at rows k).common) } where
+      one : (m : ℕ) → Contains cut.kept m ⊎ ((row_at rows k).common ≡ m) → (j : ℕ) × (k ≤ j) × (j < length rows) × (back j ≡ m)
+      one m (inr e) = (k, omega arith, h, own ∙ e)
+      one m (inl c) = two (in_marked marks is.rise (length s) m (subst (λ xs. Contains xs m) (sym cut.all) (Contains-append_left cut.kept cut.taken m c))) where
+        low : m ≤ (row_at rows k).common
+        low = omega (arith, cut.below, (rise_in 0 cut.kept m kept c).1)
+
+        two : Contains marks m ⊎ (length s ≡ m) → (j : ℕ) × (k ≤ j) × (j < length rows) × (back j ≡ m)
+        two (inl d) = let at = is.each m d in (at.0, omega (arith, at.1), at.2, omega (arith, at.3, low, back_is at.0 (omega (arith, at.1)) at.2))
+        two (inr e) = (k, omega arith, h, omega (arith, e, low, own, short))
+
+      itself : (m : ℕ) → m ≡ (row_at rows k).common → 0 < m → Contains next m
+      itself m e some = subst (λ xs. Contains xs m) (sym cut.after) (subst (Contains (marked cut.kept (row_at rows k).common)) (sym e) (marked_itself cut.kept kept (row_at rows k).common cut.below (omega (arith, some, e))))
+
+      three : (j : ℕ) → k ≤ j → j < length rows → 0 < back j → (k ≡ j) ⊎ (k ≢ j) → (shared j < (row_at rows k).common) ⊎ ((row_at rows k).common ≤ shared j) → Contains next (back j)
+      three j a b some (inl e) _ = itself (back j) (ap back (sym e) ∙ own) some
+      three j a b some (inr n) (inr l) = itself (back j) (omega (arith, l, back_is j (omega (arith, a, n)) b)) some
+      three j a b some (inr n) (inl l) = subst (λ xs. Contains xs (back j)) (sym cut.after) (marked_has cut.kept kept (row_at rows k).common (back j) (subst (Contains cut.kept) (sym same) (four (Contains-append_cases cut.kept cut.taken (shared j) (subst (λ xs. Contains xs (shared j)) cut.all (marked_has marks is.rise (length s) (shared j) (is.all j (omega (arith, a, n)) b (omega (arith, some, same))))))))) where
+        same : back j ≡ shared j
+        same = omega (arith, l, back_is j (omega (arith, a, n)) b)
+
+        four : Contains cut.kept (shared j) ⊎ Contains cut.taken (shared j) → Contains cut.kept (shared j)
+        four (inl c) = c
+        four (inr c) = absurd (omega (arith, l, (rise_in (row_at rows k).common cut.taken (shared j) cut.above c).0))
 
     pub cuts_here : (m : ℕ) → AllCuts schedules rows m (k + 1) cuts → AllCuts schedules rows (suc m) k done
-    cuts_here m rest = (cut.steps, cuts, steps_cuts (row_at rows k).common cut.steps cut.are, rest, cut.order)
+    cuts_here m rest = (cut.taken, cuts, steps (row_at rows k).common cut.kept cut.taken cut.all kept cut.below cut.above short, rest, cut.order)
 
   -- one place more, from the last on
   pub row_before : (n k : ℕ) (marks cuts after done : List ℕ) → n ≡ suc k → n ≤ length rows → AreMarks schedules rows (before schedules rows n) n marks → AllCuts schedules rows (length rows - n) n cuts
@@ -280,13 +200,6 @@ module _ (schedules : List (List Choice)) (rows : List Row) (are : AreRows sched
       let cuts_there : AllCuts schedules rows (length rows - n) (k + 1) cuts = subst (λ m. AllCuts schedules rows (length rows - n) m cuts) next rest in
       let count : suc (length rows - n) ≡ length rows - k = omega (arith, e, h) in
       (marks_before k low marks cuts after done marks_here cut, subst (λ m. AllCuts schedules rows m k done) count (cuts_here k low marks cuts after done marks_here cut (length rows - n) cuts_there))
-
-  pub short : (k : ℕ) → k < length rows → (row_at rows k).common ≤ length (placed schedules rows k)
-  short zero h = omega (arith, are.commons 0 h)
-  short (suc k) h = omega (arith, are.commons (suc k) h, (common_short (placed schedules rows k) (placed schedules rows (suc k))).1)
-
-  pub deep_before : (n k : ℕ) (marks : List ℕ) → n ≡ suc k → AreMarks schedules rows (before schedules rows n) n marks → top marks ≤ length (placed schedules rows k)
-  deep_before n k marks e is = deep (placed schedules rows k) n marks (subst (λ m. AreMarks schedules rows (before schedules rows m) n marks) e is)
 
   -- ---- the cuts, taken one after another
 

@@ -52,7 +52,7 @@ to_digits most n (b ∷ bs) digits small =
 abbrev IsPlain : List ℕ → Type 0
 IsPlain text = (0 < length text) × (get_or text 0 0 ≡ 48 → length text ≡ 1)
 
-plain_number : (most : ℕ) (text : List ℕ) → IsPlain text → number_of most text ≡ digits_from most 0 text
+pub plain_number : (most : ℕ) (text : List ℕ) → IsPlain text → number_of most text ≡ digits_from most 0 text
 plain_number most [] h = absurd (omega (arith, h.0))
 plain_number most (b ∷ []) h = refl
 plain_number most (b ∷ c ∷ bs) h = one (nat_eq b 48) refl where
@@ -60,7 +60,7 @@ plain_number most (b ∷ c ∷ bs) h = one (nat_eq b 48) refl where
   one true p = absurd (omega (arith, h.1 (eqb-true b 48 p)))
   one false p = refl
 
-number_plain : (most : ℕ) (text : List ℕ) (n : ℕ) → number_of most text ≡ Some n → IsPlain text
+pub number_plain : (most : ℕ) (text : List ℕ) (n : ℕ) → number_of most text ≡ Some n → IsPlain text
 number_plain most [] n h = cc
 number_plain most (b ∷ []) n h = (omega arith, λ e. refl)
 number_plain most (b ∷ c ∷ bs) n h = one (nat_eq b 48) refl h where

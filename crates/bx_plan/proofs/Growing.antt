@@ -1,21 +1,21 @@
 -- The chains of the schedules of a row so far, with one more.
-use Rattle.std.proofs.Common.{◌≡◌, ◌≢◌, ◌⊎◌, inl, inr, ℕ, zero, suc, ◌+◌, ◌-◌, ◌<◌, ◌≤◌, ◌==◌, ◌&&◌, nat_lt, false, List, [], ◌∷◌, ◌++◌, length, get_or, set, take, drop, refl, sym, ap, subst, ◌∙◌, arith, add-one, append_assoc, append-nil, length-append}
-use Rattle.std.proofs.lemmas.Bool.{cases_eq, cases_lt, le-ltb}
+use Rattle.std.proofs.Common.{◌≡◌, ◌≢◌, ◌⊎◌, inl, inr, ℕ, zero, suc, ◌+◌, ◌-◌, ◌<◌, ◌≤◌, List, [], ◌∷◌, ◌++◌, length, get_or, set, take, drop, refl, sym, ap, subst, ◌∙◌, arith, add-one, append_assoc, append-nil, length-append}
+use Rattle.std.proofs.lemmas.Bool.{cases_eq, cases_lt}
 use Rattle.std.proofs.Math.ListN.{get_or-map}
-use Rattle.std.proofs.lemmas.List.{get_or-set_other, get_or-set_same, length-map, length-set, length-take, length-take-le, take-append-drop, take-append-le, take-take, take_all}
+use Rattle.std.proofs.lemmas.List.{get_or-set_other, get_or-set_same, length_push, length-map, length-set, length-take, length-take-le, same_from_push, take-append-drop, take-take, take_all, take_at, take_more}
 use Rattle.bx_world.specs.declared.choices.Choice.{Choice}
+use Rattle.bx_world.specs.declared.choices.Choice.TheVariants.{Run}
 use Rattle.bx_plan.specs.declared.chains.Head.{Head}
 use Rattle.bx_plan.specs.declared.plans.Row.{Row}
-use Rattle.bx_plan.specs.Chains.{above, begun, chain_path, head, is_kid, no_head, one_if, path_at, times, AreChains, AreForest, Begins, Chained, IsCut, Owns}
+use Rattle.bx_plan.specs.Chains.{above, begun, chain_path, head, path_at, AreChains, AreForest, Begins, Chained, IsCut, Owns}
 use Rattle.bx_plan.specs.Gathered.{common, common_before, placed, row_at, AreRows}
-use Rattle.bx_plan.specs.Growing.{Grown}
+use Rattle.bx_plan.specs.Growing.{Grown, IsReached}
 use Rattle.bx_plan.specs.Nodes.{EndsThere, IsPrefix}
 use Rattle.bx_plan.specs.Planned.{choices_at}
 use Rattle.bx_plan.specs.Plans.{Named, choices_of}
-use Rattle.bx_plan.proofs.Counting.{begins_common, common_least, common_same, common_short, prefix_at, prefix_of, taken_alike}
+use Rattle.bx_plan.proofs.Commons.{begins_common, common_least, common_long, common_same, common_short, same_or_not, taken_alike}
+use Rattle.bx_plan.proofs.Counting.{prefix_at, prefix_of}
 use Rattle.bx_plan.proofs.Kids.{kids_more, more_heads, more_kids, new_head, old_head}
-use Rattle.bx_plan.proofs.Ordering.{common_append, common_apart, common_turned, same_or_not}
-use Rattle.bx_plan.proofs.Times.{mid_false}
 
 -- ---- where no chain goes on
 
@@ -30,66 +30,61 @@ ends_of [] path h = absurd h
 ends_of (s ∷ ss) path (inl e) = (0, omega arith, e)
 ends_of (s ∷ ss) path (inr h) = let at = ends_of ss path h in (suc at.0, omega (arith, at.1), at.2)
 
--- a list that goes on behind what both begin with alike
-abbrev GoesOn : List Choice → ℕ → Type 0
-GoesOn s n = (c : Choice) × (rest : List Choice) × (s ≡ (take n s ++ c ∷ []) ++ rest)
+abbrev no_choice : Choice
+no_choice = Run 0
 
-goes_on : (s : List Choice) (n : ℕ) → n < length s → GoesOn s n
-goes_on [] n h = absurd (omega (arith, h))
-goes_on (c ∷ s) zero h = (c, s, refl)
-goes_on (c ∷ s) (suc n) h = let more = goes_on s n (omega (arith, h)) in (more.0, more.1, ap (λ cs. c ∷ cs) more.2)
+-- a schedule that goes on behind so many choices
+goes_on : (s : List Choice) (n : ℕ) → n < length s → s ≡ (take n s ++ get_or s n no_choice ∷ []) ++ drop (n + 1) s
+goes_on s n h = sym (take-append-drop (n + 1) s) ∙ ap (λ p. p ++ drop (n + 1) s) (take_more s n no_choice h)
 
--- both go on by different choices
-common_stops : (a b : List Choice) (c : Choice) (xs ys : List Choice) (n : ℕ) → n ≡ common a b → a ≡ (take n a ++ c ∷ []) ++ xs → b ≡ (take n b ++ c ∷ []) ++ ys → ⊥
-common_stops a b c xs ys n e f g =
-    let same : take n a ≡ take n b = taken_alike a b n (omega (arith, e)) in
-    let whole : common a b ≡ length (take n b ++ c ∷ []) + common xs ys =
-    ap (λ s. common s b) (f ∙ ap (λ p. (p ++ c ∷ []) ++ xs) same) ∙ ap (common ((take n b ++ c ∷ []) ++ xs)) g ∙ common_append (take n b ++ c ∷ []) xs ys in
-    omega (arith, whole, e, length-append (take n b) (c ∷ []), length-take n b, (common_short a b).1)
-
-pub cut_where_parted : (ss : List (List Choice)) (i j n : ℕ) → i < length ss → j < length ss → n ≡ common (get_or ss i []) (get_or ss j []) → n < length (get_or ss j []) → IsCut ss (take n (get_or ss j []))
+cut_where_parted : (ss : List (List Choice)) (i j n : ℕ) → i < length ss → j < length ss → n ≡ common (get_or ss i []) (get_or ss j []) → n < length (get_or ss j []) → IsCut ss (take n (get_or ss j []))
 cut_where_parted ss i j n h l e long = one (cases_lt n (length (get_or ss i []))) where
   a : List Choice
   a = get_or ss i []
+
+  b : List Choice
+  b = get_or ss j []
 
   same : take n (get_or ss i []) ≡ take n (get_or ss j [])
   same = taken_alike (get_or ss i []) (get_or ss j []) n (omega (arith, e))
 
   one : (n < length (get_or ss i [])) ⊎ (length (get_or ss i []) ≤ n) → IsCut ss (take n (get_or ss j []))
-  one (inr p) = inr (inl (ends_there ss i (take n (get_or ss j [])) h (sym same ∙ take_all n (get_or ss i []) p)))
+  one (inr p) = inr (inl (ends_there ss i (take n b) h (sym same ∙ take_all n a p)))
   one (inl p) =
-      let left = goes_on (get_or ss i []) n p in
-      let right = goes_on (get_or ss j []) n long in
+      let c = get_or a n no_choice in
+      let alike = take_more a n no_choice p ∙ ap (λ p. p ++ c ∷ []) same in
       inr (inr (
-        left.0,
-        right.0,
-        (λ q. common_stops (get_or ss i []) (get_or ss j []) right.0 left.1 right.1 n e (subst (λ c. get_or ss i [] ≡ (take n (get_or ss i []) ++ c ∷ []) ++ left.1) q left.2) right.2),
-        prefix_at ss i (take n (get_or ss j []) ++ left.0 ∷ []) left.1 h (left.2 ∙ ap (λ p. (p ++ left.0 ∷ []) ++ left.1) same),
-        prefix_at ss j (take n (get_or ss j []) ++ right.0 ∷ []) right.1 l right.2,
+        c,
+        get_or b n no_choice,
+        (λ q. omega (arith, e, common_long a b (n + 1) (omega (arith, p)) (omega (arith, long)) (alike ∙ ap (λ c. take n b ++ c ∷ []) q ∙ sym (take_more b n no_choice long)))),
+        prefix_at ss i (take n b ++ c ∷ []) (drop (n + 1) a) h (goes_on a n p ∙ ap (λ p. (p ++ c ∷ []) ++ drop (n + 1) a) same),
+        prefix_at ss j (take n b ++ get_or b n no_choice ∷ []) (drop (n + 1) b) l (goes_on b n long),
       ))
 
 -- another schedule parts there from one that goes on
-parts_from : (t s : List Choice) (n : ℕ) (c : Choice) (rest : List Choice) → n < length s → t ≡ (take n s ++ c ∷ []) ++ rest → (d : Choice) (more : List Choice) → s ≡ (take n s ++ d ∷ []) ++ more → c ≢ d → common t s ≡ n
-parts_from t s n c rest h e d more f apart =
-    ap (λ x. common x s) (e ∙ append_assoc (take n s) (c ∷ []) rest) ∙ ap (common (take n s ++ c ∷ rest)) (f ∙ append_assoc (take n s) (d ∷ []) more) ∙ common_append (take n s) (c ∷ rest) (d ∷ more)
-    ∙ omega (arith, common_apart c d rest more apart, length-take-le n s (omega (arith, h)))
+parts_from : (t s : List Choice) (n : ℕ) (c : Choice) (rest : List Choice) → n < length s → t ≡ (take n s ++ c ∷ []) ++ rest → c ≢ get_or s n no_choice → common t s ≡ n
+parts_from t s n c rest h e apart = one (cases_lt n (common t s)) where
+  front : take (n + 1) t ≡ take n s ++ c ∷ []
+  front = ap (take (n + 1)) e ∙ take_at (take n s ++ c ∷ []) rest (n + 1) (omega (arith, length_push (take n s) c, length-take-le n s (omega (arith, h))))
 
-pub parted_at_cut : (ss : List (List Choice)) (j n : ℕ) → 0 < n → n < length (get_or ss j []) → IsCut ss (take n (get_or ss j [])) → (i : ℕ) × (i < length ss) × (common (get_or ss i []) (get_or ss j []) ≡ n)
+  one : (n < common t s) ⊎ (common t s ≤ n) → common t s ≡ n
+  one (inl l) = absurd (apart (same_from_push (take n s) (take n s) c (get_or s n no_choice) (sym front ∙ taken_alike t s (n + 1) (omega (arith, l)) ∙ take_more s n no_choice h)).1)
+  one (inr l) = omega (arith, l, begins_common t s (c ∷ rest) n (omega (arith, h)) (e ∙ append_assoc (take n s) (c ∷ []) rest))
+
+parted_at_cut : (ss : List (List Choice)) (j n : ℕ) → 0 < n → n < length (get_or ss j []) → IsCut ss (take n (get_or ss j [])) → (i : ℕ) × (i < length ss) × (common (get_or ss i []) (get_or ss j []) ≡ n)
 parted_at_cut ss j n some long (inl e) = absurd (omega (arith, some, ap length e, length-take-le n (get_or ss j []) (omega (arith, long))))
 parted_at_cut ss j n some long (inr (inl e)) =
     let at = ends_of ss (take n (get_or ss j [])) e in
     let s = get_or ss j [] in
-    (at.0, at.1, ap (λ t. common t s) (sym at.2) ∙ omega (arith, length-take-le n s (omega (arith, long)), (common_short (take n s) s).0, begins_common s (take n s) (drop n s) n (omega (arith, length-take-le n s (omega (arith, long)))) (sym (take-append-drop n s) ∙ ap (λ p. p ++ drop n s) (sym (take_all n (take n s) (omega (arith, length-take-le n s (omega (arith, long))))))), common_turned s (take n s)))
-parted_at_cut ss j n some long (inr (inr (a, b, apart, first, second))) = one (same_or_not a on.0) where
+    let count = length-take-le n s (omega (arith, long)) in
+    (at.0, at.1, ap (λ t. common t s) (sym at.2) ∙ omega (arith, count, (common_short (take n s) s).0, common_long (take n s) s n (omega (arith, count)) (omega (arith, long)) (take_all n (take n s) (omega (arith, count)))))
+parted_at_cut ss j n some long (inr (inr (a, b, apart, first, second))) = one (same_or_not a (get_or (get_or ss j []) n no_choice)) where
   s : List Choice
   s = get_or ss j []
 
-  on : GoesOn (get_or ss j []) n
-  on = goes_on (get_or ss j []) n long
-
-  one : (a ≡ on.0) ⊎ (a ≢ on.0) → (i : ℕ) × (i < length ss) × (common (get_or ss i []) (get_or ss j []) ≡ n)
-  one (inl e) = let at = prefix_of ss (take n (get_or ss j []) ++ b ∷ []) second in (at.0, at.1, parts_from (get_or ss at.0 []) (get_or ss j []) n b at.2 long at.3 on.0 on.1 on.2 (λ f. apart (e ∙ sym f)))
-  one (inr m) = let at = prefix_of ss (take n (get_or ss j []) ++ a ∷ []) first in (at.0, at.1, parts_from (get_or ss at.0 []) (get_or ss j []) n a at.2 long at.3 on.0 on.1 on.2 m)
+  one : (a ≡ get_or (get_or ss j []) n no_choice) ⊎ (a ≢ get_or (get_or ss j []) n no_choice) → (i : ℕ) × (i < length ss) × (common (get_or ss i []) (get_or ss j []) ≡ n)
+  one (inl e) = let at = prefix_of ss (take n s ++ b ∷ []) second in (at.0, at.1, parts_from (get_or ss at.0 []) s n b at.2 long at.3 (λ f. apart (e ∙ sym f)))
+  one (inr m) = let at = prefix_of ss (take n s ++ a ∷ []) first in (at.0, at.1, parts_from (get_or ss at.0 []) s n a at.2 long at.3 m)
 
 -- ---- up from the last chain
 
@@ -100,12 +95,6 @@ module _ (plan : List Named) (all : Chained) (forest : AreForest plan all) where
 
   abbrev Up : ℕ → List Choice → ℕ → Type 0
   Up at path depth = (at < length all.heads) × (chain_path plan all at ≡ take (head all at).past path) × (depth ≤ (head all at).past)
-
-  pub up_first : (depth : ℕ) → depth ≤ length (chain_path plan all (length all.heads - 1)) → Up (length all.heads - 1) (chain_path plan all (length all.heads - 1)) depth
-  up_first depth h =
-      let within : length all.heads - 1 < length all.heads = omega (arith, forest.some) in
-      let long = path_long (length all.heads - 1) within in
-      (within, sym (take_all (head all (length all.heads - 1)).past (chain_path plan all (length all.heads - 1)) (omega (arith, long))), omega (arith, h, long))
 
   pub up_next : (at : ℕ) (path : List Choice) (depth : ℕ) → Up at path depth → depth < (head all at).past → IsCut (choices_of plan) (take depth path) → Up (above all at) path depth × (above all at < at)
   up_next zero path depth is l cut = let none : (head all 0).past ≡ 0 = ap (λ (h : Head). h.past) forest.root in absurd (omega (arith, l, none))
@@ -131,13 +120,7 @@ module _ (plan : List Named) (all : Chained) (forest : AreForest plan all) where
       one (inr k) = k
       one (inl k) = absurd (b.inside depth k l (subst (IsCut (choices_of plan)) (sym (taken depth (omega (arith, l)))) cut))
 
-  pub up_found : (at : ℕ) (path : List Choice) (depth : ℕ) → Up at path depth → (head all at).past ≤ depth → chain_path plan all at ≡ take depth path
-  up_found at path depth is l = is.1 ∙ ap (λ n. take n path) (let same : (head all at).past ≡ depth = omega (arith, l, is.2) in same)
-
 -- ---- one chain more
-
-take_front : (p rest : List Choice) → take (length p) (p ++ rest) ≡ p
-take_front p rest = take-append-le (length p) p rest (omega arith) ∙ take_all (length p) p (omega arith)
 
 module _ (plan : List Named) (rows : List Row) (are : AreRows (choices_of plan) rows) where
   -- the schedule of a line, in both ways
@@ -198,7 +181,7 @@ module _ (plan : List Named) (rows : List Row) (are : AreRows (choices_of plan) 
 
     clash : (c d : ℕ) (path : List Choice) → Owns plan all c path → Mine d path → ⊥
     clash c d path o (_, n, a, b, e) = one (grown.only c path o) where
-      one : ((i : ℕ) × (i < k) × (i < length rows) × (rest : List Choice) × (placed (choices_of plan) rows i ≡ path ++ rest)) ⊎ ((m : ℕ) × (m ≤ first) × (path ≡ take m here)) → ⊥
+      one : IsReached plan rows k first path → ⊥
       one (inl (i, l, _, rest, f)) = omega (arith, a, from, less_before i k l h, begins_common (placed (choices_of plan) rows i) here rest n (omega (arith, b, within)) (f ∙ ap (λ p. p ++ rest) e))
       one (inr (m, l, f)) = omega (arith, a, l, ap length (sym e ∙ f), length-take n here, length-take m here, b, within)
 
@@ -244,8 +227,7 @@ module _ (plan : List Named) (rows : List Row) (are : AreRows (choices_of plan) 
         kids = kids_more all x grown.forest.some grown.forest.rows grown.forest.kids there;
         alone = alone;
       };
-      before = λ i n a b c d. let was = grown.before i n a b c d in (was.0, owns_old was.0 (take n (placed (choices_of plan) rows i)) was.1);
-      here = λ n a b. two n a b (cases_lt first n);
+      owned = λ path n r. two path n r;
       only = λ c path o. three c path (owns_either c path o);
       last = omega (arith, begins_common (take past here) here [] past within (sym (append-nil (take past here))), ap (λ p. common p here) last_is);
       long = grown.long;
@@ -254,16 +236,17 @@ module _ (plan : List Named) (rows : List Row) (are : AreRows (choices_of plan) 
       last_is : chain_path plan next (length next.heads - 1) ≡ take past here
       last_is = let at : length next.heads - 1 ≡ length all.heads = omega (arith, more) in ap (chain_path plan next) at ∙ ap (λ h. path_at plan h h.past) new ∙ path_is past
 
-      two : (n : ℕ) → 0 < n → n ≤ past → (first < n) ⊎ (n ≤ first) → (c : ℕ) × Owns plan next c (take n here)
-      two n a b (inl l) = (length all.heads, owns_new n l b)
-      two n a b (inr l) = let was = grown.here n a l in (was.0, owns_old was.0 (take n here) was.1)
+      two : (path : List Choice) → path ≢ [] → IsReached plan rows k past path → (c : ℕ) × Owns plan next c path
+      two path some (inl r) = let was = grown.owned path some (inl r) in (was.0, owns_old was.0 path was.1)
+      two path some (inr (n, b, e)) = four (cases_lt first n) where
+        four : (first < n) ⊎ (n ≤ first) → (c : ℕ) × Owns plan next c path
+        four (inl l) = (length all.heads, subst (Owns plan next (length all.heads)) (sym e) (owns_new n l b))
+        four (inr l) = let was = grown.owned path some (inr (n, l, e)) in (was.0, owns_old was.0 path was.1)
 
-      three : (c : ℕ) (path : List Choice) → Owns plan all c path ⊎ Mine c path
-          → ((i : ℕ) × (i < k) × (i < length rows) × (rest : List Choice) × (placed (choices_of plan) rows i ≡ path ++ rest)) ⊎ ((n : ℕ) × (n ≤ past) × (path ≡ take n here))
+      three : (c : ℕ) (path : List Choice) → Owns plan all c path ⊎ Mine c path → IsReached plan rows k past path
       three c path (inr (_, n, _, b, e)) = inr (n, b, e)
       three c path (inl o) = four (grown.only c path o) where
-        four : ((i : ℕ) × (i < k) × (i < length rows) × (rest : List Choice) × (placed (choices_of plan) rows i ≡ path ++ rest)) ⊎ ((n : ℕ) × (n ≤ first) × (path ≡ take n here))
-            → ((i : ℕ) × (i < k) × (i < length rows) × (rest : List Choice) × (placed (choices_of plan) rows i ≡ path ++ rest)) ⊎ ((n : ℕ) × (n ≤ past) × (path ≡ take n here))
+        four : IsReached plan rows k first path → IsReached plan rows k past path
         four (inl a) = inl a
         four (inr (n, l, e)) = inr (n, omega (arith, l, some), e)
 
@@ -274,12 +257,7 @@ module _ (plan : List Named) (rows : List Row) (are : AreRows (choices_of plan) 
       → Grown plan rows (k + 1) (common_before (choices_of plan) rows (k + 1)) (record { heads = all.heads; kids = all.kids; ends = set all.ends (row_at rows k).line e })
   grown_row k all e h grown there is = record {
     forest = record { some = grown.forest.some; rows = grown.forest.rows; root = grown.forest.root; begins = grown.forest.begins; kids = grown.forest.kids; alone = grown.forest.alone };
-    before = λ i n a b c d. before i n a b c d (cases_eq i k);
-    here = λ n a b.
-        let low : n ≤ common here (placed (choices_of plan) rows (suc k)) = omega (arith, b, next) in
-        let was = grown.here n a (omega (arith, low, (common_short here (placed (choices_of plan) rows (suc k))).0)) in
-        let same : take n (placed (choices_of plan) rows (k + 1)) ≡ take n here = ap (λ j. take n (placed (choices_of plan) rows j)) (add-one k) ∙ sym (taken_alike here (placed (choices_of plan) rows (suc k)) n low) in
-        (was.0, subst (Owns plan all was.0) (sym same) was.1);
+    owned = λ path n r. owned path n r;
     only = λ c path o. inl (only c path (grown.only c path o));
     last = omega (arith, next, (common_short here (placed (choices_of plan) rows (suc k))).0, common_least (chain_path plan all (length all.heads - 1)) here (placed (choices_of plan) rows (suc k)) (common here (placed (choices_of plan) rows (suc k))) (omega (arith, grown.last, (common_short here (placed (choices_of plan) rows (suc k))).0)) (omega arith), ap (λ j. common (chain_path plan all (length all.heads - 1)) (placed (choices_of plan) rows j)) (add-one k));
     long = length-set all.ends (row_at rows k).line e ∙ grown.long;
@@ -291,13 +269,18 @@ module _ (plan : List Named) (rows : List Row) (are : AreRows (choices_of plan) 
     next : common_before (choices_of plan) rows (k + 1) ≡ common (placed (choices_of plan) rows k) (placed (choices_of plan) rows (suc k))
     next = ap (common_before (choices_of plan) rows) (add-one k)
 
-    before : (i n : ℕ) → i < k + 1 → i < length rows → 0 < n → n ≤ length (placed (choices_of plan) rows i) → (i ≡ k) ⊎ (i ≢ k) → (c : ℕ) × Owns plan all c (take n (placed (choices_of plan) rows i))
-    before i n a b c d (inl f) =
-        let was = grown.here n c (omega (arith, d, ap (λ j. length (placed (choices_of plan) rows j)) f)) in
-        (was.0, subst (λ j. Owns plan all was.0 (take n (placed (choices_of plan) rows j))) (sym f) was.1)
-    before i n a b c d (inr m) = grown.before i n (omega (arith, a, m)) b c d
+    owned : (path : List Choice) → path ≢ [] → IsReached plan rows (k + 1) (common_before (choices_of plan) rows (k + 1)) path → (c : ℕ) × Owns plan all c path
+    owned path some (inr (n, b, f)) =
+        let low : n ≤ common here (placed (choices_of plan) rows (suc k)) = omega (arith, b, next) in
+        grown.owned path some (inr (n, omega (arith, low, (common_short here (placed (choices_of plan) rows (suc k))).0), f ∙ ap (λ j. take n (placed (choices_of plan) rows j)) (add-one k) ∙ sym (taken_alike here (placed (choices_of plan) rows (suc k)) n low)))
+    owned path some (inl (i, a, b, rest, f)) = one (cases_eq i k) where
+      one : (i ≡ k) ⊎ (i ≢ k) → (c : ℕ) × Owns plan all c path
+      one (inr m) = grown.owned path some (inl (i, omega (arith, a, m), b, rest, f))
+      one (inl e) =
+          let whole : placed (choices_of plan) rows k ≡ path ++ rest = ap (placed (choices_of plan) rows) (sym e) ∙ f in
+          grown.owned path some (inr (length path, omega (arith, ap length whole, length-append path rest), sym (ap (take (length path)) whole ∙ take_at path rest (length path) refl)))
 
-    only : (c : ℕ) (path : List Choice) → ((i : ℕ) × (i < k) × (i < length rows) × (rest : List Choice) × (placed (choices_of plan) rows i ≡ path ++ rest)) ⊎ ((n : ℕ) × (n ≤ length (placed (choices_of plan) rows k)) × (path ≡ take n (placed (choices_of plan) rows k)))
+    only : (c : ℕ) (path : List Choice) → IsReached plan rows k (length (placed (choices_of plan) rows k)) path
         → (i : ℕ) × (i < k + 1) × (i < length rows) × (rest : List Choice) × (placed (choices_of plan) rows i ≡ path ++ rest)
     only c path (inl (i, a, b, rest, f)) = (i, omega (arith, a), b, rest, f)
     only c path (inr (n, a, f)) = (k, omega arith, h, drop n (placed (choices_of plan) rows k), sym (take-append-drop n (placed (choices_of plan) rows k)) ∙ ap (λ p. p ++ drop n (placed (choices_of plan) rows k)) (sym f))
@@ -328,45 +311,11 @@ module _ (plan : List Named) (rows : List Row) (are : AreRows (choices_of plan) 
         let was = grown.ends at.0 at.1 at.1 in
         subst (λ n. (get_or all.ends n 0 < length all.heads) × (chain_path plan all (get_or all.ends n 0) ≡ choices_at plan n)) at.2 (was.0, was.1 ∙ sym (choices_is (row_at rows at.0).line));
   } where
-    some_path : (path : List Choice) → path ≢ [] → 0 < length path
-    some_path [] n = absurd (n refl)
-    some_path (c ∷ path) n = omega arith
-
     owned : (path : List Choice) → path ≢ [] → IsPrefix (choices_of plan) path → (c : ℕ) × Owns plan all c path
     owned path n p =
         let at = prefix_of (choices_of plan) path p in
         let place = are.all at.0 at.1 in
-        let begun_so : placed (choices_of plan) rows place.0 ≡ path ++ at.2 = ap (λ l. get_or (choices_of plan) l []) place.2 ∙ at.3 in
-        let was = grown.before place.0 (length path) place.1 place.1 (some_path path n) (omega (arith, ap length begun_so, length-append path at.2)) in
-        (was.0, subst (Owns plan all was.0) (ap (take (length path)) begun_so ∙ take_front path at.2) was.1)
-
--- the chain that makes no choice, alone
-pub grown_none : (plan : List Named) (rows : List Row) (ends : List ℕ) → length ends ≡ length plan → Grown plan rows 0 0 (record { heads = no_head ∷ []; kids = [] ∷ []; ends = ends })
-grown_none plan rows ends long = record {
-  forest = record {
-    some = omega arith;
-    rows = refl;
-    root = refl;
-    begins = λ c a b. absurd (omega (arith, a, b));
-    kids = kids_none;
-    alone = λ c d path o p. absurd (omega (arith, o.0, o.1));
-  };
-  before = λ i n a b c d. absurd (omega (arith, a));
-  here = λ n a b. absurd (omega (arith, a, b));
-  only = λ c path o. absurd (omega (arith, o.0, o.1));
-  last = omega arith;
-  long = long;
-  ends = λ i a b. absurd (omega (arith, a));
-} where
-  kids_none : (c d : ℕ) → times d (get_or ([] ∷ []) c []) ≡ one_if (is_kid (record { heads = no_head ∷ []; kids = [] ∷ []; ends = ends }) c d)
-  kids_none c d = ap (times d) (empty c) ∙ sym (ap one_if (no_kid d)) where
-    empty : (c : ℕ) → get_or {A = List ℕ} ([] ∷ []) c [] ≡ []
-    empty zero = refl
-    empty (suc c) = refl
-
-    no_kid : (d : ℕ) → is_kid (record { heads = no_head ∷ []; kids = [] ∷ []; ends = ends }) c d ≡ false
-    no_kid zero = refl
-    no_kid (suc d) = ap (λ b. nat_lt 0 (suc d) && b && (above (record { heads = no_head ∷ []; kids = [] ∷ []; ends = ends }) (suc d) == c)) (le-ltb (suc d) 1 (omega arith)) ∙ mid_false (nat_lt 0 (suc d)) false (above (record { heads = no_head ∷ []; kids = [] ∷ []; ends = ends }) (suc d) == c) refl
+        grown.owned path n (inl (place.0, place.1, place.1, at.2, ap (λ l. get_or (choices_of plan) l []) place.2 ∙ at.3))
 
 -- ---- where the chains of a row end
 

@@ -9,8 +9,7 @@ use Rattle.std.proofs.lemmas.Map.Lookups.{exact_unsigned}
 use Rattle.bx_world.specs.declared.choices.Choice.{Choice}
 use Rattle.bx_world.specs.declared.choices.Choice.TheVariants.{Run, Deliver, Expire}
 use Rattle.bx_plan.specs.Gathered.{rank, choice_cmp, choices_cmp, next_cmp, common}
-use Rattle.bx_plan.specs.Nodes.{choice_eq}
-use Rattle.bx_plan.proofs.Members.{choice_decides}
+use Rattle.bx_plan.proofs.Commons.{common_apart, common_here, same_or_not}
 
 pub choice_total : IsTotalOrder choice_cmp
 choice_total = then_total (on_total (λ c. (rank c).0) nat_cmp_total) (then_total (on_total (λ c. (rank c).1) nat_cmp_total) (on_total (λ c. (rank c).2) nat_cmp_total))
@@ -42,24 +41,6 @@ equal_choices a b h =
     same_rank a b (exact_unsigned (rank a).0 (rank b).0 (first_equal (nat_cmp (rank a).0 (rank b).0) (ordering_then (nat_cmp (rank a).1 (rank b).1) (nat_cmp (rank a).2 (rank b).2)) h))
     (exact_unsigned (rank a).1 (rank b).1 (first_equal (nat_cmp (rank a).1 (rank b).1) (nat_cmp (rank a).2 (rank b).2) more))
     (exact_unsigned (rank a).2 (rank b).2 (then_equal (nat_cmp (rank a).1 (rank b).1) (nat_cmp (rank a).2 (rank b).2) more))
-
--- ---- what two begin with alike
-
-pub common_here : (x y : Choice) (xs ys : List Choice) → x ≡ y → common (x ∷ xs) (y ∷ ys) ≡ suc (common xs ys)
-common_here x y xs ys e = ap (λ b. cond b (suc (common xs ys)) 0) ((choice_decides x y).1 e)
-
-pub common_apart : (x y : Choice) (xs ys : List Choice) → x ≢ y → common (x ∷ xs) (y ∷ ys) ≡ 0
-common_apart x y xs ys n = one (choice_eq x y) refl where
-  one : (b : Bool) → choice_eq x y ≡ b → cond (choice_eq x y) (suc (common xs ys)) 0 ≡ 0
-  one true e = absurd (n ((choice_decides x y).0 e))
-  one false e = ap (λ b. cond b (suc (common xs ys)) 0) e
-
--- two choices are the same, or not
-pub same_or_not : (x y : Choice) → (x ≡ y) ⊎ (x ≢ y)
-same_or_not x y = one (choice_eq x y) refl where
-  one : (b : Bool) → choice_eq x y ≡ b → (x ≡ y) ⊎ (x ≢ y)
-  one true e = inl ((choice_decides x y).0 e)
-  one false e = inr (λ s. let yes = (choice_decides x y).1 s in cc)
 
 -- a choice that is behind neither of two that are the same is that one
 abbrev Level : Ordering → Ordering → Ordering → Ordering → Type 0
@@ -114,16 +95,3 @@ cmp_at (x ∷ xs) (y ∷ ys) = one (same_or_not x y) (cmp_at xs ys) where
   one (inr n) rest =
       decided (choice_cmp x y) (choices_cmp xs ys) (λ s. n (equal_choices x y s))
       ∙ ap (λ n. next_cmp (slice_get (x ∷ xs) n) (slice_get (y ∷ ys) n)) (sym (common_apart x y xs ys n))
-
-pub common_append : (front xs ys : List Choice) → common (front ++ xs) (front ++ ys) ≡ length front + common xs ys
-common_append [] xs ys = omega arith
-common_append (c ∷ front) xs ys = omega (arith, common_here c c (front ++ xs) (front ++ ys) refl, common_append front xs ys)
-
-pub common_turned : (xs ys : List Choice) → common xs ys ≡ common ys xs
-common_turned [] [] = refl
-common_turned [] (y ∷ ys) = refl
-common_turned (x ∷ xs) [] = refl
-common_turned (x ∷ xs) (y ∷ ys) = one (same_or_not x y) (common_turned xs ys) where
-  one : (x ≡ y) ⊎ (x ≢ y) → common xs ys ≡ common ys xs → common (x ∷ xs) (y ∷ ys) ≡ common (y ∷ ys) (x ∷ xs)
-  one (inl e) rest = common_here x y xs ys e ∙ ap suc rest ∙ sym (common_here y x ys xs (sym e))
-  one (inr n) rest = common_apart x y xs ys n ∙ sym (common_apart y x ys xs (λ e. n (sym e)))

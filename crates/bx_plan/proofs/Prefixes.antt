@@ -1,198 +1,199 @@
 -- The nodes are the prefixes of the schedules, each once.
-use Rattle.std.proofs.Common.{◌≡◌, ◌⊎◌, inl, inr, ℕ, ◌<◌, Bool, true, false, cond, List, [], ◌∷◌, ◌++◌, length, get_or, refl, sym, ap, ◌∙◌, arith, subst, append_assoc, length-append}
+use Rattle.std.proofs.Common.{◌≡◌, ◌⊎◌, inl, inr, ℕ, zero, suc, ◌<◌, Bool, true, false, List, [], ◌∷◌, ◌++◌, length, get_or, take, drop, refl, sym, ap, ◌∙◌, arith, subst, append_assoc, length-append, Decides}
+use Rattle.std.specs.Cmp.{IsEquivalence}
 use Rattle.std.specs.Cmp.Lexicographic.{pointwise}
-use Rattle.std.proofs.Math.ListN.{get_or-append}
-use Rattle.std.proofs.Math.Seq.{get_or-append_seam}
-use Rattle.std.proofs.lemmas.Bool.{both_ways, or_cases, or_left, or_right, cases_eq}
-use Rattle.std.proofs.lemmas.List.{length_push}
-use Rattle.std.proofs.lemmas.List.Folds.{list_any-append}
+use Rattle.std.specs.List.{Contains, IsDistinct}
+use Rattle.std.proofs.lemmas.Bool.{both_ways, cases_order, cond_both, cond-false, cond-true, false_from_ne_true}
+use Rattle.std.proofs.lemmas.Bool.Decides.{same_from_decides}
+use Rattle.std.proofs.lemmas.Cmp.{lists_equiv}
+use Rattle.std.proofs.lemmas.List.{get_or_append_left, get_or_default, length_push, take-append-drop, take_at}
+use Rattle.std.proofs.lemmas.List.Elements.{Contains-append_cases, Contains-append_left, Contains-append_right}
+use Rattle.std.proofs.lemmas.Map.Keys.{apart_from_distinct, IsDistinct-from_apart, IsDistinct-push}
+use Rattle.std.proofs.lemmas.Map.Made.{is_member-Decides}
+use Rattle.std.proofs.lemmas.Slice.Eq.{slice_eq-Decides}
 use Rattle.bx_world.specs.declared.choices.Choice.{Choice}
 use Rattle.bx_plan.specs.Nodes.{choice_eq, has_node, with_node, with_nodes, prefixes, with_schedule_nodes, nodes_from, nodes_of, IsPrefix, AreNodes}
-use Rattle.bx_plan.proofs.Members.{path_decides, has_at, stands_at}
-use Rattle.bx_plan.proofs.Walking.{with_nodes_extends}
+use Rattle.bx_plan.proofs.Commons.{choice_decides}
 
-abbrev pub Has : List (List Choice) → List Choice → Type 0
-Has nodes path = has_node nodes path ≡ true
+-- ---- paths among nodes
 
-pub has_append : (xs ys : List (List Choice)) (path : List Choice) → Has (xs ++ ys) path → Has xs path ⊎ Has ys path
-has_append xs ys path h = or_cases (has_node xs path) (has_node ys path) (sym (list_any-append (λ node. pointwise choice_eq path node) xs ys) ∙ h)
+abbrev pub same_path : List Choice → List Choice → Bool
+same_path = pointwise choice_eq
 
-pub has_append_left : (xs ys : List (List Choice)) (path : List Choice) → Has xs path → Has (xs ++ ys) path
-has_append_left xs ys path h = list_any-append (λ node. pointwise choice_eq path node) xs ys ∙ or_left (has_node xs path) (has_node ys path) h
+path_decides : (a b : List Choice) → Decides (same_path a b) (a ≡ b)
+path_decides a b = slice_eq-Decides choice_decides a b (same_path a b) refl
 
-pub has_append_right : (xs ys : List (List Choice)) (path : List Choice) → Has ys path → Has (xs ++ ys) path
-has_append_right xs ys path h = list_any-append (λ node. pointwise choice_eq path node) xs ys ∙ or_right (has_node xs path) (has_node ys path) h
+pub path_laws : IsEquivalence same_path
+path_laws = lists_equiv (record {
+  refl = λ a. (choice_decides a a).1 refl;
+  symm = λ a b. same_from_decides (choice_eq a b) (choice_eq b a) (choice_decides a b) (λ h. sym ((choice_decides b a).0 h), λ e. (choice_decides b a).1 (sym e));
+  congr = λ a b c h. ap (λ x. choice_eq x c) ((choice_decides a b).0 h);
+})
 
-pub has_one : (to path : List Choice) → Has (to ∷ []) path → path ≡ to
-has_one to path h = one (or_cases (pointwise choice_eq path to) false h) where
-  one : (pointwise choice_eq path to ≡ true) ⊎ (false ≡ true) → path ≡ to
-  one (inl e) = (path_decides path to).0 e
-  one (inr e) = cc
-
-pub has_first : (to : List Choice) (nodes : List (List Choice)) → Has (to ∷ nodes) to
-has_first to nodes = or_left (pointwise choice_eq to to) (has_node nodes to) ((path_decides to to).1 refl)
+pub has_decides : (nodes : List (List Choice)) (path : List Choice) → Decides (has_node nodes path) (Contains nodes path)
+has_decides = is_member-Decides path_decides
 
 -- ---- nodes that are added
 
-added_one : (nodes : List (List Choice)) (to path : List Choice) → Has (with_node nodes to) path → Has nodes path ⊎ (path ≡ to)
-added_one nodes to path h = one (has_node nodes to) h where
-  one : (there : Bool) → has_node (cond there nodes (nodes ++ to ∷ [])) path ≡ true → Has nodes path ⊎ (path ≡ to)
-  one true k = inl k
-  one false k = two (has_append nodes (to ∷ []) path k) where
-    two : Has nodes path ⊎ Has (to ∷ []) path → Has nodes path ⊎ (path ≡ to)
-    two (inl e) = inl e
-    two (inr e) = inr (has_one to path e)
+pub with_new : (nodes : List (List Choice)) (to : List Choice) → (Contains nodes to → ⊥) → with_node nodes to ≡ nodes ++ to ∷ []
+with_new nodes to new = cond-false (has_node nodes to) nodes (nodes ++ to ∷ []) (false_from_ne_true (has_node nodes to) (λ t. new ((has_decides nodes to).0 t)))
 
-is_added : (nodes : List (List Choice)) (to : List Choice) → Has (with_node nodes to) to
-is_added nodes to = one (has_node nodes to) refl where
-  one : (there : Bool) → has_node nodes to ≡ there → has_node (cond there nodes (nodes ++ to ∷ [])) to ≡ true
-  one true e = e
-  one false e = has_append_right nodes (to ∷ []) to (has_first to [])
+pub with_old : (nodes : List (List Choice)) (to : List Choice) → Contains nodes to → with_node nodes to ≡ nodes
+with_old nodes to old = cond-true (has_node nodes to) nodes (nodes ++ to ∷ []) ((has_decides nodes to).1 old)
 
-added_all : (nodes paths : List (List Choice)) (path : List Choice) → Has (with_nodes nodes paths) path → Has nodes path ⊎ Has paths path
-added_all nodes [] path h = inl h
-added_all nodes (to ∷ paths) path h = one (added_all (with_node nodes to) paths path h) where
-  one : Has (with_node nodes to) path ⊎ Has paths path → Has nodes path ⊎ Has (to ∷ paths) path
-  one (inl k) = two (added_one nodes to path k) where
-    two : Has nodes path ⊎ (path ≡ to) → Has nodes path ⊎ Has (to ∷ paths) path
-    two (inl e) = inl e
-    two (inr e) = inr (subst (λ p. Has (to ∷ paths) p) (sym e) (has_first to paths))
-  one (inr k) = inr (or_right (pointwise choice_eq path to) (has_node paths path) k)
+record Added (nodes paths more : List (List Choice)) : Type 0 where
+  there : (path : List Choice) → Contains nodes path ⊎ Contains paths path → Contains more path
+  only : (path : List Choice) → Contains more path → Contains nodes path ⊎ Contains paths path
+  apart : IsDistinct same_path nodes → IsDistinct same_path more
+  root : 0 < length nodes → (0 < length more) × (get_or more 0 [] ≡ get_or nodes 0 [])
 
-pub stay : (nodes paths : List (List Choice)) (path : List Choice) → Has nodes path → Has (with_nodes nodes paths) path
-stay nodes paths path h =
-    let more = with_nodes_extends nodes paths in
-    subst (λ n. Has n path) (sym more.1) (has_append_left nodes more.0 path h)
+added_one : (nodes : List (List Choice)) (to : List Choice) → Added nodes (to ∷ []) (with_node nodes to)
+added_one nodes to = cond_both (has_node nodes to) nodes (nodes ++ to ∷ []) (Added nodes (to ∷ [])) (λ t. record {
+  there = λ path h. one t path h;
+  only = λ path h. inl h;
+  apart = λ h. h;
+  root = λ h. (h, refl);
+}) (λ f. record {
+  there = λ path h. two path h;
+  only = λ path h. Contains-append_cases nodes (to ∷ []) path h;
+  apart = λ h. IsDistinct-push path_laws nodes to h f;
+  root = λ h. (omega (arith, length_push nodes to), get_or_append_left nodes (to ∷ []) [] 0 h);
+}) where
+  one : has_node nodes to ≡ true → (path : List Choice) → Contains nodes path ⊎ Contains (to ∷ []) path → Contains nodes path
+  one t path (inl h) = h
+  one t path (inr (zero, h, e)) = subst (Contains nodes) e ((has_decides nodes to).0 t)
+  one t path (inr (suc k, h, e)) = absurd (omega (arith, h))
 
-are_added : (nodes paths : List (List Choice)) (path : List Choice) → Has paths path → Has (with_nodes nodes paths) path
-are_added nodes [] path h = cc
-are_added nodes (to ∷ paths) path h = one (or_cases (pointwise choice_eq path to) (has_node paths path) h) (are_added (with_node nodes to) paths path) where
-  one : (pointwise choice_eq path to ≡ true) ⊎ Has paths path → (Has paths path → Has (with_nodes nodes (to ∷ paths)) path) → Has (with_nodes nodes (to ∷ paths)) path
-  one (inl e) later = stay (with_node nodes to) paths path (subst (λ p. Has (with_node nodes to) p) (sym ((path_decides path to).0 e)) (is_added nodes to))
-  one (inr k) later = later k
+  two : (path : List Choice) → Contains nodes path ⊎ Contains (to ∷ []) path → Contains (nodes ++ to ∷ []) path
+  two path (inl h) = Contains-append_left nodes (to ∷ []) path h
+  two path (inr h) = Contains-append_right nodes (to ∷ []) path h
+
+added_both : (nodes paths others mid more : List (List Choice)) → Added nodes paths mid → Added mid others more → Added nodes (paths ++ others) more
+added_both nodes paths others mid more first second = record {
+  there = λ path h. one path h;
+  only = λ path h. two path (second.only path h);
+  apart = λ h. second.apart (first.apart h);
+  root = λ h. let was = first.root h in let later = second.root was.0 in (later.0, later.1 ∙ was.1);
+} where
+  one : (path : List Choice) → Contains nodes path ⊎ Contains (paths ++ others) path → Contains more path
+  one path (inl h) = second.there path (inl (first.there path (inl h)))
+  one path (inr h) = either (Contains-append_cases paths others path h) where
+    either : Contains paths path ⊎ Contains others path → Contains more path
+    either (inl k) = second.there path (inl (first.there path (inr k)))
+    either (inr k) = second.there path (inr k)
+
+  two : (path : List Choice) → Contains mid path ⊎ Contains others path → Contains nodes path ⊎ Contains (paths ++ others) path
+  two path (inr h) = inr (Contains-append_right paths others path h)
+  two path (inl h) = either (first.only path h) where
+    either : Contains nodes path ⊎ Contains paths path → Contains nodes path ⊎ Contains (paths ++ others) path
+    either (inl k) = inl k
+    either (inr k) = inr (Contains-append_left paths others path k)
+
+added : (nodes paths : List (List Choice)) → Added nodes paths (with_nodes nodes paths)
+added nodes [] = record { there = λ path h. one path h; only = λ path h. inl h; apart = λ h. h; root = λ h. (h, refl) } where
+  one : (path : List Choice) → Contains nodes path ⊎ Contains [] path → Contains nodes path
+  one path (inl h) = h
+  one path (inr (k, h, e)) = absurd (omega (arith, h))
+added nodes (to ∷ paths) = added_both nodes (to ∷ []) paths (with_node nodes to) (with_nodes nodes (to ∷ paths)) (added_one nodes to) (added (with_node nodes to) paths)
 
 -- ---- the prefixes of one schedule
+
+length-prefixes : (front choices : List Choice) → length (prefixes front choices) ≡ length choices
+length-prefixes front [] = refl
+length-prefixes front (c ∷ choices) = ap suc (length-prefixes (front ++ c ∷ []) choices)
+
+prefix_there : (front choices : List Choice) (k : ℕ) (d : List Choice) → k < length choices → get_or (prefixes front choices) k d ≡ front ++ take (suc k) choices
+prefix_there front [] k d h = absurd (omega (arith, h))
+prefix_there front (c ∷ choices) zero d h = refl
+prefix_there front (c ∷ choices) (suc k) d h = prefix_there (front ++ c ∷ []) choices k d (omega (arith, h)) ∙ append_assoc front (c ∷ []) (take (suc k) choices)
 
 abbrev Begins : List Choice → List Choice → Type 0
 Begins schedule path = (rest : List Choice) × (schedule ≡ path ++ rest)
 
-begins : (front choices path : List Choice) → Has (prefixes front choices) path → Begins (front ++ choices) path
-begins front [] path h = cc
-begins front (c ∷ choices) path h = one (or_cases (pointwise choice_eq path (front ++ c ∷ [])) (has_node (prefixes (front ++ c ∷ []) choices) path) h) (begins (front ++ c ∷ []) choices path) where
-  one : (pointwise choice_eq path (front ++ c ∷ []) ≡ true) ⊎ Has (prefixes (front ++ c ∷ []) choices) path → (Has (prefixes (front ++ c ∷ []) choices) path → Begins ((front ++ c ∷ []) ++ choices) path) → Begins (front ++ c ∷ choices) path
-  one (inl e) later = (choices, sym (append_assoc front (c ∷ []) choices) ∙ ap (λ p. p ++ choices) (sym ((path_decides path (front ++ c ∷ [])).0 e)))
-  one (inr k) later = let there = later k in (there.0, sym (append_assoc front (c ∷ []) choices) ∙ there.1)
+begins : (schedule path : List Choice) → Contains (prefixes [] schedule) path → Begins schedule path
+begins schedule path (k, h, e) =
+    let at = prefix_there [] schedule k path (omega (arith, h, length-prefixes [] schedule)) in
+    (drop (suc k) schedule, sym (take-append-drop (suc k) schedule) ∙ ap (λ p. p ++ drop (suc k) schedule) (sym at ∙ e))
 
--- each prefix that is longer than the front
-is_begun : (front more : List Choice) (c : Choice) (rest : List Choice) → Has (prefixes front (more ++ c ∷ rest)) (front ++ (more ++ c ∷ []))
-is_begun front [] c rest = has_first (front ++ c ∷ []) (prefixes (front ++ c ∷ []) rest)
-is_begun front (d ∷ more) c rest =
-    or_right (pointwise choice_eq (front ++ d ∷ (more ++ c ∷ [])) (front ++ d ∷ [])) (has_node (prefixes (front ++ d ∷ []) (more ++ c ∷ rest)) (front ++ d ∷ (more ++ c ∷ [])))
-    (subst (λ p. Has (prefixes (front ++ d ∷ []) (more ++ c ∷ rest)) p) (append_assoc front (d ∷ []) (more ++ c ∷ [])) (is_begun (front ++ d ∷ []) more c rest))
-
--- a path is empty, or has a last choice
-abbrev Ends : List Choice → Type 0
-Ends path = (front : List Choice) × (last : Choice) × (path ≡ front ++ last ∷ [])
-
-ends : (path : List Choice) → (path ≡ []) ⊎ Ends path
-ends [] = inl refl
-ends (c ∷ path) = one (ends path) where
-  one : (path ≡ []) ⊎ Ends path → (c ∷ path ≡ []) ⊎ Ends (c ∷ path)
-  one (inl e) = inr ([], c, ap (λ p. c ∷ p) e)
-  one (inr (front, last, e)) = inr (c ∷ front, last, ap (λ p. c ∷ p) e)
-
-schedule_has : (nodes : List (List Choice)) (schedule path : List Choice) → Has nodes [] → Begins schedule path → Has (with_schedule_nodes nodes schedule) path
-schedule_has nodes schedule path root (rest, whole) = one (ends path) where
-  one : (path ≡ []) ⊎ Ends path → Has (with_schedule_nodes nodes schedule) path
-  one (inl e) = subst (λ p. Has (with_schedule_nodes nodes schedule) p) (sym e) (stay nodes (prefixes [] schedule) [] root)
-  one (inr (front, last, e)) =
-      let all : schedule ≡ front ++ last ∷ rest = whole ∙ ap (λ p. p ++ rest) e ∙ append_assoc front (last ∷ []) rest in
-      subst (λ p. Has (with_schedule_nodes nodes schedule) p) (sym e)
-      (are_added nodes (prefixes [] schedule) (front ++ last ∷ []) (subst (λ s. Has (prefixes [] s) (front ++ last ∷ [])) (sym all) (is_begun [] front last rest)))
+-- a prefix is empty, or it is one of these
+begun : (schedule path : List Choice) → Begins schedule path → (path ≡ []) ⊎ Contains (prefixes [] schedule) path
+begun schedule [] (rest, e) = inl refl
+begun schedule (c ∷ path) (rest, e) =
+    let h : length path < length schedule = omega (arith, ap length e, length-append path rest) in
+    inr (length path, omega (arith, h, length-prefixes [] schedule), prefix_there [] schedule (length path) (c ∷ path) h ∙ ap (take (suc (length path))) e ∙ take_at (c ∷ path) rest (suc (length path)) refl)
 
 -- ---- all schedules
 
-all_have : (nodes schedules : List (List Choice)) (path : List Choice) → Has nodes [] → Has nodes path ⊎ IsPrefix schedules path → Has (nodes_from nodes schedules) path
-all_have nodes [] path root (inl h) = h
-all_have nodes [] path root (inr h) = absurd h
-all_have nodes (schedule ∷ schedules) path root (inl h) =
-    all_have (with_schedule_nodes nodes schedule) schedules path (stay nodes (prefixes [] schedule) [] root) (inl (stay nodes (prefixes [] schedule) path h))
-all_have nodes (schedule ∷ schedules) path root (inr (inl here)) =
-    all_have (with_schedule_nodes nodes schedule) schedules path (stay nodes (prefixes [] schedule) [] root) (inl (schedule_has nodes schedule path root here))
-all_have nodes (schedule ∷ schedules) path root (inr (inr later)) =
-    all_have (with_schedule_nodes nodes schedule) schedules path (stay nodes (prefixes [] schedule) [] root) (inr later)
+record Grown (nodes schedules more : List (List Choice)) : Type 0 where
+  there : (path : List Choice) → Contains nodes path ⊎ IsPrefix schedules path → Contains more path
+  only : (path : List Choice) → Contains more path → Contains nodes path ⊎ IsPrefix schedules path
+  apart : IsDistinct same_path nodes → IsDistinct same_path more
+  root : 0 < length nodes → get_or more 0 [] ≡ get_or nodes 0 []
 
-all_are : (nodes schedules : List (List Choice)) (path : List Choice) → Has (nodes_from nodes schedules) path → Has nodes path ⊎ IsPrefix schedules path
-all_are nodes [] path h = inl h
-all_are nodes (schedule ∷ schedules) path h = one (all_are (with_schedule_nodes nodes schedule) schedules path h) where
-  one : Has (with_schedule_nodes nodes schedule) path ⊎ IsPrefix schedules path → Has nodes path ⊎ IsPrefix (schedule ∷ schedules) path
-  one (inr k) = inr (inr k)
-  one (inl k) = two (added_all nodes (prefixes [] schedule) path k) where
-    two : Has nodes path ⊎ Has (prefixes [] schedule) path → Has nodes path ⊎ IsPrefix (schedule ∷ schedules) path
-    two (inl e) = inl e
-    two (inr e) = inr (inl (begins [] schedule path e))
+grown_more : (nodes schedules mid more : List (List Choice)) (schedule : List Choice) → Contains nodes [] → Added nodes (prefixes [] schedule) mid → Grown mid schedules more → Grown nodes (schedule ∷ schedules) more
+grown_more nodes schedules mid more schedule root first others = record {
+  there = λ path h. others.there path (one path h);
+  only = λ path h. two path (others.only path h);
+  apart = λ h. others.apart (first.apart h);
+  root = λ h. let was = first.root h in others.root was.0 ∙ was.1;
+} where
+  one : (path : List Choice) → Contains nodes path ⊎ IsPrefix (schedule ∷ schedules) path → Contains mid path ⊎ IsPrefix schedules path
+  one path (inl h) = inl (first.there path (inl h))
+  one path (inr (inl h)) = inl (first.there path (either (begun schedule path h))) where
+    either : (path ≡ []) ⊎ Contains (prefixes [] schedule) path → Contains nodes path ⊎ Contains (prefixes [] schedule) path
+    either (inl e) = inl (subst (Contains nodes) (sym e) root)
+    either (inr k) = inr k
+  one path (inr (inr h)) = inr h
 
--- ---- no node twice
+  two : (path : List Choice) → Contains mid path ⊎ IsPrefix schedules path → Contains nodes path ⊎ IsPrefix (schedule ∷ schedules) path
+  two path (inr h) = inr (inr h)
+  two path (inl h) = either (first.only path h) where
+    either : Contains nodes path ⊎ Contains (prefixes [] schedule) path → Contains nodes path ⊎ IsPrefix (schedule ∷ schedules) path
+    either (inl k) = inl k
+    either (inr k) = inr (inl (begins schedule path k))
 
-abbrev Distinct : List (List Choice) → Type 0
-Distinct nodes = (i j : ℕ) → i < length nodes → j < length nodes → get_or nodes i [] ≡ get_or nodes j [] → i ≡ j
+grown : (nodes schedules : List (List Choice)) → Contains nodes [] → Grown nodes schedules (nodes_from nodes schedules)
+grown nodes [] root = record { there = λ path h. one path h; only = λ path h. inl h; apart = λ h. h; root = λ h. refl } where
+  one : (path : List Choice) → Contains nodes path ⊎ ⊥ → Contains nodes path
+  one path (inl h) = h
+  one path (inr h) = absurd h
+grown nodes (schedule ∷ schedules) root =
+    let first = added nodes (prefixes [] schedule) in
+    grown_more nodes schedules (with_schedule_nodes nodes schedule) (nodes_from nodes (schedule ∷ schedules)) schedule root first (grown (with_schedule_nodes nodes schedule) schedules (first.there [] (inl root)))
 
-distinct_push : (nodes : List (List Choice)) (to : List Choice) → Distinct nodes → has_node nodes to ≡ false → Distinct (nodes ++ to ∷ [])
-distinct_push nodes to apart new i j h l e = one (cases_eq i (length nodes)) (cases_eq j (length nodes)) where
-  old : (k : ℕ) → k < length (nodes ++ to ∷ []) → (k ≡ length nodes → ⊥) → k < length nodes
-  old k m n = omega (arith, length_push nodes to)
+-- ---- the nodes of some schedules
 
-  at_old : (k : ℕ) → k < length nodes → get_or (nodes ++ to ∷ []) k [] ≡ get_or nodes k []
-  at_old k m = get_or-append nodes (to ∷ []) [] k m
+module _ (schedules : List (List Choice)) where
+  all : Grown ([] ∷ []) schedules (nodes_of schedules)
+  all = grown ([] ∷ []) schedules (0, omega arith, refl)
 
-  at_new : (k : ℕ) → k ≡ length nodes → get_or (nodes ++ to ∷ []) k [] ≡ to
-  at_new k m = ap (λ n. get_or (nodes ++ to ∷ []) n []) m ∙ get_or-append_seam nodes to [] []
+  pub distinct_nodes : IsDistinct same_path (nodes_of schedules)
+  distinct_nodes = all.apart (IsDistinct-from_apart same_path ([] ∷ []) (λ i j d a b. absurd (omega (arith, a, b))))
 
-  one : (i ≡ length nodes) ⊎ (i ≡ length nodes → ⊥) → (j ≡ length nodes) ⊎ (j ≡ length nodes → ⊥) → i ≡ j
-  one (inl a) (inl b) = a ∙ sym b
-  one (inl a) (inr b) = absurd (both_ways _ new (has_at nodes to j (old j l b) (sym (at_old j (old j l b)) ∙ sym e ∙ at_new i a)))
-  one (inr a) (inl b) = absurd (both_ways _ new (has_at nodes to i (old i h a) (sym (at_old i (old i h a)) ∙ e ∙ at_new j b)))
-  one (inr a) (inr b) = apart i j (old i h a) (old j l b) (sym (at_old i (old i h a)) ∙ e ∙ at_old j (old j l b))
+  pub is_node : (path : List Choice) → (path ≡ []) ⊎ IsPrefix schedules path → Contains (nodes_of schedules) path
+  is_node path (inl e) = all.there path (inl (0, omega arith, sym e))
+  is_node path (inr h) = all.there path (inr h)
 
-distinct_one : (nodes : List (List Choice)) (to : List Choice) → Distinct nodes → Distinct (with_node nodes to)
-distinct_one nodes to apart = one (has_node nodes to) refl where
-  one : (there : Bool) → has_node nodes to ≡ there → Distinct (cond there nodes (nodes ++ to ∷ []))
-  one true e = apart
-  one false e = distinct_push nodes to apart e
+  pub node_is : (path : List Choice) → Contains (nodes_of schedules) path → (path ≡ []) ⊎ IsPrefix schedules path
+  node_is path h = one (all.only path h) where
+    one : Contains ([] ∷ []) path ⊎ IsPrefix schedules path → (path ≡ []) ⊎ IsPrefix schedules path
+    one (inl (zero, h, e)) = inl (sym e)
+    one (inl (suc k, h, e)) = absurd (omega (arith, h))
+    one (inr h) = inr h
 
-distinct_all : (nodes paths : List (List Choice)) → Distinct nodes → Distinct (with_nodes nodes paths)
-distinct_all nodes [] apart = apart
-distinct_all nodes (to ∷ paths) apart = distinct_all (with_node nodes to) paths (distinct_one nodes to apart)
-
-distinct_from : (nodes schedules : List (List Choice)) → Distinct nodes → Distinct (nodes_from nodes schedules)
-distinct_from nodes [] apart = apart
-distinct_from nodes (schedule ∷ schedules) apart = distinct_from (with_schedule_nodes nodes schedule) schedules (distinct_all nodes (prefixes [] schedule) apart)
-
--- ---- the root
-
-abbrev Rooted : List (List Choice) → Type 0
-Rooted nodes = (0 < length nodes) × (get_or nodes 0 [] ≡ [])
-
-rooted_from : (nodes schedules : List (List Choice)) → Rooted nodes → Rooted (nodes_from nodes schedules)
-rooted_from nodes [] h = h
-rooted_from nodes (schedule ∷ schedules) h =
-    let more = with_nodes_extends nodes (prefixes [] schedule) in
-    rooted_from (with_schedule_nodes nodes schedule) schedules
-    (subst (λ n. Rooted n) (sym more.1) (omega (arith, length-append nodes more.0, h.0), get_or-append nodes more.0 [] 0 h.0 ∙ h.1))
+  apart : (i j : ℕ) → i < j → j < length (nodes_of schedules) → get_or (nodes_of schedules) i [] ≡ get_or (nodes_of schedules) j [] → ⊥
+  apart i j a h e = both_ways (same_path (get_or (nodes_of schedules) i []) (get_or (nodes_of schedules) j [])) (apart_from_distinct same_path (nodes_of schedules) i j [] distinct_nodes a h) ((path_decides _ _).1 e)
 
 pub nodes_law : (schedules : List (List Choice)) → AreNodes schedules (nodes_of schedules)
 nodes_law schedules = record {
-  root = (rooted_from ([] ∷ []) schedules (omega arith, refl)).1;
+  root = (all schedules).root (omega arith);
   members = λ path. (
-    λ (node, within, e). one path (all_are ([] ∷ []) schedules path (has_at (nodes_of schedules) path node within e)),
-    λ h. stands_at (nodes_of schedules) path (all_have ([] ∷ []) schedules path (has_first [] []) (two path h)),
+    λ (k, h, e). node_is schedules path (k, h, get_or_default (nodes_of schedules) k path [] h ∙ e),
+    λ h. let at = is_node schedules path h in (at.0, at.1, get_or_default (nodes_of schedules) at.0 [] path at.1 ∙ at.2),
   );
-  distinct = distinct_from ([] ∷ []) schedules (λ i j h l e. omega arith);
+  distinct = λ i j h l e. one i j h l e (cases_order i j);
 } where
-  one : (path : List Choice) → Has ([] ∷ []) path ⊎ IsPrefix schedules path → (path ≡ []) ⊎ IsPrefix schedules path
-  one path (inl h) = inl (has_one [] path h)
-  one path (inr h) = inr h
-
-  two : (path : List Choice) → (path ≡ []) ⊎ IsPrefix schedules path → Has ([] ∷ []) path ⊎ IsPrefix schedules path
-  two path (inl e) = inl (subst (λ p. Has ([] ∷ []) p) (sym e) (has_first [] []))
-  two path (inr h) = inr h
+  one : (i j : ℕ) → i < length (nodes_of schedules) → j < length (nodes_of schedules) → get_or (nodes_of schedules) i [] ≡ get_or (nodes_of schedules) j [] → (i ≡ j) ⊎ ((i < j) ⊎ (j < i)) → i ≡ j
+  one i j h l e (inl same) = same
+  one i j h l e (inr (inl a)) = absurd (apart schedules i j a l e)
+  one i j h l e (inr (inr a)) = absurd (apart schedules j i a h (sym e))

@@ -6,7 +6,7 @@ use Rattle.std.specs.Ordering.{ordering_reverse, is_gt, is_lt}
 use Rattle.std.specs.Cmp.{IsStrictWeakOrder}
 use Rattle.std.specs.List.Sorted.{IsPermutation, IsSortedBy}
 use Rattle.std.proofs.lemmas.Cmp.{lists_total}
-use Rattle.std.proofs.lemmas.List.{get_or-map, length-map}
+use Rattle.std.proofs.lemmas.List.{get_or_default, get_or-map, length-map}
 use Rattle.std.proofs.lemmas.List.Sorted.{All-permutation, Contains-permutation, length_permutation, ranks_by, sorted_far}
 use Rattle.bx_world.specs.declared.choices.Choice.{Choice}
 use Rattle.bx_plan.specs.declared.plans.Row.{Row}
@@ -46,13 +46,8 @@ ordered plan all sorted are moved up = record {
   every i h =
       let at = are.every i h in
       let x = get_or all at.0 no_numbered in
-      let found = Contains-permutation all sorted x moved (at.0, at.1, get_or_itself all at.0 no_numbered at.1) in
+      let found = Contains-permutation all sorted x moved (at.0, at.1, get_or_default all at.0 x no_numbered at.1) in
       (found.0, found.1, line_is sorted found.0 x found.1 ∙ ap (λ (one : Numbered). one.line) found.2 ∙ sym (line_is all at.0 no_numbered at.1) ∙ at.2)
-    where
-      get_or_itself : (xs : List Numbered) (k : ℕ) (d : Numbered) → k < length xs → get_or xs k (get_or xs k d) ≡ get_or xs k d
-      get_or_itself [] k d h = absurd (omega (arith, h))
-      get_or_itself (x ∷ xs) zero d h = refl
-      get_or_itself (x ∷ xs) (suc k) d h = get_or_itself xs k d (omega (arith, h))
 
   in_order : (i j : ℕ) → i ≤ j → j < length sorted → is_gt (choices_cmp (listed sorted i) (listed sorted j)) ≡ false
   in_order i j a h =

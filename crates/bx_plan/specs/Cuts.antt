@@ -1,38 +1,32 @@
 -- Depths at which chains end, as they are found from the last schedule of a row to the first.
-use Rattle.std.specs.Prelude.{◌≡◌, ◌⊎◌, ℕ, zero, suc, ◌+◌, ◌-◌, ◌<◌, ◌≤◌, nat_lt, if◌then◌else◌, List, [], ◌∷◌, ◌++◌, length, slice_index_or}
+use Rattle.std.specs.Prelude.{◌≡◌, ◌⊎◌, ℕ, zero, suc, ◌+◌, ◌<◌, ◌≤◌, nat_lt, if◌then◌else◌, List, [], ◌∷◌, ◌++◌, length}
 use Rattle.bx_world.specs.declared.choices.Choice.{Choice}
 use Rattle.bx_plan.specs.declared.plans.Row.{Row}
 use Rattle.bx_plan.specs.Gathered.{common, placed, row_at}
 
-abbrev pub IsIn : ℕ → List ℕ → Type 0
-IsIn m marks = (i : ℕ) × (i < length marks) × (slice_index_or marks i 0 ≡ m)
+-- depths that rise from one on
+abbrev pub Rise : ℕ → List ℕ → Type 0
+Rise depth [] = Unit {0}
+Rise depth (mark ∷ marks) = (depth < mark) × Rise mark marks
 
--- depths that rise from 0
-pub record AreRising (marks : List ℕ) : Type 0 where
-  pub some : 0 < length marks
-  pub root : slice_index_or marks 0 0 ≡ 0
-  pub rises : (i : ℕ) → i + 1 < length marks → slice_index_or marks i 0 < slice_index_or marks (i + 1) 0
-
-abbrev pub top : List ℕ → ℕ
-top marks = slice_index_or marks (length marks - 1) 0
+-- the last of them, or that one
+abbrev pub deepest : ℕ → List ℕ → ℕ
+deepest depth [] = depth
+deepest depth (mark ∷ marks) = deepest mark marks
 
 -- with one more, where it is below all others
 abbrev pub marked : List ℕ → ℕ → List ℕ
-marked marks depth = if nat_lt (top marks) depth then marks ++ depth ∷ [] else marks
+marked marks depth = if nat_lt (deepest 0 marks) depth then marks ++ depth ∷ [] else marks
 
--- from a depth on, these are the marks up to the last one
-abbrev pub AreSteps : List ℕ → ℕ → List ℕ → Type 0
-AreSteps marks first [] = first ≡ top marks
-AreSteps marks first (cut ∷ cuts) = (first < cut) × IsIn cut marks × ((m : ℕ) → IsIn m marks → first < m → m < cut → ⊥) × AreSteps marks cut cuts
-
--- the marks below a depth were taken off, and stand in reverse behind what stood there
-pub record IsCutBy (common length : ℕ) (marks cuts after done : List ℕ) : Type 0 where
-  pub steps : List ℕ
-  pub are : AreSteps (marked marks length) common steps
-  pub order : done ≡ steps ++ cuts
-  pub rising : AreRising after
-  pub kept : (m : ℕ) → IsIn m after → (m ≡ common) ⊎ (IsIn m (marked marks length) × (m ≤ common))
-  pub all : (m : ℕ) → (m ≡ common) ⊎ (IsIn m (marked marks length) × (m ≤ common)) → IsIn m after
+-- a length was marked; then the marks below a depth were taken off, and stand before what stood there; and then the depth was marked
+pub record IsCutBy (common length : ℕ) (marks cuts next done : List ℕ) : Type 0 where
+  pub kept : List ℕ
+  pub taken : List ℕ
+  pub all : marked marks length ≡ kept ++ taken
+  pub below : deepest 0 kept ≤ common
+  pub above : Rise common taken
+  pub after : next ≡ marked kept common
+  pub order : done ≡ taken ++ cuts
 
 -- where the chains of the schedule at a place end, from a depth on: where it ends, and where those behind it part from it
 abbrev pub AreCuts : List (List Choice) → List Row → ℕ → ℕ → List ℕ → Type 0

@@ -10,6 +10,7 @@ pub mod Planned
 pub mod View
 pub mod Building
 pub mod Grammar
+pub mod Firsts
 pub mod Texts
 pub mod Nodes
 pub mod Gathered

@@ -8,15 +8,9 @@ abbrev pub spread_runs : List Run → List Choice
 spread_runs [] = []
 spread_runs (run ∷ runs) = replicate run.times run.choice ++ spread_runs runs
 
--- the first run is not of this choice
-abbrev pub BeginsElsewhere : Choice → List Run → Type 0
-BeginsElsewhere choice [] = Unit {0}
-BeginsElsewhere choice (run ∷ runs) = run.choice ≢ choice
-
--- each run makes a choice, and no two neighbours make the same: so no other such runs make these choices
-abbrev pub AreJoined : List Run → Type 0
-AreJoined [] = Unit {0}
-AreJoined (run ∷ runs) = (0 < run.times) × BeginsElsewhere run.choice runs × AreJoined runs
+-- some choices are taken, each of them this one
+abbrev pub GoesOn : Choice → List Choice → List Choice → Type 0
+GoesOn choice old new = (times : ℕ) × (0 < times) × (old ≡ replicate times choice ++ new)
 
 -- the first choice is taken, with all that equal it in a row behind it
 abbrev pub NextRun : List Choice → List Choice → Option Run → Type 0

@@ -4,10 +4,11 @@ ghost use Rattle.std.specs.Prelude.{◌≡◌, ◌++◌, ◌∷◌, [], List, op
 ghost use Rattle.bx_terms.specs.Outcomes.{Gives};
 ghost use Rattle.bx_plan.specs.Entry.{Entry};
 ghost use Rattle.bx_plan.specs.Made.{Make, MakesThese};
-ghost use Rattle.bx_plan.specs.Reading.{choice_of, entry_of, entries_of, spread};
+ghost use Rattle.bx_plan.specs.Firsts.{choice_first, deliver_first, entry_first, first_view, next_first, times_first, IsFirst};
+ghost use Rattle.bx_plan.specs.Reading.{choice_of, entries_of, spread};
 
-use crate::numbers::number_of;
-use crate::parts::{Parts, cut};
+use crate::numbers::{number_first, number_of};
+use crate::parts::cut;
 use crate::schedules::Schedule;
 use bx_terms::Fault;
 use bx_world::Choice;
@@ -37,19 +38,86 @@ pub fn choice_of(text: &[u8]) -> Option<Choice>
     }
 }
 
-/// The entry that the text spells: a choice, and how many times it is made in a row, at least once.
-pub(crate) fn entry_of(text: &[u8]) -> Option<(Choice, u32)>
-    ensures { result ≡ entry_of text.now }
+/// A delivery from a process, by what stands behind its pid, and what stands behind the delivery.
+fn deliver_first(from: u32, behind: &[u8]) -> Option<(Choice, &[u8])>
+    ensures { option_map (λ r. (r.0, r.1.now)) result ≡ deliver_first (from, behind.now) }
 {
-    let Some((choice, times)) = cut(text, b'*') else {
-        return Some((choice_of(text)?, 1));
+    let [b'>', pid @ ..] = behind else {
+        return None;
     };
-    let choice = choice_of(choice)?;
-    let times = number_of(times, MOST_TIMES)?;
+    let (to, rest) = number_first(pid, MOST_PID)?;
+    Some((Choice::Deliver(from, to), rest))
+}
+
+/// The choice at the head of a text, and what stands behind it.
+fn choice_first(text: &[u8]) -> Option<(Choice, &[u8])>
+    ensures { option_map (λ r. (r.0, r.1.now)) result ≡ choice_first text.now }
+{
+    let [kind, pids @ ..] = text else {
+        return None;
+    };
+    let (pid, rest) = number_first(pids, MOST_PID)?;
+    match *kind {
+        b'r' => Some((Choice::Run(pid), rest)),
+        b'd' => deliver_first(pid, rest),
+        b'e' => Some((Choice::Expire(pid), rest)),
+        _ => None,
+    }
+}
+
+/// How often an entry makes its choice, by what stands behind that, and what stands behind the entry.
+fn times_first(behind: &[u8]) -> Option<(u32, &[u8])>
+    ensures { option_map (λ r. (r.0, r.1.now)) result ≡ times_first behind.now }
+{
+    let [b'*', times @ ..] = behind else {
+        return Some((1, behind));
+    };
+    let (times, rest) = number_first(times, MOST_TIMES)?;
     if times == 0 {
         return None;
     }
-    Some((choice, times))
+    Some((times, rest))
+}
+
+/// The entry at the head of a text, and what stands behind it.
+fn entry_first(text: &[u8]) -> Option<((Choice, u32), &[u8])>
+    ensures { option_map (λ r. (r.0, r.1.now)) result ≡ entry_first text.now }
+{
+    let (choice, behind) = choice_first(text)?;
+    let (times, rest) = times_first(behind)?;
+    Some(((choice, times), rest))
+}
+
+/// The first entry of a text, and the text behind the space that follows it.
+#[derive(Drop)]
+pub(crate) struct First<'a> {
+    choice: Choice,
+    times: u32,
+    behind: Option<&'a [u8]>,
+}
+
+/// The first entry, where the text ends behind it or goes on by a space.
+fn first_by_space(text: &[u8]) -> Option<First<'_>>
+    ensures { option_map first_view result ≡ next_first text.now }
+{
+    let ((choice, times), rest) = entry_first(text)?;
+    let behind = match rest {
+        [] => None,
+        [b' ', more @ ..] => Some(more),
+        _ => return None,
+    };
+    Some(First {
+        choice,
+        times,
+        behind,
+    })
+}
+
+/// The first entry of a text of entries.
+fn first_of(text: &[u8]) -> Option<First<'_>>
+    ensures { MatchOption result (entries_of text.now ≡ None) (IsFirst text.now) }
+{
+    first_by_space(text)
 }
 
 /// What entries make: how many choices, no number past `usize::MAX`, and these choices.
@@ -70,6 +138,20 @@ impl Entries {
             count: 0,
             schedule: Schedule::new(alloc),
             is_whole: true,
+        }
+    }
+
+    /// No entries, and room for so many stretches where there is memory for it.
+    fn with_room(alloc: Global, room: usize) -> Entries
+        ensures { Make result [] }
+    {
+        match Schedule::with_room(alloc, room) {
+            Ok(schedule) => Entries {
+                count: 0,
+                schedule,
+                is_whole: true,
+            },
+            Err(_) => Entries::new(alloc),
         }
     }
 
@@ -96,10 +178,17 @@ pub(crate) fn read_entries(alloc: Global, words: &[u8], most: usize) -> Option<E
     ensures { MatchOption result (entries_of words.now ≡ None)
         (λ made. MakesThese made (entries_of words.now)) }
 {
-    let mut entries = Entries::new(alloc);
-    for word in Parts::new(words, b' ') {
-        let (choice, times) = entry_of(word)?;
+    let room = words.len() / 3 + 1; // most entries have three bytes or more, with the space
+    let mut entries = Entries::with_room(alloc, room.min(most));
+    let mut left = Some(words);
+    while let Some(text) = left {
+        let First {
+            choice,
+            times,
+            behind,
+        } = first_of(text)?;
         entries.add(choice, times, most);
+        left = behind;
     }
     Some(entries)
 }

@@ -2,9 +2,11 @@
 
 ghost use Rattle.std.specs.Prelude.{◌≡◌, ◌↔◌, ◌^◌, ◌≤◌, ◌<◌, length, option_map, slice_get, take, IsTrue, MatchOption, None, Ok};
 ghost use Rattle.bx_terms.specs.Outcomes.{Gives};
+ghost use Rattle.bx_plan.specs.Gathered.{placed, AreRows};
 ghost use Rattle.bx_plan.specs.Planned.{choices_at, part_of, schedules};
-ghost use Rattle.bx_plan.specs.Plans.{plan_of, Shows, TakesMemory};
+ghost use Rattle.bx_plan.specs.Plans.{choices_of, plan_of, Shows, TakesMemory};
 ghost use Rattle.bx_plan.specs.Reading.{parts_of};
+ghost use Rattle.bx_plan.specs.View.{lines_view};
 
 mod building;
 mod counting;
@@ -125,6 +127,15 @@ impl Plan {
     {
         same_rows(&self.lines, &other.lines)
     }
+}
+
+/// How many choices the schedule at a place of a row makes.
+pub(crate) fn length_at(lines: &[Line], rows: &[Row], place: usize) -> usize
+    requires rows { AreRows (choices_of (lines_view lines.now)) rows.now }
+    requires place { place < length rows.now }
+    ensures { result ≡ length (placed (choices_of (lines_view lines.now)) rows.now place) }
+{
+    lines[rows[place].line].schedule.len()
 }
 
 /// The schedule that makes these choices.

@@ -9,14 +9,11 @@ mod part;
 mod parting;
 mod stretches;
 
-use bx_share::{Same, same_rows};
 use bx_world::Choice;
 pub use part::Part;
 use std::alloc::{AllocError, Global};
 use std::marker::Model;
-use stretches::{
-    Stretch, chain, cut, exchange, join, made, over_by, put_between, put_off, stand_alone,
-};
+use stretches::{Stretch, begin, chain, cut, exchange, join, made, merge, over_by, part_at};
 
 /// How many choices a schedule may make.
 const MOST: usize = usize::MAX / 2;
@@ -57,6 +54,14 @@ impl Schedule {
         Schedule {
             stretches: Vec::new(alloc),
         }
+    }
+
+    /// The schedule that makes no choice, with room for so many stretches.
+    pub(crate) fn with_room(alloc: Global, room: usize) -> Result<Schedule, AllocError>
+        ensures { IfOk result (λ schedule. schedule ≡ []) }
+    {
+        let stretches = Vec::with_capacity(alloc, room)?;
+        Ok(Schedule { stretches })
     }
 
     /// The schedule that makes the choices of these runs in order. It takes memory where there are any.
@@ -130,41 +135,33 @@ impl Schedule {
         ensures err { OnErr result ((self.new ≡ self.old) × (tail ≢ [])) }
     {
         let more = tail.len();
-        let Schedule {
-            stretches: mut behind,
-        } = tail;
+        let Schedule { stretches: behind } = tail;
         self.stretches.reserve(behind.len())?;
         if more > MOST - count {
             return Err(AllocError);
         }
-        put_off(&mut behind, count);
         cut(&mut self.stretches, count);
-        chain(&mut self.stretches, behind);
+        let seam = self.stretches.len();
+        chain(&mut self.stretches, count, &behind);
+        merge(&mut self.stretches, seam);
         Ok(())
     }
 
     /// Exchanges the choice at that position, from 0 on, and the one behind it.
     ///
-    /// It takes no memory where both stand alone and join no neighbour then. Else at most two stretches more stand there, or two less,
-    /// and those behind them are moved on.
+    /// It takes no memory where both stand in stretches of their own. Else these are made, and joined with their neighbours where they
+    /// are equal.
     pub fn swap(&mut self, position: usize) -> Result<(), AllocError>
         requires { position + 1 < length self.old }
         ensures ok { OnOk result (self.new ≡ swap self.old position (position + 1)) }
         ensures err { OnErr result ((self.new ≡ self.old) × (AreLoose self.old position → ⊥)) }
     {
-        let at = over_by(&self.stretches, position);
-        if stand_alone(&self.stretches, at) {
-            exchange(&mut self.stretches, at);
-            return Ok(());
-        }
-        let first = self.stretches[at];
-        if position + 1 < first.past {
-            return Ok(()); // both are of one stretch
-        }
-        let before = made(&self.stretches[..at]);
-        let second = self.stretches[at + 1];
-        let others = turned(*self.stretches.allocator(), before, first, second)?;
-        put_between(&mut self.stretches, at, others)?;
+        let at = begin(&mut self.stretches, position)?;
+        part_at(&mut self.stretches, at, position + 1)?;
+        part_at(&mut self.stretches, at + 1, position + 2)?;
+        exchange(&mut self.stretches, at);
+        merge(&mut self.stretches, at + 2);
+        merge(&mut self.stretches, at);
         Ok(())
     }
 
@@ -222,11 +219,11 @@ impl Schedule {
     }
 
     /// Whether both make the same choices in the same order.
-    #[tactic(auto, using(crate::proofs::Stretching::same_stretches))]
     pub fn same(&self, other: &Schedule) -> bool
         ensures { IsTrue result ↔ (self.now ≡ other.now) }
     {
-        same_rows(&self.stretches, &other.stretches)
+        let count = self.len();
+        count == other.len() && count == self.common(other)
     }
 }
 
@@ -239,29 +236,4 @@ fn push_times(choices: &mut Vec<Choice>, run: Run) -> Result<(), AllocError>
         choices.push(run.choice)?;
     }
     Ok(())
-}
-
-/// The choices of two stretches behind so many others, the last one of the first and the first one of the second in each other's place.
-fn turned(
-    alloc: Global,
-    before: usize,
-    first: Stretch,
-    second: Stretch,
-) -> Result<Vec<Stretch>, AllocError>
-    requires first { before < first.past }
-    requires second { first.past < second.past }
-    requires few { second.past < 2 ^ 63 }
-    ensures joined { IfOk result (λ stretches. AreStretches before stretches.items) }
-    ensures choices { IfOk result (λ stretches. choices_from before stretches.items ≡
-        replicate (first.past - before - 1) first.choice ++ second.choice ∷ first.choice ∷
-        replicate (second.past - first.past - 1) second.choice) }
-{
-    let mut turned = Schedule::new(alloc);
-    turned.push(first.choice, first.past - before - 1)?;
-    turned.push(second.choice, 1)?;
-    turned.push(first.choice, 1)?;
-    turned.push(second.choice, second.past - first.past - 1)?;
-    let Schedule { mut stretches } = turned;
-    put_off(&mut stretches, before);
-    Ok(stretches)
 }

@@ -10,7 +10,7 @@ ghost use Rattle.bx_plan.specs.View.{lines_view};
 
 use super::cuts::cuts_of;
 use super::{Chains, Head};
-use crate::plans::{Line, Plan, Row};
+use crate::plans::{Line, Plan, Row, length_at};
 use bx_share::List;
 use std::alloc::{AllocError, Global};
 
@@ -78,7 +78,7 @@ impl Chains {
         ensures cuts { OnOk result (AllCuts (choices_of (lines_view lines.now)) rows.now (length rows.now - place - 1) (place + 1) (reverse cuts.new.items)) }
     {
         let line = rows[place].line;
-        let length = lines[line].schedule.len();
+        let length = length_at(lines, rows, place);
         let mut first = rows[place].common;
         while first < length {
             let Some(past) = cuts.pop() else {
@@ -114,10 +114,8 @@ impl Chains {
         requires grown { Grown (lines_view lines.now) rows.now place (length (placed (choices_of (lines_view lines.now)) rows.now place)) self.old }
         ensures { Grown (lines_view lines.now) rows.now (place + 1) (common_before (choices_of (lines_view lines.now)) rows.now (place + 1)) self.new }
     {
-        let line = rows[place].line;
-        let length = lines[line].schedule.len();
-        let chain = self.up_to(lines, length);
-        self.note(line, chain);
+        let chain = self.up_to(lines, length_at(lines, rows, place));
+        self.note(rows[place].line, chain);
     }
 }
 

@@ -1,32 +1,41 @@
 //! Where the chains of a plan end.
 
 ghost use Rattle.std.specs.Prelude.{◌≡◌, ◌<◌, ◌≤◌, ◌++◌, ◌∷◌, [], length, MatchOption, IfOk, OnOk, reverse};
-ghost use Rattle.bx_plan.specs.Cuts.{marked, top, AllCuts, AreRising, IsCutBy};
+ghost use Rattle.bx_plan.specs.Cuts.{deepest, marked, AllCuts, IsCutBy, Rise};
 ghost use Rattle.bx_plan.specs.Gathered.{AreRows};
 ghost use Rattle.bx_plan.specs.Plans.{choices_of};
 ghost use Rattle.bx_plan.specs.View.{lines_view};
 
-use crate::plans::{Line, Row};
+use crate::plans::{Line, Row, length_at};
 use std::alloc::{AllocError, Global};
+
+/// The deepest mark; 0 where there is none.
+fn deepest(marks: &[usize]) -> usize
+    ensures { result ≡ deepest 0 marks.now }
+{
+    match marks.last() {
+        Some(mark) => *mark,
+        None => 0,
+    }
+}
 
 /// Adds a depth where it is below all others.
 fn mark(marks: &mut Vec<usize>, depth: usize) -> Result<(), AllocError>
-    requires { AreRising marks.old.items }
     ensures { OnOk result (marks.new.items ≡ marked marks.old.items depth) }
 {
-    if marks[marks.len() - 1] < depth {
+    if deepest(marks) < depth {
         marks.push(depth)?;
     }
     Ok(())
 }
 
 /// Takes off the deepest mark, where it is below that depth.
+#[tactic(auto, using(crate::proofs::Cutting::deepest_push))]
 fn pop_below(marks: &mut Vec<usize>, depth: usize) -> Option<usize>
-    requires { AreRising marks.old.items }
-    ensures { MatchOption result ((marks.new.items ≡ marks.old.items) × (top marks.old.items ≤ depth))
+    ensures { MatchOption result ((marks.new.items ≡ marks.old.items) × (deepest 0 marks.old.items ≤ depth))
         (λ last. (depth < last) × (marks.old.items ≡ marks.new.items ++ last ∷ [])) }
 {
-    if marks[marks.len() - 1] <= depth {
+    if deepest(marks) <= depth {
         return None;
     }
     marks.pop()
@@ -40,9 +49,7 @@ fn cut_by(
     common: usize,
     length: usize,
 ) -> Result<(), AllocError>
-    requires marks { AreRising marks.old.items }
-    requires deep { top marks.old.items ≤ length }
-    requires short { common ≤ length }
+    requires { Rise 0 marks.old.items }
     ensures { OnOk result (IsCutBy common length marks.old.items (reverse cuts.old.items) marks.new.items (reverse cuts.new.items)) }
 {
     mark(marks, length)?;
@@ -60,11 +67,11 @@ pub(super) fn cuts_of(alloc: Global, lines: &[Line], rows: &[Row]) -> Result<Vec
     ensures { IfOk result (λ cuts. AllCuts (choices_of (lines_view lines.now)) rows.now (length rows.now) 0 (reverse cuts.items)) }
 {
     let mut cuts = Vec::new(alloc);
-    let mut marks = vec![in alloc; 0]?;
+    let mut marks = Vec::new(alloc);
     let mut place = rows.len();
     while place > 0 {
         place -= 1;
-        let length = lines[rows[place].line].schedule.len();
+        let length = length_at(lines, rows, place);
         cut_by(&mut marks, &mut cuts, rows[place].common, length)?;
     }
     Ok(cuts)

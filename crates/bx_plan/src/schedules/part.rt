@@ -1,11 +1,12 @@
 //! Some choices of a schedule in a row.
 
-ghost use Rattle.std.specs.Prelude.{◌≡◌, ◌↔◌, ◌-◌, [], length, slice_get, take, IsTrue};
-ghost use Rattle.bx_plan.specs.Runs.{NextRun};
+ghost use Rattle.std.specs.Prelude.{◌≡◌, ◌↔◌, ◌-◌, [], length, slice_get, take, Some, IsTrue};
+ghost use Rattle.bx_plan.specs.Runs.{GoesOn, NextRun};
 ghost use Rattle.bx_plan.specs.Stretches.{choices_from, IsPart};
 
 use super::Run;
-use super::stretches::Stretch;
+use super::stretches::{Stretch, behind};
+use bx_share::Same;
 use bx_world::Choice;
 use std::marker::Model;
 
@@ -68,18 +69,36 @@ impl<'a> Part<'a> {
         Some(self.stretches[0].choice)
     }
 
+    /// Whether there is a first choice and it is this one.
+    fn begins_with(&self, choice: Choice) -> bool
+        ensures { IsTrue result ↔ (slice_get self.now 0 ≡ Some choice) }
+    {
+        match self.first() {
+            Some(first) => first.same(&choice),
+            None => false,
+        }
+    }
+
+    /// Takes the choices that lie on the first stretch.
+    fn skip(&mut self, choice: Choice)
+        requires { slice_get self.old 0 ≡ Some choice }
+        ensures { GoesOn choice self.old self.new }
+    {
+        self.first = self.past.min(self.stretches[0].past);
+        self.stretches = behind(self.stretches, self.first);
+    }
+
     /// Takes the first choice, with all that equal it in a row behind it.
     pub fn next_run(&mut self) -> Option<Run>
         ensures { NextRun self.old self.new result }
     {
-        if self.first == self.past {
-            return None;
+        let count = self.len();
+        let choice = self.first()?;
+        self.skip(choice);
+        while self.begins_with(choice) {
+            self.skip(choice);
         }
-        let Stretch { choice, past } = self.stretches[0];
-        let past = past.min(self.past);
-        let times = past - self.first;
-        self.stretches = &self.stretches[1..];
-        self.first = past;
+        let times = count - self.len();
         Some(Run { choice, times })
     }
 

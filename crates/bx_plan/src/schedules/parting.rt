@@ -1,11 +1,11 @@
 //! Where two schedules part, and which stands first.
 
 ghost use Rattle.std.specs.Prelude.{◌≡◌, ◌↔◌, ◌≤◌, length, take, IsTrue};
-ghost use Rattle.bx_plan.specs.Stretches.{choices_from, AreStretches};
+ghost use Rattle.bx_plan.specs.Stretches.{choices_from, AreStretches, BeginAlike};
 ghost use Rattle.bx_plan.specs.Gathered.{choices_cmp, common, next_cmp, rank};
 
 use super::Schedule;
-use super::stretches::{Stretch, made};
+use super::stretches::{Stretch, behind, made};
 use bx_share::Same;
 use bx_world::Choice;
 use std::cmp::Ordering;
@@ -24,14 +24,7 @@ impl Schedule {
         requires upto { upto ≤ length other.now }
         ensures { IsTrue result ↔ (take past self.now ≡ take upto other.now) }
     {
-        let common = self.common(other);
-        if past != upto {
-            return false;
-        }
-        if common < past {
-            return false;
-        }
-        true
+        past == upto && past <= self.common(other)
     }
 
     /// Which stands first: the one that ends where both part, or the one whose choice does.
@@ -43,21 +36,44 @@ impl Schedule {
     }
 }
 
-/// How many choices of both are alike.
-fn common(one: &[Stretch], other: &[Stretch]) -> usize
-    requires one { AreStretches 0 one.now }
-    requires other { AreStretches 0 other.now }
-    ensures { result ≡ common (choices_from 0 one.now) (choices_from 0 other.now) }
+/// How many stretches both begin with alike.
+fn alike(one: &[Stretch], other: &[Stretch]) -> usize
+    ensures within { result ≤ length one.now }
+    ensures inside { result ≤ length other.now }
+    ensures same { take result one.now ≡ take result other.now }
 {
     let most = one.len().min(other.len());
     let mut at = 0;
     while at < most && one[at].same(&other[at]) {
         at += 1;
     }
-    if at < most && one[at].choice.same(&other[at].choice) {
-        one[at].past.min(other[at].past)
-    } else {
-        made(&one[..at])
+    at
+}
+
+/// How many choices of both are alike.
+fn common(one: &[Stretch], other: &[Stretch]) -> usize
+    requires one { AreStretches 0 one.now }
+    requires other { AreStretches 0 other.now }
+    ensures { result ≡ common (choices_from 0 one.now) (choices_from 0 other.now) }
+{
+    let at = alike(one, other);
+    let mut past = made(&one[..at]);
+    let (mut left, mut right) = (&one[at..], &other[at..]);
+    while begin_alike(left, right) {
+        past = left[0].past.min(right[0].past);
+        left = behind(left, past);
+        right = behind(right, past);
+    }
+    past
+}
+
+/// Whether both go on by the same choice.
+fn begin_alike(one: &[Stretch], other: &[Stretch]) -> bool
+    ensures { IsTrue result ↔ BeginAlike one.now other.now }
+{
+    match (one, other) {
+        ([first, ..], [second, ..]) => first.choice.same(&second.choice),
+        _ => false,
     }
 }
 

@@ -1,8 +1,9 @@
 //! Stretches of equal choices in a row.
 
-ghost use Rattle.std.specs.Prelude.{◌≡◌, ℕ, ◌+◌, ◌^◌, ◌<◌, ◌≤◌, ◌↔◌, ◌++◌, drop, length, replicate, take, IsTrue, MatchBool, OnOk, OnErr};
+ghost use Rattle.std.specs.Prelude.{◌≡◌, ◌+◌, ◌-◌, ◌^◌, ◌<◌, ◌≤◌, ◌++◌, ℕ, length, replicate, slice_get, take, IfOk, OnOk, OnErr};
+ghost use Rattle.std.specs.List.{swap};
 ghost use Rattle.std.specs.Vec.{vec_capacity};
-ghost use Rattle.bx_plan.specs.Stretches.{choices_from, exchanged_at, made_before, runs_from, AreStretches, Meet, IsOverBy, StandAlone};
+ghost use Rattle.bx_plan.specs.Stretches.{behind, choices_from, made_before, AreStretches, IsOverBy};
 
 use bx_share::Same;
 use bx_world::Choice;
@@ -41,18 +42,30 @@ pub(super) fn over_by(stretches: &[Stretch], position: usize) -> usize
     stretches.partition_point(|stretch| stretch.past <= position)
 }
 
+/// Those that are not over at a position on the first of them.
+pub(super) fn behind(stretches: &[Stretch], position: usize) -> &[Stretch]
+    requires { 0 < length stretches.now }
+    ensures { result.now ≡ behind position stretches.now }
+{
+    if stretches[0].past <= position {
+        &stretches[1..]
+    } else {
+        stretches
+    }
+}
+
 /// Adds a stretch: the last one is longer, where it is of the same choice.
 pub(super) fn join(stretches: &mut Vec<Stretch>, stretch: Stretch) -> Result<(), AllocError>
-    requires joined { AreStretches 0 stretches.old.items }
+    requires rising { AreStretches 0 stretches.old.items }
     requires some { length (choices_from 0 stretches.old.items) < stretch.past }
-    ensures joined { OnOk result (AreStretches 0 stretches.new.items) }
+    ensures rising { OnOk result (AreStretches 0 stretches.new.items) }
     ensures longer { OnOk result ((times : ℕ) → length (choices_from 0 stretches.old.items) + times ≡ stretch.past →
         choices_from 0 stretches.new.items ≡ choices_from 0 stretches.old.items ++ replicate times stretch.choice) }
     ensures err { OnErr result (stretches.new.items ≡ stretches.old.items) }
 {
     let count = stretches.len();
     if count > 0 && stretches[count - 1].choice.same(&stretch.choice) {
-        stretches[count - 1].past = stretch.past;
+        stretches[count - 1] = stretch;
         return Ok(());
     }
     stretches.push(stretch)?;
@@ -62,7 +75,7 @@ pub(super) fn join(stretches: &mut Vec<Stretch>, stretch: Stretch) -> Result<(),
 /// Leaves the first so many choices.
 pub(super) fn cut(stretches: &mut Vec<Stretch>, count: usize)
     requires { AreStretches 0 stretches.old.items }
-    ensures joined { AreStretches 0 stretches.new.items }
+    ensures rising { AreStretches 0 stretches.new.items }
     ensures choices { choices_from 0 stretches.new.items ≡ take count (choices_from 0 stretches.old.items) }
     ensures fewer { length stretches.new.items ≤ length stretches.old.items }
     ensures room { vec_capacity stretches.new ≡ vec_capacity stretches.old }
@@ -75,111 +88,106 @@ pub(super) fn cut(stretches: &mut Vec<Stretch>, count: usize)
         return;
     }
     let last = over_by(stretches, count - 1);
-    stretches.truncate(last + 1);
-    stretches[last].past = count;
+    let choice = stretches[last].choice;
+    stretches.truncate(last);
+    stretches.push_reserved(Stretch {
+        choice,
+        past: count,
+    });
 }
 
-/// Lets so many choices more be made before them.
-pub(super) fn put_off(stretches: &mut Vec<Stretch>, more: usize)
-    requires joined { AreStretches 0 stretches.old.items }
-    requires few { length (choices_from 0 stretches.old.items) + more < 2 ^ 64 }
-    ensures { runs_from more stretches.new.items ≡ runs_from 0 stretches.old.items }
+/// Puts stretches behind so many choices, for which there is room.
+pub(super) fn chain(stretches: &mut Vec<Stretch>, count: usize, behind: &[Stretch])
+    requires rising { AreStretches 0 stretches.old.items }
+    requires count { count ≡ length (choices_from 0 stretches.old.items) }
+    requires behind { AreStretches 0 behind.now }
+    requires room { length stretches.old.items + length behind.now ≤ vec_capacity stretches.old }
+    requires few { count + length (choices_from 0 behind.now) < 2 ^ 64 }
+    ensures rising { AreStretches 0 stretches.new.items }
+    ensures choices { choices_from 0 stretches.new.items ≡ choices_from 0 stretches.old.items ++ choices_from 0 behind.now }
 {
-    for stretch in stretches.iter_mut() {
-        stretch.past += more;
+    for stretch in behind {
+        stretches.push_reserved(Stretch {
+            choice: stretch.choice,
+            past: count + stretch.past,
+        });
     }
 }
 
-/// Whether the last of some is of the same choice as the first of others.
-pub(super) fn meet(stretches: &[Stretch], behind: &[Stretch]) -> bool
-    ensures { MatchBool result (Meet stretches.now behind.now) (Meet stretches.now behind.now → ⊥) }
+/// Joins the stretch of that number and the one before it, where both are of one choice.
+pub(super) fn merge(stretches: &mut Vec<Stretch>, at: usize)
+    requires { AreStretches 0 stretches.old.items }
+    ensures rising { AreStretches 0 stretches.new.items }
+    ensures choices { choices_from 0 stretches.new.items ≡ choices_from 0 stretches.old.items }
 {
-    match behind.first() {
-        Some(next) => match stretches.last() {
-            Some(last) => last.choice.same(&next.choice),
-            None => false,
-        },
-        None => false,
+    if at > 0 && at < stretches.len() && stretches[at - 1].choice.same(&stretches[at].choice) {
+        stretches.remove(at - 1);
     }
 }
 
-/// Puts stretches behind others, for which there is room: the last of these goes on in the first of those, where both are of one choice.
-pub(super) fn chain(stretches: &mut Vec<Stretch>, behind: Vec<Stretch>)
-    requires joined { AreStretches 0 stretches.old.items }
-    requires behind { AreStretches (length (choices_from 0 stretches.old.items)) behind.items }
-    requires room { length stretches.old.items + length behind.items ≤ vec_capacity stretches.old }
-    ensures joined { AreStretches 0 stretches.new.items }
-    ensures choices { choices_from 0 stretches.new.items ≡ choices_from 0 stretches.old.items ++
-        choices_from (length (choices_from 0 stretches.old.items)) behind.items }
-{
-    if meet(stretches, &behind) {
-        stretches.pop();
-    }
-    for stretch in &behind {
-        stretches.push_reserved(*stretch);
-    }
-}
-
-/// Whether the stretch of that number and the one behind it make one choice each, and are not of the choice that stands before both
-/// or behind both.
-pub(super) fn stand_alone(stretches: &[Stretch], at: usize) -> bool
-    requires joined { AreStretches 0 stretches.now }
-    requires within { at ≤ length stretches.now }
-    ensures { IsTrue result ↔ StandAlone stretches.now at }
-{
-    let (before, rest) = stretches.split_at(at);
-    let [first, second, behind @ ..] = rest else {
-        return false;
-    };
-    if second.past - made(before) != 2 {
-        return false;
-    }
-    if meet(before, &rest[1..]) {
-        return false;
-    }
-    !meet(&rest[..1], behind)
-}
-
-/// Exchanges the choice of the stretch of that number and of the one behind it.
-pub(super) fn exchange(stretches: &mut Vec<Stretch>, at: usize)
-    requires { at + 1 < length stretches.old.items }
-    ensures { stretches.new.items ≡ exchanged_at at stretches.old.items }
-{
-    let choice = stretches[at].choice;
-    stretches[at].choice = stretches[at + 1].choice;
-    stretches[at + 1].choice = choice;
-}
-
-/// Puts others in the place of the stretch of that number and of the one behind it, as many choices as these make. Where a neighbour is
-/// of the same choice, it and the one next to it are one.
-pub(super) fn put_between(
+/// Lets the stretch of that number be over at a position on it. It takes memory where it is over later.
+pub(super) fn part_at(
     stretches: &mut Vec<Stretch>,
     at: usize,
-    others: Vec<Stretch>,
+    position: usize,
 ) -> Result<(), AllocError>
-    requires joined { AreStretches 0 stretches.old.items }
-    requires within { at + 1 < length stretches.old.items }
-    requires others { AreStretches (made_before at stretches.old.items) others.items }
-    requires as_many { made_before at stretches.old.items +
-        length (choices_from (made_before at stretches.old.items) others.items) ≡
-        made_before (at + 2) stretches.old.items }
-    ensures joined { OnOk result (AreStretches 0 stretches.new.items) }
-    ensures choices { OnOk result (choices_from 0 stretches.new.items ≡
-        choices_from 0 (take at stretches.old.items) ++
-        (choices_from (made_before at stretches.old.items) others.items ++
-        choices_from (made_before (at + 2) stretches.old.items) (drop (at + 2) stretches.old.items))) }
-    ensures err { OnErr result (stretches.new.items ≡ stretches.old.items) }
+    requires rising { AreStretches 0 stretches.old.items }
+    requires begin { made_before at stretches.old.items < position }
+    requires end { position ≤ made_before (at + 1) stretches.old.items }
+    ensures rising { AreStretches 0 stretches.new.items }
+    ensures choices { choices_from 0 stretches.new.items ≡ choices_from 0 stretches.old.items }
+    ensures front { take at stretches.new.items ≡ take at stretches.old.items }
+    ensures over { OnOk result (made_before (at + 1) stretches.new.items ≡ position) }
+    ensures err { OnErr result (slice_get (choices_from 0 stretches.old.items) (position - 1) ≡ slice_get (choices_from 0 stretches.old.items) position) }
 {
-    let past = at + 2;
-    let first = if meet(&stretches[..at], &others) {
-        at - 1
-    } else {
-        at
-    };
-    let mut middle = others;
-    if meet(&middle, &stretches[past..]) {
-        middle.pop();
+    let Stretch { choice, past } = stretches[at];
+    if position < past {
+        stretches.insert(
+            at,
+            Stretch {
+                choice,
+                past: position,
+            },
+        )?;
     }
-    stretches.splice(first..past, middle)?;
     Ok(())
+}
+
+/// The number of the stretch that begins at a position. It takes memory where one is parted there.
+pub(super) fn begin(stretches: &mut Vec<Stretch>, position: usize) -> Result<usize, AllocError>
+    requires rising { AreStretches 0 stretches.old.items }
+    requires within { position < length (choices_from 0 stretches.old.items) }
+    ensures rising { AreStretches 0 stretches.new.items }
+    ensures choices { choices_from 0 stretches.new.items ≡ choices_from 0 stretches.old.items }
+    ensures begin { IfOk result (λ at. made_before at stretches.new.items ≡ position) }
+    ensures some { OnErr result (0 < position) }
+    ensures err { OnErr result (slice_get (choices_from 0 stretches.old.items) (position - 1) ≡ slice_get (choices_from 0 stretches.old.items) position) }
+{
+    let at = over_by(stretches, position);
+    if made(&stretches[..at]) == position {
+        return Ok(at);
+    }
+    part_at(stretches, at, position)?;
+    Ok(at + 1)
+}
+
+/// Exchanges the choice of the stretch of that number and of the one behind it, which make one choice each.
+pub(super) fn exchange(stretches: &mut Vec<Stretch>, at: usize)
+    requires rising { AreStretches 0 stretches.old.items }
+    requires first { made_before (at + 1) stretches.old.items ≡ made_before at stretches.old.items + 1 }
+    requires second { made_before (at + 2) stretches.old.items ≡ made_before at stretches.old.items + 2 }
+    ensures rising { AreStretches 0 stretches.new.items }
+    ensures choices { choices_from 0 stretches.new.items ≡
+        swap (choices_from 0 stretches.old.items) (made_before at stretches.old.items) (made_before at stretches.old.items + 1) }
+{
+    let first = stretches[at];
+    let second = stretches[at + 1];
+    stretches[at] = Stretch {
+        choice: second.choice,
+        past: first.past,
+    };
+    stretches[at + 1] = Stretch {
+        choice: first.choice,
+        past: second.past,
+    };
 }

@@ -6,7 +6,7 @@ use Rattle.bx_plan.specs.Gathered.{placed, row_at}
 use Rattle.bx_plan.specs.Growing.{Grown}
 use Rattle.bx_plan.specs.Plans.{choices_of}
 use Rattle.bx_plan.specs.View.{lines_view}
-use Rattle.bx_plan.proofs.Counting.{common_short, line_choices, taken_alike}
+use Rattle.bx_plan.proofs.Commons.{common_short, taken_alike}
 use Rattle.bx_plan.proofs.Cutting.{cuts_over, cuts_within, next_cut, no_cuts, NextCut}
 use Rattle.bx_plan.proofs.Growing.{begin_cut, end_cut, grown_more, inside_cut}
 use Rattle.bx_plan.proofs.chains.Chains.add_row.Goals as goal
@@ -47,8 +47,7 @@ returns-clause-grown c =
     let rows = c.args.rows.now in
     let k = c.args.place in
     let is = c.loop-first.invariant in
-    let long : c.len-length.result ≡ length (placed (choices_of plan) rows k) = c.len-length.ensures.count ∙ sym (ap length (line_choices c.args.lines.now (row_at rows k).line c.index-lines-line.result (c.requires.rows.within k c.requires.place))) in
-    let whole : c.loop-first.first ≡ length (placed (choices_of plan) rows k) = omega (arith, long, c.loop-first-test.false, cuts_within (choices_of plan) rows c.requires.rows k c.loop-first.first is.steps is.are) in
+    let whole : c.loop-first.first ≡ length (placed (choices_of plan) rows k) = omega (arith, c.length_at-length.ensures, c.loop-first-test.false, cuts_within (choices_of plan) rows c.requires.rows k c.loop-first.first is.steps is.are) in
     subst (λ n. Grown plan rows k n c.loop-first.self) whole is.grown
 
 pub returns-clause-cuts : goal.returns-clause-cuts
@@ -57,8 +56,7 @@ returns-clause-cuts c =
     let rows = c.args.rows.now in
     let k = c.args.place in
     let is = c.loop-first.invariant in
-    let long : c.len-length.result ≡ length (placed (choices_of plan) rows k) = c.len-length.ensures.count ∙ sym (ap length (line_choices c.args.lines.now (row_at rows k).line c.index-lines-line.result (c.requires.rows.within k c.requires.place))) in
-    subst (AllCuts (choices_of plan) rows (length rows - k - 1) (k + 1)) (sym (is.order ∙ cuts_over (choices_of plan) rows c.requires.rows k c.loop-first.first is.steps is.rest is.are (omega (arith, long, c.loop-first-test.false)))) is.others
+    subst (AllCuts (choices_of plan) rows (length rows - k - 1) (k + 1)) (sym (is.order ∙ cuts_over (choices_of plan) rows c.requires.rows k c.loop-first.first is.steps is.rest is.are (omega (arith, c.length_at-length.ensures, c.loop-first-test.false)))) is.others
 
 zero_or : (n : ℕ) → (0 < n → ⊥) → n ≡ 0
 zero_or zero h = refl
@@ -72,8 +70,7 @@ unreachable-requires c =
     let at = c.loop-first in
     let is = at.invariant in
     let none : length at.cuts.items ≡ 0 = zero_or (length at.cuts.items) (λ h. let some = c.in_default.ensures.variant.1 (omega (arith, h, at.cuts.ok.0)) in cc) in
-    let long : c.len-length.result ≡ length (placed (choices_of plan) rows k) = c.len-length.ensures.count ∙ sym (ap length (line_choices c.args.lines.now (row_at rows k).line c.index-lines-line.result (c.requires.rows.within k c.requires.place))) in
-    omega (arith, c.loop-first-test.true, long, no_cuts (choices_of plan) rows c.requires.rows k at.first is.steps is.rest (reverse at.cuts.items) is.are is.order (length-reverse at.cuts.items ∙ none))
+    omega (arith, c.loop-first-test.true, c.length_at-length.ensures, no_cuts (choices_of plan) rows c.requires.rows k at.first is.steps is.rest (reverse at.cuts.items) is.are is.order (length-reverse at.cuts.items ∙ none))
 
 pub loop-first-smaller : goal.loop-first-smaller
 loop-first-smaller c =
@@ -84,11 +81,10 @@ loop-first-smaller c =
     let is = at.invariant in
     let past = c.in-Some.past in
     let left = reverse c.pop.new.self.items in
-    let long : c.len-length.result ≡ length (placed (choices_of plan) rows k) = c.len-length.ensures.count ∙ sym (ap length (line_choices c.args.lines.now (row_at rows k).line c.index-lines-line.result (c.requires.rows.within k c.requires.place))) in
     let order : past ∷ left ≡ is.steps ++ is.rest = sym (ap reverse c.in-Some.ensures.items ∙ reverse-append c.pop.new.self.items (past ∷ [])) ∙ is.order in
-    let next : NextCut (choices_of plan) rows c.requires.rows k at.first past is.rest left = next_cut (choices_of plan) rows c.requires.rows k at.first past is.steps is.rest left (omega (arith, long, c.loop-first-test.true)) is.are order in
+    let next : NextCut (choices_of plan) rows c.requires.rows k at.first past is.rest left = next_cut (choices_of plan) rows c.requires.rows k at.first past is.steps is.rest left (omega (arith, c.length_at-length.ensures, c.loop-first-test.true)) is.are order in
     let within : past ≤ length (placed (choices_of plan) rows k) = cuts_within (choices_of plan) rows c.requires.rows k past next.3 next.4 in
-    let less : c.len-length.result - past < c.len-length.result - at.first = omega (arith, long, within, next.0, c.loop-first-test.true) in
+    let less : c.length_at-length.result - past < c.length_at-length.result - at.first = omega (arith, c.length_at-length.ensures, within, next.0, c.loop-first-test.true) in
     less
 
 pub loop-first-preserved : goal.loop-first-preserved
@@ -100,9 +96,8 @@ loop-first-preserved c =
     let is = at.invariant in
     let past = c.in-Some.past in
     let left = reverse c.pop.new.self.items in
-    let long : c.len-length.result ≡ length (placed (choices_of plan) rows k) = c.len-length.ensures.count ∙ sym (ap length (line_choices c.args.lines.now (row_at rows k).line c.index-lines-line.result (c.requires.rows.within k c.requires.place))) in
     let order : past ∷ left ≡ is.steps ++ is.rest = sym (ap reverse c.in-Some.ensures.items ∙ reverse-append c.pop.new.self.items (past ∷ [])) ∙ is.order in
-    let next : NextCut (choices_of plan) rows c.requires.rows k at.first past is.rest left = next_cut (choices_of plan) rows c.requires.rows k at.first past is.steps is.rest left (omega (arith, long, c.loop-first-test.true)) is.are order in
+    let next : NextCut (choices_of plan) rows c.requires.rows k at.first past is.rest left = next_cut (choices_of plan) rows c.requires.rows k at.first past is.steps is.rest left (omega (arith, c.length_at-length.ensures, c.loop-first-test.true)) is.are order in
     let within : past ≤ length (placed (choices_of plan) rows k) = cuts_within (choices_of plan) rows c.requires.rows k past next.3 next.4 in
     let end = end_cut plan rows c.requires.rows k past c.requires.place next.1 in
     let more =

@@ -5,7 +5,7 @@ use Rattle.bx_plan.specs.Gathered.{common_before, placed, row_at}
 use Rattle.bx_plan.specs.Growing.{Grown}
 use Rattle.bx_plan.specs.Plans.{choices_of}
 use Rattle.bx_plan.specs.View.{lines_view}
-use Rattle.bx_plan.proofs.Counting.{common_short, line_choices, taken_alike}
+use Rattle.bx_plan.proofs.Commons.{common_short, taken_alike}
 use Rattle.bx_plan.proofs.Growing.{end_cut, grown_row}
 use Rattle.bx_plan.proofs.chains.Chains.end_row.Goals as goal
 
@@ -16,8 +16,7 @@ up_to-chain-requires-clause-within c =
     let all = c.args.self.now in
     omega (
       arith,
-      c.len-length.ensures.count,
-      ap length (line_choices c.args.lines.now (row_at c.args.rows.now c.args.place).line c.index-lines-line.result (c.requires.rows.within c.args.place c.requires.place)),
+      c.length_at.ensures,
       c.requires.grown.last,
       (common_short (chain_path plan all (length all.heads - 1)) here).0,
     )
@@ -27,8 +26,8 @@ up_to-chain-requires-clause-cut c =
     let plan = lines_view c.args.lines.now in
     let here = placed (choices_of plan) c.args.rows.now c.args.place in
     let all = c.args.self.now in
-    let long : c.len-length.result ≡ length here = c.len-length.ensures.count ∙ sym (ap length (line_choices c.args.lines.now (row_at c.args.rows.now c.args.place).line c.index-lines-line.result (c.requires.rows.within c.args.place c.requires.place))) in
-    subst (IsCut (choices_of plan)) (sym (taken_alike (chain_path plan all (length all.heads - 1)) here c.len-length.result (omega (arith, long, c.requires.grown.last)))) (end_cut plan c.args.rows.now c.requires.rows c.args.place c.len-length.result c.requires.place (inl long))
+    let long = c.length_at.ensures in
+    subst (IsCut (choices_of plan)) (sym (taken_alike (chain_path plan all (length all.heads - 1)) here c.length_at.result (omega (arith, long, c.requires.grown.last)))) (end_cut plan c.args.rows.now c.requires.rows c.args.place c.length_at.result c.requires.place (inl long))
 
 pub returns : goal.returns
 returns c =
@@ -36,7 +35,7 @@ returns c =
     let rows = c.args.rows.now in
     let here = placed (choices_of plan) rows c.args.place in
     let all = c.args.self.now in
-    let long : c.len-length.result ≡ length here = c.len-length.ensures.count ∙ sym (ap length (line_choices c.args.lines.now (row_at rows c.args.place).line c.index-lines-line.result (c.requires.rows.within c.args.place c.requires.place))) in
+    let long = c.length_at.ensures in
     let path : chain_path plan all c.up_to-chain.result ≡ here =
-    c.up_to-chain.ensures.path ∙ taken_alike (chain_path plan all (length all.heads - 1)) here c.len-length.result (omega (arith, long, c.requires.grown.last)) ∙ take_all c.len-length.result here (omega (arith, long)) in
+    c.up_to-chain.ensures.path ∙ taken_alike (chain_path plan all (length all.heads - 1)) here c.length_at.result (omega (arith, long, c.requires.grown.last)) ∙ take_all c.length_at.result here (omega (arith, long)) in
     subst (Grown plan rows (c.args.place + 1) (common_before (choices_of plan) rows (c.args.place + 1))) (sym c.note.ensures) (grown_row plan rows c.requires.rows c.args.place all c.up_to-chain.result c.requires.place c.requires.grown c.up_to-chain.ensures.there path)

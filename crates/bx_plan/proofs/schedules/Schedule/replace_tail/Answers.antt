@@ -1,15 +1,20 @@
-use Rattle.std.proofs.Common.{true, false, ◌≡◌, List, length, sym, ap, ◌∙◌, arith}
-use Rattle.bx_plan.specs.declared.schedules.Run.{Run}
-use Rattle.bx_plan.specs.Stretches.{choices_from}
-use Rattle.bx_plan.proofs.Stretching.{length-runs_from, none_there, on_err}
+use Rattle.std.proofs.Common.{true, false, ◌≡◌, List, [], ◌∷◌, length, replicate, Result, Ok, Err, refl, ap, ◌∙◌, ◌-◌, arith, length-append}
+use Rattle.std.specs.Prelude.{OnErr}
+use Rattle.std.proofs.lemmas.List.{length-replicate}
+use Rattle.bx_plan.specs.declared.schedules.stretches.Stretch.{Stretch}
+use Rattle.bx_plan.specs.Stretches.{choices_from, AreStretches}
 use Rattle.bx_plan.proofs.schedules.Schedule.replace_tail.Goals as goal
 
+none_there : (ss : List Stretch) → AreStretches 0 ss → length (choices_from 0 ss) ≡ 0 → length ss ≡ 0
+none_there [] j e = refl
+none_there (s ∷ ss) j e = absurd (omega (arith, j.0, e, length-append (replicate (s.past - 0) s.choice) (choices_from s.past ss), length-replicate (s.past - 0) s.choice))
+
+on_err : {A E P : Type 0} (r : Result A E) → P → OnErr r P
+on_err (Ok a) p = tt
+on_err (Err e) p = p
+
 pub chain-requires-clause-room : goal.chain-requires-clause-room
-chain-requires-clause-room c =
-    let behind = c.tail.inside.stretches.items in
-    let same : length c.put_off.new.stretches.items ≡ length behind =
-    sym (length-runs_from c.args.count c.put_off.new.stretches.items) ∙ ap (λ (rs : List Run). length rs) c.put_off.ensures ∙ length-runs_from 0 behind in
-    omega (arith, same, c.cut.ensures.fewer, c.cut.ensures.room, ap length c.in_ok-reserve.ensures.items, c.in_ok-reserve.ensures.ok, c.len.ensures, c.tail.inside.stretches.ok.0, c.reserve.new.self.ok.0, c.self.inside.stretches.ok.0)
+chain-requires-clause-room c = omega (arith, c.cut.ensures.fewer, c.cut.ensures.room, c.deref.ensures.len, ap length c.in_ok-reserve.ensures.items, c.in_ok-reserve.ensures.ok, c.len.ensures, c.tail.inside.stretches.ok.0, c.reserve.new.self.ok.0, c.self.inside.stretches.ok.0)
 
 pub returns-in_err-reserve-clause-err : goal.returns-in_err-reserve-clause-err
 returns-in_err-reserve-clause-err c = on_err c.from_residual.result (

@@ -1,12 +1,19 @@
-use Rattle.std.proofs.Common.{refl, sym, arith}
-use Rattle.bx_plan.proofs.Looking.{fronts_long, same_fronts}
+use Rattle.std.proofs.Common.{◌≡◌, length, take, sym, ap, ◌∙◌, arith}
+use Rattle.std.proofs.lemmas.Bool.{eqb-true, le-leb, leb-true}
+use Rattle.std.proofs.lemmas.List.{length-take-le}
+use Rattle.bx_plan.proofs.Commons.{common_long, taken_alike}
 use Rattle.bx_plan.proofs.schedules.Schedule.same_front.Goals as goal
 
 pub returns-then-past-upto : goal.returns-then-past-upto
-returns-then-past-upto c = (λ t. cc, λ e. absurd (c.if-past-upto.true (fronts_long c.args.self.now c.args.other.now c.args.past c.args.upto c.requires.past c.requires.upto e).0))
+returns-then-past-upto c =
+    let same : c.args.past ≡ c.args.upto = omega arith in
+    let other = ap (λ n. take n c.args.other.now) same in (
+      λ t. taken_alike c.args.self.now c.args.other.now c.args.past (omega (arith, leb-true c.args.past c.common.result t)) ∙ other,
+      λ e. le-leb c.args.past c.common.result (omega (arith, common_long c.args.self.now c.args.other.now c.args.past c.requires.past (omega (arith, same)) (e ∙ sym other))),
+    )
 
-pub returns-then-common-past : goal.returns-then-common-past
-returns-then-common-past c = (λ t. cc, λ e. let both = fronts_long c.args.self.now c.args.other.now c.args.past c.args.upto c.requires.past c.requires.upto e in absurd (omega (arith, both.1, c.if-common-past.true, c.common-common.ensures)))
-
-pub returns : goal.returns
-returns c = (λ t. same_fronts c.args.self.now c.args.other.now c.args.past c.args.upto (omega arith) (omega (arith, c.if-common-past.false, c.common-common.ensures)), λ e. refl)
+pub returns-else-past-upto : goal.returns-else-past-upto
+returns-else-past-upto c = (
+  λ t. absurd (omega (arith, eqb-true c.args.past c.args.upto t)),
+  λ e. absurd (omega (arith, ap length e, length-take-le c.args.past c.args.self.now c.requires.past, length-take-le c.args.upto c.args.other.now c.requires.upto)),
+)

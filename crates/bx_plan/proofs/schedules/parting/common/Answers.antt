@@ -1,25 +1,31 @@
-use Rattle.std.proofs.Common.{◌≡◌, ◌≢◌, ◌<◌, length, get_or, arith}
+use Rattle.std.proofs.Common.{◌-◌, ◌<◌, List, sym, subst, arith}
 use Rattle.std.proofs.lemmas.Bool.{both_ways}
-use Rattle.bx_plan.proofs.Parting.{met_at, parted_at}
-use Rattle.bx_plan.proofs.Stretching.{no_stretch, sides_at}
-use Rattle.bx_plan.proofs.schedules.parting.common.Goals.{then-loop-at-test+else-same, else-loop-at-test, else-at-most-via-then-at-most+else-same-2, else-at-most-via-else-at-most}
+use Rattle.std.proofs.lemmas.List.{take_rest}
+use Rattle.bx_plan.specs.declared.schedules.stretches.Stretch.{Stretch}
+use Rattle.bx_plan.specs.Stretches.{behind, choices_from}
+use Rattle.bx_plan.proofs.Commons.{common_short}
+use Rattle.bx_plan.proofs.Parting.{walked_all, walked_first, walked_on, Walked}
+use Rattle.bx_plan.proofs.Stretching.{sides}
 use Rattle.bx_plan.proofs.schedules.parting.common.Goals as goal
 
-pub made-requires : goal.made-requires
-made-requires c = (sides_at c.args.one.now _ c.requires.one).0
+pub made-past-requires : goal.made-past-requires
+made-past-requires c = (sides c.args.one.now c.requires.one c.alike-at.result).0
 
-pub returns-then-same-2 : goal.returns-then-same-2
-returns-then-same-2 c =
-    let apart : get_or c.args.one.now c.loop-at.at no_stretch ≢ get_or c.args.other.now c.loop-at.at no_stretch =
-    elim c.loop-at-test.branch [ then-loop-at-test+else-same w ↦ λ e. both_ways _ w.if-same.false (w.same.ensures.1 e) | else-loop-at-test w ↦ λ e. absurd (omega arith) ] in
-    met_at c.args.one.now c.args.other.now c.loop-at.at c.requires.one c.requires.other c.loop-at.invariant.alike no_stretch c.min.result (omega arith) (omega arith)
-    (c.same-then-at-most.ensures.0 c.if-same-2.true) apart c.min.ensures
+pub loop-past-init : goal.loop-past-init
+loop-past-init c =
+    let at = c.alike-at.result in
+    rw (take_rest c.args.one.now at, take_rest c.args.other.now at) (walked_first c.args.one.now c.args.other.now at c.made-past.result c.requires.one c.requires.other c.alike-at.ensures.same c.made-past.ensures)
 
-pub returns-else-at-most : goal.returns-else-at-most
-returns-else-at-most c =
-    let apart : c.loop-at.at < length c.args.one.now → c.loop-at.at < length c.args.other.now → (get_or c.args.one.now c.loop-at.at no_stretch).choice ≢ (get_or c.args.other.now c.loop-at.at no_stretch).choice =
-    elim c.else-at-most.branch [
-      | else-at-most-via-then-at-most+else-same-2 w ↦ λ h l e. both_ways _ w.if-same-2.false (w.same-then-at-most.ensures.1 e)
-      | else-at-most-via-else-at-most w ↦ λ h l e. absurd (omega arith)
-    ] in
-    parted_at c.args.one.now c.args.other.now c.loop-at.at c.requires.one c.requires.other c.loop-at.invariant.alike no_stretch c.made.result (omega arith) (omega arith) apart c.made.ensures
+pub loop-past-smaller : goal.loop-past-smaller
+loop-past-smaller c =
+    let on = walked_on c.args.one.now c.args.other.now c.loop-past.past c.min-past.result c.loop-past.left.now c.loop-past.right.now c.loop-past.invariant (c.begin_alike.ensures.0 c.loop-past-test.true) c.min-past.ensures in
+    omega (arith, on.1, on.0.common, (common_short (choices_from 0 c.args.one.now) (choices_from 0 c.args.other.now)).0)
+
+pub loop-past-preserved : goal.loop-past-preserved
+loop-past-preserved c =
+    let on = walked_on c.args.one.now c.args.other.now c.loop-past.past c.min-past.result c.loop-past.left.now c.loop-past.right.now c.loop-past.invariant (c.begin_alike.ensures.0 c.loop-past-test.true) c.min-past.ensures in
+    subst (λ (xs : List Stretch). Walked c.args.one.now c.args.other.now c.min-past.result xs c.behind-right.result.now) (sym c.behind-left.ensures)
+    (subst (λ (ys : List Stretch). Walked c.args.one.now c.args.other.now c.min-past.result (behind c.min-past.result c.loop-past.left.now) ys) (sym c.behind-right.ensures) on.0)
+
+pub returns : goal.returns
+returns c = walked_all c.args.one.now c.args.other.now c.loop-past.past c.loop-past.left.now c.loop-past.right.now c.loop-past.invariant (λ alike. both_ways _ c.loop-past-test.false (c.begin_alike.ensures.1 alike))

@@ -1,8 +1,10 @@
-use Rattle.std.proofs.Common.{◌-◌, ◌≡◌, ◌≤◌, take}
+use Rattle.std.proofs.Common.{◌-◌, length}
+use Rattle.bx_plan.specs.Stretches.{choices_from}
+use Rattle.bx_plan.proofs.Parting.{Walked}
 use Rattle.bx_plan.proofs.schedules.parting.common.Given as goal
 
-abbrev pub invariant-loop-at : goal.invariant-loop-at
-invariant-loop-at l = record { within : l.at ≤ l.most; alike : take l.at l.one ≡ take l.at l.other }
+abbrev pub invariant-loop-past : goal.invariant-loop-past
+invariant-loop-past l = Walked l.fn.one l.fn.other l.past l.left l.right
 
-abbrev pub decreases-loop-at : goal.decreases-loop-at
-decreases-loop-at l = l.most - l.at
+abbrev pub decreases-loop-past : goal.decreases-loop-past
+decreases-loop-past l = length (choices_from 0 l.fn.one) - l.past

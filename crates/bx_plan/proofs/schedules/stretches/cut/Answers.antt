@@ -1,26 +1,27 @@
-use Rattle.std.proofs.Common.{◌-◌, ◌<◌, List, length, ap, subst, arith}
+use Rattle.std.proofs.Common.{◌≡◌, ◌-◌, ◌+◌, ◌++◌, ◌∷◌, [], ◌<◌, List, length, get_or, take, sym, ap, subst, ◌∙◌, arith}
+use Rattle.std.proofs.lemmas.List.{get_or_default}
 use Rattle.bx_plan.specs.declared.schedules.stretches.Stretch.{Stretch}
-use Rattle.bx_plan.specs.Stretches.{choices_from, IsOverBy}
-use Rattle.bx_plan.proofs.Stretching.{cut_there, cut_to}
+use Rattle.bx_plan.specs.Stretches.{choices_from, made_before, IsOverBy}
+use Rattle.bx_plan.proofs.Edits.{cut_at, Makes}
+use Rattle.bx_plan.proofs.Stretching.{next, no_stretch, there}
+use Rattle.bx_plan.proofs.schedules.stretches.cut.Goals.{After-push_reserved}
 use Rattle.bx_plan.proofs.schedules.stretches.cut.Goals as goal
 
-pub index_mut-requires : goal.index_mut-requires
-index_mut-requires c =
+whole : (c : After-push_reserved) → Makes c.push_reserved.new.self.items (take c.args.count (choices_from 0 c.args.stretches.now.items))
+whole c =
     let ss = c.args.stretches.now.items in
-    let over : IsOverBy ss (c.args.count - 1) c.over_by-last.result = subst (λ (xs : List Stretch). IsOverBy xs (c.args.count - 1) c.over_by-last.result) c.deref-2.ensures.value c.over_by-last.ensures in
+    let last = c.over_by-last.result in
+    let over : IsOverBy ss (c.args.count - 1) last = subst (λ (xs : List Stretch). IsOverBy xs (c.args.count - 1) last) c.deref-2.ensures.value c.over_by-last.ensures in
     let short : c.args.count < length (choices_from 0 ss) = omega (arith, c.if-count-made.false, c.made.ensures, ap (λ (xs : List Stretch). length (choices_from 0 xs)) c.deref.ensures.value) in
-    omega (arith, cut_there ss c.truncate.new.self.items c.over_by-last.result c.args.count c.requires (omega (arith, c.if-count-eq0.false)) short over c.truncate.ensures.items, c.truncate.new.self.ok.0)
+    let here : last < length ss = there ss c.requires last (omega (arith, short, over.begin)) in
+    let is = c.index.ensures ∙ get_or_default ss last c.index.result.now no_stretch here in
+    let all = c.push_reserved.ensures.items ∙ ap (λ (xs : List Stretch). xs ++ record { choice = c.index.result.now.choice; past = c.args.count } ∷ []) c.truncate.ensures.items
+    ∙ ap (λ (s : Stretch). take last ss ++ record { choice = s.choice; past = c.args.count } ∷ []) is in
+    subst (λ (xs : List Stretch). Makes xs (take c.args.count (choices_from 0 ss))) (sym all)
+    (cut_at ss c.requires last here c.args.count (omega (arith, over.begin, c.if-count-eq0.false)) (omega (arith, over.next here, next ss c.requires last here, c.if-count-eq0.false)))
 
-pub returns-clause-joined : goal.returns-clause-joined
-returns-clause-joined c =
-    let ss = c.args.stretches.now.items in
-    let over : IsOverBy ss (c.args.count - 1) c.over_by-last.result = subst (λ (xs : List Stretch). IsOverBy xs (c.args.count - 1) c.over_by-last.result) c.deref-2.ensures.value c.over_by-last.ensures in
-    let short : c.args.count < length (choices_from 0 ss) = omega (arith, c.if-count-made.false, c.made.ensures, ap (λ (xs : List Stretch). length (choices_from 0 xs)) c.deref.ensures.value) in
-    (cut_to ss c.truncate.new.self.items c.over_by-last.result c.args.count c.index_mut.result.now c.requires (omega (arith, c.if-count-eq0.false)) short over c.truncate.ensures.items c.index_mut.ensures.value).0
+pub returns-clause-rising : goal.returns-clause-rising
+returns-clause-rising c = (whole c).0
 
 pub returns-clause-choices : goal.returns-clause-choices
-returns-clause-choices c =
-    let ss = c.args.stretches.now.items in
-    let over : IsOverBy ss (c.args.count - 1) c.over_by-last.result = subst (λ (xs : List Stretch). IsOverBy xs (c.args.count - 1) c.over_by-last.result) c.deref-2.ensures.value c.over_by-last.ensures in
-    let short : c.args.count < length (choices_from 0 ss) = omega (arith, c.if-count-made.false, c.made.ensures, ap (λ (xs : List Stretch). length (choices_from 0 xs)) c.deref.ensures.value) in
-    (cut_to ss c.truncate.new.self.items c.over_by-last.result c.args.count c.index_mut.result.now c.requires (omega (arith, c.if-count-eq0.false)) short over c.truncate.ensures.items c.index_mut.ensures.value).1
+returns-clause-choices c = (whole c).1

@@ -1,23 +1,21 @@
-use Rattle.std.proofs.Common.{◌≡◌, ◌+◌, ◌<◌, length, get_or, suc, set, sym, ap, ◌∙◌, arith}
-use Rattle.std.proofs.lemmas.List.{get_or_default, get_or-set_other}
+use Rattle.std.proofs.Common.{◌≡◌, ◌+◌, ◌<◌, List, length, get_or, set, sym, ap, subst, ◌∙◌, arith}
+use Rattle.std.proofs.lemmas.List.{get_or_default}
 use Rattle.bx_plan.specs.declared.schedules.stretches.Stretch.{Stretch}
-use Rattle.bx_plan.proofs.Stretching.{set_turned, no_stretch}
+use Rattle.bx_plan.specs.Stretches.{choices_from, made_before, AreStretches}
+use Rattle.bx_plan.proofs.Edits.{exchanged}
+use Rattle.bx_plan.proofs.Stretching.{next, no_stretch, there, within}
 use Rattle.bx_plan.proofs.schedules.stretches.exchange.Goals as goal
 
 pub returns : goal.returns
 returns c =
     let ss = c.args.stretches.now.items in
-    let at = c.args.at in
-    let place : at + 1 ≡ suc at = omega arith in
-    let here : at < length ss = omega (arith, c.requires) in
-    let a : c.index.result.now ≡ get_or ss at no_stretch = c.index.ensures ∙ get_or_default ss at _ _ here in
-    let b : c.index-2.result.now ≡ get_or ss (at + 1) no_stretch = c.index-2.ensures ∙ get_or_default ss (at + 1) _ _ c.requires in
-    let first : c.index_mut.result.now ≡ get_or ss at no_stretch = c.index_mut.ensures.value ∙ get_or_default ss at _ _ here in
-    let second : c.index_mut-2.result.now ≡ get_or ss (at + 1) no_stretch =
-    c.index_mut-2.ensures.value ∙ get_or-set_other ss at (at + 1) _ _ (omega arith) ∙ get_or_default ss (at + 1) _ _ c.requires in
-    let a_past = ap (λ (s : Stretch). s.past) (first ∙ sym a) in
-    let b_past = ap (λ (s : Stretch). s.past) (second ∙ sym b) in
-    ap (λ n. set (set ss at (record { choice = c.index-2.result.now.choice; past = n })) (at + 1) (record { choice = c.index.result.now.choice; past = c.index_mut-2.result.now.past })) a_past
-    ∙ ap (λ n. set (set ss at (record { choice = c.index-2.result.now.choice; past = c.index.result.now.past })) (at + 1) (record { choice = c.index.result.now.choice; past = n })) b_past
-    ∙ ap (λ i. set (set ss at (record { choice = c.index-2.result.now.choice; past = c.index.result.now.past })) i (record { choice = c.index.result.now.choice; past = c.index-2.result.now.past })) place
-    ∙ set_turned at ss c.index.result.now c.index-2.result.now no_stretch c.requires a (b ∙ ap (λ i. get_or ss i no_stretch) place)
+    let n = c.args.at in
+    let j = c.requires.rising in
+    let here : n + 1 < length ss = there ss j (n + 1) (omega (arith, c.requires.first, c.requires.second, within ss j (n + 2))) in
+    let two : n + 1 + 1 ≡ n + 2 = omega arith in
+    let one = c.index-first.ensures ∙ get_or_default ss n c.index-first.result.now no_stretch (omega (arith, here)) in
+    let other = c.index-second.ensures ∙ get_or_default ss (n + 1) c.index-second.result.now no_stretch here in
+    let both = exchanged ss n j here (omega (arith, next ss j n (omega (arith, here)), c.requires.first)) (omega (arith, next ss j (n + 1) here, c.requires.second, ap (λ i. made_before i ss) two)) in
+    let edit = ap (λ (s : Stretch). set (set ss n (record { choice = c.index-second.result.now.choice; past = s.past })) (n + 1) (record { choice = s.choice; past = c.index-second.result.now.past })) one
+    ∙ ap (λ (s : Stretch). set (set ss n (record { choice = s.choice; past = (get_or ss n no_stretch).past })) (n + 1) (record { choice = (get_or ss n no_stretch).choice; past = s.past })) other in
+    record { rising = subst (AreStretches 0) (sym edit) both.0; choices = ap (choices_from 0) edit ∙ both.1 }

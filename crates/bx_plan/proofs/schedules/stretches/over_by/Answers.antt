@@ -1,11 +1,11 @@
 use Rattle.std.proofs.Common.{rules, leb}
 use Rattle.std.proofs.lemmas.List.Sorted.{IsPartitionPoint-from_clause, IsPartitionedBy-leb}
 use Rattle.bx_plan.specs.declared.schedules.stretches.Stretch.{Stretch}
-use Rattle.bx_plan.proofs.Stretching.{pasts_rise, halved}
+use Rattle.bx_plan.proofs.Stretching.{halved, rising}
 use Rattle.bx_plan.proofs.schedules.stretches.over_by.Goals as goal
 
 pub returns : goal.returns
 returns c =
-    let parted = IsPartitionedBy-leb (λ (s : Stretch). s.past) c.args.stretches.now c.args.position (pasts_rise 0 c.args.stretches.now c.requires) in
-    halved c.args.stretches.now c.args.position c.partition_point.result c.partition_point.ensures.bound
+    let parted = IsPartitionedBy-leb (λ (s : Stretch). s.past) c.args.stretches.now c.args.position (rising c.args.stretches.now c.requires) in
+    halved c.args.stretches.now c.requires c.args.position c.partition_point.result c.partition_point.ensures.bound
     (IsPartitionPoint-from_clause (λ (s : Stretch). leb s.past c.args.position) _ _ c.partition_point.ensures.partitioned parted (λ a r q k. search rules))

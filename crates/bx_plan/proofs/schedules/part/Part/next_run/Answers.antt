@@ -1,16 +1,27 @@
-use Rattle.std.proofs.Common.{get_or, refl, sym, ◌∙◌, arith}
-use Rattle.bx_plan.proofs.Stretching.{no_stretch, next_part, rest_of}
+use Rattle.std.proofs.Common.{◌≡◌, ◌+◌, ◌++◌, List, [], ◌∷◌, None, replicate, refl, sym, ap, subst, ◌∙◌, arith, append_assoc}
+use Rattle.std.specs.List.{slice_get}
+use Rattle.std.proofs.lemmas.List.{replicate-append-replicate}
+use Rattle.bx_world.specs.declared.choices.Choice.{Choice}
+use Rattle.bx_plan.specs.Runs.{NextRun}
 use Rattle.bx_plan.proofs.schedules.part.Part.next_run.Goals as goal
 
-pub invariant_of-self : goal.invariant_of-self
-invariant_of-self c =
-    let ss = c.self.inside.stretches.now in
-    (next_part ss c.self.inside.first c.self.inside.past c.min-past.result (get_or ss 0 no_stretch) no_stretch _ c.self.invariant c.if-self.false
-    (λ h. omega (arith, h, c.min-past.ensures)) (λ h. omega (arith, h, c.min-past.ensures)) refl (rest_of 1 ss)).0
+none_left : (cs : List Choice) → slice_get cs 0 ≡ None → cs ≡ []
+none_left [] e = refl
+none_left (c ∷ cs) e = cc
 
-pub returns : goal.returns
-returns c =
-    let ss = c.self.inside.stretches.now in
-    let next = next_part ss c.self.inside.first c.self.inside.past c.min-past.result (get_or ss 0 no_stretch) no_stretch _ c.self.invariant c.if-self.false
-    (λ h. omega (arith, h, c.min-past.ensures)) (λ h. omega (arith, h, c.min-past.ensures)) refl (rest_of 1 ss) in
-    (next.1.0, sym c.self.view_is ∙ next.1.1, next.1.2)
+pub returns-in_err-choice : goal.returns-in_err-choice
+returns-in_err-choice c =
+    let none = none_left c.args.self.now (sym c.first.ensures ∙ c.in_err-choice.was) in
+    subst (NextRun c.args.self.now c.args.self.now) (sym c.from_residual.ensures) (none, none)
+
+pub loop-self-preserved : goal.loop-self-preserved
+loop-self-preserved c =
+    let so_far = c.loop-self.invariant in
+    let on = c.skip-in-loop-self.ensures in
+    let choice = c.in_ok-choice.choice in
+    let left = c.skip-in-loop-self.new.self in (
+      so_far.0 + on.0,
+      omega (arith, on.1),
+      so_far.2 ∙ ap (λ (cs : List Choice). replicate so_far.0 choice ++ cs) on.2 ∙ sym (append_assoc (replicate so_far.0 choice) (replicate on.0 choice) left)
+          ∙ ap (λ (cs : List Choice). cs ++ left) (replicate-append-replicate so_far.0 on.0 choice),
+    )

@@ -1,0 +1,87 @@
+-- How many choices two schedules begin with alike.
+use Rattle.std.proofs.Common.{◌≡◌, ◌≢◌, ◌⊎◌, inl, inr, ℕ, zero, suc, ◌+◌, ◌<◌, ◌≤◌, Bool, true, false, List, [], ◌∷◌, ◌++◌, length, take, refl, sym, ap, ◌∙◌, arith, Decides, length-append}
+use Rattle.std.specs.Prelude.{nat_eq}
+use Rattle.std.proofs.lemmas.Bool.{and_from, and_parts, cases_Bool, cond_both, cond-false, cond-true, eqb-true, eq-eqb, false_from_ne_true}
+use Rattle.std.proofs.lemmas.List.{length-take-le, take_all, take_at}
+use Rattle.bx_world.specs.declared.choices.Choice.{Choice}
+use Rattle.bx_world.specs.declared.choices.Choice.TheVariants.{Run, Deliver, Expire}
+use Rattle.bx_plan.specs.Gathered.{common}
+use Rattle.bx_plan.specs.Nodes.{choice_eq}
+
+pub choice_decides : (a b : Choice) → Decides (choice_eq a b) (a ≡ b)
+choice_decides (Run p) (Run q) = (λ h. ap (λ n. Run n) (eqb-true p q h), λ e. let same : p ≡ q = cc in eq-eqb p q same)
+choice_decides (Deliver p q) (Deliver r s) = (
+  λ h. let parts = and_parts (nat_eq p r) (nat_eq q s) h in ap (λ n. Deliver n q) (eqb-true p r parts.0) ∙ ap (λ n. Deliver r n) (eqb-true q s parts.1),
+  λ e. let first : p ≡ r = cc in let second : q ≡ s = cc in and_from (nat_eq p r) (nat_eq q s) (eq-eqb p r first) (eq-eqb q s second),
+)
+choice_decides (Expire p) (Expire q) = (λ h. ap (λ n. Expire n) (eqb-true p q h), λ e. let same : p ≡ q = cc in eq-eqb p q same)
+choice_decides (Run p) (Deliver r s) = (λ h. cc, λ e. cc)
+choice_decides (Run p) (Expire r) = (λ h. cc, λ e. cc)
+choice_decides (Deliver p q) (Run r) = (λ h. cc, λ e. cc)
+choice_decides (Deliver p q) (Expire r) = (λ h. cc, λ e. cc)
+choice_decides (Expire p) (Run r) = (λ h. cc, λ e. cc)
+choice_decides (Expire p) (Deliver r s) = (λ h. cc, λ e. cc)
+
+-- two choices are the same, or not
+pub same_or_not : (x y : Choice) → (x ≡ y) ⊎ (x ≢ y)
+same_or_not x y = one (cases_Bool (choice_eq x y)) where
+  one : (choice_eq x y ≡ true) ⊎ (choice_eq x y ≡ false) → (x ≡ y) ⊎ (x ≢ y)
+  one (inl t) = inl ((choice_decides x y).0 t)
+  one (inr f) = inr (λ e. let t = (choice_decides x y).1 e in cc)
+
+pub common_here : (x y : Choice) (xs ys : List Choice) → x ≡ y → common (x ∷ xs) (y ∷ ys) ≡ suc (common xs ys)
+common_here x y xs ys e = cond-true (choice_eq x y) (suc (common xs ys)) 0 ((choice_decides x y).1 e)
+
+pub common_apart : (x y : Choice) (xs ys : List Choice) → x ≢ y → common (x ∷ xs) (y ∷ ys) ≡ 0
+common_apart x y xs ys n = cond-false (choice_eq x y) (suc (common xs ys)) 0 (false_from_ne_true (choice_eq x y) (λ t. n ((choice_decides x y).0 t)))
+
+pub common_short : (a b : List Choice) → (common a b ≤ length a) × (common a b ≤ length b)
+common_short [] b = (omega arith, omega arith)
+common_short (x ∷ xs) [] = (omega arith, omega arith)
+common_short (x ∷ xs) (y ∷ ys) =
+    let rest = common_short xs ys in
+    cond_both (choice_eq x y) (suc (common xs ys)) 0 (λ n. (n ≤ suc (length xs)) × (n ≤ suc (length ys))) (λ t. (omega (arith, rest.0), omega (arith, rest.1))) (λ f. (omega arith, omega arith))
+
+pub taken_alike : (a b : List Choice) (n : ℕ) → n ≤ common a b → take n a ≡ take n b
+taken_alike a b zero h = refl
+taken_alike [] b (suc n) h = absurd (omega (arith, h))
+taken_alike (x ∷ xs) [] (suc n) h = absurd (omega (arith, h))
+taken_alike (x ∷ xs) (y ∷ ys) (suc n) h =
+    let rest = taken_alike xs ys n in
+    cond_both (choice_eq x y) (suc (common xs ys)) 0 (λ k. suc n ≤ k → take (suc n) (x ∷ xs) ≡ take (suc n) (y ∷ ys))
+    (λ t l. ap (λ c. c ∷ take n xs) ((choice_decides x y).0 t) ∙ ap (λ cs. y ∷ cs) (rest (omega (arith, l)))) (λ f l. absurd (omega (arith, l))) h
+
+pub common_long : (a b : List Choice) (n : ℕ) → n ≤ length a → n ≤ length b → take n a ≡ take n b → n ≤ common a b
+common_long a b zero h l e = omega arith
+common_long [] b (suc n) h l e = absurd (omega (arith, h))
+common_long (x ∷ xs) [] (suc n) h l e = absurd (omega (arith, l))
+common_long (x ∷ xs) (y ∷ ys) (suc n) h l e =
+    let first : x ≡ y = cc in
+    let rest : take n xs ≡ take n ys = cc in
+    omega (arith, common_here x y xs ys first, common_long xs ys n (omega (arith, h)) (omega (arith, l)) rest)
+
+pub common_same : (a : List Choice) → common a a ≡ length a
+common_same a = omega (arith, common_long a a (length a) (omega arith) (omega arith) refl, (common_short a a).0)
+
+pub common_turned : (a b : List Choice) → common a b ≡ common b a
+common_turned a b = omega (arith, up a b, up b a) where
+  up : (a b : List Choice) → common a b ≤ common b a
+  up a b = common_long b a (common a b) (common_short a b).1 (common_short a b).0 (sym (taken_alike a b (common a b) (omega arith)))
+
+-- two that begin alike as a third does
+pub common_least : (a b c : List Choice) (n : ℕ) → n ≤ common a b → n ≤ common b c → n ≤ common a c
+common_least a b c n h k = common_long a c n (omega (arith, h, (common_short a b).0)) (omega (arith, k, (common_short b c).1)) (taken_alike a b n h ∙ taken_alike b c n k)
+
+-- one that begins with so many of another's choices
+pub begins_common : (a b rest : List Choice) (n : ℕ) → n ≤ length b → a ≡ take n b ++ rest → n ≤ common a b
+begins_common a b rest n h e =
+    let long = length-take-le n b h in
+    common_long a b n (omega (arith, ap length e, length-append (take n b) rest, long)) h (ap (take n) e ∙ take_at (take n b) rest n long)
+
+pub common_append : (front xs ys : List Choice) → common (front ++ xs) (front ++ ys) ≡ length front + common xs ys
+common_append [] xs ys = omega arith
+common_append (c ∷ front) xs ys = omega (arith, common_here c c (front ++ xs) (front ++ ys) refl, common_append front xs ys)
+
+-- all of both is alike
+pub all_alike : (a b : List Choice) → length a ≡ length b → length a ≡ common a b → a ≡ b
+all_alike a b e f = sym (take_all (length a) a (omega arith)) ∙ taken_alike a b (length a) (omega (arith, f)) ∙ take_all (length a) b (omega (arith, e))

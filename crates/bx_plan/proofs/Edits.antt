@@ -1,0 +1,179 @@
+-- Stretches in a row that is edited: one more behind them, a part of them, one that is parted or joined with the next, and two whose choices are exchanged.
+use Rattle.std.proofs.Common.{◌≡◌, ℕ, zero, suc, ◌+◌, ◌-◌, ◌<◌, ◌≤◌, List, [], ◌∷◌, ◌++◌, length, map, get_or, set, take, drop, replicate, refl, sym, ap, subst, ◌∙◌, arith, length-append, append_assoc}
+use Rattle.std.specs.List.{slice_get, insert, swap}
+use Rattle.std.proofs.lemmas.List.{append-nil, drop_all, drop-set-lt, length_push, length-set, length-take-le, set_split, take_all, take_at, take_more, take_more_set, take-append-drop}
+use Rattle.std.proofs.lemmas.List.Edits.{swap_is}
+use Rattle.bx_world.specs.declared.choices.Choice.{Choice}
+use Rattle.bx_plan.specs.declared.schedules.stretches.Stretch.{Stretch}
+use Rattle.bx_plan.specs.Stretches.{choices_from, made_before, AreStretches}
+use Rattle.bx_plan.proofs.Stretching.{absorbed, at, choices_append, count_end, end_of, ends, found, joined, long, next, no_stretch, parted, rest, sides, split, taken, within}
+
+-- these stretches make these choices
+abbrev pub Makes : List Stretch → List Choice → Type 0
+Makes after cs = AreStretches 0 after × (choices_from 0 after ≡ cs)
+
+abbrev pub Longer : List Stretch → Stretch → List Stretch → Type 0
+Longer ss s after = AreStretches 0 after × ((times : ℕ) → length (choices_from 0 ss) + times ≡ s.past → choices_from 0 after ≡ choices_from 0 ss ++ replicate times s.choice)
+
+module _ (ss : List Stretch) (j : AreStretches 0 ss) where
+  -- ---- one stretch more
+
+  module _ (s : Stretch) (some : length (choices_from 0 ss) < s.past) where
+    -- behind the last
+    pub further : Longer ss s (ss ++ s ∷ [])
+    further = (
+      joined 0 ss (s ∷ []) j (omega (arith, some, count_end 0 ss j), tt),
+      λ times h.
+          let count : s.past - end_of 0 ss ≡ times = omega (arith, h, count_end 0 ss j) in
+          choices_append 0 ss (s ∷ []) ∙ ap (λ cs. choices_from 0 ss ++ cs) (append-nil (replicate (s.past - end_of 0 ss) s.choice) ∙ ap (λ n. replicate n s.choice) count),
+    )
+
+    -- in the place of the last, which is of the same choice
+    pub longer : (last : ℕ) → last + 1 ≡ length ss → (get_or ss last no_stretch).choice ≡ s.choice → Longer ss s (set ss last s)
+    longer last e same = (
+      subst (AreStretches 0) (sym after) (joined 0 (take last ss) (s ∷ []) (sides ss j last).0 (omega (arith, ends ss j last, within ss j last, some), tt)),
+      λ times h.
+          ap (choices_from 0) after
+          ∙ sym (absorbed 0 (take last ss) r s [] same (omega (arith, ends ss j last, (rest ss j last here).0)) (omega (arith, next ss j last here, within ss j (last + 1), some)))
+          ∙ ap (choices_from 0) (sym (append_assoc (take last ss) (r ∷ []) (s ∷ []))) ∙ ap (λ (xs : List Stretch). choices_from 0 (xs ++ s ∷ [])) (sym all) ∙ further.1 times h,
+    ) where
+      r : Stretch
+      r = get_or ss last no_stretch
+
+      here : last < length ss
+      here = omega (arith, e)
+
+      all : ss ≡ take last ss ++ get_or ss last no_stretch ∷ []
+      all = sym (take_all (last + 1) ss (omega (arith, e))) ∙ take_more ss last no_stretch here
+
+      after : set ss last s ≡ take last ss ++ s ∷ []
+      after = set_split ss last s here ∙ ap (λ (xs : List Stretch). take last ss ++ s ∷ xs) (drop_all (suc last) ss (omega (arith, e)))
+
+  -- ---- at one of them
+
+  module _ (n : ℕ) (h : n < length ss) where
+    abbrev s : Stretch
+    s = get_or ss n no_stretch
+
+    -- cut off at a position on it
+    pub cut_at : (p : ℕ) → made_before n ss < p → p ≤ s.past → Makes (take n ss ++ record { choice = s.choice; past = p } ∷ []) (take p (choices_from 0 ss))
+    cut_at p from to = (
+      joined 0 (take n ss) (record { choice = s.choice; past = p } ∷ []) (sides ss j n).0 (omega (arith, from, ends ss j n), tt),
+      taken ss j n h p (omega (arith, from)) to,
+    )
+
+    -- parted at a position on it
+    pub parted_at : (p : ℕ) → made_before n ss < p → p < s.past → Makes (insert ss n (record { choice = s.choice; past = p })) (choices_from 0 ss)
+    parted_at p from to = rw (at ss j n h) (
+      joined 0 (take n ss) (record { choice = s.choice; past = p } ∷ s ∷ drop (n + 1) ss) (sides ss j n).0 (omega (arith, from, ends ss j n), (to, (rest ss j n h).1)),
+      parted ss j n h p (omega (arith, from)) (omega (arith, to)),
+    )
+
+    pub over_at : (p : ℕ) → made_before n ss < p → p < s.past → made_before (n + 1) (insert ss n (record { choice = s.choice; past = p })) ≡ p
+    over_at p from to =
+        let x : Stretch = record { choice = s.choice; past = p } in
+        let front = ap (take (n + 1)) (sym (append_assoc (take n ss) (x ∷ []) (drop n ss))) ∙ take_at (take n ss ++ x ∷ []) (drop n ss) (n + 1) (omega (arith, length_push (take n ss) x, length-take-le n ss (omega (arith, h)))) in
+        ap (λ (xs : List Stretch). length (choices_from 0 xs)) front ∙ long ss j n h p (omega (arith, from)) (omega (arith, to))
+
+    -- both choices at such a position are its own
+    pub same_there : (p : ℕ) → made_before n ss < p → p < s.past → slice_get (choices_from 0 ss) (p - 1) ≡ slice_get (choices_from 0 ss) p
+    same_there p from to = found ss j n h (p - 1) (omega (arith, from)) (omega (arith, to)) ∙ sym (found ss j n h p (omega (arith, from)) to)
+
+    -- joined with the next, which is of the same choice
+    pub merged : n + 1 < length ss → s.choice ≡ (get_or ss (n + 1) no_stretch).choice → Makes (take n ss ++ drop (n + 1) ss) (choices_from 0 ss)
+    merged l same =
+        let y = get_or ss (n + 1) no_stretch in
+        let below = rest ss j n h in
+        let above = rest ss j (n + 1) l in
+        let here = next ss j n h in
+        rw (at ss j (n + 1) l) (
+          joined 0 (take n ss) (y ∷ drop (n + 1 + 1) ss) (sides ss j n).0 (omega (arith, below.0, above.0, here, ends ss j n), above.1),
+          sym (absorbed 0 (take n ss) s y (drop (n + 1 + 1) ss) same (omega (arith, below.0, ends ss j n)) (omega (arith, above.0, here)))
+              ∙ ap (λ (xs : List Stretch). choices_from 0 (take n ss ++ s ∷ xs)) (sym (at ss j (n + 1) l)) ∙ ap (λ (xs : List Stretch). choices_from 0 (take n ss ++ xs)) (sym (at ss j n h)) ∙ ap (choices_from 0) (take-append-drop n ss),
+        )
+
+-- ---- two exchanged
+
+swap_there : (front : List Choice) (p q : ℕ) (a b : Choice) (more : List Choice) → p ≡ length front → q ≡ suc p → swap (front ++ a ∷ b ∷ more) p q ≡ front ++ b ∷ a ∷ more
+swap_there [] p q a b more e f = ap (λ i. swap (a ∷ b ∷ more) i q) e ∙ ap (λ i. swap (a ∷ b ∷ more) 0 i) (f ∙ ap suc e)
+swap_there (c ∷ front) zero q a b more e f = absurd (omega (arith, e))
+swap_there (c ∷ front) (suc p) zero a b more e f = absurd (omega (arith, f))
+swap_there (c ∷ front) (suc p) (suc q) a b more e f =
+    let long = length-append front (a ∷ b ∷ more) in
+    ap (λ cs. c ∷ cs) (swap_is (front ++ a ∷ b ∷ more) p q c (omega (arith, e, long)) (omega (arith, e, f, long)) ∙ swap_there front p q a b more (omega (arith, e)) (omega (arith, f)))
+
+-- two single stretches in a row
+singles : (m : ℕ) (x y : Stretch) (more : List Stretch) → x.past ≡ m + 1 → y.past ≡ m + 2 → choices_from m (x ∷ y ∷ more) ≡ x.choice ∷ y.choice ∷ choices_from y.past more
+singles m x y more e f =
+    let one : x.past - m ≡ 1 = omega (arith, e) in
+    let two : y.past - x.past ≡ 1 = omega (arith, e, f) in
+    ap (λ n. replicate n x.choice ++ (replicate (y.past - x.past) y.choice ++ choices_from y.past more)) one ∙ ap (λ n. x.choice ∷ (replicate n y.choice ++ choices_from y.past more)) two
+
+set_two : (i : ℕ) (ss : List Stretch) (x y : Stretch) → i + 1 < length ss → set (set ss i x) (i + 1) y ≡ take i ss ++ x ∷ y ∷ drop (i + 2) ss
+set_two i ss x y h =
+    let two : suc (i + 1) ≡ i + 2 = omega arith in
+    set_split (set ss i x) (i + 1) y (omega (arith, h, length-set ss i x))
+    ∙ ap (λ (xs : List Stretch). xs ++ y ∷ drop (suc (i + 1)) (set ss i x)) (take_more_set ss i x (omega (arith, h)))
+    ∙ ap (λ (xs : List Stretch). (take i ss ++ x ∷ []) ++ y ∷ xs) (drop-set-lt (suc (i + 1)) ss i x (omega arith) ∙ ap (λ n. drop n ss) two)
+    ∙ append_assoc (take i ss) (x ∷ []) (y ∷ drop (i + 2) ss)
+
+pub exchanged : (ss : List Stretch) (n : ℕ) → AreStretches 0 ss → n + 1 < length ss → (get_or ss n no_stretch).past ≡ made_before n ss + 1 → (get_or ss (n + 1) no_stretch).past ≡ made_before n ss + 2
+    → Makes (set (set ss n (record { choice = (get_or ss (n + 1) no_stretch).choice; past = (get_or ss n no_stretch).past })) (n + 1) (record { choice = (get_or ss n no_stretch).choice; past = (get_or ss (n + 1) no_stretch).past }))
+    (swap (choices_from 0 ss) (made_before n ss) (made_before n ss + 1))
+exchanged ss n j h one two = (
+  subst (AreStretches 0) (sym edit) (joined 0 (take n ss) (x ∷ y ∷ more) (sides ss j n).0 (omega (arith, one, ends ss j n), (omega (arith, one, two), subst (λ i. AreStretches b.past (drop i ss)) place (rest ss j (n + 1) h).1))),
+  ap (choices_from 0) edit ∙ choices_append 0 (take n ss) (x ∷ y ∷ more)
+      ∙ ap (λ cs. front ++ cs) (singles (end_of 0 (take n ss)) x y more (omega (arith, one, ends ss j n)) (omega (arith, two, ends ss j n)))
+      ∙ sym (swap_there front (made_before n ss) (made_before n ss + 1) a.choice b.choice (choices_from b.past more) refl (omega arith))
+      ∙ ap (λ cs. swap cs (made_before n ss) (made_before n ss + 1)) (sym before),
+) where
+  a : Stretch
+  a = get_or ss n no_stretch
+
+  b : Stretch
+  b = get_or ss (n + 1) no_stretch
+
+  more : List Stretch
+  more = drop (n + 2) ss
+
+  front : List Choice
+  front = choices_from 0 (take n ss)
+
+  x : Stretch
+  x = record { choice = (get_or ss (n + 1) no_stretch).choice; past = (get_or ss n no_stretch).past }
+
+  y : Stretch
+  y = record { choice = (get_or ss n no_stretch).choice; past = (get_or ss (n + 1) no_stretch).past }
+
+  edit : set (set ss n x) (n + 1) y ≡ take n ss ++ x ∷ y ∷ more
+  edit = set_two n ss x y h
+
+  place : n + 1 + 1 ≡ n + 2
+  place = omega arith
+
+  row : drop n ss ≡ a ∷ b ∷ more
+  row = at ss j n (omega (arith, h)) ∙ ap (λ (xs : List Stretch). a ∷ xs) (at ss j (n + 1) h ∙ ap (λ i. b ∷ drop i ss) place)
+
+  before : choices_from 0 ss ≡ front ++ a.choice ∷ b.choice ∷ choices_from b.past more
+  before = split ss j n ∙ ap (λ (xs : List Stretch). front ++ choices_from (made_before n ss) xs) row ∙ ap (λ cs. front ++ cs) (singles (made_before n ss) a b more one two)
+
+-- ---- put off
+
+abbrev pub put_later : ℕ → Stretch → Stretch
+put_later more s = record { choice = s.choice; past = s.past + more }
+
+pub later : (m n more : ℕ) (ss : List Stretch) → n ≡ m + more → AreStretches m ss → AreStretches n (map (put_later more) ss) × (choices_from n (map (put_later more) ss) ≡ choices_from m ss)
+later m n more [] e j = (tt, refl)
+later m n more (s ∷ ss) e j =
+    let rest = later s.past (s.past + more) more ss refl j.1 in
+    let times : s.past + more - n ≡ s.past - m = omega (arith, e) in
+    ((omega (arith, e, j.0), rest.0), ap (λ t. replicate t s.choice ++ choices_from (s.past + more) (map (put_later more) ss)) times ∙ ap (λ cs. replicate (s.past - m) s.choice ++ cs) rest.1)
+
+-- those behind so many choices
+pub chained : (ss behind after : List Stretch) (count : ℕ) → AreStretches 0 ss → AreStretches 0 behind → count ≡ length (choices_from 0 ss) → after ≡ ss ++ map (put_later count) behind → Makes after (choices_from 0 ss ++ choices_from 0 behind)
+chained ss behind after count j k e f =
+    let end : count ≡ end_of 0 ss = omega (arith, e, count_end 0 ss j) in
+    let all = later 0 (end_of 0 ss) count behind (omega (arith, end)) k in (
+      subst (AreStretches 0) (sym f) (joined 0 ss (map (put_later count) behind) j all.0),
+      ap (choices_from 0) f ∙ choices_append 0 ss (map (put_later count) behind) ∙ ap (λ cs. choices_from 0 ss ++ cs) all.1,
+    )

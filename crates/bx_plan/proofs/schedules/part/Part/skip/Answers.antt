@@ -1,0 +1,20 @@
+use Rattle.std.proofs.Common.{◌-◌, ◌++◌, List, replicate, take, sym, ap, subst, ◌∙◌}
+use Rattle.std.specs.List.{slice_get}
+use Rattle.bx_world.specs.declared.choices.Choice.{Choice}
+use Rattle.bx_plan.specs.declared.schedules.stretches.Stretch.{Stretch}
+use Rattle.bx_plan.specs.Stretches.{choices_from, IsPart}
+use Rattle.bx_plan.proofs.Stretching.{skipped}
+use Rattle.bx_plan.proofs.schedules.part.Part.skip.Goals as goal
+
+pub invariant_of-self : goal.invariant_of-self
+invariant_of-self c =
+    let first = ap (λ (cs : List Choice). slice_get cs 0) c.self.view_is ∙ c.requires in
+    let both = skipped c.self.inside.stretches.now c.self.inside.first c.self.inside.past c.min-self-inside.result c.args.choice c.self.invariant first c.min-self-inside.ensures in
+    subst (λ (xs : List Stretch). IsPart xs c.min-self-inside.result c.self.inside.past) (sym c.behind-self-inside.ensures) both.0
+
+pub returns : goal.returns
+returns c =
+    let until = c.min-self-inside.result in
+    let first = ap (λ (cs : List Choice). slice_get cs 0) c.self.view_is ∙ c.requires in
+    let on = (skipped c.self.inside.stretches.now c.self.inside.first c.self.inside.past until c.args.choice c.self.invariant first c.min-self-inside.ensures).1 in
+    (on.0, on.1, sym c.self.view_is ∙ on.2 ∙ ap (λ (xs : List Stretch). replicate on.0 c.args.choice ++ take (c.self.inside.past - until) (choices_from until xs)) (sym c.behind-self-inside.ensures))
