@@ -14,7 +14,6 @@ use Rattle.bx_plan.specs.Chains.{AreChains, Chained, above, chain_count, is_kid,
 use Rattle.bx_plan.proofs.Times.{below_or_past, both_true, mid_false, not_eq}
 use Rattle.bx_board.specs.declared.slots.Slot.{Slot}
 use Rattle.bx_board.specs.declared.slots.Slot.TheVariants.{Waiting, Leased, Done}
-use Rattle.bx_board.specs.declared.slots.Event.{Event}
 use Rattle.bx_board.specs.Jobs.{Entry, Job, end_of, origin, work_of, world_or_none}
 use Rattle.bx_board.specs.Machine.{standing, is_waiting, is_leased, is_done, is_free, is_held, how_many, initial}
 use Rattle.bx_board.specs.Alone.{IsIdle}
@@ -84,17 +83,15 @@ module _ (job : Job) (are : AreChains job.plan job.chains) where
   }
 
   -- the fields of a book that was just opened
-  pub opened : (slots : List Slot) (events : List Event) (ready : List ℕ) (holders : BTreeMap ℕ ℕ) → holders.entries ≡ [] → slots ≡ (initial job).slots → events ≡ [] → ready ≡ kids job.chains 0
-      → IsTended (kept_view job.image job.start job.plan job.chains slots false events) ready holders 0 1
-  opened slots events ready holders none e g f =
-      let P : List Slot → List Event → List ℕ → Type 0 = λ xs es row. IsTended (kept_view job.image job.start job.plan job.chains xs false es) row holders 0 1 in
-      subst (λ xs. P xs events ready) (sym e) (subst (λ es. P (initial job).slots es ready) (sym g) (subst (λ row. P (initial job).slots [] row) (sym f) (initial_tended holders none)))
+  pub opened : (slots : List Slot) (ready : List ℕ) (holders : BTreeMap ℕ ℕ) → holders.entries ≡ [] → slots ≡ (initial job).slots → ready ≡ kids job.chains 0
+      → IsTended (kept_view job.image job.start job.plan job.chains slots false) ready holders 0 1
+  opened slots ready holders none e f =
+      let P : List Slot → List ℕ → Type 0 = λ xs row. IsTended (kept_view job.image job.start job.plan job.chains xs false) row holders 0 1 in
+      subst (λ xs. P xs ready) (sym e) (subst (λ row. P (initial job).slots row) (sym f) (initial_tended holders none))
 
 -- nothing has happened to a book that was just opened
-pub begins_so : (job : Job) (slots : List Slot) (events : List Event) → slots ≡ (initial job).slots → events ≡ [] → kept_view job.image job.start job.plan job.chains slots false events ≡ begun_with job
-begins_so job slots events e f =
-    ap (λ xs. kept_view job.image job.start job.plan job.chains xs false events) e
-    ∙ ap (kept_view job.image job.start job.plan job.chains (initial job).slots false) f
+pub begins_so : (job : Job) (slots : List Slot) → slots ≡ (initial job).slots → kept_view job.image job.start job.plan job.chains slots false ≡ begun_with job
+begins_so job slots e = ap (λ xs. kept_view job.image job.start job.plan job.chains xs false) e
 
 -- the slots that were made are those of the start
 pub slots_so : (job : Job) (root : Ended) (count : ℕ) (slots : List Slot) → slots ≡ Done root ∷ replicate (count - 1) Waiting → root ≡ end_of (work_of job 0) → count ≡ length job.chains.heads → slots ≡ (initial job).slots

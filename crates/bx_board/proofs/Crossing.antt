@@ -12,7 +12,6 @@ use Rattle.bx_terms.proofs.atom_table.AtomId.TheSendSync as ids
 use Rattle.bx_load.proofs.Crossing.{image_sync}
 use Rattle.bx_plan.proofs.plans.Plan.TheSendSync as plans
 use Rattle.bx_plan.proofs.chains.Chains.TheSendSync as chains
-use Rattle.bx_board.proofs.slots.Event.TheSendSync as events
 use Rattle.bx_board.proofs.working.Crew.TheSendSync as crews
 
 -- how a chain stands may go to another thread, with the end of its run
@@ -21,4 +20,4 @@ slot_send =
     let a = process_send in let b = process_sync in let c = lanes_send in let d = lanes_sync in let e = term_send in let f = term_sync in
     search (holds.the_send, holds.the_sync, traps.the_send, traps.the_sync, choices.the_send, choices.the_sync, sendable, owned.crosses) depth 50 fits 20000
 
-pub ruleset crosses = (image_sync, slot_send, ids.the_send, plans.the_sync, chains.the_send, events.the_send, crews.the_sync)
+pub ruleset crosses = (image_sync, slot_send, ids.the_send, plans.the_sync, chains.the_send, crews.the_sync)

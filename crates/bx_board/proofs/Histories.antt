@@ -32,8 +32,7 @@ root_or_more (suc n) = inr (omega arith)
 pub initial_kept : (job : Job) → AreChains job.plan job.chains → IsKept (begun_with job)
 initial_kept job chains = record {
   chains = chains;
-  replayed = refl;
-  legal = tt;
+  history = ([], refl, tt);
   count = omega (arith, length-replicate {A = Slot} (chain_count job.chains - 1) Waiting, chains.forest.some);
   root = refl;
   born = λ n p h. let waits = ap is_waiting (initial_waits job n p) in cc;
@@ -50,9 +49,9 @@ initial_kept job chains = record {
 
 -- ---- as many pieces are accepted as chains are done
 
-pub record Counted (b : Kept) : Type 0 where
-  pub each : (n : ℕ) → 0 < n → accepted n b.events ≡ one_if (is_done (standing b.state n))
-  pub all : submitted b.events + 1 ≡ how_many (is_finished b.state) (length b.state.slots)
+pub record Counted (b : Kept) (events : List Event) : Type 0 where
+  pub each : (n : ℕ) → 0 < n → accepted n events ≡ one_if (is_done (standing b.state n))
+  pub all : submitted events + 1 ≡ how_many (is_finished b.state) (length b.state.slots)
 
 accepted-push : (n : ℕ) (es : List Event) (e : Event) → accepted n (es ++ e ∷ []) ≡ accepted n es + accepted_by n e
 accepted-push n [] e = omega arith
@@ -66,27 +65,27 @@ pub none_finished : (job : Job) (n : ℕ) → how_many (is_finished (initial job
 none_finished job zero = refl
 none_finished job (suc n) = omega (arith, none_finished job n, ap (λ x. one_if (is_done x)) (initial_waits job (suc n) (omega arith)))
 
-initial_counted : (job : Job) → Counted (begun_with job)
+initial_counted : (job : Job) → Counted (begun_with job) []
 initial_counted job = record {
   each = λ n p. sym (ap (λ x. one_if (is_done x)) (initial_waits job n p));
   all = sym (none_finished job (length (replicate (chain_count job.chains - 1) Waiting)));
 }
 
 -- a slot that isn't done changes to one that is, or isn't
-module _ (b : Kept) (so : Counted b) (n : ℕ) (x : Slot) (within : n < length b.state.slots) (unfinished : is_done (standing b.state n) ≡ false) (e : Event)
+module _ (b : Kept) (events : List Event) (so : Counted b events) (n : ℕ) (x : Slot) (within : n < length b.state.slots) (unfinished : is_done (standing b.state n) ≡ false) (e : Event)
     (by : (m : ℕ) → accepted_by m e ≡ one_if ((n == m) && is_done x)) (in_all : submitted_by e ≡ one_if (is_done x)) where
-  each_set : (m : ℕ) → 0 < m → accepted m (b.events ++ e ∷ []) ≡ one_if (is_done (standing (with_slot b.state n x) m))
+  each_set : (m : ℕ) → 0 < m → accepted m (events ++ e ∷ []) ≡ one_if (is_done (standing (with_slot b.state n x) m))
   each_set m p = one (cases_eq m n) where
-    one : (m ≡ n) ⊎ (m ≢ n) → accepted m (b.events ++ e ∷ []) ≡ one_if (is_done (standing (with_slot b.state n x) m))
-    one (inl f) = omega (arith, accepted-push m b.events e, so.each m p, by m, ap (λ t. one_if (t && is_done x)) (eq-eqb n m (sym f)), ap (λ i. one_if (is_done (standing b.state i))) f, ap one_if unfinished, ap (λ i. one_if (is_done (standing (with_slot b.state n x) i))) f, ap (λ y. one_if (is_done y)) (slot_set b.state n x within))
-    one (inr f) = omega (arith, accepted-push m b.events e, so.each m p, by m, ap (λ t. one_if (t && is_done x)) (not_eq n m (λ g. f (sym g))), ap (λ y. one_if (is_done y)) (slot_kept b.state n m x f))
+    one : (m ≡ n) ⊎ (m ≢ n) → accepted m (events ++ e ∷ []) ≡ one_if (is_done (standing (with_slot b.state n x) m))
+    one (inl f) = omega (arith, accepted-push m events e, so.each m p, by m, ap (λ t. one_if (t && is_done x)) (eq-eqb n m (sym f)), ap (λ i. one_if (is_done (standing b.state i))) f, ap one_if unfinished, ap (λ i. one_if (is_done (standing (with_slot b.state n x) i))) f, ap (λ y. one_if (is_done y)) (slot_set b.state n x within))
+    one (inr f) = omega (arith, accepted-push m events e, so.each m p, by m, ap (λ t. one_if (t && is_done x)) (not_eq n m (λ g. f (sym g))), ap (λ y. one_if (is_done y)) (slot_kept b.state n m x f))
 
-  all_set : submitted (b.events ++ e ∷ []) + 1 ≡ how_many (is_finished (with_slot b.state n x)) (length (with_slot b.state n x).slots)
+  all_set : submitted (events ++ e ∷ []) + 1 ≡ how_many (is_finished (with_slot b.state n x)) (length (with_slot b.state n x).slots)
   all_set =
       let but = how_many_but (is_finished b.state) (is_finished (with_slot b.state n x)) (length b.state.slots) n within (λ m f. sym (ap is_done (slot_kept b.state n m x f))) in
-      omega (arith, submitted-push b.events e, so.all, in_all, but, ap one_if unfinished, ap (λ y. one_if (is_done y)) (slot_set b.state n x within), ap (how_many (is_finished (with_slot b.state n x))) (length-set b.state.slots n x))
+      omega (arith, submitted-push events e, so.all, in_all, but, ap one_if unfinished, ap (λ y. one_if (is_done y)) (slot_set b.state n x within), ap (how_many (is_finished (with_slot b.state n x))) (length-set b.state.slots n x))
 
-  pub counted_set : Counted (record { job = b.job; state = with_slot b.state n x; events = b.events ++ e ∷ [] })
+  pub counted_set : Counted (record { job = b.job; state = with_slot b.state n x }) (events ++ e ∷ [])
   counted_set = record { each = each_set; all = all_set }
 
 and_no : (t : Bool) → 0 ≡ one_if (t && false)
@@ -97,17 +96,17 @@ and_yes : (t : Bool) → one_if t ≡ one_if (t && true)
 and_yes true = refl
 and_yes false = refl
 
-counted_then : (b : Kept) (e : Event) → May b.job b.state e → Counted b → Counted (then b e)
-counted_then b (Lease k n) may so =
+counted_then : (b : Kept) (events : List Event) (e : Event) → May b.job b.state e → Counted b events → Counted (then b e) (events ++ e ∷ [])
+counted_then b events (Lease k n) may so =
     let free = free_is b.job b.state n (is_true _ may.0) in
-    counted_set b so n (Leased k) free.within (ap is_done (waiting_is _ free.waiting)) (Lease k n) (λ m. and_no (n == m)) refl
-counted_then b (Submit k n) may so =
-    counted_set b so n (Done (end_of (work_of b.job n))) (leased_within b.state n k may) (ap is_done may) (Submit k n) (λ m. and_yes (n == m)) refl
-counted_then b (GiveBack k n) may so =
-    counted_set b so n Waiting (leased_within b.state n k may) (ap is_done may) (GiveBack k n) (λ m. and_no (n == m)) refl
-counted_then b Stop may so = record {
-  each = λ n p. accepted-push n b.events Stop ∙ ap (λ i. i + 0) (so.each n p) ∙ add_none (one_if (is_done (standing b.state n)));
-  all = omega (arith, submitted-push b.events Stop, so.all);
+    counted_set b events so n (Leased k) free.within (ap is_done (waiting_is _ free.waiting)) (Lease k n) (λ m. and_no (n == m)) refl
+counted_then b events (Submit k n) may so =
+    counted_set b events so n (Done (end_of (work_of b.job n))) (leased_within b.state n k may) (ap is_done may) (Submit k n) (λ m. and_yes (n == m)) refl
+counted_then b events (GiveBack k n) may so =
+    counted_set b events so n Waiting (leased_within b.state n k may) (ap is_done may) (GiveBack k n) (λ m. and_no (n == m)) refl
+counted_then b events Stop may so = record {
+  each = λ n p. accepted-push n events Stop ∙ ap (λ i. i + 0) (so.each n p) ∙ add_none (one_if (is_done (standing b.state n)));
+  all = omega (arith, submitted-push events Stop, so.all);
 } where
   add_none : (n : ℕ) → n + 0 ≡ n
   add_none n = omega arith
@@ -115,19 +114,17 @@ counted_then b Stop may so = record {
 -- ---- every list of events
 
 abbrev at_the_end : Kept → List Event → Kept
-at_the_end b es = record { job = b.job; state = replay b.job b.state es; events = b.events ++ es }
+at_the_end b es = record { job = b.job; state = replay b.job b.state es }
 
-ends_well : (b : Kept) (es : List Event) → IsKept b → Counted b → IsLegal b.job b.state es → IsKept (at_the_end b es) × Counted (at_the_end b es)
-ends_well b [] is so legal =
-    let P : List Event → Type 0 = λ es. IsKept (record { job = b.job; state = b.state; events = es }) × Counted (record { job = b.job; state = b.state; events = es }) in
-    subst P (sym (append-nil b.events)) (is, so)
-ends_well b (e ∷ es) is so legal =
-    let Q : List Event → Type 0 = λ all. IsKept (record { job = b.job; state = replay b.job (after b.job b.state e) es; events = all }) × Counted (record { job = b.job; state = replay b.job (after b.job b.state e) es; events = all }) in
-    subst Q (append_assoc b.events (e ∷ []) es) (ends_well (then b e) es (kept_then b e is legal.0) (counted_then b e legal.0 so) legal.1)
+ends_well : (b : Kept) (events es : List Event) → IsKept b → Counted b events → IsLegal b.job b.state es → IsKept (at_the_end b es) × Counted (at_the_end b es) (events ++ es)
+ends_well b events [] is so legal = (is, subst (Counted b) (sym (append-nil events)) so)
+ends_well b events (e ∷ es) is so legal =
+    let end = ends_well (then b e) (events ++ e ∷ []) es (kept_then b e is legal.0) (counted_then b events e legal.0 so) legal.1 in
+    (end.0, subst (Counted (at_the_end b (e ∷ es))) (append_assoc events (e ∷ []) es) end.1)
 
 pub every_history : EveryHistoryIsSound
 every_history job events chains legal =
-    let end = ends_well (begun_with job) events (initial_kept job chains) (initial_counted job) legal in
+    let end = ends_well (begun_with job) [] events (initial_kept job chains) (initial_counted job) legal in
     record {
       ends = end.0.sound;
       one = end.0.one;

@@ -11,13 +11,12 @@ use Rattle.bx_plan.specs.Planned.{Planned}
 use Rattle.bx_plan.specs.Chains.{Chained, above, kids, chain_count, one_if}
 use Rattle.bx_board.specs.declared.slots.Slot.{Slot}
 use Rattle.bx_board.specs.declared.slots.Slot.TheVariants.{Waiting, Leased, Done}
-use Rattle.bx_board.specs.declared.slots.Event.{Event}
 use Rattle.bx_board.specs.declared.slots.Event.TheVariants.{Lease, Submit, GiveBack, Stop}
 use Rattle.bx_board.specs.Jobs.{Entry, Job, end_of, work_of}
 use Rattle.bx_board.specs.Machine.{Frontier, standing, is_waiting, is_leased, is_done, is_free, is_unborn, is_held, is_finished, how_many, May}
 use Rattle.bx_board.specs.Alone.{IsUnheld}
 use Rattle.bx_board.specs.Kept.{Kept, IsAllDone}
-use Rattle.bx_board.specs.Tended.{IsTended, kept_view, stops_left}
+use Rattle.bx_board.specs.Tended.{IsTended, kept_view}
 use Rattle.bx_board.proofs.RowLengths.{length_many, how_many_low, how_many_less}
 use Rattle.bx_world.specs.Running.{Ended}
 use Rattle.bx_board.proofs.Steps.{below_or_past, is_true, true_is, leased_within}
@@ -80,10 +79,6 @@ unheld_by b ready holders leased done is h k held =
     let empty : get nat_cmp holders k ≡ None = ap (lookup (is_at (nat_cmp k))) (no_entries holders.entries h) in
     cc
 
-pub stops_left_low : (stopped : Bool) → stops_left stopped ≤ 1
-stops_left_low true = omega arith
-stops_left_low false = omega arith
-
 -- ---- each chain stands in one of four ways
 
 module _ (job : Job) (s : Frontier) where
@@ -138,37 +133,31 @@ done_all b count all = all_or_less (is_finished b.state) (length b.state.slots) 
 
 -- ---- the events, field by field
 
-module _ (image : Loaded) (start : Entry) (plan : Planned) (chains : Chained) (slots : List Slot) (stopped : Bool) (events : List Event)
+module _ (image : Loaded) (start : Entry) (plan : Planned) (chains : Chained) (slots : List Slot) (stopped : Bool)
     (ready : List ℕ) (holders : BTreeMap ℕ ℕ) (leased done : ℕ) where
   abbrev the_job : Job
   the_job = record { image = image; start = start; plan = plan; chains = chains }
 
   abbrev here : Kept
-  here = kept_view image start plan chains slots stopped events
+  here = kept_view image start plan chains slots stopped
 
   module _ (is : IsTended here ready holders leased done) where
-    pub view_stop : (after : List Event) → stopped ≡ false → after ≡ events ++ Stop ∷ [] → IsTended (kept_view image start plan chains slots true after) ready holders leased done
-    view_stop after may e = subst (λ es. IsTended (kept_view image start plan chains slots true es) ready holders leased done) (sym e) (tended_stop here ready holders leased done is may)
+    pub view_stop : stopped ≡ false → IsTended (kept_view image start plan chains slots true) ready holders leased done
+    view_stop may = tended_stop here ready holders leased done is may
 
-    module _ (k n : ℕ) (now : List Slot) (after : List Event) (row : List ℕ) (map : BTreeMap ℕ ℕ) where
-      pub view_lease : May the_job here.state (Lease k n) → now ≡ set slots n (Leased k) → after ≡ events ++ Lease k n ∷ [] → ready ≡ row ++ n ∷ [] → Updates nat_cmp holders map k (Some n)
-          → IsTended (kept_view image start plan chains now stopped after) row map (leased + 1) done
-      view_lease may e f front up =
-          let P : List Slot → List Event → Type 0 = λ xs es. IsTended (kept_view image start plan chains xs stopped es) row map (leased + 1) done in
-          subst (λ xs. P xs after) (sym e) (subst (λ es. P (set slots n (Leased k)) es) (sym f) (tended_lease here ready holders leased done is k n row map may front up))
+    module _ (k n : ℕ) (now : List Slot) (row : List ℕ) (map : BTreeMap ℕ ℕ) where
+      pub view_lease : May the_job here.state (Lease k n) → now ≡ set slots n (Leased k) → ready ≡ row ++ n ∷ [] → Updates nat_cmp holders map k (Some n)
+          → IsTended (kept_view image start plan chains now stopped) row map (leased + 1) done
+      view_lease may e front up = subst (λ xs. IsTended (kept_view image start plan chains xs stopped) row map (leased + 1) done) (sym e) (tended_lease here ready holders leased done is k n row map may front up)
 
-      pub view_back : (less : ℕ) → standing here.state n ≡ Leased k → now ≡ set slots n Waiting → after ≡ events ++ GiveBack k n ∷ [] → row ≡ ready ++ n ∷ [] → Updates nat_cmp holders map k None → less + 1 ≡ leased
-          → IsTended (kept_view image start plan chains now stopped after) row map less done
-      view_back less had e f more up fewer =
-          let P : List Slot → List Event → Type 0 = λ xs es. IsTended (kept_view image start plan chains xs stopped es) row map less done in
-          subst (λ xs. P xs after) (sym e) (subst (λ es. P (set slots n Waiting) es) (sym f) (tended_back here ready holders leased done is k n row map less had more up fewer))
+      pub view_back : (less : ℕ) → standing here.state n ≡ Leased k → now ≡ set slots n Waiting → row ≡ ready ++ n ∷ [] → Updates nat_cmp holders map k None → less + 1 ≡ leased
+          → IsTended (kept_view image start plan chains now stopped) row map less done
+      view_back less had e more up fewer = subst (λ xs. IsTended (kept_view image start plan chains xs stopped) row map less done) (sym e) (tended_back here ready holders leased done is k n row map less had more up fewer)
 
-      pub view_submit : (less : ℕ) (end : Ended) → standing here.state n ≡ Leased k → end ≡ end_of (work_of the_job n) → now ≡ set slots n (Done end) → after ≡ events ++ Submit k n ∷ [] → row ≡ ready ++ kids chains n
-          → Updates nat_cmp holders map k None → less + 1 ≡ leased → IsTended (kept_view image start plan chains now stopped after) row map less (done + 1)
-      view_submit less end had is_end e f more up fewer =
-          let P : List Slot → List Event → Type 0 = λ xs es. IsTended (kept_view image start plan chains xs stopped es) row map less (done + 1) in
-          subst (λ xs. P xs after) (sym (e ∙ ap (λ x. set slots n (Done x)) is_end)) (subst (λ es. P (set slots n (Done (end_of (work_of the_job n)))) es) (sym f)
-          (tended_submit here ready holders leased done is k n row map less had more up fewer))
+      pub view_submit : (less : ℕ) (end : Ended) → standing here.state n ≡ Leased k → end ≡ end_of (work_of the_job n) → now ≡ set slots n (Done end) → row ≡ ready ++ kids chains n
+          → Updates nat_cmp holders map k None → less + 1 ≡ leased → IsTended (kept_view image start plan chains now stopped) row map less (done + 1)
+      view_submit less end had is_end e more up fewer =
+          subst (λ xs. IsTended (kept_view image start plan chains xs stopped) row map less (done + 1)) (sym (e ∙ ap (λ x. set slots n (Done x)) is_end)) (tended_submit here ready holders leased done is k n row map less had more up fewer)
 
     -- who holds a chain is counted
     pub some_held : (k n : ℕ) → standing here.state n ≡ Leased k → 0 < leased
@@ -182,8 +171,8 @@ module _ (image : Loaded) (start : Entry) (plan : Planned) (chains : Chained) (s
     pub kids_room : (k n : ℕ) (map : BTreeMap ℕ ℕ) → standing here.state n ≡ Leased k → Updates nat_cmp holders map k None → length ready + length (kids chains n) ≤ length slots
     kids_room k n map had up =
         let some = some_held k n had in
-        let next = view_submit k n (set slots n (Done (end_of (work_of the_job n)))) (events ++ Submit k n ∷ []) (ready ++ kids chains n) map (leased - 1) (end_of (work_of the_job n)) had refl refl refl refl up (omega (arith, some)) in
-        let low = ready_low (kept_view image start plan chains (set slots n (Done (end_of (work_of the_job n)))) stopped (events ++ Submit k n ∷ [])) (ready ++ kids chains n) map (leased - 1) (done + 1) next in
+        let next = view_submit k n (set slots n (Done (end_of (work_of the_job n)))) (ready ++ kids chains n) map (leased - 1) (end_of (work_of the_job n)) had refl refl refl up (omega (arith, some)) in
+        let low = ready_low (kept_view image start plan chains (set slots n (Done (end_of (work_of the_job n)))) stopped) (ready ++ kids chains n) map (leased - 1) (done + 1) next in
         omega (arith, low, length-append ready (kids chains n), length-set slots n (Done (end_of (work_of the_job n))))
 
 -- as many are done as there are exactly where all are

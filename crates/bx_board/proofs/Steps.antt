@@ -11,7 +11,7 @@ use Rattle.bx_board.specs.declared.slots.Event.{Event}
 use Rattle.bx_board.specs.declared.slots.Event.TheVariants.{Lease, Submit, GiveBack, Stop}
 use Rattle.bx_board.specs.Jobs.{Job, end_of, work_of}
 use Rattle.bx_board.specs.Machine.{Frontier, standing, is_waiting, is_done, is_free, May, with_slot, after, initial, replay, IsLegal}
-use Rattle.bx_board.specs.Kept.{Kept, then, IsKept}
+use Rattle.bx_board.specs.Kept.{Kept, then, HasHistory, IsKept}
 
 pub is_true : (b : Bool) → IsTrue b → b ≡ true
 is_true b h = h
@@ -85,6 +85,13 @@ legal-push : (job : Job) (s : Frontier) (es : List Event) (e : Event) → IsLega
 legal-push job s [] e h m = (m, tt)
 legal-push job s (f ∷ es) e h m = (h.0, legal-push job (after job s f) es e h.1 m)
 
+history_then : (b : Kept) (e : Event) → HasHistory b → May b.job b.state e → HasHistory (then b e)
+history_then b e (events, replayed, legal) may = (
+  events ++ e ∷ [],
+  ap (λ s. after b.job s e) replayed ∙ sym (replay-push b.job (initial b.job) events e),
+  legal-push b.job (initial b.job) events e legal (subst (λ s. May b.job s e) replayed may),
+)
+
 -- ---- one slot changes that was not done
 
 module _ (b : Kept) (is : IsKept b) (n : ℕ) (x : Slot) (within : n < length b.state.slots) (undone : is_done (standing b.state n) ≡ false) where
@@ -130,10 +137,9 @@ module _ (b : Kept) (is : IsKept b) (n : ℕ) (x : Slot) (within : n < length b.
           one (inr e) (inr f) = is.one k m l (sym (slot_kept b.state n m x e) ∙ h) (sym (slot_kept b.state n l x f) ∙ g)
 
         pub set_kept : (e : Event) → May b.job b.state e → after b.job b.state e ≡ with_slot b.state n x → IsKept (then b e)
-        set_kept e may is_set = subst (λ s. IsKept (record { job = b.job; state = s; events = b.events ++ e ∷ [] })) (sym is_set) (record {
+        set_kept e may is_set = subst (λ s. IsKept (record { job = b.job; state = s })) (sym is_set) (record {
           chains = is.chains;
-          replayed = sym is_set ∙ ap (λ s. after b.job s e) is.replayed ∙ sym (replay-push b.job (initial b.job) b.events e);
-          legal = legal-push b.job (initial b.job) b.events e is.legal (subst (λ s. May b.job s e) is.replayed may);
+          history = subst (λ s. HasHistory (record { job = b.job; state = s })) is_set (history_then b e is.history may);
           count = length-set b.state.slots n x ∙ is.count;
           root = root_set;
           born = born_set;
@@ -144,8 +150,7 @@ module _ (b : Kept) (is : IsKept b) (n : ℕ) (x : Slot) (within : n < length b.
 stop_kept : (b : Kept) → IsKept b → b.state.stopped ≡ false → IsKept (then b Stop)
 stop_kept b is may = record {
   chains = is.chains;
-  replayed = ap (λ s. after b.job s Stop) is.replayed ∙ sym (replay-push b.job (initial b.job) b.events Stop);
-  legal = legal-push b.job (initial b.job) b.events Stop is.legal (subst (λ s. May b.job s Stop) is.replayed may);
+  history = history_then b Stop is.history may;
   count = is.count;
   root = is.root;
   born = is.born;

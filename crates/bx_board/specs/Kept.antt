@@ -1,5 +1,5 @@
 -- What a board keeps, and what each call of it is.
-use Rattle.std.specs.Prelude.{◌≡◌, ◌≢◌, ℕ, ◌<◌, false, IsTrue, List, [], ◌∷◌, ◌++◌, length, Option, None, Some, Result, Ok, Err, IsOk, IsSome, refl, Bool}
+use Rattle.std.specs.Prelude.{◌≡◌, ◌≢◌, ℕ, ◌<◌, false, IsTrue, List, length, Option, None, Some, Result, Ok, Err, IsOk, IsSome, refl, Bool}
 use Rattle.std.specs.Coded.{Coded, code_by, coded×, coded_bool, coded_list}
 use Rattle.bx_terms.specs.declared.atom_table.AtomId.{AtomId}
 use Rattle.bx_terms.specs.declared.faults.Fault.{Fault}
@@ -16,24 +16,25 @@ use Rattle.bx_board.specs.declared.slots.Event.TheVariants.{Lease, Submit, GiveB
 use Rattle.bx_board.specs.Jobs.{Entry, IsSameRun, Job, Work, end_of, work_of}
 use Rattle.bx_board.specs.Machine.{Frontier, standing, is_waiting, is_done, May, after, initial, replay, IsLegal}
 
--- the campaign, how it stands, and the events that led there
+-- the campaign, and how it stands
 pub record Kept : Type 0 where
   pub job : Job
   pub state : Frontier
-  pub events : List Event
 
 abbrev pub begun_with : Job → Kept
-begun_with job = record { job = job; state = initial job; events = [] }
+begun_with job = record { job = job; state = initial job }
 
--- one event more
+-- after one event more
 abbrev pub then : Kept → Event → Kept
-then b e = record { job = b.job; state = after b.job b.state e; events = b.events ++ e ∷ [] }
+then b e = record { job = b.job; state = after b.job b.state e }
+
+-- events, each of which might happen, lead to the state
+abbrev pub HasHistory : Kept → Type 0
+HasHistory b = (events : List Event) × (b.state ≡ replay b.job (initial b.job) events) × IsLegal b.job (initial b.job) events
 
 pub record IsKept (b : Kept) : Type 0 where
   pub chains : AreChains b.job.plan b.job.chains
-  -- the events, each of which might happen, lead to the state
-  pub replayed : b.state ≡ replay b.job (initial b.job) b.events
-  pub legal : IsLegal b.job (initial b.job) b.events
+  pub history : HasHistory b
   pub count : length b.state.slots ≡ chain_count b.job.chains
   pub root : IsTrue (is_done (standing b.state 0))
   -- a chain that was leased stands on one that is done
@@ -44,15 +45,14 @@ pub record IsKept (b : Kept) : Type 0 where
   pub one : (k m n : ℕ) → standing b.state m ≡ Leased k → standing b.state n ≡ Leased k → m ≡ n
 
 -- what a proof tells two of them apart by
-abbrev pub kept_code : Coded Loaded → Coded AtomId → Coded Planned → Coded Chained → Coded Slot → Coded Event → Coded Kept
-kept_code image atom plan chains slot event =
-    code_by ((Loaded × (Entry × (Planned × Chained))) × ((List Slot × Bool) × List Event))
-    (coded× (coded× image (coded× (coded× atom atom) (coded× plan chains))) (coded× (coded× (coded_list slot) coded_bool) (coded_list event)))
-    (λ b. ((b.job.image, (b.job.start, (b.job.plan, b.job.chains))), ((b.state.slots, b.state.stopped), b.events)))
+abbrev pub kept_code : Coded Loaded → Coded AtomId → Coded Planned → Coded Chained → Coded Slot → Coded Kept
+kept_code image atom plan chains slot =
+    code_by ((Loaded × (Entry × (Planned × Chained))) × (List Slot × Bool))
+    (coded× (coded× image (coded× (coded× atom atom) (coded× plan chains))) (coded× (coded_list slot) coded_bool))
+    (λ b. ((b.job.image, (b.job.start, (b.job.plan, b.job.chains))), (b.state.slots, b.state.stopped)))
     (λ t. record {
       job = record { image = t.0.0; start = t.0.1.0; plan = t.0.1.1.0; chains = t.0.1.1.1 };
-      state = record { slots = t.1.0.0; stopped = t.1.0.1 };
-      events = t.1.1;
+      state = record { slots = t.1.0; stopped = t.1.1 };
     })
     (λ _. refl)
 

@@ -1,5 +1,5 @@
 -- What a board has at hand: the free chains, the holders by worker, and how many are leased and done.
-use Rattle.std.specs.Prelude.{◌≡◌, ◌↔◌, ◌+◌, ℕ, Bool, true, false, Some, List, length}
+use Rattle.std.specs.Prelude.{◌≡◌, ◌↔◌, ℕ, Bool, Some, List, length}
 use Rattle.std.specs.Ordering.{nat_cmp}
 use Rattle.std.specs.BTreeMap.{BTreeMap, get}
 use Rattle.bx_load.specs.Image.{Loaded}
@@ -7,16 +7,14 @@ use Rattle.bx_plan.specs.Planned.{Planned}
 use Rattle.bx_plan.specs.Chains.{Chained, one_if, times}
 use Rattle.bx_board.specs.declared.slots.Slot.{Slot}
 use Rattle.bx_board.specs.declared.slots.Slot.TheVariants.{Leased}
-use Rattle.bx_board.specs.declared.slots.Event.{Event}
 use Rattle.bx_board.specs.Jobs.{Entry}
 use Rattle.bx_board.specs.Machine.{standing, is_free, is_held, is_finished, how_many}
 use Rattle.bx_board.specs.Kept.{Kept, IsKept}
 
-abbrev pub kept_view : Loaded → Entry → Planned → Chained → List Slot → Bool → List Event → Kept
-kept_view image start plan chains slots stopped events = record {
+abbrev pub kept_view : Loaded → Entry → Planned → Chained → List Slot → Bool → Kept
+kept_view image start plan chains slots stopped = record {
   job = record { image = image; start = start; plan = plan; chains = chains };
   state = record { slots = slots; stopped = stopped };
-  events = events;
 }
 
 pub record IsTended (b : Kept) (ready : List ℕ) (holders : BTreeMap ℕ ℕ) (leased done : ℕ) : Type 0 where
@@ -27,12 +25,3 @@ pub record IsTended (b : Kept) (ready : List ℕ) (holders : BTreeMap ℕ ℕ) (
   pub held : (k n : ℕ) → (get nat_cmp holders k ≡ Some n) ↔ (standing b.state n ≡ Leased k)
   pub some_leased : leased ≡ how_many (is_held b.state) (length b.state.slots)
   pub some_done : done ≡ how_many (is_finished b.state) (length b.state.slots)
-
--- how many stops may still happen
-abbrev pub stops_left : Bool → ℕ
-stops_left true = 0
-stops_left false = 1
-
--- the events that need room still: an end of each lease, and a stop
-abbrev pub events_to_come : Bool → ℕ → ℕ
-events_to_come stopped leased = leased + stops_left stopped

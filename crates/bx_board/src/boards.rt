@@ -71,13 +71,12 @@ impl<'a, J: Campaign> Model for Shelf<'a, J> {
     ghost use Rattle.bx_plan.specs.contracts.plans.Plan as plans;
     ghost use Rattle.bx_plan.specs.contracts.chains.Chains as chained;
     ghost use Rattle.bx_board.specs.contracts.slots.Slot as slot;
-    ghost use Rattle.bx_board.specs.contracts.slots.Event as event;
     ghost use Rattle.bx_board.specs.Kept.{Kept, kept_code};
 
     ghost Value = { Kept };
 
     ghost coded = { kept_code (loaded_code unit.the_row.coded) ids.the_row.coded plans.the_row.coded
-        chained.the_row.coded slot.the_row.coded event.the_row.coded };
+        chained.the_row.coded slot.the_row.coded };
 
     ghost view = { λ s. s.book };
 

@@ -11,7 +11,7 @@ mod leasing;
 mod opening;
 mod reporting;
 
-use crate::slots::{Counts, Event, Slot};
+use crate::slots::{Counts, Slot};
 use bx_load::Image;
 use bx_plan::{Chains, Plan};
 use bx_terms::AtomId;
@@ -20,7 +20,7 @@ use std::marker::Model;
 
 /// A campaign as its workers share it: loaded code, a start, the chains of a plan's tree, and how each stands.
 ///
-/// A clause sees the campaign, how its chains stand, and the events that led there. Workers go by any numbers.
+/// A clause sees the campaign, and how its chains stand; some list of events has led there. Workers go by any numbers.
 #[derive(Drop)]
 pub struct Book<'a> {
     image: &'a Image,
@@ -29,7 +29,6 @@ pub struct Book<'a> {
     chains: Chains,
     slots: Vec<Slot>,
     stopped: bool,
-    events: Vec<Event>,
     ready: Vec<usize>,
     holders: BTreeMap<usize, usize>,
     leased: usize,
@@ -37,31 +36,28 @@ pub struct Book<'a> {
 }
 
 impl<'a> Model for Book<'a> {
-    ghost use Rattle.std.specs.Prelude.{◌≤◌, ◌+◌, length, vec_len, vec_capacity};
+    ghost use Rattle.std.specs.Prelude.{◌≤◌, length, vec_capacity};
     ghost use Rattle.bx_terms.specs.contracts.atom_table.AtomId as ids;
     ghost use Rattle.bx_asm.specs.contracts.unit.Unit as unit;
     ghost use Rattle.bx_load.specs.Image.{loaded_code};
     ghost use Rattle.bx_plan.specs.contracts.plans.Plan as plans;
     ghost use Rattle.bx_plan.specs.contracts.chains.Chains as chained;
     ghost use Rattle.bx_board.specs.contracts.slots.Slot as slot;
-    ghost use Rattle.bx_board.specs.contracts.slots.Event as event;
     ghost use Rattle.bx_board.specs.Kept.{Kept, kept_code};
 
     ghost Value = { Kept };
 
     ghost coded = { kept_code (loaded_code unit.the_row.coded) ids.the_row.coded plans.the_row.coded
-        chained.the_row.coded slot.the_row.coded event.the_row.coded };
+        chained.the_row.coded slot.the_row.coded };
 
-    ghost use Rattle.bx_board.specs.Tended.{kept_view, IsTended, events_to_come};
+    ghost use Rattle.bx_board.specs.Tended.{kept_view, IsTended};
 
-    ghost view = { λ b. kept_view b.image.now b.start b.plan.now b.chains b.slots.items b.stopped
-        b.events.items };
+    ghost view = { λ b. kept_view b.image.now b.start b.plan.now b.chains b.slots.items b.stopped };
 
     ghost invariant = { λ b.
-        IsTended (kept_view b.image.now b.start b.plan.now b.chains b.slots.items b.stopped b.events.items)
+        IsTended (kept_view b.image.now b.start b.plan.now b.chains b.slots.items b.stopped)
         b.ready.items b.holders b.leased b.done
-        × (length b.slots.items ≤ vec_capacity b.ready)
-        × (vec_len b.events + events_to_come b.stopped b.leased ≤ vec_capacity b.events) };
+        × (length b.slots.items ≤ vec_capacity b.ready) };
 }
 
 impl<'a> Book<'a> {

@@ -2,23 +2,24 @@
 use Rattle.std.proofs.Common.{◌≡◌, ◌∙◌, ℕ, zero, suc, ◌+◌, ◌-◌, ◌<◌, ◌≤◌, List, [], ◌∷◌, ◌++◌, length, take, drop, append_assoc, inl, inr, refl, sym, ap, subst, arith}
 use Rattle.std.specs.Prelude.{slice_get, slice_index_or}
 use Rattle.std.proofs.lemmas.Option.{slice_get-get_or}
-use Rattle.std.proofs.lemmas.List.{drop_more, take_more, length-drop, length-take-le, length-append, take-append-drop, take-append-le}
+use Rattle.std.proofs.lemmas.List.{drop_more, take_more, length-drop, length-take-le, length-append, take-append-drop, take-append-le, take_all}
 use Rattle.std.proofs.lemmas.List.Edits.{length-swap}
+use Rattle.std.proofs.lemmas.Bool.{cases_lt}
+use Rattle.std.proofs.Math.Seq.{drop-append_seam, drop-append-add}
 use Rattle.bx_world.specs.declared.choices.Choice.{Choice}
 use Rattle.bx_replay.specs.Courses.{Course, reached}
 use Rattle.bx_replay.specs.Exchanges.{exchanged_at, with_exchange, MayExchange}
 use Rattle.bx_replay.specs.Moving.{brought, exchanged, AllMay, AreWithin, IsExchanged}
-use Rattle.bx_replay.proofs.Prefixes.{below}
 use Rattle.bx_replay.proofs.Rows.{swapped}
 use Rattle.bx_replay.proofs.Turning.{around, leads, new as turned, old as straight, short as front_long}
 
 -- ---- lists
 
-drop_front : {A : Type 0} (xs ys : List A) (n : ℕ) → length xs ≡ n → drop n (xs ++ ys) ≡ ys
-drop_front [] ys zero h = refl
-drop_front [] ys (suc n) h = absurd (omega arith)
-drop_front (x ∷ xs) ys zero h = absurd (omega arith)
-drop_front (x ∷ xs) ys (suc n) h = drop_front xs ys n (omega arith)
+-- what stands behind a front
+pub get_behind : (ys zs : List Choice) (n k : ℕ) → k ≡ length ys + n → slice_get (ys ++ zs) k ≡ slice_get zs n
+get_behind [] zs n k e = let same : k ≡ n = omega (arith, e) in ap (slice_get zs) same
+get_behind (y ∷ ys) zs n zero e = absurd (omega (arith, e))
+get_behind (y ∷ ys) zs n (suc k) e = get_behind ys zs n k (omega (arith, e))
 
 -- what stands between, and the choice itself
 module _ (xs : List Choice) (from : ℕ) (d : Choice) (within : from < length xs) where
@@ -62,18 +63,12 @@ module _ (xs : List Choice) (from : ℕ) (d : Choice) (within : from < length xs
     short = length-take-le i xs (omega arith)
 
     pub rest_is : drop i (brought from (i + 1) xs) ≡ other ∷ moved ∷ behind (i + 1)
-    rest_is = ap (drop i) next_to ∙ drop_front (take i xs) (other ∷ moved ∷ behind (i + 1)) i short
+    rest_is = ap (drop i) next_to ∙ ap (λ n. drop n (take i xs ++ other ∷ moved ∷ behind (i + 1))) (sym short) ∙ drop-append_seam (take i xs) (other ∷ moved ∷ behind (i + 1))
 
     pub front_is : take i (brought from (i + 1) xs) ≡ take i xs
     front_is =
         ap (take i) next_to ∙ take-append-le i (take i xs) (other ∷ moved ∷ behind (i + 1)) (omega (arith, short))
-        ∙ take_whole (take i xs) i (omega (arith, short))
-      where
-        take_whole : (ys : List Choice) (n : ℕ) → length ys ≤ n → take n ys ≡ ys
-        take_whole [] zero h = refl
-        take_whole [] (suc n) h = refl
-        take_whole (y ∷ ys) zero h = absurd (omega arith)
-        take_whole (y ∷ ys) (suc n) h = ap (λ zs. y ∷ zs) (take_whole ys n (omega arith))
+        ∙ take_all i (take i xs) (omega (arith, short))
 
     -- one exchange more
     pub brought_on : exchanged_at i (brought from (i + 1) xs) ≡ brought from i xs
@@ -119,11 +114,6 @@ brought_next xs from to d within less =
     (brought_is xs from d within to ∙ ap (λ ys. take to xs ++ slice_index_or xs from d ∷ ys) (behind_is xs from d within to less))
     ∙ get_behind (take to xs) (slice_index_or xs from d ∷ slice_index_or xs to d ∷ rest) 1 (to + 1) (omega (arith, cut))
     ∙ sym (slice_get-get_or xs to d (omega arith))
-  where
-    get_behind : (ys zs : List Choice) (n k : ℕ) → k ≡ length ys + n → slice_get (ys ++ zs) k ≡ slice_get zs n
-    get_behind [] zs n k e = let same : k ≡ n = omega (arith, e) in ap (slice_get zs) same
-    get_behind (y ∷ ys) zs n zero e = absurd (omega (arith, e))
-    get_behind (y ∷ ys) zs n (suc k) e = get_behind ys zs n k (omega (arith, e))
 
 -- ---- exchanges
 
@@ -185,7 +175,7 @@ pub steps_on : (count : ℕ) (old mid : Course) (from at rest : ℕ) (d : Choice
     → ((i : ℕ) → at ≤ i → i < from → MayExchange i (record old { choices = brought from (i + 1) old.choices }))
     → ((i : ℕ) → rest ≤ i → i < at → MayExchange i (record mid { choices = brought at (i + 1) mid.choices }))
     → (i : ℕ) → rest ≤ i → i < from → MayExchange i (record old { choices = brought from (i + 1) old.choices })
-steps_on count old mid from at rest d within le e are first more i low high = elim (below i at) [
+steps_on count old mid from at rest d within le e are first more i low high = elim (cases_lt i at) [
   | inl less ↦
       let up : i + 1 + (at - (i + 1)) ≡ at = omega (arith, less) in
       let on = ap (λ (cs : List Choice). brought at (i + 1) cs) are ∙ brought_twice old.choices from at d within le (at - (i + 1)) (i + 1) up in
@@ -218,16 +208,10 @@ drop_after i n c may le =
     let a = around i c may in
     ap (drop n) (turned i c a) ∙ past a.second a.first a.more ∙ sym (past a.first a.second a.more) ∙ ap (drop n) (sym (straight i c a))
   where
-    drop_past : (xs ys : List Choice) (m : ℕ) → length xs ≤ m → drop m (xs ++ ys) ≡ drop (m - length xs) ys
-    drop_past [] ys m h = let none : m ≡ m - 0 = omega arith in ap (λ k. drop k ys) none
-    drop_past (x ∷ xs) ys zero h = absurd (omega arith)
-    drop_past (x ∷ xs) ys (suc m) h = let less : m - length xs ≡ suc m - suc (length xs) = omega arith in drop_past xs ys m (omega arith) ∙ ap (λ k. drop k ys) less
-
     past : (x y : Choice) (more : List Choice) → drop n (take i c.choices ++ x ∷ y ∷ more) ≡ drop (n - i - 2) more
     past x y more =
-        let cut = front_long i c (around i c may) in
-        let far : n - length (take i c.choices) ≡ suc (suc (n - i - 2)) = omega arith in
-        drop_past (take i c.choices) (x ∷ y ∷ more) n (omega arith) ∙ ap (λ k. drop k (x ∷ y ∷ more)) far
+        let far : n ≡ length (take i c.choices) + suc (suc (n - i - 2)) = omega (arith, front_long i c (around i c may)) in
+        ap (λ k. drop k (take i c.choices ++ x ∷ y ∷ more)) far ∙ drop-append-add (take i c.choices) (x ∷ y ∷ more) (suc (suc (n - i - 2)))
 
 pub behind_after : (count : ℕ) (old new : Course) → IsExchanged count old new → drop count new.choices ≡ drop count old.choices
 behind_after count old new e = ap (λ (c : Course). drop count c.choices) e.is ∙ go e.positions old e.within e.may

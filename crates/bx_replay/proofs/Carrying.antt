@@ -1,7 +1,7 @@
 -- Each exchange by which a choice is brought forward may be made, and what is kept stays good.
 use Rattle.std.proofs.Common.{◌≡◌, ◌≢◌, ◌∙◌, ℕ, zero, suc, ◌+◌, ◌-◌, ◌<◌, ◌≤◌, List, [], ◌∷◌, ◌++◌, length, take, drop, append-nil, Bool, true, false, inl, inr, refl, sym, ap, subst, arith}
-use Rattle.std.specs.Prelude.{slice_index_or, Option, Some, None, is_some, ◌||◌, ◌==◌, if◌then◌else◌, IsTrue}
-use Rattle.std.proofs.lemmas.Bool.{eq-eqb, eqb-true}
+use Rattle.std.specs.Prelude.{slice_index_or, Some, None, ◌==◌, if◌then◌else◌, IsTrue}
+use Rattle.std.proofs.lemmas.Bool.{eq-eqb, eqb-true, cases_lt}
 use Rattle.std.proofs.lemmas.List.{drop_all, get_or_default, length-take-le, take_all, take_more}
 use Rattle.bx_load.specs.Image.{Loaded}
 use Rattle.bx_world.specs.declared.choices.Choice.{Choice}
@@ -19,10 +19,10 @@ use Rattle.bx_replay.specs.Moving.{brought, IndependentAt, IsExchanged, Passes}
 use Rattle.bx_replay.specs.Reaching.{BringsPast, FreeAt, IsFreeFrom, IsReach, PassesAt, Reaches}
 use Rattle.bx_replay.specs.declared.kept.Kept.{Kept}
 use Rattle.bx_replay.specs.declared.trails.rows.Reach.{Reach}
-use Rattle.bx_replay.proofs.Bringing.{among_more, brought_here, brought_on, front_is, further, none_made, one_made, rest_is}
+use Rattle.bx_replay.proofs.Bringing.{brought_here, brought_on, front_is, further, none_made, one_made, rest_is}
 use Rattle.bx_replay.proofs.Keeps.{count_of}
 use Rattle.bx_replay.proofs.Pairs.{at, at_of, goes_on, untrapped}
-use Rattle.bx_replay.proofs.Prefixes.{all_made, below, next_is}
+use Rattle.bx_replay.proofs.Prefixes.{all_made}
 use Rattle.bx_replay.proofs.Turning.{none_replaced, turns_found, unless_same}
 
 -- one choice more
@@ -48,8 +48,7 @@ count_behind : (c : Course) (i : ℕ) (x y : Choice) → i ≤ length c.choices 
 count_behind c i x y h is =
     let here = reached i c in
     let one = ap (λ (e : Ended). e.applied) (ap (advanced c.image y) (at_of here is.0) ∙ goes_on c.image y here.world here.applied is.1.second_enabled) in
-    let count = count_here c i x y h is in
-    omega arith
+    omega (arith, count_here c i x y h is)
 
 -- two that concern different processes
 apart_of : (a b : Choice) (more : List Choice) → actor a ≢ actor b → next_apart (a ∷ b ∷ more) ≡ Some (a, b)
@@ -160,7 +159,7 @@ free_more choice first at c rest true order so_far told known =
     record {
       order = so_far.order;
       within = omega arith;
-      free = λ i low high. elim (below i at) [
+      free = λ i low high. elim (cases_lt i at) [
         | inl less ↦ so_far.free i low less
         | inr more ↦ let same : at ≡ i = omega arith in subst (PassesAt choice c) same (told refl)
       ];
@@ -267,7 +266,7 @@ module _ (c : Course) (from to first : ℕ) (reach : Reach) (within : from < len
         steps = may c from reach.rest brought_choice within (stands_there c from within) less came.free.free came.last;
         on = λ _. less;
         stuck = λ e may.
-            let apart : first < reach.rest = elim (below first reach.rest) [
+            let apart : first < reach.rest = elim (cases_lt first reach.rest) [
               | inl lower ↦ lower
               | inr higher ↦
                   let same : reach.rest ≡ first = omega arith in

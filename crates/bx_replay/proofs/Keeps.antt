@@ -1,7 +1,7 @@
 -- What a trail keeps stays good where choices are put behind, and where its tail is another one.
 use Rattle.std.proofs.Common.{◌≡◌, ℕ, ◌+◌, ◌-◌, ◌^◌, ◌<◌, ◌≤◌, inl, inr, List, [], ◌∷◌, ◌++◌, length, take, drop, refl, sym, ap, subst, ◌∙◌, arith, length-append}
 use Rattle.std.specs.Prelude.{Bool, true, false, if◌then◌else◌, slice_index_or, slice_set}
-use Rattle.std.proofs.lemmas.Bool.{cases_eq}
+use Rattle.std.proofs.lemmas.Bool.{cases_eq, cases_lt}
 use Rattle.std.proofs.lemmas.List.{append-nil, take_all, length-take-le, get_or-take, get_or_append_left, get_or-append_right, get_or_push, get_or_default, get_or-set_same, get_or-set_other, length-set}
 use Rattle.bx_load.specs.Image.{Loaded}
 use Rattle.bx_world.specs.declared.choices.Choice.{Choice}
@@ -9,7 +9,7 @@ use Rattle.bx_world.specs.Running.{Ended, ran}
 use Rattle.bx_replay.specs.Courses.{Course, reached}
 use Rattle.bx_replay.specs.Keeping.{IsReached, IsNearest, AreKept, Parts, SameCounts}
 use Rattle.bx_replay.specs.declared.kept.Kept.{Kept}
-use Rattle.bx_replay.proofs.Prefixes.{below, bounded, course, onward, reached_longer, reached_before, reached_behind}
+use Rattle.bx_replay.proofs.Prefixes.{bounded, course, onward, reached_longer, reached_before, reached_behind}
 
 -- by how many choices
 abbrev pub count_of : Kept → ℕ
@@ -20,7 +20,7 @@ none_kept c few = record { few = few; ends = λ k d h. absurd (omega arith); pas
 
 -- the counts rise
 pub no_later : (c : Course) (kept : List Kept) (j k : ℕ) (d : Kept) → AreKept c kept → j ≤ k → k < length kept → count_of (slice_index_or kept j d) ≤ count_of (slice_index_or kept k d)
-no_later c kept j k d are le h = elim (below j k) [
+no_later c kept j k d are le h = elim (cases_lt j k) [
   | inl less ↦ let rises = are.rising j k d less h in omega arith
   | inr more ↦ let same : j ≡ k = omega arith in subst (λ i. count_of (slice_index_or kept j d) ≤ count_of (slice_index_or kept i d)) same (omega arith)
 ]
@@ -34,25 +34,19 @@ one_more c kept new are is past last =
     let higher : (k : ℕ) (d : Kept) → length kept ≡ k → slice_index_or (kept ++ new ∷ []) k d ≡ new = λ k d h. get_or_push kept new d k h in
     record {
       few = are.few;
-      ends = λ k d h. elim (below k (length kept)) [
+      ends = λ k d h. elim (cases_lt k (length kept)) [
         | inl l ↦ subst (λ (e : Kept). IsReached c e.end) (sym (lower k d l)) (are.ends k d l)
         | inr m ↦ subst (λ (e : Kept). IsReached c e.end) (sym (higher k d (omega arith))) is
       ];
-      past = λ k d h. elim (below k (length kept)) [
+      past = λ k d h. elim (cases_lt k (length kept)) [
         | inl l ↦ subst (λ (e : Kept). c.start.applied < count_of e) (sym (lower k d l)) (are.past k d l)
         | inr m ↦ subst (λ (e : Kept). c.start.applied < count_of e) (sym (higher k d (omega arith))) past
       ];
-      rising = λ j k d less h. elim (below k (length kept)) [
+      rising = λ j k d less h. elim (cases_lt k (length kept)) [
         | inl l ↦
-            let rises = are.rising j k d less l in
-            let one = ap count_of (lower k d l) in
-            let other = ap count_of (lower j d (omega arith)) in
-            omega arith
+            omega (arith, are.rising j k d less l, ap count_of (lower k d l), ap count_of (lower j d (omega arith)))
         | inr m ↦
-            let rises = last j d (omega arith) in
-            let one = ap count_of (higher k d (omega arith)) in
-            let other = ap count_of (lower j d (omega arith)) in
-            omega arith
+            omega (arith, last j d (omega arith), ap count_of (higher k d (omega arith)), ap count_of (lower j d (omega arith)))
       ];
     }
 
@@ -61,21 +55,15 @@ pub last_is : (c : Course) (kept : List Kept) (start found : Kept) → AreKept c
     → (0 < length kept → found ≡ slice_index_or kept (length kept - 1) found)
     → (c.start.applied ≤ count_of found) × ((k : ℕ) (d : Kept) → k < length kept → count_of (slice_index_or kept k d) ≤ count_of found)
 last_is c kept start found are begins none some = (
-  elim (below 0 (length kept)) [
+  elim (cases_lt 0 (length kept)) [
     | inl more ↦
-        let past = are.past (length kept - 1) found (omega arith) in
-        let is = ap count_of (some more) in
-        omega arith
+        omega (arith, are.past (length kept - 1) found (omega arith), ap count_of (some more))
     | inr nothing ↦
-        let is = ap count_of (none (omega arith)) in
-        let start_is = ap (λ (e : Ended). e.applied) begins in
-        omega arith
+        omega (arith, ap count_of (none (omega arith)), ap (λ (e : Ended). e.applied) begins)
   ],
   λ k d h.
       let rises = no_later c kept k (length kept - 1) d are (omega arith) (omega arith) in
-      let same = ap count_of (get_or_default kept (length kept - 1) d found (omega arith)) in
-      let is = ap count_of (some (omega arith)) in
-      omega arith,
+      omega (arith, ap count_of (get_or_default kept (length kept - 1) d found (omega arith)), ap count_of (some (omega arith))),
 )
 
 pub pushed : (c : Course) (kept now : List Kept) (start found new : Kept) (end : Ended) → AreKept c kept → c.start ≡ start.end → (length kept ≡ 0 → found ≡ start)
@@ -164,32 +152,22 @@ module _ (image : Loaded) (start there : Ended) (choices more : List Choice) (co
       λ k d h. let rises = no_later (course image start choices) kept k (near - 1) d are (omega arith) (omega arith) in let last = parts.last d (omega arith) in omega arith in
       record {
         few = let few = behind.few in omega (arith, all, long);
-        ends = λ k d h. elim (below k near) [
+        ends = λ k d h. elim (cases_lt k near) [
           | inl l ↦ subst (λ (e : Kept). IsReached now e.end) (sym (lower k d l)) (before_reached _ (are.ends k d (omega arith)) (few_before k d l))
           | inr m ↦ subst (λ (e : Kept). IsReached now e.end) (sym (higher k d m)) (behind_reached _ (behind.ends (k - near) d (omega arith)))
         ];
-        past = λ k d h. elim (below k near) [
+        past = λ k d h. elim (cases_lt k near) [
           | inl l ↦ subst (λ (e : Kept). start.applied < count_of e) (sym (lower k d l)) (are.past k d (omega arith))
           | inr m ↦ subst (λ (e : Kept). start.applied < count_of e) (sym (higher k d m)) (let past = behind.past (k - near) d (omega arith) in omega (arith, all))
         ];
-        rising = λ j k d less h. elim (below k near) [
+        rising = λ j k d less h. elim (cases_lt k near) [
           | inl l ↦
-              let rises = are.rising j k d less (omega arith) in
-              let one = ap count_of (lower k d l) in
-              let other = ap count_of (lower j d (omega arith)) in
-              omega arith
-          | inr m ↦ elim (below j near) [
+              omega (arith, are.rising j k d less (omega arith), ap count_of (lower k d l), ap count_of (lower j d (omega arith)))
+          | inr m ↦ elim (cases_lt j near) [
             | inl l ↦
-                let past = behind.past (k - near) d (omega arith) in
-                let few = few_before j d l in
-                let one = ap count_of (higher k d m) in
-                let other = ap count_of (lower j d l) in
-                omega (arith, all)
+                omega (arith, behind.past (k - near) d (omega arith), few_before j d l, ap count_of (higher k d m), ap count_of (lower j d l), all)
             | inr n ↦
-                let rises = behind.rising (j - near) (k - near) d (omega arith) (omega arith) in
-                let one = ap count_of (higher k d m) in
-                let other = ap count_of (higher j d n) in
-                omega arith
+                omega (arith, behind.rising (j - near) (k - near) d (omega arith) (omega arith), ap count_of (higher k d m), ap count_of (higher j d n))
           ]
         ];
       }
@@ -205,7 +183,7 @@ module _ (image : Loaded) (start there : Ended) (choices more : List Choice) (co
 -- the nearest end that is kept
 pub nearest : (c : Course) (kept : List Kept) (start found : Kept) (count near : ℕ) → AreKept c kept → c.start ≡ start.end → Parts kept (c.start.applied + count) near → (near ≡ 0 → found ≡ start)
     → (0 < near → found ≡ slice_index_or kept (near - 1) found) → IsReached c found.end × (count_of found ≤ c.start.applied + count)
-nearest c kept start found count near are begins parts none some = elim (below 0 near) [
+nearest c kept start found count near are begins parts none some = elim (cases_lt 0 near) [
   | inl more ↦
       let bound = parts.bound in
       let last = parts.last found more in
@@ -242,13 +220,11 @@ nearest_kept c kept start found count near are begins parts none some =
     record {
       is = is.0;
       before = is.1;
-      last = λ k d h low. elim (below k near) [
+      last = λ k d h low. elim (cases_lt k near) [
         | inl lower ↦
             let bound = parts.bound in
             let rises = no_later c kept k (near - 1) d are (omega arith) (omega arith) in
-            let same = ap count_of (get_or_default kept (near - 1) d found (omega arith)) in
-            let at = ap count_of (some (omega arith)) in
-            omega arith
+            omega (arith, ap count_of (get_or_default kept (near - 1) d found (omega arith)), ap count_of (some (omega arith)))
         | inr higher ↦
             let next = parts.next d (omega arith) in
             let rises = no_later c kept near k d are higher h in

@@ -192,10 +192,6 @@ pub in_equal : (r : Bool) (p q : ℕ) (w v x y : State) → w ≡ x → v ≡ y 
 in_equal r p q w v x y e f h =
     subst (λ (z : State). IsTrue r ↔ (SameProcess p z y × SameProcess q z y)) e (subst (λ (z : State). IsTrue r ↔ (SameProcess p w z × SameProcess q w z)) f h)
 
--- independent ones pass
-pub independent_passes : (image : Loaded) (a b : Choice) (end : Ended) → IndependentAt image end a b → Passes image end a b
-independent_passes image a b end h = record { refused = h.0; enabled = h.1.first_enabled; independent = λ one both. h.1 }
-
 -- two that pass and are made in a row are independent
 pub made_independent : (image : Loaded) (a b : Choice) (end one : Ended) → Passes image end a b → one ≡ ran image (a ∷ b ∷ []) end → one.applied ≡ end.applied + 2 → one.world.trap ≡ None
     → IndependentAt image end a b

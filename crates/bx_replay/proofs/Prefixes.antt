@@ -1,8 +1,9 @@
 -- Prefixes of rows, and where they lead.
-use Rattle.std.proofs.Common.{◌≡◌, ℕ, zero, suc, ◌+◌, ◌-◌, ◌<◌, ◌≤◌, ◌⊎◌, inl, inr, List, [], ◌∷◌, ◌++◌, length, take, drop, true, false, refl, sym, ap, ◌∙◌, arith}
+use Rattle.std.proofs.Common.{◌≡◌, ℕ, ◌+◌, ◌-◌, ◌<◌, ◌≤◌, ◌⊎◌, inl, inr, List, [], ◌∷◌, ◌++◌, length, take, drop, true, false, refl, sym, ap, ◌∙◌, arith}
 use Rattle.std.specs.Prelude.{Bool, nat_lt, ◌||◌, if◌then◌else◌, Some, None, is_some, Result, Ok, Err, IfOk}
 use Rattle.std.proofs.lemmas.Bool.{ltb-true, ltb-false}
 use Rattle.std.proofs.lemmas.List.{length-take-le, take-append-le, take-append-drop, take-take, drop-take}
+use Rattle.std.proofs.Math.Seq.{take-append-add}
 use Rattle.bx_load.specs.Image.{Loaded}
 use Rattle.bx_world.specs.declared.choices.Choice.{Choice}
 use Rattle.bx_world.specs.Choosing.{chosen}
@@ -22,9 +23,7 @@ course image start choices = record { image = image; start = start; choices = ch
 
 -- what is taken of a whole that ends behind its first part
 pub take_past : {A : Type 0} (n : ℕ) (xs ys : List A) → length xs ≤ n → take n (xs ++ ys) ≡ xs ++ take (n - length xs) ys
-take_past n [] ys h = let none : n ≡ n - 0 = omega arith in ap (λ m. take m ys) none
-take_past zero (x ∷ xs) ys h = absurd (omega arith)
-take_past (suc n) (x ∷ xs) ys h = let less : suc n - suc (length xs) ≡ n - length xs = omega arith in ap (λ zs. x ∷ zs) (take_past n xs ys (omega arith)) ∙ ap (λ m. x ∷ (xs ++ take m ys)) (sym less)
+take_past n xs ys h = let far : n ≡ length xs + (n - length xs) = omega arith in ap (λ k. take k (xs ++ ys)) far ∙ take-append-add xs ys (n - length xs)
 
 -- a prefix is a shorter one and what stands between both ends
 pub in_two : {A : Type 0} (m n : ℕ) (xs : List A) → m ≤ n → take m xs ++ take (n - m) (drop m xs) ≡ take n xs

@@ -1,14 +1,14 @@
 -- Equal choices in a row, made in one call.
-use Rattle.std.proofs.Common.{◌≡◌, ℕ, zero, suc, ◌+◌, ◌-◌, ◌<◌, ◌≤◌, List, [], ◌∷◌, ◌++◌, length, take, replicate, append-nil, append_assoc, refl, sym, ap, subst, ◌∙◌, arith}
+use Rattle.std.proofs.Common.{◌≡◌, ℕ, zero, suc, ◌+◌, ◌-◌, ◌<◌, List, [], ◌∷◌, ◌++◌, length, take, replicate, append_assoc, refl, sym, ap, ◌∙◌, arith}
 use Rattle.std.specs.Prelude.{slice_get, OnErr, Result, Ok, Err, Some}
 use Rattle.std.proofs.Math.Seq.{take-append-add}
-use Rattle.std.proofs.lemmas.List.{length-replicate}
 use Rattle.bx_load.specs.Image.{Loaded}
 use Rattle.bx_world.specs.declared.choices.Choice.{Choice}
-use Rattle.bx_world.specs.Running.{Ended, advanced, ran, AdvanceTakes, Lacks}
-use Rattle.bx_world.proofs.Lawful.{few_applied, ran_on}
+use Rattle.bx_world.specs.Running.{Ended, advanced, ran, Lacks}
+use Rattle.bx_world.proofs.Lawful.{ran_on}
 use Rattle.bx_world.proofs.Many.{split}
 use Rattle.bx_replay.specs.Lacking.{LacksAmong}
+use Rattle.bx_replay.proofs.Bringing.{get_behind}
 
 -- the last one behind the others
 pub last_made : (image : Loaded) (choice : Choice) (times : ℕ) (old mid new : Ended) → 0 < times → mid ≡ ran image (replicate (times - 1) choice) old → new ≡ advanced image choice mid
@@ -16,27 +16,6 @@ pub last_made : (image : Loaded) (choice : Choice) (times : ℕ) (old mid new : 
 last_made image choice times old mid new some made step =
     let count : times - 1 + 1 ≡ times = omega arith in
     step ∙ ap (advanced image choice) made ∙ sym (split image choice (times - 1) 1 old) ∙ ap (λ n. ran image (replicate n choice) old) count
-
--- so many make no more be counted
-pub few_made : (image : Loaded) (choice : Choice) (times : ℕ) (old new : Ended) → new ≡ ran image (replicate times choice) old → new.applied ≤ old.applied + times
-few_made image choice times old new is =
-    let count = ap (λ (e : Ended). e.applied) is in
-    omega (arith, count, few_applied image (replicate times choice) old, length-replicate times choice)
-
--- what is left behind them leads where all leads that was left
-pub leads_on : (image : Loaded) (choice : Choice) (times : ℕ) (old left : List Choice) (end new : Ended) → new ≡ ran image (replicate times choice) end → old ≡ replicate times choice ++ left → ran image left new ≡ ran image old end
-leads_on image choice times old left end new is front =
-    ap (ran image left) is ∙ sym (ran_on image (replicate times choice) left end) ∙ ap (λ (cs : List Choice). ran image cs end) (sym front)
-
--- memory lacked for the last one
-pub last_lacks : (image : Loaded) (choice : Choice) (times : ℕ) (old mid new : Ended) → 0 < times → mid ≡ ran image (replicate (times - 1) choice) old → new ≡ mid → AdvanceTakes choice mid
-    → Lacks image choice times old new
-last_lacks image choice times old mid new some made stays takes =
-    (times - 1, omega arith, stays ∙ made, subst (λ (e : Ended). AdvanceTakes choice e) (sym stays) takes)
-
--- or for one before it
-pub sooner_lacks : (image : Loaded) (choice : Choice) (times : ℕ) (old new : Ended) → Lacks image choice (times - 1) old new → Lacks image choice times old new
-sooner_lacks image choice times old new lacks = (lacks.0, omega (arith, lacks.1), lacks.2, lacks.3)
 
 -- the first of some choices are made, and so many are left
 pub record Front (image : Loaded) (whole left : List Choice) (old new : Ended) : Type 0 where
@@ -54,15 +33,6 @@ run_made image whole rest left choice times old mid new so_far is made = record 
   parts = so_far.parts ∙ ap (λ (cs : List Choice). so_far.front ++ cs) is ∙ sym (append_assoc so_far.front (replicate times choice) left);
   leads = made ∙ ap (ran image (replicate times choice)) so_far.leads ∙ sym (ran_on image so_far.front (replicate times choice) old);
 }
-
-pub all_made : (image : Loaded) (whole left : List Choice) (old new : Ended) → Front image whole left old new → left ≡ [] → new ≡ ran image whole old
-all_made image whole left old new so_far none =
-    so_far.leads ∙ ap (λ (cs : List Choice). ran image cs old) (sym (append-nil so_far.front) ∙ ap (λ (cs : List Choice). so_far.front ++ cs) (sym none) ∙ sym so_far.parts)
-
-get_behind : (front more : List Choice) (n k : ℕ) → k ≡ length front + n → slice_get (front ++ more) k ≡ slice_get more n
-get_behind [] more n k e = let same : k ≡ n = omega (arith, e) in ap (slice_get more) same
-get_behind (c ∷ front) more n zero e = absurd (omega (arith, e))
-get_behind (c ∷ front) more n (suc k) e = get_behind front more n k (omega (arith, e))
 
 get_run : (times n : ℕ) (choice : Choice) (left : List Choice) → n < times → slice_get (replicate times choice ++ left) n ≡ Some choice
 get_run zero n choice left h = absurd (omega arith)

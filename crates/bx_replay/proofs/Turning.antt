@@ -1,7 +1,7 @@
 -- What an exchange leaves as it was.
 use Rattle.std.proofs.Common.{◌≡◌, ◌≢◌, ℕ, suc, ◌+◌, ◌-◌, ◌^◌, ◌<◌, ◌≤◌, List, [], ◌∷◌, ◌++◌, length, take, drop, Bool, true, false, inl, inr, refl, sym, ap, subst, ◌∙◌, arith, add-one}
 use Rattle.std.specs.Prelude.{Option, Some, None, is_some, ◌||◌, ◌==◌, if◌then◌else◌, slice_index_or, slice_set}
-use Rattle.std.proofs.lemmas.Bool.{cases_eq, eqb-true}
+use Rattle.std.proofs.lemmas.Bool.{cases_eq, cases_lt}
 use Rattle.std.proofs.lemmas.List.{length-drop, length-take-le, take-append-drop, take-append-le, get_or-set_same, get_or-set_other, length-set}
 use Rattle.std.proofs.lemmas.List.Edits.{length-swap}
 use Rattle.std.proofs.Math.Seq.{take-append-add}
@@ -15,7 +15,7 @@ use Rattle.bx_replay.specs.Courses.{Course, reached}
 use Rattle.bx_replay.specs.Exchanges.{exchanged_at, next_apart, NextIndependent, MayExchange, with_exchange}
 use Rattle.bx_replay.specs.Keeping.{IsReached, AreKept, Parts, Turns}
 use Rattle.bx_replay.specs.declared.kept.Kept.{Kept}
-use Rattle.bx_replay.proofs.Prefixes.{all_made, below, next_is}
+use Rattle.bx_replay.proofs.Prefixes.{all_made, next_is}
 use Rattle.bx_replay.proofs.Keeps.{count_of, no_later}
 use Rattle.bx_replay.proofs.Rows.{swapped}
 use Rattle.bx_replay.proofs.Pairs.{same_end, untrapped}
@@ -38,7 +38,7 @@ pub around : (i : ℕ) (c : Course) → MayExchange i c → Around i c
 around i c h = around_of i c (drop i c.choices) refl h
 
 beyond : (n i : ℕ) → i + 1 ≤ n → n ≢ i + 1 → i + 2 ≤ n
-beyond n i h apart = elim (below n (i + 2)) [ inl less ↦ absurd (apart (omega arith)) | inr past ↦ past ]
+beyond n i h apart = elim (cases_lt n (i + 2)) [ inl less ↦ absurd (apart (omega arith)) | inr past ↦ past ]
 
 module _ (i : ℕ) (c : Course) (a : Around i c) where
   pub long : i + 2 ≤ length c.choices
@@ -87,7 +87,7 @@ module _ (i : ℕ) (c : Course) (a : Around i c) where
 
   -- where a prefix leads that does not end between the two
   pub leads : (n : ℕ) → n ≢ i + 1 → reached n (with_exchange i c) ≡ reached n c
-  leads n apart = elim (below n (i + 1)) [
+  leads n apart = elim (cases_lt n (i + 1)) [
     | inl lower ↦ ap (λ (zs : List Choice). ran c.image zs c.start) (sooner n (omega arith))
     | inr higher ↦ later n (beyond n i higher apart)
   ]
@@ -141,17 +141,6 @@ pub may_not : (i : ℕ) (c : Course) (here : Ended) (first second : Choice) → 
 may_not i c here first second at pair never h =
     never (not_of c.image here first second (drop i c.choices) pair (subst (λ (e : Ended). NextIndependent c.image e (drop i c.choices)) (sym at) h))
 
-not_apart : (image : Loaded) (end : Ended) (rest : List Choice) → next_apart rest ≡ None → NextIndependent image end rest → ⊥
-not_apart image end [] none h = h
-not_apart image end (choice ∷ []) none h = h
-not_apart image end (a ∷ b ∷ more) none h = h.1.apart (same_actor (actor a == actor b) refl none) where
-  same_actor : (same : Bool) → (actor a == actor b) ≡ same → unless_same same (a, b) ≡ None → actor a ≡ actor b
-  same_actor true e n = eqb-true (actor a) (actor b) e
-  same_actor false e n = cc
-
-pub may_not_alone : (i : ℕ) (c : Course) → next_apart (drop i c.choices) ≡ None → MayExchange i c → ⊥
-may_not_alone i c none h = not_apart c.image (reached i c) (drop i c.choices) none h
-
 -- what is kept of the one order, with the end between the two in its place, is kept of the other
 pub turns : (i : ℕ) (c : Course) (here between : Ended) (first second : Choice) → MayExchange i c → here ≡ reached i c → next_apart (drop i c.choices) ≡ Some (first, second) → here.applied ≡ c.start.applied + i
     → between.applied ≡ here.applied + 1 → between ≡ ran c.image (second ∷ []) here → Turns c (with_exchange i c) between
@@ -188,7 +177,7 @@ turns_found i c here between first second at pair none is made =
 -- no end is kept that as many choices lead to
 pub not_among : (c : Course) (kept : List Kept) (applied n : ℕ) → AreKept c kept → Parts kept applied n → (0 < n → (d : Kept) → count_of (slice_index_or kept (n - 1) d) ≢ applied)
     → (k : ℕ) (d : Kept) → k < length kept → count_of (slice_index_or kept k d) ≢ applied
-not_among c kept applied n are parts last k d h = elim (below k n) [
+not_among c kept applied n are parts last k d h = elim (cases_lt k n) [
   | inr past ↦ λ same. let rises = no_later c kept n k d are past h in let next = parts.next d (omega arith) in absurd (omega arith)
   | inl before ↦ elim (cases_eq k (n - 1)) [
     | inl here ↦ λ same. last (omega arith) d (ap (λ j. count_of (slice_index_or kept j d)) (sym here) ∙ same)
@@ -231,10 +220,10 @@ module _ (old new : Course) (kept : List Kept) (end : Ended) (are : AreKept old 
   }
 
   apart_of : (at k : ℕ) (d : Kept) → at < length kept → ((e : Kept) → count_of (slice_index_or kept at e) ≡ end.applied) → k < length kept → k ≢ at → count_of (slice_index_or kept k d) ≢ end.applied
-  apart_of at k d within was h ne = λ same. elim (below k at) [
+  apart_of at k d within was h ne = λ same. elim (cases_lt k at) [
     | inl less ↦ let rises = are.rising k at d less within in let is = was d in absurd (omega arith)
     | inr more ↦
-        let past : at < k = elim (below at k) [ inl l ↦ l | inr m ↦ absurd (ne (omega arith)) ] in
+        let past : at < k = elim (cases_lt at k) [ inl l ↦ l | inr m ↦ absurd (ne (omega arith)) ] in
         let rises = are.rising at k d past h in
         let is = was d in
         absurd (omega arith)

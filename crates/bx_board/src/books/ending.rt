@@ -58,7 +58,6 @@ impl<'a> Book<'a> {
         self.leased -= 1;
         self.done += 1;
         push_all(&mut self.ready, self.chains.kids(chain));
-        self.events.push_reserved(Event::Submit(worker, chain));
     }
 
     /// Hands in what came of that chain, of which the piece is known to be: whether the worker holds it. It takes no memory,
@@ -104,7 +103,6 @@ impl<'a> Book<'a> {
         self.slots[chain] = Slot::Waiting;
         self.leased -= 1;
         self.ready.push_reserved(chain);
-        self.events.push_reserved(Event::GiveBack(worker, chain));
     }
 
     /// Gives back the chain that the worker holds: true. Where it holds none: false, and nothing has changed.
@@ -132,6 +130,5 @@ impl<'a> Book<'a> {
             return;
         }
         self.stopped = true;
-        self.events.push_reserved(Event::Stop);
     }
 }

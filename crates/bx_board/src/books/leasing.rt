@@ -6,7 +6,7 @@ ghost use Rattle.bx_board.specs.Kept.{Leases, MayLease, Takes};
 ghost use Rattle.bx_board.specs.Machine.{is_free};
 
 use crate::books::Book;
-use crate::slots::{Event, Slot};
+use crate::slots::Slot;
 use crate::working::{Lease, Span};
 use bx_share::Hold;
 use bx_terms::Fault;
@@ -58,25 +58,19 @@ impl<'a> Book<'a> {
             return Ok(None);
         };
         let lease = self.lease_of(alloc, chain)?;
-        let Some(room) = self.leased.checked_add(3) else {
-            return Err(Fault::Memory);
-        };
-        self.events.reserve(room)?;
         let Ok(_) = self.holders.insert(worker, chain) else {
             return Err(Fault::Memory);
         };
         let _taken = self.ready.pop();
         self.slots[chain] = Slot::Leased(worker);
         self.leased += 1;
-        self.events.push_reserved(Event::Lease(worker, chain));
         Ok(Some((chain, lease)))
     }
 
     /// Leases a free chain to the worker; none exactly where no chain is free, the campaign was stopped, or the worker
     /// holds one, and then nothing has changed.
     ///
-    /// It can only run out of memory, only where a chain may be leased to the worker, and then nothing has changed. Room is taken
-    /// for the lease's end too.
+    /// It can only run out of memory, only where a chain may be leased to the worker, and then nothing has changed.
     pub fn lease(&mut self, alloc: Global, worker: usize) -> Result<Option<Lease<'a>>, Fault>
         ensures ok { IfOk result (λ lease. Leases self.old worker lease self.new) }
         ensures err { IfErr result (λ fault. (fault ≡ Fault.Memory) × (self.new ≡ self.old)) }

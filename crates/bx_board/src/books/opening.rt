@@ -64,7 +64,6 @@ impl<'a> Book<'a> {
         let count = chains.len();
         let slots = slots_of(alloc, root, count)?;
         let ready = ready_of(alloc, chains.kids(0), count)?;
-        let events = Vec::with_capacity(alloc, 1)?;
         Ok(Book {
             image,
             start,
@@ -72,7 +71,6 @@ impl<'a> Book<'a> {
             chains,
             slots,
             stopped: false,
-            events,
             ready,
             holders: BTreeMap::new(alloc),
             leased: 0,

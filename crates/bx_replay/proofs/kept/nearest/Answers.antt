@@ -1,8 +1,6 @@
-use Rattle.std.proofs.Common.{◌≡◌, ◌+◌, ◌-◌, ◌<◌, sym, ap, subst, ◌∙◌, arith}
-use Rattle.std.specs.Prelude.{List, slice_index_or}
+use Rattle.std.proofs.Common.{◌+◌, sym, ap, subst, ◌∙◌}
 use Rattle.bx_world.specs.Running.{Ended}
 use Rattle.bx_replay.specs.Keeping.{Parts}
-use Rattle.bx_replay.specs.declared.kept.Kept.{Kept}
 use Rattle.bx_replay.proofs.Keeps.{nearest_kept}
 use Rattle.bx_replay.proofs.kept.nearest.Goals as goal
 

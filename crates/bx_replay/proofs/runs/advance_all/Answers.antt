@@ -1,7 +1,8 @@
 use Rattle.std.proofs.Common.{length, replicate, ap, subst, arith, length-append}
 use Rattle.std.proofs.lemmas.List.{length-replicate}
+use Rattle.bx_world.proofs.Many.{few_made}
 use Rattle.bx_plan.specs.Runs.{NextRun}
-use Rattle.bx_replay.proofs.Stretches.{few_made, run_made, run_lacks, none_made, on_err}
+use Rattle.bx_replay.proofs.Stretches.{run_made, run_lacks, none_made, on_err}
 use Rattle.bx_replay.proofs.runs.advance_all.Goals as goal
 
 pub loop-run-init : goal.loop-run-init

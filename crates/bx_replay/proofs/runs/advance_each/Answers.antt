@@ -1,11 +1,11 @@
-use Rattle.std.proofs.Common.{◌≡◌, ◌∙◌, [], ◌∷◌, refl, ap, sym, subst, arith, length, replicate, take}
+use Rattle.std.proofs.Common.{◌≡◌, ◌∙◌, [], ◌∷◌, ap, sym, arith, take}
 use Rattle.std.specs.Prelude.{slice_index_or, List}
 use Rattle.std.proofs.lemmas.List.{take_more}
+use Rattle.bx_world.proofs.Many.{few_made}
 use Rattle.bx_world.specs.declared.choices.Choice.{Choice}
 use Rattle.bx_world.specs.declared.choices.Choice.TheVariants.{Run}
 use Rattle.bx_world.specs.Running.{ran}
 use Rattle.bx_world.proofs.Lawful.{ran_on}
-use Rattle.bx_replay.proofs.Stretches.{few_made}
 use Rattle.bx_replay.proofs.runs.advance_each.Goals as goal
 
 pub loop-choice-preserved : goal.loop-choice-preserved

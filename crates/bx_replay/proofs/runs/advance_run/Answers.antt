@@ -1,6 +1,7 @@
 use Rattle.std.proofs.Common.{◌-◌, sym, arith}
 use Rattle.bx_terms.proofs.Outcomes.{ok_pair}
-use Rattle.bx_replay.proofs.Stretches.{few_made, last_made}
+use Rattle.bx_world.proofs.Many.{few_made}
+use Rattle.bx_replay.proofs.Stretches.{last_made}
 use Rattle.bx_replay.proofs.runs.advance_run.Goals as goal
 
 pub advance-requires : goal.advance-requires

@@ -15,10 +15,8 @@ invariant_of-result c =
     let are = c.in_ok-chains.ensures in
     let root = c.in-Ok.ensures.ok ∙ root_end c.args.image.now c.args.start c.args.plan.now c.in_ok-chains.chains c.args.world are c.requires in
     let slots = slots_so job c.in-Ok.root c.len-count.result c.in_ok-slots.slots.items c.in_ok-slots.ensures root c.len-count.ensures in (
-      opened job are c.in_ok-slots.slots.items c.in_ok-events.events.items c.in_ok-ready.ready.items c.new.result c.new.ensures.empty slots c.in_ok-events.ensures.items
-          (c.in_ok-ready.ensures.items ∙ c.kids.ensures),
+      opened job are c.in_ok-slots.slots.items c.in_ok-ready.ready.items c.new.result c.new.ensures.empty slots (c.in_ok-ready.ensures.items ∙ c.kids.ensures),
       omega (arith, ap length slots, long job are, c.in_ok-ready.ensures.capacity, c.len-count.ensures),
-      omega (arith, c.in_ok-events.ensures.len, c.in_ok-events.ensures.capacity),
     )
 
 pub returns : goal.returns
@@ -30,5 +28,5 @@ returns c =
     record {
       exported = subst IsOk (sym c.requires) refl;
       chains = are;
-      begun = begins_so job c.in_ok-slots.slots.items c.in_ok-events.events.items slots c.in_ok-events.ensures.items;
+      begun = begins_so job c.in_ok-slots.slots.items slots;
     }

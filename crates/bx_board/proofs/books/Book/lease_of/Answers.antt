@@ -14,7 +14,7 @@ use Rattle.bx_board.proofs.books.Book.lease_of.Goals as goal
 pub invariant_of-result : goal.invariant_of-result
 invariant_of-result c =
     let i = c.self.inside in
-    let b = kept_view i.image.now i.start i.plan.now i.chains i.slots.items i.stopped i.events.items in
+    let b = kept_view i.image.now i.start i.plan.now i.chains i.slots.items i.stopped in
     let is = c.self.invariant.0.kept in
     let free : IsTrue (is_free b.job b.state c.args.chain) = subst (λ (k : Kept). IsTrue (is_free k.job k.state c.args.chain)) (sym c.self.view_is) c.requires in
     let was = free_is b.job b.state c.args.chain (is_true _ free) in

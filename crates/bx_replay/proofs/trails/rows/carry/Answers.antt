@@ -1,4 +1,4 @@
-use Rattle.std.proofs.Common.{◌≡◌, ◌+◌, ◌-◌, ◌<◌, ◌≤◌, length, ap, sym, ◌∙◌, arith}
+use Rattle.std.proofs.Common.{◌≡◌, ◌+◌, ◌-◌, ◌<◌, length, ap, sym, ◌∙◌, arith}
 use Rattle.bx_world.specs.declared.choices.Choice.TheVariants.{Run}
 use Rattle.bx_replay.specs.Exchanges.{exchanged_at}
 use Rattle.bx_replay.specs.Moving.{brought}
@@ -10,9 +10,7 @@ loop-at-init c = record { low = c.requires.order; high = omega arith; choices = 
 
 pub swap-requires-clause-b_in_bounds : goal.swap-requires-clause-b_in_bounds
 swap-requires-clause-b_in_bounds c =
-    let long = long_brought c.args.choices.now c.args.from c.loop-at.at (Run 0) c.requires.within c.loop-at.invariant.high in
-    let same = ap length c.loop-at.invariant.choices in
-    omega arith
+    omega (arith, long_brought c.args.choices.now c.args.from c.loop-at.at (Run 0) c.requires.within c.loop-at.invariant.high, ap length c.loop-at.invariant.choices)
 
 pub loop-at-preserved : goal.loop-at-preserved
 loop-at-preserved c =

@@ -1,9 +1,8 @@
-use Rattle.std.proofs.Common.{◌≡◌, ◌+◌, ◌-◌, ◌<◌, ◌≤◌, length, refl, ap, sym, subst, ◌∙◌, arith}
+use Rattle.std.proofs.Common.{◌≡◌, ◌+◌, ◌-◌, length, ap, sym, ◌∙◌, arith}
 use Rattle.std.specs.Prelude.{List}
 use Rattle.bx_world.specs.declared.choices.Choice.{Choice}
 use Rattle.bx_world.specs.declared.choices.Choice.TheVariants.{Run}
-use Rattle.bx_replay.specs.Courses.{Course}
-use Rattle.bx_replay.specs.Moving.{brought, IsExchanged}
+use Rattle.bx_replay.specs.Moving.{brought}
 use Rattle.bx_replay.proofs.Bringing.{among_more, brought_here, brought_twice, further, long_brought, none_made, steps_on}
 use Rattle.bx_replay.proofs.trails.rows.Row.bring_forward.Goals as goal
 
@@ -18,9 +17,7 @@ loop-at-init c = record {
 
 pub pass-requires-clause-within : goal.pass-requires-clause-within
 pass-requires-clause-within c =
-    let long = long_brought c.args.self.now.choices c.args.from c.loop-at.at (Run 0) c.requires.within c.loop-at.invariant.high in
-    let same = ap length c.loop-at.invariant.choices in
-    omega arith
+    omega (arith, long_brought c.args.self.now.choices c.args.from c.loop-at.at (Run 0) c.requires.within c.loop-at.invariant.high, ap length c.loop-at.invariant.choices)
 
 pub loop-at-preserved : goal.loop-at-preserved
 loop-at-preserved c =

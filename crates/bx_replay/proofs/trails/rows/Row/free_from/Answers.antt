@@ -1,4 +1,4 @@
-use Rattle.std.proofs.Common.{◌≡◌, ◌<◌, ◌+◌, length, refl, sym, ap, subst, ◌∙◌, arith}
+use Rattle.std.proofs.Common.{◌<◌, ◌+◌, length, sym, ap, subst, ◌∙◌, arith}
 use Rattle.std.specs.Prelude.{slice_index_or}
 use Rattle.bx_world.specs.Running.{Ended}
 use Rattle.bx_replay.specs.Courses.{Course, reached}
@@ -15,16 +15,14 @@ may_pass-requires c =
     let old : Course = course c.self.inside.image.now c.self.inside.start.end c.self.inside.choices.items in
     let long = ap (λ (s : Course). length s.choices) c.self.view_is in
     let at = ap (λ (e : Ended). e.applied) (c.loop-at.invariant.here ∙ sym (ap (reached c.loop-at.at) c.self.view_is)) in
-    let few = bounded old c.loop-at.at (omega arith) in
-    omega (arith, c.self.invariant.few)
+    omega (arith, bounded old c.loop-at.at (omega arith), c.self.invariant.few)
 
 pub advance_run-requires-clause-few : goal.advance_run-requires-clause-few
 advance_run-requires-clause-few c =
     let old : Course = course c.self.inside.image.now c.self.inside.start.end c.self.inside.choices.items in
     let long = ap (λ (s : Course). length s.choices) c.self.view_is in
     let at = ap (λ (e : Ended). e.applied) (c.loop-at.invariant.here ∙ sym (ap (reached c.loop-at.at) c.self.view_is)) in
-    let few = bounded old c.loop-at.at (omega arith) in
-    omega (arith, c.self.invariant.few)
+    omega (arith, bounded old c.loop-at.at (omega arith), c.self.invariant.few)
 
 pub loop-at-preserved : goal.loop-at-preserved
 loop-at-preserved c =

@@ -1,5 +1,5 @@
 use Rattle.std.proofs.Common.{◌≡◌, ◌<◌, ◌≤◌, ◌-◌, ◌+◌, ◌++◌, length, take, drop, refl, sym, ap, subst, ◌∙◌, arith}
-use Rattle.std.specs.Prelude.{List, Some, None, nat_eq}
+use Rattle.std.specs.Prelude.{List, Some, nat_eq}
 use Rattle.bx_world.specs.declared.choices.Choice.{Choice}
 use Rattle.bx_world.specs.declared.choices.Choice.TheVariants.{Run}
 use Rattle.bx_replay.specs.Courses.{Course}
@@ -19,8 +19,7 @@ returns-in_default-clause-ok c =
 pub carry-requires-clause-order : goal.carry-requires-clause-order
 carry-requires-clause-order c =
     let is = subst (λ o. Reaches c.max-first.result c.args.from c.args.self.now o) c.in-Some.is c.in_ok-rest.ensures in
-    let rest = rest_within c.args.self.now c.max-first.result c.args.from c.in-Some.field-0 c.requires.within is in
-    omega arith
+    omega (arith, rest_within c.args.self.now c.max-first.result c.args.from c.in-Some.field-0 c.requires.within is)
 
 pub invariant_of-self : goal.invariant_of-self
 invariant_of-self c =

@@ -1,4 +1,4 @@
-use Rattle.std.proofs.Common.{◌≡◌, ◌<◌, ◌-◌, ◌+◌, true, false, length, sym, ap, ◌∙◌, arith}
+use Rattle.std.proofs.Common.{◌≡◌, ◌<◌, ◌-◌, true, false, length, sym, ap, ◌∙◌, arith}
 use Rattle.std.specs.Prelude.{slice_index_or}
 use Rattle.bx_world.specs.Running.{Ended}
 use Rattle.bx_replay.specs.Courses.{Course, reached}
@@ -11,16 +11,14 @@ are_free-requires c =
     let old : Course = course c.self.inside.image.now c.self.inside.start.end c.self.inside.choices.items in
     let long = ap (λ (s : Course). length s.choices) c.self.view_is in
     let at = ap (λ (e : Ended). e.applied) (c.in_ok-rest.ensures.1 ∙ sym (ap (reached (c.args.past - 1)) c.self.view_is)) in
-    let few = bounded old (c.args.past - 1) (omega arith) in
-    omega (arith, c.self.invariant.few)
+    omega (arith, bounded old (c.args.past - 1) (omega arith), c.self.invariant.few)
 
 pub follow_one-requires : goal.follow_one-requires
 follow_one-requires c =
     let old : Course = course c.self.inside.image.now c.self.inside.start.end c.self.inside.choices.items in
     let long = ap (λ (s : Course). length s.choices) c.self.view_is in
     let at = ap (λ (e : Ended). e.applied) (c.in_ok-rest.ensures.1 ∙ sym (ap (reached (c.args.past - 1)) c.self.view_is)) in
-    let few = bounded old (c.args.past - 1) (omega arith) in
-    omega (arith, c.self.invariant.few)
+    omega (arith, bounded old (c.args.past - 1) (omega arith), c.self.invariant.few)
 
 pub returns-then-not-branch : goal.returns-then-not-branch
 returns-then-not-branch c =
