@@ -4,6 +4,7 @@ use Rattle.std.specs.Prelude.{Option, Some, None, slice_get, option_map, if◌th
 use Rattle.std.specs.List.{list_all}
 use Rattle.std.proofs.lemmas.List.{map-append, take_more, drop_more}
 use Rattle.std.proofs.lemmas.Bool.Decides.{nat_tests}
+use Rattle.std.proofs.lemmas.Bool.{and_parts}
 use Rattle.bx_listing.specs.contracts.items.ImportPartialEq.TheImpl as imports
 use Rattle.bx_listing.specs.declared.items.Import.{Import}
 use Rattle.bx_listing.specs.declared.items.Operand.{Operand as Spelt}
@@ -30,17 +31,13 @@ pub extends_insert : {A : Type 0} (xs ys : List A) (b : Bool) (y : A) → ys ≡
 extends_insert xs ys true y is = subst (Extends xs) (sym is) (extends_same xs)
 extends_insert xs ys false y is = subst (Extends xs) (sym is) (extends_push xs y)
 
-both_true : (a b : Bool) → (a && b) ≡ true → (a ≡ true) × (b ≡ true)
-both_true true b e = (refl, e)
-both_true false b e = absurd (cc)
-
 same_number : (m n : ℕ) → nat_eq m n ≡ true → m ≡ n
 same_number m n e = grind (arith, nat_tests)
 
 import_is : (i k : Import) → same_import i k ≡ true → i ≡ k
 import_is i k e =
-    let one = both_true _ _ e in
-    let two = both_true _ _ one.1 in
+    let one = and_parts _ _ e in
+    let two = and_parts _ _ one.1 in
     let m = same_number _ _ one.0 in
     let f = same_number _ _ two.0 in
     let a = same_number _ _ two.1 in

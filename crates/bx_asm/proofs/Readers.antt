@@ -2,13 +2,9 @@
 use Rattle.std.proofs.Common.{◌≡◌, ℕ, List, [], ◌∷◌, refl, ap, ◌∙◌}
 use Rattle.std.specs.Prelude.{Option, Some, None, option_map, slice_get, unwrap_or}
 use Rattle.bx_terms.specs.Tree.{Tree}
-use Rattle.bx_terms.specs.declared.atom_table.AtomId.{AtomId}
-use Rattle.bx_ops.specs.declared.guard_bif.Bif.{Bif}
 use Rattle.bx_listing.specs.declared.items.Import.{Import}
 use Rattle.bx_listing.specs.declared.items.Operand.{Operand as Spelt}
 use Rattle.bx_listing.specs.declared.items.Operand.TheVariants as spelt
-use Rattle.bx_asm.specs.declared.instruction.Register.{Register}
-use Rattle.bx_asm.specs.declared.instruction.Register.TheVariants as registers
 use Rattle.bx_asm.specs.declared.operands.Operand.{Operand}
 use Rattle.bx_asm.specs.declared.operands.Operand.TheVariants as numbers
 use Rattle.bx_asm.specs.Meaning.{as_source, as_register, as_y, as_label, as_fail, as_place, as_number, as_atom, as_import, as_bif, as_key, list_behind, as_sources, as_registers, as_pairs, y_or_zero, label_or_zero}
@@ -17,87 +13,44 @@ use Rattle.bx_asm.specs.Members.{literal_or_nil, source_in, sources_in, y_of, re
 use Rattle.bx_asm.specs.Operands.{Tables, operand_of, row_of}
 
 -- what a table has, or does not have, under a number
-named : {A B : Type 0} (f : Spelt → Option B) (c : A → Spelt) (o : Option A) → ((a : A) → f (c a) ≡ None) → f spelt.Nil ≡ None → f (unwrap_or (option_map c o) spelt.Nil) ≡ None
-named f c (Some a) given missing = given a
-named f c None given missing = missing
+named : {A B : Type 0} (f : Spelt → B) (c : A → Spelt) (o : Option A) → ((a : A) → f (c a) ≡ f spelt.Nil) → f (unwrap_or (option_map c o) spelt.Nil) ≡ f spelt.Nil
+named f c (Some a) given = given a
+named f c None given = refl
 
-abbrev pub register_of : Operand → Option Register
-register_of (numbers.X n) = Some (registers.X n)
-register_of (numbers.Y n) = Some (registers.Y n)
-register_of _ = None
+-- an operand as it is spelled, where it is in no table
+abbrev pub plain : Operand → Spelt
+plain (numbers.Literal k) = spelt.Nil
+plain (numbers.Import k) = spelt.Nil
+plain o = operand_of (record { literals = []; imports = [] }) o
 
-pub register_is : (t : Tables) (o : Operand) → as_register (operand_of t o) ≡ register_of o
-register_is t (numbers.Literal k) = named as_register spelt.Literal (slice_get t.literals k) (λ x. refl) refl
-register_is t (numbers.Import k) = named as_register spelt.Import (slice_get t.imports k) (λ x. refl) refl
-register_is t _ = refl
+by_table : {B : Type 0} (f : Spelt → B) → ((x : Tree) → f (spelt.Literal x) ≡ f spelt.Nil) → ((i : Import) → f (spelt.Import i) ≡ f spelt.Nil) → (t : Tables) (o : Operand) → f (operand_of t o) ≡ f (plain o)
+by_table f literal import t (numbers.Literal k) = named f spelt.Literal (slice_get t.literals k) literal
+by_table f literal import t (numbers.Import k) = named f spelt.Import (slice_get t.imports k) import
+by_table f literal import t _ = refl
 
-abbrev pub y_number_of : Operand → Option ℕ
-y_number_of (numbers.Y n) = Some n
-y_number_of _ = None
+pub register_is : (t : Tables) (o : Operand) → as_register (operand_of t o) ≡ as_register (plain o)
+register_is t o = by_table as_register (λ x. refl) (λ i. refl) t o
 
-pub y_is : (t : Tables) (o : Operand) → as_y (operand_of t o) ≡ y_number_of o
-y_is t (numbers.Literal k) = named as_y spelt.Literal (slice_get t.literals k) (λ x. refl) refl
-y_is t (numbers.Import k) = named as_y spelt.Import (slice_get t.imports k) (λ x. refl) refl
-y_is t _ = refl
+pub y_is : (t : Tables) (o : Operand) → as_y (operand_of t o) ≡ as_y (plain o)
+y_is t o = by_table as_y (λ x. refl) (λ i. refl) t o
 
-abbrev pub label_of : Operand → Option ℕ
-label_of (numbers.Label n) = Some n
-label_of _ = None
+pub label_is : (t : Tables) (o : Operand) → as_label (operand_of t o) ≡ as_label (plain o)
+label_is t o = by_table as_label (λ x. refl) (λ i. refl) t o
 
-pub label_is : (t : Tables) (o : Operand) → as_label (operand_of t o) ≡ label_of o
-label_is t (numbers.Literal k) = named as_label spelt.Literal (slice_get t.literals k) (λ x. refl) refl
-label_is t (numbers.Import k) = named as_label spelt.Import (slice_get t.imports k) (λ x. refl) refl
-label_is t _ = refl
+pub fail_is : (t : Tables) (o : Operand) → as_fail (operand_of t o) ≡ as_fail (plain o)
+fail_is t o = by_table as_fail (λ x. refl) (λ i. refl) t o
 
-abbrev pub fail_of : Operand → Option (Option ℕ)
-fail_of (numbers.Label n) = Some (Some n)
-fail_of numbers.NoLabel = Some None
-fail_of _ = None
+pub place_is : (t : Tables) (o : Operand) → as_place (operand_of t o) ≡ as_place (plain o)
+place_is t o = by_table as_place (λ x. refl) (λ i. refl) t o
 
-pub fail_is : (t : Tables) (o : Operand) → as_fail (operand_of t o) ≡ fail_of o
-fail_is t (numbers.Literal k) = named as_fail spelt.Literal (slice_get t.literals k) (λ x. refl) refl
-fail_is t (numbers.Import k) = named as_fail spelt.Import (slice_get t.imports k) (λ x. refl) refl
-fail_is t _ = refl
+pub number_is : (t : Tables) (o : Operand) → as_number (operand_of t o) ≡ as_number (plain o)
+number_is t o = by_table as_number (λ x. refl) (λ i. refl) t o
 
-abbrev pub place_of : Operand → Option ℕ
-place_of (numbers.Place n) = Some n
-place_of _ = None
+pub atom_is : (t : Tables) (o : Operand) → as_atom (operand_of t o) ≡ as_atom (plain o)
+atom_is t o = by_table as_atom (λ x. refl) (λ i. refl) t o
 
-pub place_is : (t : Tables) (o : Operand) → as_place (operand_of t o) ≡ place_of o
-place_is t (numbers.Literal k) = named as_place spelt.Literal (slice_get t.literals k) (λ x. refl) refl
-place_is t (numbers.Import k) = named as_place spelt.Import (slice_get t.imports k) (λ x. refl) refl
-place_is t _ = refl
-
-abbrev pub number_of : Operand → ℕ
-number_of (numbers.Number n) = n
-number_of _ = 0
-
-no_number : {A : Type 0} (c : A → Spelt) (o : Option A) → ((a : A) → as_number (c a) ≡ 0) → as_number (unwrap_or (option_map c o) spelt.Nil) ≡ 0
-no_number c (Some a) given = given a
-no_number c None given = refl
-
-pub number_is : (t : Tables) (o : Operand) → as_number (operand_of t o) ≡ number_of o
-number_is t (numbers.Literal k) = no_number spelt.Literal (slice_get t.literals k) (λ x. refl)
-number_is t (numbers.Import k) = no_number spelt.Import (slice_get t.imports k) (λ x. refl)
-number_is t _ = refl
-
-abbrev pub atom_of : Operand → Option AtomId
-atom_of (numbers.Atom a) = Some a
-atom_of _ = None
-
-pub atom_is : (t : Tables) (o : Operand) → as_atom (operand_of t o) ≡ atom_of o
-atom_is t (numbers.Literal k) = named as_atom spelt.Literal (slice_get t.literals k) (λ x. refl) refl
-atom_is t (numbers.Import k) = named as_atom spelt.Import (slice_get t.imports k) (λ x. refl) refl
-atom_is t _ = refl
-
-abbrev pub bif_of : Operand → Option Bif
-bif_of (numbers.Bif b) = Some b
-bif_of _ = None
-
-pub bif_is : (t : Tables) (o : Operand) → as_bif (operand_of t o) ≡ bif_of o
-bif_is t (numbers.Literal k) = named as_bif spelt.Literal (slice_get t.literals k) (λ x. refl) refl
-bif_is t (numbers.Import k) = named as_bif spelt.Import (slice_get t.imports k) (λ x. refl) refl
-bif_is t _ = refl
+pub bif_is : (t : Tables) (o : Operand) → as_bif (operand_of t o) ≡ as_bif (plain o)
+bif_is t o = by_table as_bif (λ x. refl) (λ i. refl) t o
 
 abbrev pub import_of : Tables → Operand → Option Import
 import_of t (numbers.Import k) = slice_get t.imports k
@@ -108,7 +61,7 @@ import_named (Some i) = refl
 import_named None = refl
 
 pub import_is : (t : Tables) (o : Operand) → as_import (operand_of t o) ≡ import_of t o
-import_is t (numbers.Literal k) = named as_import spelt.Literal (slice_get t.literals k) (λ x. refl) refl
+import_is t (numbers.Literal k) = named as_import spelt.Literal (slice_get t.literals k) (λ x. refl)
 import_is t (numbers.Import k) = import_named (slice_get t.imports k)
 import_is t _ = refl
 
@@ -127,20 +80,14 @@ source_is t (numbers.Import k) = no_source (slice_get t.imports k)
 source_is t _ = refl
 
 -- the members of lists
-abbrev pub list_behind_of : {A : Type 0} → Operand → A → Option A
-list_behind_of (numbers.List n) rest = Some rest
-list_behind_of _ rest = None
-
-pub list_is : (t : Tables) (o : Operand) (rest : List Spelt) → list_behind (operand_of t o) rest ≡ list_behind_of o rest
-list_is t (numbers.Literal k) rest = named (λ o. list_behind o rest) spelt.Literal (slice_get t.literals k) (λ x. refl) refl
-list_is t (numbers.Import k) rest = named (λ o. list_behind o rest) spelt.Import (slice_get t.imports k) (λ x. refl) refl
-list_is t _ rest = refl
+pub list_is : (t : Tables) (o : Operand) (rest : List Spelt) → list_behind (operand_of t o) rest ≡ list_behind (plain o) rest
+list_is t o rest = by_table (λ p. list_behind p rest) (λ x. refl) (λ i. refl) t o
 
 pub sources_are : (t : Tables) (os : List Operand) → as_sources (row_of t os) ≡ sources_in t.literals os
 sources_are t [] = refl
 sources_are t (o ∷ os) = let here = source_is t o in let rest = sources_are t os in λ k. here k ∷ rest k
 
-y_same : (o : Operand) → y_or_zero (y_number_of o) ≡ y_of o
+y_same : (o : Operand) → y_or_zero (as_y (plain o)) ≡ y_of o
 y_same (numbers.Y n) = refl
 y_same _ = refl
 
@@ -149,11 +96,11 @@ registers_are t [] = refl
 registers_are t (o ∷ os) = let here = ap y_or_zero (y_is t o) ∙ y_same o in let rest = registers_are t os in λ k. here k ∷ rest k
 
 key_is : (t : Tables) (o : Operand) → as_key (operand_of t o) ≡ key_of o
-key_is t (numbers.Literal k) = named as_key spelt.Literal (slice_get t.literals k) (λ x. refl) refl
-key_is t (numbers.Import k) = named as_key spelt.Import (slice_get t.imports k) (λ x. refl) refl
+key_is t (numbers.Literal k) = named as_key spelt.Literal (slice_get t.literals k) (λ x. refl)
+key_is t (numbers.Import k) = named as_key spelt.Import (slice_get t.imports k) (λ x. refl)
 key_is t _ = refl
 
-label_same : (o : Operand) → label_or_zero (label_of o) ≡ label_in o
+label_same : (o : Operand) → label_or_zero (as_label (plain o)) ≡ label_in o
 label_same (numbers.Label n) = refl
 label_same _ = refl
 

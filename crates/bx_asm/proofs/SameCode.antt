@@ -1,16 +1,16 @@
 -- When two modules' code is the same.
-use Rattle.std.proofs.Common.{◌≡◌, ℕ, ◌+◌, ◌<◌, ◌≤◌, List, [], ◌∷◌, ◌++◌, length, map, take, drop, refl, ap, sym, ◌∙◌}
+use Rattle.std.proofs.Common.{◌≡◌, ℕ, ◌+◌, ◌<◌, List, [], ◌∷◌, ◌++◌, length, map, take, drop, refl, ap, sym, ◌∙◌}
 use Rattle.std.specs.Prelude.{slice_get, unwrap_or}
 use Rattle.std.specs.List.{flat_map}
-use Rattle.std.proofs.lemmas.List.{take_more_same, take_all}
+use Rattle.std.proofs.lemmas.List.{take_more_same}
 use Rattle.std.proofs.lemmas.Option.{unwrap_or-slice_get}
+use Rattle.std.proofs.Math.Seq.{take-append_seam, drop-append_seam}
 use Rattle.bx_ops.specs.declared.opcode.Op.TheVariants.{Line}
 use Rattle.bx_listing.specs.Items.{Item}
 use Rattle.bx_listing.specs.declared.items.Operand.{Operand}
 use Rattle.bx_listing.specs.declared.items.Operand.TheVariants.{Nil}
 use Rattle.bx_listing.specs.Code.{Code, CodeFunction, items}
 use Rattle.bx_asm.specs.Unit.{code_head}
-use Rattle.bx_asm.proofs.Units.{take_front, drop_front}
 
 -- rows that were the same so far, and whose next elements are, are the same one further
 so_far : {A : Type 0} (d : A) (xs ys : List A) (i : ℕ) → i < length xs → i < length ys → take i xs ≡ take i ys → slice_get xs i ≡ slice_get ys i → take (i + 1) xs ≡ take (i + 1) ys
@@ -22,10 +22,6 @@ same_so_far xs ys i = so_far Nil xs ys i
 
 pub same_items_so_far : (xs ys : List Item) (i : ℕ) → i < length xs → i < length ys → take i xs ≡ take i ys → slice_get xs i ≡ slice_get ys i → take (i + 1) xs ≡ take (i + 1) ys
 same_items_so_far xs ys i = so_far (record { op = Line; operands = [] }) xs ys i
-
--- rows of one length that are the same as far as they go are the same
-pub same_whole : {A : Type 0} (xs ys : List A) (i : ℕ) → length xs ≤ i → length ys ≤ i → take i xs ≡ take i ys → xs ≡ ys
-same_whole xs ys i hx hy e = sym (take_all i xs hx) ∙ e ∙ take_all i ys hy
 
 abbrev flat : List CodeFunction → List Item
 flat fs = flat_map (λ f. f.items) fs
@@ -40,9 +36,9 @@ same_functions (f ∷ fs) (g ∷ gs) heads all =
     let others : map code_head fs ≡ map code_head gs = cc in
     let count : length f.items ≡ length g.items = λ k. (head k).count in
     let own : f.items ≡ g.items =
-    sym (take_front f.items (flat fs)) ∙ ap (take (length f.items)) all ∙ ap (λ n. take n (g.items ++ flat gs)) count ∙ take_front g.items (flat gs) in
+    sym (take-append_seam f.items (flat fs)) ∙ ap (take (length f.items)) all ∙ ap (λ n. take n (g.items ++ flat gs)) count ∙ take-append_seam g.items (flat gs) in
     let rest : flat fs ≡ flat gs =
-    sym (drop_front f.items (flat fs)) ∙ ap (drop (length f.items)) all ∙ ap (λ n. drop n (g.items ++ flat gs)) count ∙ drop_front g.items (flat gs) in
+    sym (drop-append_seam f.items (flat fs)) ∙ ap (drop (length f.items)) all ∙ ap (λ n. drop n (g.items ++ flat gs)) count ∙ drop-append_seam g.items (flat gs) in
     let tail = same_functions fs gs others rest in
     λ k. record { name = (head k).name; arity = (head k).arity; entry = (head k).entry; items = own k } ∷ tail k
 

@@ -187,7 +187,7 @@ fn same_at(one: Numbered<'_>, other: Numbered<'_>, number: usize) -> bool
     }
 }
 
-#[tactic(auto, using(crate::proofs::SameCode::same_so_far, crate::proofs::SameCode::same_whole))]
+#[tactic(auto, using(crate::proofs::SameCode::same_so_far, bx_share::specs::Rows::same_whole))]
 fn same_operands(one: Numbered<'_>, other: Numbered<'_>) -> bool
     ensures { IsTrue result ↔ ((item_of one.entry).operands ≡ (item_of other.entry).operands) }
 {

@@ -18,7 +18,7 @@ fn same_at(one: &Unit, other: &Unit, number: usize) -> bool
     }
 }
 
-#[tactic(auto, using(crate::proofs::SameCode::same_items_so_far, crate::proofs::SameCode::same_whole))]
+#[tactic(auto, using(crate::proofs::SameCode::same_items_so_far, bx_share::specs::Rows::same_whole))]
 fn same_items(one: &Unit, other: &Unit) -> bool
     ensures { IsTrue result ↔ (items one.now ≡ items other.now) }
 {

@@ -23,11 +23,12 @@ use Rattle.bx_listing.specs.Forms.{Forms, form, moved, next_form, forms, forms_o
 use Rattle.bx_listing.specs.Shape.{shape}
 use Rattle.bx_listing.specs.HeadForms.{is_attributes}
 use Rattle.bx_listing.specs.Taking.{IsForm, ReadsForms}
-use Rattle.bx_listing.specs.Listing.{taken, taken_at, behind_attributes, behind_labels, behind_head, and_so, with_optional, with_form, part_of, part, functions}
+use Rattle.bx_listing.specs.Listing.{taken, taken_at, behind_attributes, behind_labels, behind_head, and_so, with_optional, with_form, part_of, form_part, part, functions}
 use Rattle.bx_listing.specs.Locations.{located}
 use Rattle.bx_listing.specs.Dropped.{IsDropped, MakeSame}
 use Rattle.bx_listing.proofs.Forms.{forms_next}
 use Rattle.bx_listing.proofs.FormMemory.{taken_form}
+use Rattle.bx_listing.proofs.GoodReadings.{lined_read}
 
 abbrev pair_of : List ℕ → Span → Span → Tree → Tree
 pair_of word s r t = tuple s (cons (atom r word) (cons t nil))
@@ -98,22 +99,16 @@ item_some line f fs more mid (refused texts fault) e = absurd (cc)
 
 form_some : (line : ℕ) (done more : List ListedFunction) (s : Shape) (texts mid : Table) → (with_form line done s).run texts ≡ read mid more → 0 < length more
 form_some line [] more s texts mid e = absurd (cc)
-form_some line (f ∷ fs) more s texts mid e = item_some line f fs more mid ((item line s).run texts) e
+form_some line (f ∷ fs) more s texts mid e = item_some line f fs more mid ((item s).run texts) e
 
 word_some : (line : ℕ) (done more : List ListedFunction) (text : List ℕ) (parts : List Tree) (w : FormWord) (texts mid : Table) → (part_of line done text parts w).run texts ≡ read mid more → 0 < length more
-word_some line done more text parts words.Function texts mid e = begun_some done more mid ((function_form line parts).run texts) e
-word_some line done more text parts words.Module texts mid e = form_some line done more (tagged text parts) texts mid e
-word_some line done more text parts words.Exports texts mid e = form_some line done more (tagged text parts) texts mid e
-word_some line done more text parts words.Attributes texts mid e = form_some line done more (tagged text parts) texts mid e
-word_some line done more text parts words.Labels texts mid e = form_some line done more (tagged text parts) texts mid e
-word_some line done more text parts words.Annotation texts mid e = form_some line done more (tagged text parts) texts mid e
-word_some line done more text parts words.Test texts mid e = form_some line done more (tagged text parts) texts mid e
-word_some line done more text parts words.Bif texts mid e = form_some line done more (tagged text parts) texts mid e
-word_some line done more text parts words.GcBif texts mid e = form_some line done more (tagged text parts) texts mid e
-word_some line done more text parts words.Raise texts mid e = form_some line done more (tagged text parts) texts mid e
-word_some line done more text parts words.Named texts mid e = form_some line done more (tagged text parts) texts mid e
+word_some line done more text parts words.Function texts mid e = begun_some done more mid ((function_form parts).run texts) e
+word_some line done more text parts _ texts mid e = form_some line done more (tagged text parts) texts mid e
 
 pub part_some : (line : ℕ) (done more : List ListedFunction) (s : Shape) (texts mid : Table) → (part line done s).run texts ≡ read mid more → 0 < length more
-part_some line done more (tagged text parts) texts mid e = word_some line done more text parts (form_word text) texts mid e
-part_some line done more (bare text) texts mid e = form_some line done more (bare text) texts mid e
-part_some line done more other texts mid e = form_some line done more other texts mid e
+part_some line done more s texts mid h = by s (lined_read line ((form_part line done s).run texts) mid more h)
+  where
+    by : (s : Shape) → (form_part line done s).run texts ≡ read mid more → 0 < length more
+    by (tagged text parts) e = word_some line done more text parts (form_word text) texts mid e
+    by (bare text) e = form_some line done more (bare text) texts mid e
+    by other e = form_some line done more other texts mid e

@@ -45,11 +45,10 @@ typed_falls t a word (x ∷ parts) e two at = falls_in_tuple t a word parts (e �
 
 -- and stands for the whole
 pub typed_inner : (t a : Tree) (word : List ℕ) (parts : List Tree) → shape t ≡ tagged word parts → 2 ≤ length parts → length parts < 3 → a ≡ get_or parts 0 a → operand_word word ≡ words.Typed → untyped t ≡ untyped a
-typed_inner t a word [] e two three at typed = absurd (omega (arith, two))
-typed_inner t a word (x ∷ []) e two three at typed = absurd (omega (arith, two))
 typed_inner t a word (x ∷ y ∷ []) e two three at typed =
     untyped_tagged t x y word e ∙ (ap (λ k. untyped_of t k (untyped x) (y ∷ [])) typed ∙ ap untyped (sym at))
 typed_inner t a word (x ∷ y ∷ z ∷ parts) e two three at typed = absurd (omega (arith, three))
+typed_inner t a word _ e two three at typed = absurd (omega (arith, two))
 
 -- a tuple whose first element is an atom
 pub tuple_shape : (t first : Tree) (s : Span) (es : List Tree) (text : List ℕ) → tuple s (chain es nil) ≡ t → 1 ≤ length es → first ≡ get_or es 0 first → Some text ≡ word first → tagged text (take (length es - 1) (drop 1 es)) ≡ shape t

@@ -1,5 +1,5 @@
 -- The first fault of forms that are no listing.
-use Rattle.std.proofs.Common.{◌≡◌, ℕ, Bool, true, false, List, [], ◌∷◌, ◌++◌, Option, Some, None, Ok, Err, codes, pos, refl, sym, ap, subst, ◌∙◌, if◌then◌else◌}
+use Rattle.std.proofs.Common.{◌≡◌, ℕ, Bool, true, false, List, [], ◌∷◌, ◌++◌, Ok, Err, codes, pos, refl, sym, ap, subst, ◌∙◌, if◌then◌else◌}
 use Rattle.bx_terms.specs.declared.atom_table.AtomId.{AtomId}
 use Rattle.bx_terms.specs.declared.faults.Fault.{Fault}
 use Rattle.bx_terms.specs.declared.faults.Fault.TheVariants as faults
@@ -12,17 +12,16 @@ use Rattle.bx_text.specs.declared.node.Span.{Span}
 use Rattle.bx_text.specs.Tree.{Tree, integer, atom, tuple, list, nil, cons}
 use Rattle.bx_text.specs.Place.{place_in}
 use Rattle.bx_listing.specs.declared.code_form.Export.{Export}
-use Rattle.bx_listing.specs.Reading.{Table, Outcome, read, refused, and_then, ◌>>=◌, give, from_result, named}
+use Rattle.bx_listing.specs.Reading.{Table, Outcome, read, refused, and_then, ◌>>=◌, give, from_result, named, with_line, lined, on_line}
 use Rattle.bx_listing.specs.Shape.{shape}
-use Rattle.bx_listing.specs.HeadForms.{head, module_name, exports_form, is_attributes, is_labels}
+use Rattle.bx_listing.specs.HeadForms.{module_form, exports_form, is_attributes, is_labels}
 use Rattle.bx_listing.specs.Forms.{Forms, ends, broken, form, forms, last_line}
 use Rattle.bx_listing.specs.ListedCode.{ListedFunction, ListedModule}
-use Rattle.bx_listing.specs.Listing.{taken, and_so, part, functions, behind_labels, listed, behind_exports, behind_name, named_listing, listing}
+use Rattle.bx_listing.specs.Listing.{taken, and_so, form_part, part, functions, behind_labels, listed, behind_exports, behind_name, listing}
 use Rattle.bx_listing.specs.Refused.{followed, Begins, OnLine, IsWrong, IsFirstFault}
 use Rattle.bx_listing.proofs.Written.{Written, an_integer_term, an_atom_term, a_tuple_term, a_list_term, no_elements, an_element_first, no_rest, FormsWritten, forms_written}
 use Rattle.bx_listing.proofs.ListedOperands.{names_read}
 use Rattle.bx_listing.proofs.Listed.{listing_is, listing_read}
-use Rattle.bx_listing.proofs.OnLines.{part_lined, exports_lined, named_lined}
 
 abbrev WasRead : {A : Type 0} → Outcome A → Type 0
 WasRead (read t x) = Unit {0}
@@ -50,9 +49,8 @@ record Split {A : Type 0} (reading : Forms → Outcome A) (last : ℕ) (all : Fo
   wrong : GoesWrong (λ f. reading (followed good f)) last rest fault
 
 wrong_same : {A : Type 0} (one two : Forms → Outcome A) (last : ℕ) (rest : Forms) (fault : Fault) → ((f : Forms) → one f ≡ two f) → GoesWrong two last rest fault → GoesWrong one last rest fault
-wrong_same one two last ends fault same h = h
-wrong_same one two last (broken refusal) fault same h = h
 wrong_same one two last (form line t rest) fault same h = (h.0, λ more. subst WasRefused (sym (same (form line t more))) (h.1 more))
+wrong_same one two last _ fault same h = h
 
 -- after a good form
 further : {A : Type 0} (one two : Forms → Outcome A) (last line : ℕ) (t : Tree) (rest : Forms) (fault : Fault) → ((f : Forms) → one (form line t f) ≡ two f) → Split two last rest fault → Split one last (form line t rest) fault
@@ -74,6 +72,15 @@ fault_same b c one two e = cc
 no_refusal : {A C : Type 0} (b c : Table) (x : A) (fault : Fault) → read b x ≡ refused c fault → C
 no_refusal b c x fault e = absurd (cc)
 
+-- a refusal of a form names its line
+with_line_on : (line : ℕ) (fault : Fault) → OnLine line (with_line line fault)
+with_line_on line (faults.TooManyAtoms at) = refl
+with_line_on line _ = refl
+
+lined_on : {A : Type 0} (line : ℕ) (o : Outcome A) (c : Table) (fault : Fault) → lined line o ≡ refused c fault → OnLine line fault
+lined_on line (read b x) c fault e = absurd (cc)
+lined_on {A = A} line (refused b refusal) c fault e = subst (OnLine line) (sym (fault_same {A = A} b c (with_line line refusal) fault e)) (with_line_on line refusal)
+
 refused_so : {A : Type 0} {o : Outcome A} (b : Table) (fault : Fault) → o ≡ refused b fault → WasRefused o
 refused_so b fault e = subst WasRefused (sym e) tt
 
@@ -90,7 +97,7 @@ functions_split last (form line t rest) done b c fault h = by (functions_split l
         further (λ f. (functions done f).run b) (λ f. (functions more f).run d) last line t rest fault (λ f. ap (λ o. and_then o (λ done. functions done f)) e) (go more d c fault h)
     by go (refused d refusal) e h =
         at_once (λ f. (functions done f).run b) last (form line t rest) fault (ends, tt, tt) (
-          subst (OnLine line) (sym (fault_same {A = List ListedFunction} d c refusal fault h)) (part_lined line done (shape t) b d refusal e),
+          subst (OnLine line) (sym (fault_same {A = List ListedFunction} d c refusal fault h)) (lined_on line ((form_part line done (shape t)).run b) d refusal e),
           λ more. refused_so d refusal (ap (λ o. and_then o (λ done. functions done more)) e),
         )
 
@@ -103,9 +110,8 @@ refused_on (read b x) g h = absurd h
 refused_on (refused b fault) g h = tt
 
 wrong_on : {A B : Type 0} (reading : Forms → Outcome A) (g : A → B) (last : ℕ) (rest : Forms) (fault : Fault) → GoesWrong reading last rest fault → GoesWrong (λ f. and_then (reading f) (λ x. give (g x))) last rest fault
-wrong_on reading g last ends fault h = h
-wrong_on reading g last (broken refusal) fault h = h
 wrong_on reading g last (form line t rest) fault h = (h.0, λ more. refused_on (reading (form line t more)) g (h.1 more))
+wrong_on reading g last _ fault h = h
 
 split_on : {A B : Type 0} (reading : Forms → Outcome A) (g : A → B) (last : ℕ) (all : Forms) (fault : Fault) → Split reading last all fault → Split (λ f. and_then (reading f) (λ x. give (g x))) last all fault
 split_on reading g last all fault s = record {
@@ -219,24 +225,24 @@ exports_split last name all b c fault h = by all h
     can : CanEnd reads []
     can = (form 0 no_exports (form 0 some_labels ends), (exports_written, (labels_written, tt)), tt)
 
-    tested : (line : ℕ) (t : Tree) (rest : Forms) (o : Outcome (List Export)) → (exports_form line (shape t)).run b ≡ o → and_then o (behind_exports last name rest) ≡ refused c fault → Split reads last (form line t rest) fault
+    tested : (line : ℕ) (t : Tree) (rest : Forms) (o : Outcome (List Export)) → (on_line line (exports_form (shape t))).run b ≡ o → and_then o (behind_exports last name rest) ≡ refused c fault → Split reads last (form line t rest) fault
     tested line t rest (read d exports) e h =
         further reads (λ f. (behind_exports last name f exports).run d) last line t rest fault (λ f. ap (λ o. and_then o (behind_exports last name f)) e) (head_split last name exports rest d c fault h)
     tested line t rest (refused d refusal) e h =
         at_once reads last (form line t rest) fault can (
-          subst (OnLine line) (sym (fault_same {A = ListedModule} d c refusal fault h)) (exports_lined line (shape t) b d refusal e),
+          subst (OnLine line) (sym (fault_same {A = ListedModule} d c refusal fault h)) (lined_on line ((exports_form (shape t)).run b) d refusal e),
           λ more. refused_so d refusal (ap (λ o. and_then o (behind_exports last name more)) e),
         )
 
     by : (all : Forms) → reads all ≡ refused c fault → Split reads last all fault
     by ends h = at_once reads last ends fault can (fault_same {A = ListedModule} b c (faults.BadForm last) fault h)
     by (broken refusal) h = at_once reads last (broken refusal) fault can (fault_same {A = ListedModule} b c refusal fault h)
-    by (form line t rest) h = tested line t rest ((exports_form line (shape t)).run b) refl h
+    by (form line t rest) h = tested line t rest ((on_line line (exports_form (shape t))).run b) refl h
 
 -- a table of atoms holds `true`
-true_named : (b : Table) → IsAtomTable b → (named 0 (codes "true")).run b ≡ read b (numbered_atom 0)
+true_named : (b : Table) → IsAtomTable b → (named (codes "true")).run b ≡ read b (numbered_atom 0)
 unfolding fixed_atoms chars
-true_named b table = names_read 0 (codes "true") b b (numbered_atom 0) (ap (λ n. numbered n b (codes "true")) (fixed_in b (numbered_atom 0) (codes "true") table refl).1)
+true_named b table = names_read (codes "true") b b (numbered_atom 0) (ap (λ n. numbered n b (codes "true")) (fixed_in b (numbered_atom 0) (codes "true") table refl).1)
 
 listing_split : (last : ℕ) (all : Forms) (b c : Table) (fault : Fault) → IsAtomTable b → (listing last all).run b ≡ refused c fault → Split (λ f. (listing last f).run b) last all fault
 listing_split last all b c fault table h = by all h
@@ -248,32 +254,22 @@ listing_split last all b c fault table h = by all h
     can = (
       form 0 some_module (form 0 no_exports (form 0 some_labels ends)),
       (module_written, (exports_written, (labels_written, tt))),
-      subst WasRead (sym (ap (λ o. and_then o (behind_name last (form 0 no_exports (form 0 some_labels ends)))) (true_named b table))) tt,
+      subst WasRead (sym (ap (λ o. and_then (lined 0 o) (behind_name last (form 0 no_exports (form 0 some_labels ends)))) (true_named b table))) tt,
     )
 
-    as_named : ℕ → Option (List ℕ) → Forms → Outcome ListedModule
-    as_named line o f = (head line o >>= named_listing last line f).run b
-
-    numbered_name : (line : ℕ) (t : Tree) (rest : Forms) (text : List ℕ) (o : Outcome AtomId) → module_name (shape t) ≡ Some text → (named line text).run b ≡ o → and_then o (behind_name last rest) ≡ refused c fault
-        → Split reads last (form line t rest) fault
-    numbered_name line t rest text (read d name) a e h =
-        further reads (λ f. (behind_name last f name).run d) last line t rest fault (λ f. ap (λ o. as_named line o f) a ∙ ap (λ o. and_then o (behind_name last f)) e) (exports_split last name rest d c fault h)
-    numbered_name line t rest text (refused d refusal) a e h =
+    tested : (line : ℕ) (t : Tree) (rest : Forms) (o : Outcome AtomId) → (on_line line (module_form (shape t))).run b ≡ o → and_then o (behind_name last rest) ≡ refused c fault → Split reads last (form line t rest) fault
+    tested line t rest (read d name) e h =
+        further reads (λ f. (behind_name last f name).run d) last line t rest fault (λ f. ap (λ o. and_then o (behind_name last f)) e) (exports_split last name rest d c fault h)
+    tested line t rest (refused d refusal) e h =
         at_once reads last (form line t rest) fault can (
-          subst (OnLine line) (sym (fault_same {A = ListedModule} d c refusal fault h)) (named_lined line text b d refusal e),
-          λ more. refused_so d refusal (ap (λ o. as_named line o more) a ∙ ap (λ o. and_then o (behind_name last more)) e),
+          subst (OnLine line) (sym (fault_same {A = ListedModule} d c refusal fault h)) (lined_on line ((module_form (shape t)).run b) d refusal e),
+          λ more. refused_so d refusal (ap (λ o. and_then o (behind_name last more)) e),
         )
-
-    tested : (line : ℕ) (t : Tree) (rest : Forms) (o : Option (List ℕ)) → module_name (shape t) ≡ o → as_named line o rest ≡ refused c fault → Split reads last (form line t rest) fault
-    tested line t rest (Some text) e h = numbered_name line t rest text ((named line text).run b) e refl h
-    tested line t rest None e h =
-        at_once reads last (form line t rest) fault can
-        (subst (OnLine line) (sym (fault_same {A = ListedModule} b c (faults.BadForm line) fault h)) refl, λ more. refused_so b (faults.BadForm line) (ap (λ o. as_named line o more) e))
 
     by : (all : Forms) → reads all ≡ refused c fault → Split reads last all fault
     by ends h = at_once reads last ends fault can (fault_same {A = ListedModule} b c (faults.BadForm last) fault h)
     by (broken refusal) h = at_once reads last (broken refusal) fault can (fault_same {A = ListedModule} b c refusal fault h)
-    by (form line t rest) h = tested line t rest (module_name (shape t)) refl h
+    by (form line t rest) h = tested line t rest ((on_line line (module_form (shape t))).run b) refl h
 
 followed_written : (fs : List (ℕ × Tree)) (rest more : Forms) → FormsWritten (followed fs rest) → FormsWritten more → FormsWritten (followed fs more)
 followed_written [] rest more w v = v
@@ -295,9 +291,8 @@ begins_none last fs line t b never (more, code, c, is) =
     subst WasRefused (ap (λ f. (listing last f).run b) (sym (followed_one fs line t more)) ∙ listing_read last is) (never more)
 
 is_wrong : (last : ℕ) (fs : List (ℕ × Tree)) (rest : Forms) (fault : Fault) (b : Table) → GoesWrong (λ f. (listing last (followed fs f)).run b) last rest fault → IsWrong b last fs rest fault
-is_wrong last fs ends fault b h = h
-is_wrong last fs (broken refusal) fault b h = h
 is_wrong last fs (form line t rest) fault b h = (h.0, begins_none last fs line t b h.1)
+is_wrong last fs _ fault b h = h
 
 first_fault : (last : ℕ) (all : Forms) (b c : Table) (fault : Fault) → IsAtomTable b → FormsWritten all → (listing last all).run b ≡ refused c fault → IsFirstFault b last all fault
 first_fault last all b c fault table w h = by (listing_split last all b c fault table h)

@@ -18,31 +18,20 @@ use Rattle.bx_listing.specs.declared.items.Operand.TheVariants as operands
 use Rattle.bx_listing.specs.Items.{Item}
 use Rattle.bx_listing.specs.Reading.{Table}
 use Rattle.bx_listing.specs.Fits.{is_one, are_members, begin_members, is_row, fits}
-use Rattle.bx_listing.specs.ListedItems.{IsRegister, in_x, in_y, in_typed, IsValue, an_integer, an_atom, IsSource, a_register, a_value, a_nil, a_literal, IsPlain, IsOperand, AreMembers, no_member, a_member, IsSlot, an_operand, a_list, pairs, a_size, amounts, no_label, to_x0, AreSlots, no_slot, a_slot, IsItem}
+use Rattle.bx_listing.specs.ListedItems.{IsRegister, in_typed, IsValue, an_integer, an_atom, IsSource, a_register, a_value, IsPlain, IsOperand, AreMembers, no_member, a_member, IsSlot, an_operand, a_list, pairs, a_size, amounts, no_label, to_x0, AreSlots, no_slot, a_slot, IsItem}
 
-register_source : {t : Tree} {r : Operand} → IsRegister t r → is_one sorts.Source r ≡ true
-register_source (in_x e n) = refl
-register_source (in_y e n) = refl
-register_source (in_typed e r) = register_source r
-
-register_fits : {t : Tree} {r : Operand} → IsRegister t r → is_one sorts.Register r ≡ true
-register_fits (in_x e n) = refl
-register_fits (in_y e n) = refl
+register_fits : {t : Tree} {r : Operand} → IsRegister t r → (is_one sorts.Source r ≡ true) × (is_one sorts.Register r ≡ true)
 register_fits (in_typed e r) = register_fits r
+register_fits _ = (refl, refl)
 
-value_fits : {b c : Table} {t : Tree} {o : Operand} → IsValue b t o c → is_one sorts.Value o ≡ true
-value_fits (an_integer (s, n, e, is, same)) = ap (is_one sorts.Value) same
-value_fits (an_atom (u, a, e, h, same)) = ap (is_one sorts.Value) same
-
-value_source : {b c : Table} {t : Tree} {o : Operand} → IsValue b t o c → is_one sorts.Source o ≡ true
-value_source (an_integer (s, n, e, is, same)) = ap (is_one sorts.Source) same
-value_source (an_atom (u, a, e, h, same)) = ap (is_one sorts.Source) same
+value_fits : {b c : Table} {t : Tree} {o : Operand} → IsValue b t o c → (is_one sorts.Source o ≡ true) × (is_one sorts.Value o ≡ true)
+value_fits (an_integer (s, n, e, is, same)) = (ap (is_one sorts.Source) same, ap (is_one sorts.Value) same)
+value_fits (an_atom (u, a, e, h, same)) = (ap (is_one sorts.Source) same, ap (is_one sorts.Value) same)
 
 source_fits : {b c : Table} {t : Tree} {o : Operand} → IsSource b t o c → is_one sorts.Source o ≡ true
-source_fits (a_register r) = register_source r
-source_fits (a_value v) = value_source v
-source_fits (a_nil e) = refl
-source_fits (a_literal e l low) = refl
+source_fits (a_register r) = (register_fits r).0
+source_fits (a_value v) = (value_fits v).0
+source_fits _ = refl
 
 label_fits : (zero_label : Bool) (n : ℕ) → is_one sorts.Fail (if zero_label then operands.NoLabel else operands.Label n) ≡ true
 label_fits true n = refl
@@ -52,7 +41,7 @@ arity_is : (n : ℕ) (text : List ℕ) (bif : Bif) → guard_bif_with text n ≡
 arity_is n text bif found = (Decides-eqb (guard_bif bif).arity n).1 ((guard_bif_finds text n bif).0 found).1
 
 plain_fits : (s : Sort) (t : Tree) (o : Operand) → IsPlain s t o → is_one s o ≡ true
-plain_fits sorts.Register t o r = register_fits r
+plain_fits sorts.Register t o r = (register_fits r).1
 plain_fits sorts.YRegister t o (n, r, same) = ap (is_one sorts.YRegister) same
 plain_fits sorts.Target t o (n, at, same) = ap (is_one sorts.Target) same
 plain_fits sorts.Fail t o (n, at, same) = ap (is_one sorts.Fail) same ∙ label_fits (nat_eq n 0) n
@@ -67,7 +56,7 @@ plain_fits s t o h = absurd h
 
 operand_fits : (b c : Table) (s : Sort) (t : Tree) (o : Operand) → IsOperand b s t o c → is_one s o ≡ true
 operand_fits b c sorts.Source t o h = source_fits h
-operand_fits b c sorts.Value t o h = value_fits h
+operand_fits b c sorts.Value t o h = (value_fits h).1
 operand_fits b c sorts.Atom t o (u, a, e, h, same) = ap (is_one sorts.Atom) same
 operand_fits b c sorts.Callee t o (m, f, a, d, i, e, x, y, n, same) = ap (is_one sorts.Callee) same
 operand_fits b c sorts.Amount t o (kind, n, a, e, x, y, same) = ap (is_one sorts.Amount) same

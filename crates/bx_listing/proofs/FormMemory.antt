@@ -7,20 +7,18 @@ use Rattle.bx_text.specs.Tree.{Tree}
 use Rattle.bx_text.specs.Place.{Place}
 use Rattle.bx_text.specs.Forms.{takes_memory}
 use Rattle.bx_listing.specs.Reading.{Table, Reading, Refuses, Reads}
-use Rattle.bx_listing.specs.Forms.{Forms, ends, broken, form, next_form, forms, forms_on}
+use Rattle.bx_listing.specs.Forms.{Forms, form, next_form, forms, forms_on}
 use Rattle.bx_listing.specs.Listing.{Taken, taken, behind_head}
 use Rattle.bx_listing.specs.Taking.{IsForm, ReadsForms}
 use Rattle.bx_listing.proofs.Forms.{forms_next}
 
 pub taken_form : (last : ℕ) (fs : Forms) (f : Taken) → taken last fs ≡ Ok f → IsForm fs
-taken_form last ends f e = absurd (cc)
-taken_form last (broken fault) f e = absurd (cc)
 taken_form last (form line t rest) f e = tt
+taken_form last _ f e = absurd (cc)
 
 pub head_form : (last : ℕ) (fs behind : Forms) → behind_head last fs ≡ Ok behind → IsForm fs
-head_form last ends behind e = absurd (cc)
-head_form last (broken fault) behind e = absurd (cc)
 head_form last (form line t rest) behind e = tt
+head_form last _ behind e = absurd (cc)
 
 pub next_is : (p : Place) (x : Tree × Place) → next_form p ≡ Ok (Some x) → IsForm (forms p)
 next_is p x e = subst IsForm (sym (forms_next p ∙ ap (λ r. forms_on r forms) e)) tt

@@ -1,5 +1,5 @@
 -- A form that is refused before its operands are read.
-use Rattle.std.proofs.Common.{List, Ok, Err, refl, ap}
+use Rattle.std.proofs.Common.{List, Err, refl, ap}
 use Rattle.bx_terms.specs.declared.faults.Fault.{Fault}
 use Rattle.bx_terms.specs.declared.faults.Fault.TheVariants.{Unsupported, Memory}
 use Rattle.bx_text.specs.Tree.{Tree}
@@ -11,9 +11,8 @@ use Rattle.bx_listing.proofs.Readings.{takes_first}
 
 -- a name that is kept takes memory
 kept_takes : (texts : Table) (said : Formed) → KeepsName said → Takes (from_result said) texts
-kept_takes texts (Ok form) h = absurd h
 kept_takes texts (Err (Unsupported line name)) h = refl
-kept_takes texts (Err _) h = absurd h
+kept_takes texts _ h = absurd h
 
 -- so the whole is refused
 pub form_refused : {B X : Type 0} (view : X → Op × List Tree) (texts : Table) (fault : Fault) (said : Formed) (next : Op × List Tree → Reading B) → FormGives view (Err fault) said → Refused texts texts fault (from_result said >>= next)

@@ -35,11 +35,10 @@ abbrev Enough : ℕ → ℕ → Place → Type 0
 Enough k j p = length p.rest < k → length p.rest < j → some_forms k p ≡ some_forms j p
 
 on_result : (k j : ℕ) (p : Place) (r : Result (Option (Tree × Place)) Fault) → next_form p ≡ r → ((q : Place) → Enough k j q) → length p.rest < suc k → length p.rest < suc j → forms_on r (some_forms k) ≡ forms_on r (some_forms j)
-on_result k j p (Ok None) e ih a b = refl
 on_result k j p (Ok (Some x)) e ih a b =
     let shorter : length x.1.rest < length p.rest = next_shorter p x e in
     ap (form (span_of x.0).line x.0) (ih x.1 (omega arith) (omega arith))
-on_result k j p (Err fault) e ih a b = refl
+on_result k j p _ e ih a b = refl
 
 enough : (k j : ℕ) (p : Place) → Enough k j p
 enough zero j p a b = absurd (omega (arith, a))
@@ -48,11 +47,10 @@ enough (suc k) (suc j) p a b = on_result k j p (next_form p) refl (enough k j) a
 
 behind : (p : Place) (r : Result (Option (Tree × Place)) Fault) → next_form p ≡ r → forms_on r (some_forms (length p.rest)) ≡ forms_on r forms
 unfolding forms
-behind p (Ok None) e = refl
 behind p (Ok (Some x)) e =
     let shorter : length x.1.rest < length p.rest = next_shorter p x e in
     ap (form (span_of x.0).line x.0) (enough (length p.rest) (length x.1.rest + 1) x.1 shorter (omega arith))
-behind p (Err fault) e = refl
+behind p _ e = refl
 
 -- the forms from a place on are the next one and those behind it
 pub forms_next : (p : Place) → forms p ≡ forms_on (next_form p) forms

@@ -1,8 +1,8 @@
 -- What is known of the parts of a reading that was good.
-use Rattle.std.proofs.Common.{◌≡◌, Option, Some, None, Result, Ok, Err, refl, subst}
+use Rattle.std.proofs.Common.{◌≡◌, ℕ, Option, Some, None, Result, Ok, Err, refl, subst}
 use Rattle.std.specs.Prelude.{option_map}
 use Rattle.bx_terms.specs.declared.faults.Fault.{Fault}
-use Rattle.bx_listing.specs.Reading.{Table, Outcome, read, refused, Reading, and_then, ◌>>=◌, from_result, wanted, outcome}
+use Rattle.bx_listing.specs.Reading.{Table, Outcome, read, refused, Reading, and_then, ◌>>=◌, from_result, wanted, outcome, lined}
 
 abbrev IfRead : {A : Type 0} → (A → Table → Type 0) → Outcome A → Type 0
 IfRead P (read texts x) = P x texts
@@ -11,9 +11,6 @@ IfRead P (refused texts fault) = ⊥
 -- what was read was this
 pub given : {A : Type 0} (P : A → Table → Type 0) (x y : A) (b c : Table) → read b x ≡ read c y → P x b → P y c
 given P x y b c e h = subst (IfRead P) e h
-
-pub no_read : {A : Type 0} {C : Type 0} (b c : Table) (fault : Fault) (y : A) → refused b fault ≡ read c y → C
-no_read b c fault y e = absurd (cc)
 
 -- the first part was good, and so was the next
 pub after_read : {A B C : Type 0} (o : Outcome A) (next : A → Reading B) (c : Table) (y : B) → ((b : Table) (x : A) → o ≡ read b x → (next x).run b ≡ read c y → C) → and_then o next ≡ read c y → C
@@ -33,9 +30,14 @@ pub wanted_read : {A : Type 0} (P : A → Table → Type 0) (fault : Fault) (o :
 wanted_read P fault (Some x) b c y e k = given P x y b c e (k x refl)
 wanted_read P fault None b c y e k = absurd (cc)
 
-pub outcome_read : {A : Type 0} (placed : Fault → Fault) (b c : Table) (r : Result (Table × A) Fault) (x : A) → outcome placed b r ≡ read c x → r ≡ Ok (c, x)
-outcome_read placed b c (Ok (t, y)) x e = cc
-outcome_read placed b c (Err fault) x e = absurd (cc)
+pub outcome_read : {A : Type 0} (b c : Table) (r : Result (Table × A) Fault) (x : A) → outcome b r ≡ read c x → r ≡ Ok (c, x)
+outcome_read b c (Ok (t, y)) x e = cc
+outcome_read b c (Err fault) x e = absurd (cc)
+
+-- what was read of a form
+pub lined_read : {A : Type 0} (line : ℕ) (o : Outcome A) (c : Table) (x : A) → lined line o ≡ read c x → o ≡ read c x
+lined_read line (read b y) c x e = e
+lined_read line (refused b fault) c x e = absurd (cc)
 
 pub mapped : {A B : Type 0} (P : B → Type 0) (f : A → B) (o : Option A) (y : B) → option_map f o ≡ Some y → ((x : A) → o ≡ Some x → P (f x)) → P y
 mapped P f (Some x) y e k = let same : f x ≡ y = cc in subst P same (k x refl)

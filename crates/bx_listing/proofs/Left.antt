@@ -9,10 +9,10 @@ next_left (y ∷ ys) zero x e = let is : y ≡ x = cc in ap (λ z. z ∷ ys) is
 next_left (y ∷ ys) (suc n) x e = next_left ys n x e
 
 none_left : (xs : List Item) (n : ℕ) → None ≡ slice_get xs n → drop n xs ≡ drop (suc n) xs
-none_left [] zero e = refl
-none_left [] (suc n) e = refl
 none_left (y ∷ ys) zero e = absurd (cc)
 none_left (y ∷ ys) (suc n) e = none_left ys n e
+none_left [] zero e = refl
+none_left [] (suc n) e = refl
 
 -- an item that is there is the next of those that are left
 pub item_left : (is : List Item) (n : ℕ) (i : Item) → Some i ≡ slice_get is n → drop n is ≡ i ∷ drop (n + 1) is

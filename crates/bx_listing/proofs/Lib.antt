@@ -27,7 +27,6 @@ pub mod ListedItems
 pub mod ListedForms
 pub mod ListedHeads
 pub mod Listed
-pub mod OnLines
 pub mod FirstFaults
 pub mod Fitting
 pub mod Left

@@ -6,17 +6,16 @@ use Rattle.bx_terms.specs.declared.faults.Fault.{Fault}
 use Rattle.bx_terms.specs.declared.faults.Fault.TheVariants as faults
 use Rattle.bx_text.specs.Tree.{Tree}
 use Rattle.bx_listing.specs.declared.code_form.Export.{Export}
-use Rattle.bx_listing.specs.Reading.{Table, read, and_then, ◌>>=◌, give, named, from_result}
+use Rattle.bx_listing.specs.Reading.{Table, read, and_then, ◌>>=◌, give, lined, on_line, from_result}
 use Rattle.bx_listing.specs.Shape.{shape}
 use Rattle.bx_text.specs.Place.{place_in}
 use Rattle.bx_listing.specs.Forms.{Forms, ends, broken, form, forms, last_line}
-use Rattle.bx_listing.specs.HeadForms.{head, module_name, exports_form, is_attributes, is_labels}
+use Rattle.bx_listing.specs.HeadForms.{module_form, exports_form, is_attributes, is_labels}
 use Rattle.bx_listing.specs.ListedCode.{ListedFunction, ListedModule}
-use Rattle.bx_listing.specs.Listing.{taken, and_so, behind_labels, behind_head, functions, listed, behind_exports, behind_name, named_listing, listing}
+use Rattle.bx_listing.specs.Listing.{taken, and_so, behind_labels, behind_head, functions, listed, behind_exports, behind_name, listing}
 use Rattle.bx_listing.specs.Listed.{IsModule, IsExports, IsAttributes, IsLabels, AreFunctions, IsListing, plain, with_attributes}
-use Rattle.bx_listing.proofs.GoodReadings.{given, after_read, after_wanted, after_result}
-use Rattle.bx_listing.proofs.ListedOperands.{names_are, names_read}
-use Rattle.bx_listing.proofs.ListedHeads.{module_is, module_test, exports_are, exports_read, attributes_are, attributes_test, labels_are, labels_test}
+use Rattle.bx_listing.proofs.GoodReadings.{given, after_read, after_result, lined_read}
+use Rattle.bx_listing.proofs.ListedHeads.{module_is, module_read, exports_are, exports_read, attributes_are, attributes_test, labels_are, labels_test}
 use Rattle.bx_listing.proofs.Written.{FormsWritten, forms_written}
 use Rattle.bx_listing.proofs.ListedForms.{functions_are, functions_read}
 
@@ -33,8 +32,6 @@ labels_behind k l after rest h = by (is_labels (shape l)) refl h
     by false e h = absurd (cc)
 
 head_is : (last : ℕ) (all rest : Forms) → behind_head last all ≡ Ok rest → IsHead all rest
-head_is last ends rest h = absurd (cc)
-head_is last (broken fault) rest h = absurd (cc)
 head_is last (form k l after) rest h = by (is_attributes (shape l)) refl h
   where
     second : (all : Forms) → IsAttributes l → and_so (taken last all) behind_labels ≡ Ok rest → IsHead (form k l all) rest
@@ -46,6 +43,7 @@ head_is last (form k l after) rest h = by (is_attributes (shape l)) refl h
         → (if yes then and_so (taken last after) behind_labels else behind_labels (record { line = k; tree = l; rest = after })) ≡ Ok rest → IsHead (form k l after) rest
     by true e h = second after (attributes_are l e) h
     by false e h = let found = labels_behind k l after rest h in rw found.1 (alone found.0)
+head_is last _ rest h = absurd (cc)
 
 head_read : (last : ℕ) {all rest : Forms} → IsHead all rest → behind_head last all ≡ Ok rest
 head_read last (alone {k = k} {l = l} {rest = rest} is) =
@@ -65,31 +63,25 @@ head_written (alone l) w = w.1
 head_written (after_attributes a l) w = w.1.1
 
 pub listing_is : (last : ℕ) (forms : Forms) (code : ListedModule) (b e : Table) → FormsWritten forms → (listing last forms).run b ≡ read e code → IsListing b forms code e
-listing_is last ends code b e w h = absurd (cc)
-listing_is last (broken fault) code b e w h = absurd (cc)
 listing_is last (form i m ends) code b e w h =
-    after_wanted (faults.BadForm i) (module_name (shape m)) (named_listing last i ends) b e code (λ text e1.
-    after_read ((named i text).run b) (behind_name last ends) e code (λ c name e2 h2. absurd (cc h2))) h
+    after_read ((on_line i (module_form (shape m))).run b) (behind_name last ends) e code (λ c name e1 h1. absurd (cc h1)) h
 listing_is last (form i m (broken fault)) code b e w h =
-    after_wanted (faults.BadForm i) (module_name (shape m)) (named_listing last i (broken fault)) b e code (λ text e1.
-    after_read ((named i text).run b) (behind_name last (broken fault)) e code (λ c name e2 h2. absurd (cc h2))) h
+    after_read ((on_line i (module_form (shape m))).run b) (behind_name last (broken fault)) e code (λ c name e1 h1. absurd (cc h1)) h
 listing_is last (form i m (form j x all)) code b e w h =
-    after_wanted (faults.BadForm i) (module_name (shape m)) (named_listing last i (form j x all)) b e code (λ text e1.
-    after_read ((named i text).run b) (behind_name last (form j x all)) e code (λ c name e2.
-    after_read ((exports_form j (shape x)).run c) (behind_exports last name all) e code (λ d exports e3.
+    after_read ((on_line i (module_form (shape m))).run b) (behind_name last (form j x all)) e code (λ c name e1.
+    after_read ((on_line j (exports_form (shape x))).run c) (behind_exports last name all) e code (λ d exports e3.
     after_result (behind_head last all) (listed name exports) d e code (λ rest e4.
     after_read ((functions [] rest).run d) (λ fs. give (record { name = name; exports = exports; functions = fs })) e code (λ g fs e5 h5.
-    let found = module_is m text e1 in
     given (IsListing b (form i m (form j x all))) (record { name = name; exports = exports; functions = fs }) code g e h5
-    (whole (found.0, found.1, (text, found.2, names_are i text b c name e2)) (exports_are j x c d exports e3) (head_is last all rest e4) (functions_are rest d g fs (head_written (head_is last all rest e4) w.1.1) e5))))))) h
+    (whole (module_is m b c name (lined_read i ((module_form (shape m)).run b) c name e1)) (exports_are x c d exports (lined_read j ((exports_form (shape x)).run c) d exports e3)) (head_is last all rest e4) (functions_are rest d g fs (head_written (head_is last all rest e4) w.1.1) e5)))))) h
+listing_is last _ code b e w h = absurd (cc)
 
 read_whole : (last : ℕ) (b c d e : Table) (i j : ℕ) (m x : Tree) (all rest : Forms) (name : AtomId) (exports : List Export) (fs : List ListedFunction)
     → IsModule b m name c → IsExports c x exports d → IsHead all rest → AreFunctions d rest fs e
     → (listing last (form i m (form j x all))).run b ≡ read e (record { name = name; exports = exports; functions = fs })
-read_whole last b c d e i j m x all rest name exports fs (u, is, (text, at, names)) xs hs are =
-    ap (λ o. (head i o >>= named_listing last i (form j x all)).run b) (module_test m u text is at)
-    ∙ ap (λ o. and_then o (behind_name last (form j x all))) (names_read i text b c name names)
-    ∙ ap (λ o. and_then o (behind_exports last name all)) (exports_read j x c d exports xs)
+read_whole last b c d e i j m x all rest name exports fs is xs hs are =
+    ap (λ o. and_then (lined i o) (behind_name last (form j x all))) (module_read m b c name is)
+    ∙ ap (λ o. and_then (lined j o) (behind_exports last name all)) (exports_read x c d exports xs)
     ∙ ap (λ r. (from_result r >>= listed name exports).run d) (head_read last hs)
     ∙ ap (λ o. and_then o (λ fs. give (record { name = name; exports = exports; functions = fs }))) (functions_read are)
 

@@ -6,7 +6,7 @@ use Rattle.bx_text.specs.Tree.{Tree}
 use Rattle.bx_listing.specs.Items.{Item, PlacedItem}
 use Rattle.bx_listing.specs.declared.words.FormWord.{FormWord}
 use Rattle.bx_listing.specs.declared.words.FormWord.TheVariants as words
-use Rattle.bx_listing.specs.Reading.{Table, read, and_then, ◌>>=◌, give, named}
+use Rattle.bx_listing.specs.Reading.{Table, read, and_then, ◌>>=◌, give, named, lined}
 use Rattle.bx_listing.specs.Shape.{Shape, bare, tagged, other, shape, number, word}
 use Rattle.bx_listing.specs.Words.{form_word}
 use Rattle.bx_listing.specs.HeadForms.{begun, function_form}
@@ -14,10 +14,10 @@ use Rattle.bx_listing.specs.Rows.{tuple_item}
 use Rattle.bx_listing.specs.ItemForms.{read_as, item}
 use Rattle.bx_listing.specs.Forms.{Forms, ends, broken, form}
 use Rattle.bx_listing.specs.ListedCode.{ListedFunction}
-use Rattle.bx_listing.specs.Listing.{with_item, with_optional, with_form_item, with_form, part_of, part, functions}
+use Rattle.bx_listing.specs.Listing.{with_item, with_optional, with_form_item, with_form, part_of, form_part, part, functions}
 use Rattle.bx_listing.specs.ListedItems.{Tuple, IsItem}
 use Rattle.bx_listing.specs.Listed.{IsFunction, AreItems, no_more, an_annotation, an_item, AreFunctions, no_function, a_function}
-use Rattle.bx_listing.proofs.GoodReadings.{given, after_read}
+use Rattle.bx_listing.proofs.GoodReadings.{given, after_read, lined_read}
 use Rattle.bx_listing.proofs.Written.{Written, FormsWritten}
 use Rattle.bx_listing.proofs.Worded.{IsFormWord, form_word_is}
 use Rattle.bx_listing.proofs.ListedOperands.{at_word, names_are, names_read}
@@ -44,34 +44,30 @@ data Begins (before : Table) (t : Tree) : List ListedFunction → Table → Type
   first : {name : AtomId} {arity entry : ℕ} {behind : Table} → IsFunction before t name arity entry behind → Begins before t (started name arity entry ∷ []) behind
 
 with_last : (line : ℕ) (i : Item) (front : List ListedFunction) (f : ListedFunction) → with_item line i (front ++ f ∷ []) ≡ front ++ extended f (placed line i ∷ []) ∷ []
-with_last line i [] f = refl
-with_last line i (g ∷ []) f = refl
 with_last line i (g ∷ h ∷ front) f = ap (λ fs. g ∷ fs) (with_last line i (h ∷ front) f)
+with_last line i _ f = refl
 
 with_some : (line : ℕ) (front : List ListedFunction) (f : ListedFunction) (s : Shape) → with_form line (front ++ f ∷ []) s ≡ with_form_item line (front ++ f ∷ []) s
 with_some line [] f s = refl
 with_some line (g ∷ front) f s = refl
 
-function_is : (line : ℕ) (t : Tree) (b c : Table) (f : ListedFunction) (text : List ℕ) (parts : List Tree) → text ≡ codes "function" → shape t ≡ tagged text parts
+function_is : (t : Tree) (b c : Table) (f : ListedFunction) (text : List ℕ) (parts : List Tree) → text ≡ codes "function" → shape t ≡ tagged text parts
     → (P : ListedFunction → Table → Type 0) → ((name : AtomId) (arity entry : ℕ) (behind : Table) → IsFunction b t name arity entry behind → P (started name arity entry) behind)
-    → (function_form line parts).run b ≡ read c f → P f c
-function_is line t b c f text (n ∷ a ∷ e ∷ []) is at P p h = by (word n) (number a) (number e) refl refl refl h
+    → (function_form parts).run b ≡ read c f → P f c
+function_is t b c f text (n ∷ a ∷ e ∷ []) is at P p h = by (word n) (number a) (number e) refl refl refl h
   where
-    by : (o : Option (List ℕ)) (q r : Option ℕ) → word n ≡ o → number a ≡ q → number e ≡ r → (begun line o q r).run b ≡ read c f → P f c
+    by : (o : Option (List ℕ)) (q r : Option ℕ) → word n ≡ o → number a ≡ q → number e ≡ r → (begun o q r).run b ≡ read c f → P f c
     by (Some w) (Some arity) (Some entry) e1 e2 e3 h =
-        after_read ((named line w).run b) (λ name. give (started name arity entry)) c f (λ d name e4 h4.
-        given P (started name arity entry) f d c h4 (p name arity entry d (n, a, e, at_word t at is, (w, e1, names_are line w b d name e4), e2, e3))) h
+        after_read ((named w).run b) (λ name. give (started name arity entry)) c f (λ d name e4 h4.
+        given P (started name arity entry) f d c h4 (p name arity entry d (n, a, e, at_word t at is, (w, e1, names_are w b d name e4), e2, e3))) h
     by None q r e1 e2 e3 h = absurd (cc)
     by (Some w) None r e1 e2 e3 h = absurd (cc)
     by (Some w) (Some arity) None e1 e2 e3 h = absurd (cc)
-function_is line t b c f text [] is at P p h = absurd (cc)
-function_is line t b c f text (n ∷ []) is at P p h = absurd (cc)
-function_is line t b c f text (n ∷ a ∷ []) is at P p h = absurd (cc)
-function_is line t b c f text (n ∷ a ∷ e ∷ d ∷ more) is at P p h = absurd (cc)
+function_is t b c f text _ is at P p h = absurd (cc)
 
 part_is : (line : ℕ) (t : Tree) (b c : Table) (front : List ListedFunction) (f : ListedFunction) (out : List ListedFunction)
     → Written t → (part line (front ++ f ∷ []) (shape t)).run b ≡ read c out → Adds line b t front f out c
-part_is line t b c front f out w h = by (shape t) refl h
+part_is line t b c front f out w h = by (shape t) refl (lined_read line ((form_part line (front ++ f ∷ []) (shape t)).run b) c out h)
   where
     of_item : (i : Option Item) (d : Table) → IsPassed b t i d → (give (with_optional line i (front ++ f ∷ []))).run d ≡ read c out → Adds line b t front f out c
     of_item (Some i) d is h = given (Adds line b t front f) (with_item line i (front ++ f ∷ [])) out d c h (rw (with_last line i front f) (added is))
@@ -79,34 +75,33 @@ part_is line t b c front f out w h = by (shape t) refl h
 
     as_item : (s : Shape) → shape t ≡ s → (with_form line (front ++ f ∷ []) s).run b ≡ read c out → Adds line b t front f out c
     as_item s e h =
-        after_read ((item line (shape t)).run b) (λ i. give (with_optional line i (front ++ f ∷ []))) c out (λ d i e1 h1.
-        of_item i d (item_is line t b d i w e1) h1) (ap (λ s. (with_form_item line (front ++ f ∷ []) s).run b) e ∙ (sym (ap (λ r. r.run b) (with_some line front f s)) ∙ h))
+        after_read ((item (shape t)).run b) (λ i. give (with_optional line i (front ++ f ∷ []))) c out (λ d i e1 h1.
+        of_item i d (item_is t b d i w e1) h1) (ap (λ s. (with_form_item line (front ++ f ∷ []) s).run b) e ∙ (sym (ap (λ r. r.run b) (with_some line front f s)) ∙ h))
 
     of_word : (text : List ℕ) (k : FormWord) (parts : List Tree) → IsFormWord text k → shape t ≡ tagged text parts → (part_of line (front ++ f ∷ []) text parts k).run b ≡ read c out → Adds line b t front f out c
     of_word text words.Function parts is e h =
-        after_read ((function_form line parts).run b) (λ g. give ((front ++ f ∷ []) ++ g ∷ [])) c out (λ d g e1 h1.
+        after_read ((function_form parts).run b) (λ g. give ((front ++ f ∷ []) ++ g ∷ [])) c out (λ d g e1 h1.
         given (Adds line b t front f) ((front ++ f ∷ []) ++ g ∷ []) out d c h1
-        (function_is line t b d g text parts is e (λ g d. Adds line b t front f ((front ++ f ∷ []) ++ g ∷ []) d) (λ name arity entry d a. began a) e1)) h
+        (function_is t b d g text parts is e (λ g d. Adds line b t front f ((front ++ f ∷ []) ++ g ∷ []) d) (λ name arity entry d a. began a) e1)) h
     of_word text k parts is e h = as_item (tagged text parts) e h
 
-    by : (s : Shape) → shape t ≡ s → (part line (front ++ f ∷ []) s).run b ≡ read c out → Adds line b t front f out c
+    by : (s : Shape) → shape t ≡ s → (form_part line (front ++ f ∷ []) s).run b ≡ read c out → Adds line b t front f out c
     by (tagged text parts) e h = of_word text (form_word text) parts (form_word_is text) e h
     by (bare text) e h = as_item (bare text) e h
     by other e h = as_item other e h
 
 first_is : (line : ℕ) (t : Tree) (b c : Table) (out : List ListedFunction) → (part line [] (shape t)).run b ≡ read c out → Begins b t out c
-first_is line t b c out h = by (shape t) refl h
+first_is line t b c out h = by (shape t) refl (lined_read line ((form_part line [] (shape t)).run b) c out h)
   where
     of_word : (text : List ℕ) (k : FormWord) (parts : List Tree) → IsFormWord text k → shape t ≡ tagged text parts → (part_of line [] text parts k).run b ≡ read c out → Begins b t out c
     of_word text words.Function parts is e h =
-        after_read ((function_form line parts).run b) (λ g. give (g ∷ [])) c out (λ d g e1 h1.
-        given (Begins b t) (g ∷ []) out d c h1 (function_is line t b d g text parts is e (λ g d. Begins b t (g ∷ []) d) (λ name arity entry d a. first a) e1)) h
+        after_read ((function_form parts).run b) (λ g. give (g ∷ [])) c out (λ d g e1 h1.
+        given (Begins b t) (g ∷ []) out d c h1 (function_is t b d g text parts is e (λ g d. Begins b t (g ∷ []) d) (λ name arity entry d a. first a) e1)) h
     of_word text k parts is e h = absurd (cc)
 
-    by : (s : Shape) → shape t ≡ s → (part line [] s).run b ≡ read c out → Begins b t out c
+    by : (s : Shape) → shape t ≡ s → (form_part line [] s).run b ≡ read c out → Begins b t out c
     by (tagged text parts) e h = of_word text (form_word text) parts (form_word_is text) e h
-    by (bare text) e h = absurd (cc)
-    by other e h = absurd (cc)
+    by _ e h = absurd (cc)
 
 -- the items that the forms go on with, the functions behind them, and what all of this makes
 abbrev pub GoesOn : Table → Forms → List ListedFunction → ListedFunction → List ListedFunction → Table → Type 0
@@ -158,19 +153,19 @@ functions_are (form line t rest) b d out w h =
         rw same (a_function a items more)
 
 -- a form that is no function goes to the last one
-item_added : (line : ℕ) (t : Tree) (b c : Table) (front : List ListedFunction) (f : ListedFunction) (i : Option Item) → (item line (shape t)).run b ≡ read c i
+item_added : (line : ℕ) (t : Tree) (b c : Table) (front : List ListedFunction) (f : ListedFunction) (i : Option Item) → (item (shape t)).run b ≡ read c i
     → (part line (front ++ f ∷ []) (shape t)).run b ≡ read c (with_optional line i (front ++ f ∷ []))
-item_added line t b c front f i h = by (shape t) h
+item_added line t b c front f i h = ap (lined line) (by (shape t) h)
   where
-    as_item : (s : Shape) → (item line s).run b ≡ read c i → (with_form line (front ++ f ∷ []) s).run b ≡ read c (with_optional line i (front ++ f ∷ []))
+    as_item : (s : Shape) → (item s).run b ≡ read c i → (with_form line (front ++ f ∷ []) s).run b ≡ read c (with_optional line i (front ++ f ∷ []))
     as_item s h = ap (λ r. r.run b) (with_some line front f s) ∙ ap (λ o. and_then o (λ i. give (with_optional line i (front ++ f ∷ [])))) h
 
-    of_word : (text : List ℕ) (k : FormWord) (parts : List Tree) → (item line (tagged text parts)).run b ≡ read c i → (tuple_item line [] text k parts >>= λ r. give (read_as r)).run b ≡ read c i
+    of_word : (text : List ℕ) (k : FormWord) (parts : List Tree) → (item (tagged text parts)).run b ≡ read c i → (tuple_item [] text k parts >>= λ r. give (read_as r)).run b ≡ read c i
         → (part_of line (front ++ f ∷ []) text parts k).run b ≡ read c (with_optional line i (front ++ f ∷ []))
     of_word text words.Function parts h same = absurd (cc)
     of_word text k parts h same = as_item (tagged text parts) h
 
-    by : (s : Shape) → (item line s).run b ≡ read c i → (part line (front ++ f ∷ []) s).run b ≡ read c (with_optional line i (front ++ f ∷ []))
+    by : (s : Shape) → (item s).run b ≡ read c i → (form_part line (front ++ f ∷ []) s).run b ≡ read c (with_optional line i (front ++ f ∷ []))
     by (tagged text parts) h = of_word text (form_word text) parts h h
     by (bare text) h = as_item (bare text) h
     by other h = as_item other h
@@ -178,19 +173,20 @@ item_added line t b c front f i h = by (shape t) h
 function_begun : (line : ℕ) (t : Tree) (b c : Table) (done : List ListedFunction) (name : AtomId) (arity entry : ℕ) → IsFunction b t name arity entry c
     → (part line done (shape t)).run b ≡ read c (done ++ started name arity entry ∷ [])
 function_begun line t b c done name arity entry (n, a, e, is, (w, at, named_w), q, r) =
-    ap (λ s. (part line done s).run b) is
-    ∙ ap (λ o. (begun line o (number a) (number e) >>= λ g. give (done ++ g ∷ [])).run b) at
-    ∙ ap (λ o. (begun line (Some w) o (number e) >>= λ g. give (done ++ g ∷ [])).run b) q
-    ∙ ap (λ o. (begun line (Some w) (Some arity) o >>= λ g. give (done ++ g ∷ [])).run b) r
-    ∙ ap (λ o. and_then (and_then o (λ name. give (started name arity entry))) (λ g. give (done ++ g ∷ []))) (names_read line w b c name named_w)
+    ap (lined line) (
+    ap (λ s. (form_part line done s).run b) is
+    ∙ ap (λ o. (begun o (number a) (number e) >>= λ g. give (done ++ g ∷ [])).run b) at
+    ∙ ap (λ o. (begun (Some w) o (number e) >>= λ g. give (done ++ g ∷ [])).run b) q
+    ∙ ap (λ o. (begun (Some w) (Some arity) o >>= λ g. give (done ++ g ∷ [])).run b) r
+    ∙ ap (λ o. and_then (and_then o (λ name. give (started name arity entry))) (λ g. give (done ++ g ∷ []))) (names_read w b c name named_w))
 
 items_go : {b c : Table} {forms rest : Forms} {is : List PlacedItem} → AreItems b forms is c rest
     → (front : List ListedFunction) (f : ListedFunction) → (functions (front ++ f ∷ []) forms).run b ≡ (functions (front ++ extended f is ∷ []) rest).run c
 items_go (no_more {before = b} {rest = rest}) front f = ap (λ g. (functions (front ++ g ∷ []) rest).run b) (sym (extended_none f))
 items_go (an_annotation {before = b} {line = line} {t = t} {note = note} {forms = forms} e g) front f =
-    ap (λ o. and_then o (λ done. functions done forms)) (item_added line t b b front f None (note_read line t note b e)) ∙ items_go g front f
+    ap (λ o. and_then o (λ done. functions done forms)) (item_added line t b b front f None (note_read t note b e)) ∙ items_go g front f
 items_go (an_item {before = b} {between = c} {behind = d} {line = line} {t = t} {i = i} {forms = forms} {rest = rest} {is = is} a g) front f =
-    ap (λ o. and_then o (λ done. functions done forms)) (item_added line t b c front f (Some i) (item_read line a))
+    ap (λ o. and_then o (λ done. functions done forms)) (item_added line t b c front f (Some i) (item_read a))
     ∙ ap (λ done. (functions done forms).run c) (with_last line i front f)
     ∙ items_go g front (extended f (placed line i ∷ []))
     ∙ ap (λ g. (functions (front ++ g ∷ []) rest).run d) (extended_twice f (placed line i ∷ []) is)

@@ -16,13 +16,13 @@ use Rattle.bx_listing.specs.declared.items.Operand.{Operand}
 use Rattle.bx_listing.specs.declared.items.Operand.TheVariants as operands
 use Rattle.bx_listing.specs.declared.words.OperandWord.{OperandWord}
 use Rattle.bx_listing.specs.declared.words.OperandWord.TheVariants as words
-use Rattle.bx_listing.specs.Reading.{Table, Reading, read, and_then, ◌>>=◌, give}
-use Rattle.bx_listing.specs.Shape.{Shape, bare, tagged, other, shape, number, proper, list_elements}
+use Rattle.bx_listing.specs.Reading.{Table, Reading, read, and_then, ◌>>=◌, give, no_line}
+use Rattle.bx_listing.specs.Shape.{Shape, tagged, shape, number, proper, list_elements}
 use Rattle.bx_listing.specs.Words.{operand_word}
 use Rattle.bx_listing.specs.Operands.{operand, bad_operand, label, register, simple}
 use Rattle.bx_listing.specs.Rows.{members, listed_of, listed_in, listed, is_even, is_label, is_x, list_of, pairs_of, amounts_of, amounts_in, amounts, heap_of, slot, row, agrees, agreed, formed_item, Read}
 use Rattle.bx_listing.proofs.GoodReadings.{given, after_read, after_wanted}
-use Rattle.bx_listing.proofs.Written.{Written, AllWritten, parts_written, an_integer_term, an_atom_term, a_tuple_term, a_list_term, an_other_term, Rest, no_rest, a_last, a_first}
+use Rattle.bx_listing.proofs.Written.{Written, AllWritten, parts_written, an_integer_term, a_list_term, Rest, no_rest, a_last, a_first}
 use Rattle.bx_listing.proofs.Worded.{IsOperandWord, operand_word_is}
 use Rattle.bx_listing.specs.ListedItems.{Target, IsRegister, IsOperand, AreMembers, no_member, a_member, IsList, IsSlot, an_operand, a_list, pairs, AreAmounts, a_size, amounts as some_amounts, no_label, to_x0, AreSlots, no_slot, a_slot}
 use Rattle.bx_listing.proofs.ListedOperands.{at_word, operand_is, operand_read, target_is, target_read, register_is, register_read}
@@ -31,20 +31,20 @@ use Rattle.bx_listing.proofs.ListedOperands.{at_word, operand_is, operand_read, 
 abbrev pub Adds : {A : Type 0} → List A → List A → (List A → Type 0) → Type 0
 Adds {A} done all P = (os : List A) × (all ≡ done ++ os) × P os
 
-pub members_are : (line : ℕ) (done : List Operand) (this next : Sort) (ts : List Tree) (b c : Table) (all : List Operand) → AllWritten ts
-    → (members line done this next ts).run b ≡ read c all → Adds done all (λ os. AreMembers b this next ts os c)
-members_are line done this next [] b c all w h = given (λ all c. Adds done all (λ os. AreMembers b this next [] os c)) done all b c h ([], sym (append-nil done), no_member)
-members_are line done this next (t ∷ ts) b c all w h =
-    after_read ((simple line this t).run b) (λ o. members line (done ++ o ∷ []) next this ts) c all (λ d o e1 h1.
-    let (os, is, more) = members_are line (done ++ o ∷ []) next this ts d c all w.1 h1 in
-    (o ∷ os, is ∙ append_assoc done (o ∷ []) os, a_member (operand_is line this t b d o w.0 e1) more)) h
+pub members_are : (done : List Operand) (this next : Sort) (ts : List Tree) (b c : Table) (all : List Operand) → AllWritten ts
+    → (members done this next ts).run b ≡ read c all → Adds done all (λ os. AreMembers b this next ts os c)
+members_are done this next [] b c all w h = given (λ all c. Adds done all (λ os. AreMembers b this next [] os c)) done all b c h ([], sym (append-nil done), no_member)
+members_are done this next (t ∷ ts) b c all w h =
+    after_read ((simple this t).run b) (λ o. members (done ++ o ∷ []) next this ts) c all (λ d o e1 h1.
+    let (os, is, more) = members_are (done ++ o ∷ []) next this ts d c all w.1 h1 in
+    (o ∷ os, is ∙ append_assoc done (o ∷ []) os, a_member (operand_is this t b d o w.0 e1) more)) h
 
-pub members_read : (line : ℕ) (done : List Operand) {this next : Sort} {ts : List Tree} {b c : Table} {os : List Operand} → AreMembers b this next ts os c
-    → (members line done this next ts).run b ≡ read c (done ++ os)
-members_read line done (no_member {before = b}) = ap (read b) (sym (append-nil done))
-members_read line done (a_member {before = b} {between = d} {behind = c} {this = this} {next = next} {t = t} {ts = ts} {o = o} {os = os} x more) =
-    ap (λ r. and_then r (λ o. members line (done ++ o ∷ []) next this ts)) (operand_read line this t b d o x)
-    ∙ members_read line (done ++ o ∷ []) more
+pub members_read : (done : List Operand) {this next : Sort} {ts : List Tree} {b c : Table} {os : List Operand} → AreMembers b this next ts os c
+    → (members done this next ts).run b ≡ read c (done ++ os)
+members_read done (no_member {before = b}) = ap (read b) (sym (append-nil done))
+members_read done (a_member {before = b} {between = d} {behind = c} {this = this} {next = next} {t = t} {ts = ts} {o = o} {os = os} x more) =
+    ap (λ r. and_then r (λ o. members (done ++ o ∷ []) next this ts)) (operand_read this t b d o x)
+    ∙ members_read (done ++ o ∷ []) more
     ∙ ap (read c) (append_assoc done (o ∷ []) os)
 
 list_is : (t : Tree) (ts : List Tree) → listed t ≡ Some ts → IsList t ts
@@ -56,8 +56,7 @@ list_is t ts h = by (shape t) refl h
 
     by : (s : Shape) → shape t ≡ s → listed_in s ≡ Some ts → IsList t ts
     by (tagged text parts) e h = of_word text (operand_word text) parts (operand_word_is text) e h
-    by (bare text) e h = absurd (cc)
-    by other e h = absurd (cc)
+    by _ e h = absurd (cc)
 
 list_read : (t : Tree) (ts : List Tree) → IsList t ts → listed t ≡ Some ts
 list_read t ts (l, e, h) = ap listed_in e ∙ h
@@ -71,8 +70,7 @@ amounts_are t ts h = by (shape t) refl h
 
     by : (s : Shape) → shape t ≡ s → amounts_in s ≡ Some ts → AreAmounts t ts
     by (tagged text parts) e h = of_word text (operand_word text) parts (operand_word_is text) e h
-    by (bare text) e h = absurd (cc)
-    by other e h = absurd (cc)
+    by _ e h = absurd (cc)
 
 amounts_read : (t : Tree) (ts : List Tree) → AreAmounts t ts → amounts t ≡ Some ts
 amounts_read t ts (l, e, h) = ap amounts_in e ∙ h
@@ -87,10 +85,7 @@ size_alone t o b c ((n, at, same), eq) = number_alone t n at
 
 last_proper : (t : Tree) (ts : List Tree) → Written t → proper t ≡ Some ts → AllWritten ts
 last_proper t ts an_integer_term e = absurd (cc)
-last_proper t ts an_atom_term e = absurd (cc)
-last_proper t ts (a_tuple_term r) e = absurd (cc)
-last_proper t ts (a_list_term r) e = absurd (cc)
-last_proper t ts an_other_term e = absurd (cc)
+last_proper t ts _ e = absurd (cc)
 
 first_proper : (t : Tree) (o : Option (List Tree)) (ts : List Tree) → Written t → ((us : List Tree) → o ≡ Some us → AllWritten us) → option_map (λ us. t ∷ us) o ≡ Some ts → AllWritten ts
 first_proper t (Some us) ts w more e = let same : t ∷ us ≡ ts = cc in subst AllWritten same (w, more us refl)
@@ -103,10 +98,7 @@ proper_written ts (a_first {t = t} {rest = rest} w more) e = first_proper t (pro
 
 pub elements_written : (t : Tree) (ts : List Tree) → Written t → list_elements t ≡ Some ts → AllWritten ts
 elements_written t ts (a_list_term r) e = proper_written ts r e
-elements_written t ts an_integer_term e = absurd (cc)
-elements_written t ts an_atom_term e = absurd (cc)
-elements_written t ts (a_tuple_term r) e = absurd (cc)
-elements_written t ts an_other_term e = absurd (cc)
+elements_written t ts _ e = absurd (cc)
 
 list_written : (t : Tree) (ts : List Tree) → Written t → IsList t ts → AllWritten ts
 list_written t ts w (l, e, h) = elements_written l ts (parts_written w (codes "list") (l ∷ []) e).0 h
@@ -114,10 +106,10 @@ list_written t ts w (l, e, h) = elements_written l ts (parts_written w (codes "l
 amounts_written : (t : Tree) (ts : List Tree) → Written t → AreAmounts t ts → AllWritten ts
 amounts_written t ts w (l, e, h) = elements_written l ts (parts_written w (codes "alloc") (l ∷ []) e).0 h
 
-list_slot_is : (line : ℕ) (done : List Operand) (this next : Sort) (ts : List Tree) (b c : Table) (all : List Operand) → AllWritten ts
-    → (list_of line done this next ts).run b ≡ read c all → Adds done all (λ os. (more : List Operand) × (os ≡ operands.List (length ts) ∷ more) × AreMembers b this next ts more c)
-list_slot_is line done this next ts b c all w h =
-    let (os, is, are) = members_are line (done ++ operands.List (length ts) ∷ []) this next ts b c all w h in
+list_slot_is : (done : List Operand) (this next : Sort) (ts : List Tree) (b c : Table) (all : List Operand) → AllWritten ts
+    → (list_of done this next ts).run b ≡ read c all → Adds done all (λ os. (more : List Operand) × (os ≡ operands.List (length ts) ∷ more) × AreMembers b this next ts more c)
+list_slot_is done this next ts b c all w h =
+    let (os, is, are) = members_are (done ++ operands.List (length ts) ∷ []) this next ts b c all w h in
     (operands.List (length ts) ∷ os, is ∙ append_assoc done (operands.List (length ts) ∷ []) os, (os, refl, are))
 
 is_label_zero : (t : Tree) (o : Option ℕ) → label t ≡ o → is_label 0 o ≡ true → Target t 0
@@ -126,85 +118,83 @@ is_label_zero t None e h = absurd (cc)
 
 is_x_zero : (t : Tree) (o : Option Operand) → register t ≡ o → is_x 0 o ≡ true → IsRegister t (operands.X 0)
 is_x_zero t (Some (operands.X n)) e h = register_is t (operands.X 0) (e ∙ ap (λ n. Some (operands.X n)) ((Decides-eqb n 0).0 h))
-is_x_zero t (Some _) e h = absurd (cc)
-is_x_zero t None e h = absurd (cc)
+is_x_zero t _ e h = absurd (cc)
 
 -- a test that held
-tested : {A : Type 0} (line : ℕ) (test : Bool) (good : Reading A) (b c : Table) (all : A) → (if test then good else bad_operand line).run b ≡ read c all → (test ≡ true) × (good.run b ≡ read c all)
-tested line true good b c all h = (refl, h)
-tested line false good b c all h = absurd (cc)
+tested : {A : Type 0} (test : Bool) (good : Reading A) (b c : Table) (all : A) → (if test then good else bad_operand).run b ≡ read c all → (test ≡ true) × (good.run b ≡ read c all)
+tested true good b c all h = (refl, h)
+tested false good b c all h = absurd (cc)
 
-pub slot_is : (line : ℕ) (done : List Operand) (s : Slot) (t : Tree) (b c : Table) (all : List Operand) → Written t → (slot line done s t).run b ≡ read c all → Adds done all (λ os. IsSlot b s t os c)
-slot_is line done (slot_kinds.One sort) t b c all w h =
-    after_read ((simple line sort t).run b) (λ o. give (done ++ o ∷ [])) c all (λ d o e1 h1.
-    given (λ all c. Adds done all (λ os. IsSlot b (slot_kinds.One sort) t os c)) (done ++ o ∷ []) all d c h1 (o ∷ [], refl, an_operand (operand_is line sort t b d o w e1))) h
-slot_is line done (slot_kinds.Many sort) t b c all w h =
-    after_wanted (faults.BadOperand line) (listed t) (list_of line done sort sort) b c all (λ ts e h1.
+pub slot_is : (done : List Operand) (s : Slot) (t : Tree) (b c : Table) (all : List Operand) → Written t → (slot done s t).run b ≡ read c all → Adds done all (λ os. IsSlot b s t os c)
+slot_is done (slot_kinds.One sort) t b c all w h =
+    after_read ((simple sort t).run b) (λ o. give (done ++ o ∷ [])) c all (λ d o e1 h1.
+    given (λ all c. Adds done all (λ os. IsSlot b (slot_kinds.One sort) t os c)) (done ++ o ∷ []) all d c h1 (o ∷ [], refl, an_operand (operand_is sort t b d o w e1))) h
+slot_is done (slot_kinds.Many sort) t b c all w h =
+    after_wanted (faults.BadOperand no_line) (listed t) (list_of done sort sort) b c all (λ ts e h1.
     let at = list_is t ts e in
-    let (os, is, (more, same, are)) = list_slot_is line done sort sort ts b c all (list_written t ts w at) h1 in
+    let (os, is, (more, same, are)) = list_slot_is done sort sort ts b c all (list_written t ts w at) h1 in
     (operands.List (length ts) ∷ more, is ∙ ap (λ os. done ++ os) same, a_list at are)) h
-slot_is line done (slot_kinds.Pairs first second) t b c all w h =
-    after_wanted (faults.BadOperand line) (listed t) (pairs_of line done first second) b c all (λ ts e h1.
+slot_is done (slot_kinds.Pairs first second) t b c all w h =
+    after_wanted (faults.BadOperand no_line) (listed t) (pairs_of done first second) b c all (λ ts e h1.
     let at = list_is t ts e in
-    let (even, h2) = tested line (is_even ts) (list_of line done first second ts) b c all h1 in
-    let (os, is, (more, same, are)) = list_slot_is line done first second ts b c all (list_written t ts w at) h2 in
+    let (even, h2) = tested (is_even ts) (list_of done first second ts) b c all h1 in
+    let (os, is, (more, same, are)) = list_slot_is done first second ts b c all (list_written t ts w at) h2 in
     (operands.List (length ts) ∷ more, is ∙ ap (λ os. done ++ os) same, pairs at even are)) h
-slot_is line done slot_kinds.NoLabel t b c all w h =
-    let (zero, h1) = tested line (is_label 0 (label t)) (give done) b c all h in
+slot_is done slot_kinds.NoLabel t b c all w h =
+    let (zero, h1) = tested (is_label 0 (label t)) (give done) b c all h in
     given (λ all c. Adds done all (λ os. IsSlot b slot_kinds.NoLabel t os c)) done all b c h1 ([], sym (append-nil done), no_label (is_label_zero t (label t) refl zero))
-slot_is line done slot_kinds.ToX0 t b c all w h =
-    let (zero, h1) = tested line (is_x 0 (register t)) (give done) b c all h in
+slot_is done slot_kinds.ToX0 t b c all w h =
+    let (zero, h1) = tested (is_x 0 (register t)) (give done) b c all h in
     given (λ all c. Adds done all (λ os. IsSlot b slot_kinds.ToX0 t os c)) done all b c h1 ([], sym (append-nil done), to_x0 (is_x_zero t (register t) refl zero))
-slot_is line done slot_kinds.Heap t b c all w h = by (amounts t) refl h
+slot_is done slot_kinds.Heap t b c all w h = by (amounts t) refl h
   where
-    by : (o : Option (List Tree)) → amounts t ≡ o → (heap_of line done t o).run b ≡ read c all → Adds done all (λ os. IsSlot b slot_kinds.Heap t os c)
+    by : (o : Option (List Tree)) → amounts t ≡ o → (heap_of done t o).run b ≡ read c all → Adds done all (λ os. IsSlot b slot_kinds.Heap t os c)
     by (Some ts) e h =
         let at = amounts_are t ts e in
-        let (os, is, (more, same, are)) = list_slot_is line done sorts.Amount sorts.Amount ts b c all (amounts_written t ts w at) h in
+        let (os, is, (more, same, are)) = list_slot_is done sorts.Amount sorts.Amount ts b c all (amounts_written t ts w at) h in
         (operands.List (length ts) ∷ more, is ∙ ap (λ os. done ++ os) same, some_amounts at are)
     by None e h =
-        after_read ((simple line sorts.Number t).run b) (λ o. give (done ++ o ∷ [])) c all (λ d o e1 h1.
-        given (λ all c. Adds done all (λ os. IsSlot b slot_kinds.Heap t os c)) (done ++ o ∷ []) all d c h1 (o ∷ [], refl, a_size (operand_is line sorts.Number t b d o w e1))) h
+        after_read ((simple sorts.Number t).run b) (λ o. give (done ++ o ∷ [])) c all (λ d o e1 h1.
+        given (λ all c. Adds done all (λ os. IsSlot b slot_kinds.Heap t os c)) (done ++ o ∷ []) all d c h1 (o ∷ [], refl, a_size (operand_is sorts.Number t b d o w e1))) h
 
-pub slot_read : (line : ℕ) (done : List Operand) {s : Slot} {t : Tree} {b c : Table} {os : List Operand} → IsSlot b s t os c → (slot line done s t).run b ≡ read c (done ++ os)
-slot_read line done {b = b} {c = c} (an_operand {sort = sort} {t = t} {o = o} x) = ap (λ r. and_then r (λ o. give (done ++ o ∷ []))) (operand_read line sort t b c o x)
-slot_read line done {b = b} {c = c} (a_list {sort = sort} {t = t} {ts = ts} {os = os} at are) =
-    ap (λ o. (operand line o >>= list_of line done sort sort).run b) (list_read t ts at)
-    ∙ members_read line (done ++ operands.List (length ts) ∷ []) are
+pub slot_read : (done : List Operand) {s : Slot} {t : Tree} {b c : Table} {os : List Operand} → IsSlot b s t os c → (slot done s t).run b ≡ read c (done ++ os)
+slot_read done {b = b} {c = c} (an_operand {sort = sort} {t = t} {o = o} x) = ap (λ r. and_then r (λ o. give (done ++ o ∷ []))) (operand_read sort t b c o x)
+slot_read done {b = b} {c = c} (a_list {sort = sort} {t = t} {ts = ts} {os = os} at are) =
+    ap (λ o. (operand o >>= list_of done sort sort).run b) (list_read t ts at)
+    ∙ members_read (done ++ operands.List (length ts) ∷ []) are
     ∙ ap (read c) (append_assoc done (operands.List (length ts) ∷ []) os)
-slot_read line done {b = b} {c = c} (pairs {first = first} {second = second} {t = t} {ts = ts} {os = os} at even are) =
-    ap (λ o. (operand line o >>= pairs_of line done first second).run b) (list_read t ts at)
-    ∙ ap (λ (test : Bool). (if test then list_of line done first second ts else bad_operand line).run b) even
-    ∙ members_read line (done ++ operands.List (length ts) ∷ []) are
+slot_read done {b = b} {c = c} (pairs {first = first} {second = second} {t = t} {ts = ts} {os = os} at even are) =
+    ap (λ o. (operand o >>= pairs_of done first second).run b) (list_read t ts at)
+    ∙ ap (λ (test : Bool). (if test then list_of done first second ts else bad_operand).run b) even
+    ∙ members_read (done ++ operands.List (length ts) ∷ []) are
     ∙ ap (read c) (append_assoc done (operands.List (length ts) ∷ []) os)
-slot_read line done {b = b} {c = c} (a_size {t = t} {o = o} x) =
-    ap (λ k. (heap_of line done t k).run b) (size_alone t o b c x) ∙ ap (λ r. and_then r (λ o. give (done ++ o ∷ []))) (operand_read line sorts.Number t b c o x)
-slot_read line done {b = b} {c = c} (some_amounts {t = t} {ts = ts} {os = os} at are) =
-    ap (λ o. (heap_of line done t o).run b) (amounts_read t ts at)
-    ∙ members_read line (done ++ operands.List (length ts) ∷ []) are
+slot_read done {b = b} {c = c} (a_size {t = t} {o = o} x) =
+    ap (λ k. (heap_of done t k).run b) (size_alone t o b c x) ∙ ap (λ r. and_then r (λ o. give (done ++ o ∷ []))) (operand_read sorts.Number t b c o x)
+slot_read done {b = b} {c = c} (some_amounts {t = t} {ts = ts} {os = os} at are) =
+    ap (λ o. (heap_of done t o).run b) (amounts_read t ts at)
+    ∙ members_read (done ++ operands.List (length ts) ∷ []) are
     ∙ ap (read c) (append_assoc done (operands.List (length ts) ∷ []) os)
-slot_read line done {b = b} (no_label {t = t} at) =
-    ap (λ o. (if is_label 0 o then give done else bad_operand line).run b) (target_read t 0 at) ∙ ap (read b) (sym (append-nil done))
-slot_read line done {b = b} (to_x0 {t = t} at) =
-    ap (λ o. (if is_x 0 o then give done else bad_operand line).run b) (register_read at) ∙ ap (read b) (sym (append-nil done))
+slot_read done {b = b} (no_label {t = t} at) =
+    ap (λ o. (if is_label 0 o then give done else bad_operand).run b) (target_read t 0 at) ∙ ap (read b) (sym (append-nil done))
+slot_read done {b = b} (to_x0 {t = t} at) =
+    ap (λ o. (if is_x 0 o then give done else bad_operand).run b) (register_read at) ∙ ap (read b) (sym (append-nil done))
 
-pub row_is : (line : ℕ) (done : List Operand) (ss : List Slot) (ts : List Tree) (b c : Table) (all : List Operand) → AllWritten ts → length ts ≡ length ss
-    → (row line done ss ts).run b ≡ read c all → Adds done all (λ os. AreSlots b ss ts os c)
-row_is line done [] [] b c all w n h = given (λ all c. Adds done all (λ os. AreSlots b [] [] os c)) done all b c h ([], sym (append-nil done), no_slot)
-row_is line done [] (t ∷ ts) b c all w n h = absurd (cc)
-row_is line done (s ∷ ss) [] b c all w n h = absurd (cc)
-row_is line done (s ∷ ss) (t ∷ ts) b c all w n h =
-    after_read ((slot line done s t).run b) (λ more. row line more ss ts) c all (λ d more e1 h1.
-    let (os, is, at) = slot_is line done s t b d more w.0 e1 in
+pub row_is : (done : List Operand) (ss : List Slot) (ts : List Tree) (b c : Table) (all : List Operand) → AllWritten ts → length ts ≡ length ss
+    → (row done ss ts).run b ≡ read c all → Adds done all (λ os. AreSlots b ss ts os c)
+row_is done [] [] b c all w n h = given (λ all c. Adds done all (λ os. AreSlots b [] [] os c)) done all b c h ([], sym (append-nil done), no_slot)
+row_is done (s ∷ ss) (t ∷ ts) b c all w n h =
+    after_read ((slot done s t).run b) (λ more. row more ss ts) c all (λ d more e1 h1.
+    let (os, is, at) = slot_is done s t b d more w.0 e1 in
     let same : length ts ≡ length ss = cc in
-    let (us, is2, are) = row_is line more ss ts d c all w.1 same h1 in
+    let (us, is2, are) = row_is more ss ts d c all w.1 same h1 in
     (os ++ us, is2 ∙ ap (λ xs. xs ++ us) is ∙ append_assoc done os us, a_slot at are)) h
+row_is done _ _ b c all w n h = absurd (cc)
 
-pub row_read : (line : ℕ) (done : List Operand) {ss : List Slot} {ts : List Tree} {b c : Table} {os : List Operand} → AreSlots b ss ts os c → (row line done ss ts).run b ≡ read c (done ++ os)
-row_read line done (no_slot {before = b}) = ap (read b) (sym (append-nil done))
-row_read line done (a_slot {before = b} {between = d} {behind = c} {s = s} {ss = ss} {t = t} {ts = ts} {os = os} {more = more} x are) =
-    ap (λ r. and_then r (λ more. row line more ss ts)) (slot_read line done x)
-    ∙ row_read line (done ++ os) are
+pub row_read : (done : List Operand) {ss : List Slot} {ts : List Tree} {b c : Table} {os : List Operand} → AreSlots b ss ts os c → (row done ss ts).run b ≡ read c (done ++ os)
+row_read done (no_slot {before = b}) = ap (read b) (sym (append-nil done))
+row_read done (a_slot {before = b} {between = d} {behind = c} {s = s} {ss = ss} {t = t} {ts = ts} {os = os} {more = more} x are) =
+    ap (λ r. and_then r (λ more. row more ss ts)) (slot_read done x)
+    ∙ row_read (done ++ os) are
     ∙ ap (read c) (append_assoc done os more)
 
 pub slots_length : {ss : List Slot} {ts : List Tree} {b c : Table} {os : List Operand} → AreSlots b ss ts os c → length ts ≡ length ss
@@ -212,18 +202,18 @@ slots_length no_slot = refl
 slots_length (a_slot x are) = ap suc (slots_length are)
 
 -- the operands of one instruction
-pub formed_is : (line : ℕ) (done : List Operand) (op : Op) (ts : List Tree) (b c : Table) (x : Read) → AllWritten ts → length ts ≡ length (slots op)
-    → (formed_item line done (op, ts)).run b ≡ read c x → (os : List Operand) × (x ≡ (Some op, done ++ os)) × AreSlots b (slots op) ts os c × (agrees os ≡ true)
-formed_is line done op ts b c x w n h =
-    after_read ((row line done (slots op) ts).run b) (agreed line op done) c x (λ d all e1 h1.
-    let (os, is, are) = row_is line done (slots op) ts b d all w n e1 in
-    let (agree, h2) = tested line (agrees (drop (length done) all)) (give (Some op, all)) d c x h1 in
+pub formed_is : (done : List Operand) (op : Op) (ts : List Tree) (b c : Table) (x : Read) → AllWritten ts → length ts ≡ length (slots op)
+    → (formed_item done (op, ts)).run b ≡ read c x → (os : List Operand) × (x ≡ (Some op, done ++ os)) × AreSlots b (slots op) ts os c × (agrees os ≡ true)
+formed_is done op ts b c x w n h =
+    after_read ((row done (slots op) ts).run b) (agreed op done) c x (λ d all e1 h1.
+    let (os, is, are) = row_is done (slots op) ts b d all w n e1 in
+    let (agree, h2) = tested (agrees (drop (length done) all)) (give (Some op, all)) d c x h1 in
     let here : drop (length done) all ≡ os = ap (drop (length done)) is ∙ drop-append_seam done os in
     given (λ x c. (os : List Operand) × (x ≡ (Some op, done ++ os)) × AreSlots b (slots op) ts os c × (agrees os ≡ true)) (Some op, all) x d c h2
     (os, ap (λ all. (Some op, all)) is, are, sym (ap agrees here) ∙ agree)) h
 
-pub formed_read : (line : ℕ) (done : List Operand) (op : Op) (ts : List Tree) (b c : Table) (os : List Operand) → AreSlots b (slots op) ts os c → agrees os ≡ true
-    → (formed_item line done (op, ts)).run b ≡ read c (Some op, done ++ os)
-formed_read line done op ts b c os are agree =
-    ap (λ r. and_then r (agreed line op done)) (row_read line done are)
-    ∙ ap (λ (test : Bool). (if test then give (Some op, done ++ os) else bad_operand line).run c) (ap agrees (drop-append_seam done os) ∙ agree)
+pub formed_read : (done : List Operand) (op : Op) (ts : List Tree) (b c : Table) (os : List Operand) → AreSlots b (slots op) ts os c → agrees os ≡ true
+    → (formed_item done (op, ts)).run b ≡ read c (Some op, done ++ os)
+formed_read done op ts b c os are agree =
+    ap (λ r. and_then r (agreed op done)) (row_read done are)
+    ∙ ap (λ (test : Bool). (if test then give (Some op, done ++ os) else bad_operand).run c) (ap agrees (drop-append_seam done os) ∙ agree)

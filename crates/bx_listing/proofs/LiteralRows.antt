@@ -6,8 +6,7 @@ use Rattle.std.proofs.Math.ListN.{drop_of_length-le}
 use Rattle.bx_terms.specs.Tree as term
 use Rattle.bx_terms.specs.declared.faults.Fault.{Fault}
 use Rattle.bx_terms.specs.declared.faults.Fault.TheVariants.{Memory}
-use Rattle.bx_text.specs.Tree as texts
-use Rattle.bx_text.specs.Tree.{Tree, integer, atom, tuple, list, nil, cons, chain, nodes}
+use Rattle.bx_text.specs.Tree.{Tree, nil, cons, chain, nodes}
 use Rattle.bx_listing.specs.Reading.{Table, Outcome, read, refused, table_of, Begins, Begins-trans, Reading, and_then, ◌>>=◌, give, stored, Takes, Refused}
 use Rattle.bx_listing.specs.Literals.{Row, with_first, longer, parts, literal, IsNode, ended}
 use Rattle.bx_listing.specs.LiteralRows.{with_last}
@@ -25,8 +24,8 @@ resumed front (read t r) = read t (record { elements = joined front r.elements; 
 resumed front (refused t fault) = refused t fault
 
 -- the row of these elements before that tail
-abbrev pub row : ℕ → List Tree → Tree → Reading Row
-row line es u = (parts line (chain es u)).row
+abbrev pub row : List Tree → Tree → Reading Row
+row es u = (parts (chain es u)).row
 
 joined-nil : (front : Kept) → joined front (Some []) ≡ front
 joined-nil (Some xs) = ap Some (append-nil xs)
@@ -34,9 +33,7 @@ joined-nil None = refl
 
 joined-first : (front : Kept) (x : Option term.Tree) (more : Kept) → joined front (with_first x more) ≡ joined (with_last front x) more
 joined-first (Some xs) (Some x) (Some ys) = ap Some (sym (append_assoc xs (x ∷ []) ys))
-joined-first (Some xs) (Some x) None = refl
-joined-first (Some xs) None more = refl
-joined-first None x more = refl
+joined-first _ _ _ = refl
 
 resumed_longer : (front : Kept) (x : Option term.Tree) (o : Outcome Row) → resumed front (and_then o (λ r. give (longer x r))) ≡ resumed (with_last front x) o
 resumed_longer front x (read t r) = ap (λ es. read t (record { elements = es; tail = r.tail })) (joined-first front x r.elements)
@@ -49,11 +46,11 @@ resumed-table front (refused t fault) = refl
 pub next_element : (es : List Tree) (i : ℕ) (e : Tree) → i < length es → e ≡ get_or es i e → drop i es ≡ e ∷ drop (i + 1) es
 next_element es i e here at = drop-cons es i e here ∙ (ap (λ y. y ∷ drop (suc i) es) (sym at) ∙ ap (λ n. e ∷ drop n es) (sym (add-one i)))
 
-pub resumed_next : (line : ℕ) (es : List Tree) (u : Tree) (i : ℕ) (e : Tree) (front : Kept) (x : Option term.Tree) (t mid : Table) → i < length es → e ≡ get_or es i e → (literal line e).run t ≡ read mid x → resumed front ((row line (drop i es) u).run t) ≡ resumed (with_last front x) ((row line (drop (i + 1) es) u).run mid)
-resumed_next line es u i e front x t mid here at h =
-    let unfolded : resumed front ((row line (drop i es) u).run t) ≡ resumed front ((row line (e ∷ drop (i + 1) es) u).run t) = ap (λ ts. resumed front ((row line ts u).run t)) (next_element es i e here at) in
-    let stepped : resumed front ((row line (e ∷ drop (i + 1) es) u).run t) ≡ resumed front (and_then ((row line (drop (i + 1) es) u).run mid) (λ r. give (longer x r))) = ap (λ o. resumed front (and_then o (λ y. row line (drop (i + 1) es) u >>= λ r. give (longer y r)))) h in
-    unfolded ∙ (stepped ∙ resumed_longer front x ((row line (drop (i + 1) es) u).run mid))
+pub resumed_next : (es : List Tree) (u : Tree) (i : ℕ) (e : Tree) (front : Kept) (x : Option term.Tree) (t mid : Table) → i < length es → e ≡ get_or es i e → (literal e).run t ≡ read mid x → resumed front ((row (drop i es) u).run t) ≡ resumed (with_last front x) ((row (drop (i + 1) es) u).run mid)
+resumed_next es u i e front x t mid here at h =
+    let unfolded : resumed front ((row (drop i es) u).run t) ≡ resumed front ((row (e ∷ drop (i + 1) es) u).run t) = ap (λ ts. resumed front ((row ts u).run t)) (next_element es i e here at) in
+    let stepped : resumed front ((row (e ∷ drop (i + 1) es) u).run t) ≡ resumed front (and_then ((row (drop (i + 1) es) u).run mid) (λ r. give (longer x r))) = ap (λ o. resumed front (and_then o (λ y. row (drop (i + 1) es) u >>= λ r. give (longer y r)))) h in
+    unfolded ∙ (stepped ∙ resumed_longer front x ((row (drop (i + 1) es) u).run mid))
 
 refused_resumed : (front : Kept) (old t new : Table) (fault : Fault) (inner whole : Reading Row) → Begins old t → resumed front (inner.run t) ≡ whole.run old → (Takes inner t → Takes whole old) → Refused t new fault inner → Refused old new fault whole
 refused_resumed front old t new Memory inner whole grown e wants h =
@@ -61,59 +58,55 @@ refused_resumed front old t new Memory inner whole grown e wants h =
 refused_resumed front old t new _ inner whole grown e wants h = sym e ∙ ap (resumed front) h
 
 -- what is done with the elements behind the first
-abbrev row_behind : ℕ → List Tree → Tree → Option term.Tree → Reading Row
-row_behind line es u x = row line es u >>= λ r. give (longer x r)
+abbrev row_behind : List Tree → Tree → Option term.Tree → Reading Row
+row_behind es u x = row es u >>= λ r. give (longer x r)
 
-left_takes : (line : ℕ) (es : List Tree) (u : Tree) (i : ℕ) (e : Tree) (old t : Table) → i < length es → e ≡ get_or es i e → (Takes (row line (drop i es) u) t → Takes (row line es u) old) → Takes (row line (e ∷ drop (i + 1) es) u) t → Takes (row line es u) old
-left_takes line es u i e old t here at wants k = wants (ap (λ ts. (row line ts u).takes t) (next_element es i e here at) ∙ k)
+left_takes : (es : List Tree) (u : Tree) (i : ℕ) (e : Tree) (old t : Table) → i < length es → e ≡ get_or es i e → (Takes (row (drop i es) u) t → Takes (row es u) old) → Takes (row (e ∷ drop (i + 1) es) u) t → Takes (row es u) old
+left_takes es u i e old t here at wants k = wants (ap (λ ts. (row ts u).takes t) (next_element es i e here at) ∙ k)
 
-pub element_takes : (line : ℕ) (es : List Tree) (u : Tree) (i : ℕ) (e : Tree) (x : Option term.Tree) (old t mid : Table) → i < length es → e ≡ get_or es i e → (Takes (row line (drop i es) u) t → Takes (row line es u) old) → (literal line e).run t ≡ read mid x → Takes (row line (drop (i + 1) es) u) mid → Takes (row line es u) old
-element_takes line es u i e x old t mid here at wants h k =
-    left_takes line es u i e old t here at wants (takes_after t mid (stored (literal line e)) x (row_behind line (drop (i + 1) es) u) h (takes_first mid (row line (drop (i + 1) es) u) (λ r. give (longer x r)) k))
+pub element_takes : (es : List Tree) (u : Tree) (i : ℕ) (e : Tree) (x : Option term.Tree) (old t mid : Table) → i < length es → e ≡ get_or es i e → (Takes (row (drop i es) u) t → Takes (row es u) old) → (literal e).run t ≡ read mid x → Takes (row (drop (i + 1) es) u) mid → Takes (row es u) old
+element_takes es u i e x old t mid here at wants h k =
+    left_takes es u i e old t here at wants (takes_after t mid (stored (literal e)) x (row_behind (drop (i + 1) es) u) h (takes_first mid (row (drop (i + 1) es) u) (λ r. give (longer x r)) k))
 
-pub refuses_element : (line : ℕ) (es : List Tree) (u : Tree) (i : ℕ) (e : Tree) (front : Kept) (old t new : Table) (fault : Fault) → i < length es → e ≡ get_or es i e → Begins old t → resumed front ((row line (drop i es) u).run t) ≡ (row line es u).run old → (Takes (row line (drop i es) u) t → Takes (row line es u) old) → Refused t new fault (literal line e) → Refused old new fault (row line es u)
-refuses_element line es u i e front old t new fault here at grown so_far wants h =
-    let first : Refused t new fault (row line (e ∷ drop (i + 1) es) u) = refused_first t new fault (stored (literal line e)) (row_behind line (drop (i + 1) es) u) (refused_stored (λ _. true) t new fault (literal line e) h) in
-    let unfolded : resumed front ((row line (e ∷ drop (i + 1) es) u).run t) ≡ (row line es u).run old = ap (λ ts. resumed front ((row line ts u).run t)) (sym (next_element es i e here at)) ∙ so_far in
-    refused_resumed front old t new fault (row line (e ∷ drop (i + 1) es) u) (row line es u) grown unfolded (left_takes line es u i e old t here at wants) first
+pub refuses_element : (es : List Tree) (u : Tree) (i : ℕ) (e : Tree) (front : Kept) (old t new : Table) (fault : Fault) → i < length es → e ≡ get_or es i e → Begins old t → resumed front ((row (drop i es) u).run t) ≡ (row es u).run old → (Takes (row (drop i es) u) t → Takes (row es u) old) → Refused t new fault (literal e) → Refused old new fault (row es u)
+refuses_element es u i e front old t new fault here at grown so_far wants h =
+    let first : Refused t new fault (row (e ∷ drop (i + 1) es) u) = refused_first t new fault (stored (literal e)) (row_behind (drop (i + 1) es) u) (refused_stored (λ _. true) t new fault (literal e) h) in
+    let unfolded : resumed front ((row (e ∷ drop (i + 1) es) u).run t) ≡ (row es u).run old = ap (λ ts. resumed front ((row ts u).run t)) (sym (next_element es i e here at)) ∙ so_far in
+    refused_resumed front old t new fault (row (e ∷ drop (i + 1) es) u) (row es u) grown unfolded (left_takes es u i e old t here at wants) first
 
-pub memory_after_element : (line : ℕ) (es : List Tree) (u : Tree) (i : ℕ) (e : Tree) (front : Kept) (x : Option term.Tree) (old t mid : Table) → i < length es → e ≡ get_or es i e → Begins old t → resumed front ((row line (drop i es) u).run t) ≡ (row line es u).run old → (Takes (row line (drop i es) u) t → Takes (row line es u) old) → (literal line e).run t ≡ read mid x → Refused old mid Memory (row line es u)
-memory_after_element line es u i e front x old t mid here at grown so_far wants h =
-    let after : Refused t mid Memory (row line (e ∷ drop (i + 1) es) u) = wanting_stored (λ _. true) t mid (literal line e) x (row_behind line (drop (i + 1) es) u) h refl in
-    let unfolded : resumed front ((row line (e ∷ drop (i + 1) es) u).run t) ≡ (row line es u).run old = ap (λ ts. resumed front ((row line ts u).run t)) (sym (next_element es i e here at)) ∙ so_far in
-    refused_resumed front old t mid Memory (row line (e ∷ drop (i + 1) es) u) (row line es u) grown unfolded (left_takes line es u i e old t here at wants) after
+pub memory_after_element : (es : List Tree) (u : Tree) (i : ℕ) (e : Tree) (front : Kept) (x : Option term.Tree) (old t mid : Table) → i < length es → e ≡ get_or es i e → Begins old t → resumed front ((row (drop i es) u).run t) ≡ (row es u).run old → (Takes (row (drop i es) u) t → Takes (row es u) old) → (literal e).run t ≡ read mid x → Refused old mid Memory (row es u)
+memory_after_element es u i e front x old t mid here at grown so_far wants h =
+    let after : Refused t mid Memory (row (e ∷ drop (i + 1) es) u) = wanting_stored (λ _. true) t mid (literal e) x (row_behind (drop (i + 1) es) u) h refl in
+    let unfolded : resumed front ((row (e ∷ drop (i + 1) es) u).run t) ≡ (row es u).run old = ap (λ ts. resumed front ((row ts u).run t)) (sym (next_element es i e here at)) ∙ so_far in
+    refused_resumed front old t mid Memory (row (e ∷ drop (i + 1) es) u) (row es u) grown unfolded (left_takes es u i e old t here at wants) after
 
-pub grown_after : (line : ℕ) (e : Tree) (x : Option term.Tree) (old t mid : Table) → Begins old t → (literal line e).run t ≡ read mid x → Begins old mid
-grown_after line e x old t mid grown h = Begins-trans old t mid grown (subst (λ o. Begins t (table_of o)) h ((literal line e).grows t))
+pub grown_after : (e : Tree) (x : Option term.Tree) (old t mid : Table) → Begins old t → (literal e).run t ≡ read mid x → Begins old mid
+grown_after e x old t mid grown h = Begins-trans old t mid grown (subst (λ o. Begins t (table_of o)) h ((literal e).grows t))
 
-pub row_of_node : (line : ℕ) (u : Tree) → IsNode u → (parts line u).row ≡ (literal line u >>= λ x. give (ended x))
-row_of_node line (integer s n) h = refl
-row_of_node line (atom s text) h = refl
-row_of_node line (tuple s r) h = refl
-row_of_node line (list s r) h = refl
-row_of_node line (texts.other s k w) h = refl
-row_of_node line nil h = absurd h
-row_of_node line (cons t rest) h = absurd h
+pub row_of_node : (u : Tree) → IsNode u → (parts u).row ≡ (literal u >>= λ x. give (ended x))
+row_of_node nil h = absurd h
+row_of_node (cons t rest) h = absurd h
+row_of_node _ h = refl
 
-at_end : (line : ℕ) (es : List Tree) (u : Tree) (i : ℕ) (front : Kept) (old t : Table) → length es ≤ i → resumed front ((row line (drop i es) u).run t) ≡ (row line es u).run old → resumed front ((parts line u).row.run t) ≡ (row line es u).run old
-at_end line es u i front old t past so_far = ap (λ ts. resumed front ((row line ts u).run t)) (sym (drop_of_length-le es past)) ∙ so_far
+at_end : (es : List Tree) (u : Tree) (i : ℕ) (front : Kept) (old t : Table) → length es ≤ i → resumed front ((row (drop i es) u).run t) ≡ (row es u).run old → resumed front ((parts u).row.run t) ≡ (row es u).run old
+at_end es u i front old t past so_far = ap (λ ts. resumed front ((row ts u).run t)) (sym (drop_of_length-le es past)) ∙ so_far
 
-pub ends_without : (line : ℕ) (es : List Tree) (i : ℕ) (front : Kept) (old t : Table) → length es ≤ i → resumed front ((row line (drop i es) nil).run t) ≡ (row line es nil).run old → (row line es nil).run old ≡ read t (record { elements = front; tail = Some term.nil })
-ends_without line es i front old t past so_far = sym (at_end line es nil i front old t past so_far) ∙ ap (λ f. read t (record { elements = f; tail = Some term.nil })) (joined-nil front)
+pub ends_without : (es : List Tree) (i : ℕ) (front : Kept) (old t : Table) → length es ≤ i → resumed front ((row (drop i es) nil).run t) ≡ (row es nil).run old → (row es nil).run old ≡ read t (record { elements = front; tail = Some term.nil })
+ends_without es i front old t past so_far = sym (at_end es nil i front old t past so_far) ∙ ap (λ f. read t (record { elements = f; tail = Some term.nil })) (joined-nil front)
 
-pub ends_with : (line : ℕ) (es : List Tree) (u : Tree) (i : ℕ) (front : Kept) (x : Option term.Tree) (old t new : Table) → length es ≤ i → IsNode u → resumed front ((row line (drop i es) u).run t) ≡ (row line es u).run old → (literal line u).run t ≡ read new x → (row line es u).run old ≡ read new (record { elements = front; tail = x })
-ends_with line es u i front x old t new past node so_far h =
-    let alone : (parts line u).row.run t ≡ read new (ended x) = ap (λ r. r.run t) (row_of_node line u node) ∙ ap (λ o. and_then o (λ y. give (ended y))) h in
-    sym (at_end line es u i front old t past so_far) ∙ (ap (resumed front) alone ∙ ap (λ f. read new (record { elements = f; tail = x })) (joined-nil front))
+pub ends_with : (es : List Tree) (u : Tree) (i : ℕ) (front : Kept) (x : Option term.Tree) (old t new : Table) → length es ≤ i → IsNode u → resumed front ((row (drop i es) u).run t) ≡ (row es u).run old → (literal u).run t ≡ read new x → (row es u).run old ≡ read new (record { elements = front; tail = x })
+ends_with es u i front x old t new past node so_far h =
+    let alone : (parts u).row.run t ≡ read new (ended x) = ap (λ r. r.run t) (row_of_node u node) ∙ ap (λ o. and_then o (λ y. give (ended y))) h in
+    sym (at_end es u i front old t past so_far) ∙ (ap (resumed front) alone ∙ ap (λ f. read new (record { elements = f; tail = x })) (joined-nil front))
 
 -- at the end of the elements, what is left is the tail
-end_takes : (line : ℕ) (es : List Tree) (u : Tree) (i : ℕ) (old t : Table) → length es ≤ i → (Takes (row line (drop i es) u) t → Takes (row line es u) old) → Takes ((parts line u).row) t → Takes (row line es u) old
-end_takes line es u i old t past wants k = wants (ap (λ ts. (row line ts u).takes t) (drop_of_length-le es past) ∙ k)
+end_takes : (es : List Tree) (u : Tree) (i : ℕ) (old t : Table) → length es ≤ i → (Takes (row (drop i es) u) t → Takes (row es u) old) → Takes ((parts u).row) t → Takes (row es u) old
+end_takes es u i old t past wants k = wants (ap (λ ts. (row ts u).takes t) (drop_of_length-le es past) ∙ k)
 
-pub refuses_tail : (line : ℕ) (es : List Tree) (u : Tree) (i : ℕ) (front : Kept) (old t new : Table) (fault : Fault) → length es ≤ i → IsNode u → Begins old t → resumed front ((row line (drop i es) u).run t) ≡ (row line es u).run old → (Takes (row line (drop i es) u) t → Takes (row line es u) old) → Refused t new fault (literal line u) → Refused old new fault (row line es u)
-refuses_tail line es u i front old t new fault past node grown so_far wants h =
-    let first : Refused t new fault ((parts line u).row) = subst (λ r. Refused t new fault r) (sym (row_of_node line u node)) (refused_first t new fault (literal line u) (λ y. give (ended y)) h) in
-    refused_resumed front old t new fault ((parts line u).row) (row line es u) grown (at_end line es u i front old t past so_far) (end_takes line es u i old t past wants) first
+pub refuses_tail : (es : List Tree) (u : Tree) (i : ℕ) (front : Kept) (old t new : Table) (fault : Fault) → length es ≤ i → IsNode u → Begins old t → resumed front ((row (drop i es) u).run t) ≡ (row es u).run old → (Takes (row (drop i es) u) t → Takes (row es u) old) → Refused t new fault (literal u) → Refused old new fault (row es u)
+refuses_tail es u i front old t new fault past node grown so_far wants h =
+    let first : Refused t new fault ((parts u).row) = subst (λ r. Refused t new fault r) (sym (row_of_node u node)) (refused_first t new fault (literal u) (λ y. give (ended y)) h) in
+    refused_resumed front old t new fault ((parts u).row) (row es u) grown (at_end es u i front old t past so_far) (end_takes es u i old t past wants) first
 
 -- the parts of a row are smaller than the row
 pub element_falls : (es : List Tree) (u : Tree) (i : ℕ) (e : Tree) → i < length es → e ≡ get_or es i e → nodes e < nodes (chain es u)

@@ -5,7 +5,7 @@ use Rattle.bx_terms.specs.declared.faults.Fault.{Fault}
 use Rattle.bx_text.specs.Tree.{Tree}
 use Rattle.bx_text.specs.Place.{Place}
 use Rattle.bx_listing.specs.Shape.{shape}
-use Rattle.bx_listing.specs.Forms.{Forms, ends, broken, form, next_form, forms, forms_on}
+use Rattle.bx_listing.specs.Forms.{Forms, form, next_form, forms, forms_on}
 use Rattle.bx_listing.specs.Listing.{Taken, taken, behind_head}
 use Rattle.bx_listing.specs.Locations.{Location, Located, own, moved, located, located_behind, located_exports, locations, passed}
 use Rattle.bx_listing.proofs.Forms.{forms_next}
@@ -25,19 +25,17 @@ located_end p l whole e so_far = sym (append-nil l.items) ∙ (ap (λ more. l.it
 
 -- behind the first form, and behind the exports
 pub behind_first : (last : ℕ) (all : Forms) (f : Taken) → taken last all ≡ Ok f → locations last all ≡ located_exports last f.rest
-behind_first last ends f e = absurd (cc)
-behind_first last (broken fault) f e = absurd (cc)
 behind_first last (form line t rest) f e = let same : f.rest ≡ rest = sym (ap (λ r. rest_in rest r) e) in ap (located_exports last) (sym same)
   where
     rest_in : Forms → Result Taken Fault → Forms
     rest_in other (Ok g) = g.rest
     rest_in other (Err fault) = other
+behind_first last _ f e = absurd (cc)
 
 pub behind_exports : (last : ℕ) (all : Forms) (f : Taken) → taken last all ≡ Ok f → located_exports last all ≡ located_behind (behind_head last f.rest)
-behind_exports last ends f e = absurd (cc)
-behind_exports last (broken fault) f e = absurd (cc)
 behind_exports last (form line t rest) f e = ap (λ r. located_behind (behind_head last r)) (ap (λ r. rest_in rest r) e)
   where
     rest_in : Forms → Result Taken Fault → Forms
     rest_in other (Ok g) = g.rest
     rest_in other (Err fault) = other
+behind_exports last _ f e = absurd (cc)

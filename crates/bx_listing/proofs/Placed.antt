@@ -13,9 +13,8 @@ suc_inj m n e = omega arith
 pub placed_more : (ls : List ℕ) (is : List Item) (l : ℕ) (i : Item) → length ls ≡ length is
     → placed (ls ++ l ∷ []) (is ++ i ∷ []) ≡ placed ls is ++ record { line = l; item = i } ∷ []
 placed_more [] [] l i e = refl
-placed_more [] (j ∷ is) l i e = absurd (omega arith)
-placed_more (k ∷ ls) [] l i e = absurd (omega arith)
 placed_more (k ∷ ls) (j ∷ is) l i e = ap (λ t. record { line = k; item = j } ∷ t) (placed_more ls is l i (suc_inj (length ls) (length is) e))
+placed_more _ _ l i e = absurd (omega arith)
 
 pub placed_length : (ls : List ℕ) (is : List Item) → length ls ≡ length is → length (placed ls is) ≡ length ls
 placed_length [] is e = refl
@@ -24,9 +23,8 @@ placed_length (k ∷ ls) (j ∷ is) e = ap suc (placed_length ls is (suc_inj (le
 
 pub placed_items : (ls : List ℕ) (is : List Item) → length ls ≡ length is → map (λ (p : PlacedItem). p.item) (placed ls is) ≡ is
 placed_items [] [] e = refl
-placed_items [] (j ∷ is) e = absurd (omega arith)
-placed_items (k ∷ ls) [] e = absurd (omega arith)
 placed_items (k ∷ ls) (j ∷ is) e = ap (λ t. j ∷ t) (placed_items ls is (suc_inj (length ls) (length is) e))
+placed_items _ _ e = absurd (omega arith)
 
 pub placed_lines : (ls : List ℕ) (is : List Item) → length ls ≡ length is → map (λ (p : PlacedItem). p.line) (placed ls is) ≡ ls
 placed_lines [] is e = refl
@@ -36,9 +34,6 @@ placed_lines (k ∷ ls) (j ∷ is) e = ap (λ t. k ∷ t) (placed_lines ls is (s
 -- the item and the line of each number
 pub placed_item_at : (ls : List ℕ) (is : List Item) (n : ℕ) → length ls ≡ length is → option_map (λ (p : PlacedItem). p.item) (slice_get (placed ls is) n) ≡ slice_get is n
 placed_item_at ls is n e = sym (slice_get-map (λ (p : PlacedItem). p.item) (placed ls is) n) ∙ ap (λ xs. slice_get xs n) (placed_items ls is e)
-
-pub placed_line_at : (ls : List ℕ) (is : List Item) (n : ℕ) → length ls ≡ length is → option_map (λ (p : PlacedItem). p.line) (slice_get (placed ls is) n) ≡ slice_get ls n
-placed_line_at ls is n e = sym (slice_get-map (λ (p : PlacedItem). p.line) (placed ls is) n) ∙ ap (λ xs. slice_get xs n) (placed_lines ls is e)
 
 -- code forms of functions, one more of them
 pub codes_more : (fs : List ListedFunction) (i : ℕ) (f : ListedFunction) → i < length fs → f ≡ get_or fs i f

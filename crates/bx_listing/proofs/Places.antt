@@ -1,14 +1,14 @@
 -- Places in files: what is kept of those that were there when one is added, and what is found.
-use Rattle.std.proofs.Common.{◌≡◌, ℕ, zero, suc, ◌+◌, ◌-◌, ◌<◌, true, List, [], ◌∷◌, ◌++◌, length, get_or, map, Option, Some, String, string_bytes, refl, sym, ap, subst, ◌∙◌, add-one, arith}
+use Rattle.std.proofs.Common.{◌≡◌, ℕ, zero, suc, ◌+◌, ◌<◌, true, List, [], ◌∷◌, ◌++◌, length, get_or, map, Option, Some, String, string_bytes, refl, ap, ◌∙◌, add-one, arith}
 use Rattle.std.specs.Prelude.{option_map, slice_get}
 use Rattle.std.specs.List.{All}
 use Rattle.std.specs.String.{string_eq}
-use Rattle.std.proofs.lemmas.List.{map-append, length-append, length-map}
+use Rattle.std.proofs.lemmas.List.{map-append, length-append}
 use Rattle.std.proofs.lemmas.List.Elements.{All-push}
 use Rattle.std.proofs.lemmas.Option.{slice_get-map, slice_get-get_or, slice_get_within, get_or_from_slice_get}
 use Rattle.std.proofs.lemmas.Slice.Eq.{bytes_eq-Decides}
 use Rattle.std.proofs.Math.ListN.{get_or-append}
-use Rattle.bx_listing.specs.Reading.{Begins, Begins-refl}
+use Rattle.bx_listing.specs.Reading.{Begins}
 use Rattle.bx_listing.specs.declared.locations.Mark.{Mark}
 use Rattle.bx_listing.specs.Locations.{Location, Located}
 use Rattle.bx_listing.specs.Marks.{marked, AreMarks, place, IsPlace}

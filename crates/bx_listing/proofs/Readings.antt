@@ -1,8 +1,8 @@
 -- How the answers of calls in a row stand to readings in a row.
-use Rattle.std.proofs.Common.{◌≡◌, Bool, true, false, ◌||◌, Result, Ok, Err, refl, sym, ap, subst, ◌∙◌}
+use Rattle.std.proofs.Common.{◌≡◌, ℕ, Bool, true, false, ◌||◌, Result, Ok, Err, refl, sym, ap, subst, ◌∙◌}
 use Rattle.bx_terms.specs.declared.faults.Fault.{Fault}
 use Rattle.bx_terms.specs.declared.faults.Fault.TheVariants.{Memory}
-use Rattle.bx_listing.specs.Reading.{Table, Outcome, read, refused, table_of, Begins, Begins-refl, Begins-trans, Reading, and_then, takes_then, ◌>>=◌, give, from_result, is_stored, stored_if, after_storing, Refuses, Reads, Takes, Refused, Answers}
+use Rattle.bx_listing.specs.Reading.{Table, Outcome, read, refused, table_of, Begins, Begins-refl, Begins-trans, Reading, and_then, takes_then, ◌>>=◌, give, from_result, is_stored, stored_if, after_storing, Refuses, Reads, Takes, Refused, Answers, lined, lined-grows, on_line, placed_answer}
 use Rattle.bx_terms.specs.Outcomes.{Gives}
 
 -- what follows only adds names
@@ -38,9 +38,8 @@ refuses_result takes kept texts _ said keep h = ap (λ r. (from_result r).run te
 
 -- an answer to one reading is an answer to another that gives the same
 pub reads_same : {X A : Type 0} (takes : Type 0) (view : X → A) (old new : Table) (answer : Result X Fault) (one other : Reading A) → one.run old ≡ other.run old → Reads takes view old new answer one → Reads takes view old new answer other
-reads_same takes view old new (Ok x) one other e h = sym e ∙ h
 reads_same takes view old new (Err Memory) one other e h = (h.0, h.1, subst (λ o. Begins new (table_of o)) e h.2)
-reads_same takes view old new (Err _) one other e h = sym e ∙ h
+reads_same takes view old new _ one other e h = sym e ∙ h
 
 -- what is left gives what all gave, so a refusal of it is the whole's
 pub refuses_left : {A : Type 0} (old t new : Table) (fault : Fault) (left whole : Reading A) → Begins old t → left.run t ≡ whole.run old → Refuses (Unit {0}) t new fault left → Refuses (Unit {0}) old new fault whole
@@ -54,10 +53,6 @@ grown_after first y old t mid grown h = Begins-trans old t mid grown (subst (λ 
 pub refuses_anyway : {A : Type 0} (old new : Table) (fault : Fault) (reading : Reading A) → Refused old new fault reading → Refuses (Unit {0}) old new fault reading
 refuses_anyway old new Memory reading h = (tt, h.1, h.2)
 refuses_anyway old new _ reading h = h
-
-pub reads_anyway : {X A : Type 0} (view : X → A) (old new : Table) (answer : Result X Fault) (reading : Reading A) → Answers view old new answer reading → Reads (Unit {0}) view old new answer reading
-reads_anyway view old new (Ok x) reading h = h
-reads_anyway view old new (Err fault) reading h = refuses_anyway old new fault reading h
 
 -- where the first part takes memory, the whole does
 pub takes_first : {A B : Type 0} (old : Table) (first : Reading A) (next : A → Reading B) → Takes first old → Takes (first >>= next) old
@@ -109,9 +104,8 @@ wanting_before texts reading = (refl, Begins-refl texts, reading.grows texts)
 
 -- an answer to one reading is an answer to another that gives the same and takes memory where that does
 pub answers_same : {X A : Type 0} (view : X → A) (old new : Table) (answer : Result X Fault) (one other : Reading A) → one.run old ≡ other.run old → (Takes one old → Takes other old) → Answers view old new answer one → Answers view old new answer other
-answers_same view old new (Ok x) one other e k h = sym e ∙ h
 answers_same view old new (Err Memory) one other e k h = (k h.0, h.1, subst (λ o. Begins new (table_of o)) e h.2)
-answers_same view old new (Err _) one other e k h = sym e ∙ h
+answers_same view old new _ one other e k h = sym e ∙ h
 
 -- what is left gives what all gave, so a refusal of it is the whole's
 pub refused_left : {A : Type 0} (old t new : Table) (fault : Fault) (left whole : Reading A) → Begins old t → left.run t ≡ whole.run old → (Takes left t → Takes whole old) → Refused t new fault left → Refused old new fault whole
@@ -135,3 +129,8 @@ reads_given takes view make old new (Err fault) reading h = refuses_first takes 
 pub and_then_assoc : {A B C : Type 0} (first : Outcome A) (next : A → Reading B) (last : B → Reading C) → and_then first (λ x. next x >>= last) ≡ and_then (and_then first next) last
 and_then_assoc (read texts x) next last = refl
 and_then_assoc (refused texts fault) next last = refl
+
+-- the answer to a form, with its line
+pub answers_placed : {X A : Type 0} (view : X → A) (old new : Table) (line : ℕ) (answer : Result X Fault) (reading : Reading A) → Answers view old new answer reading → Answers view old new (placed_answer line answer) (on_line line reading)
+answers_placed view old new line (Err Memory) reading h = (h.0, h.1, lined-grows line new (reading.run old) h.2)
+answers_placed view old new line _ reading h = ap (lined line) h

@@ -1,5 +1,5 @@
 -- Terms as texts have them: rows stand within tuples and lists alone, and those of tuples have no tail.
-use Rattle.std.proofs.Common.{◌≡◌, ℕ, ℤ, zero, suc, ◌+◌, Bool, true, false, List, [], ◌∷◌, ◌++◌, length, Option, Some, None, Result, Ok, Err, map, refl, subst, pos, if◌then◌else◌}
+use Rattle.std.proofs.Common.{◌≡◌, ℕ, ℤ, zero, suc, ◌+◌, Bool, true, false, List, [], ◌∷◌, ◌++◌, length, Option, Some, None, Result, Ok, map, refl, subst, pos, if◌then◌else◌}
 use Rattle.std.specs.Prelude.{nat_lt, chars}
 use Rattle.bx_terms.specs.declared.faults.Fault.{Fault}
 use Rattle.bx_terms.specs.Outcomes.{◌>>=◌}
@@ -11,10 +11,10 @@ use Rattle.bx_text.specs.Place.{Place}
 use Rattle.bx_text.specs.Token.{spelled, Lexeme}
 use Rattle.bx_text.specs.Terms.{span, letters, tail_of}
 use Rattle.bx_text.specs.Forms.{form_at}
-use Rattle.bx_text.specs.Grammar.{Strings, no_string, a_string, Spells, an_integer, an_atom, strings, empty_tuple, a_tuple, empty_list, a_list, a_list_with_tail, a_float, an_empty_map, a_map, an_empty_binary, a_binary, a_fun, Row, one, more, Form, a_form}
+use Rattle.bx_text.specs.Grammar.{Strings, no_string, a_string, Spells, an_integer, an_atom, strings, empty_tuple, a_tuple, empty_list, a_list, a_list_with_tail, Row, one, more, Form, a_form}
 use Rattle.bx_text.proofs.Grammatical.{forms_are}
 use Rattle.bx_listing.specs.Shape.{shape, tagged, elements}
-use Rattle.bx_listing.specs.Forms.{Forms, ends, broken, form, moved, next_form, forms_on, some_forms, forms}
+use Rattle.bx_listing.specs.Forms.{Forms, form, moved, next_form, forms_on, some_forms, forms}
 
 mutual
   pub data Written : Tree → Type 0 where
@@ -38,9 +38,8 @@ AllWritten [] = Unit {0}
 AllWritten (t ∷ ts) = Written t × AllWritten ts
 
 abbrev pub FormsWritten : Forms → Type 0
-FormsWritten ends = Unit {0}
-FormsWritten (broken fault) = Unit {0}
 FormsWritten (form line t rest) = Written t × FormsWritten rest
+FormsWritten _ = Unit {0}
 
 in_chain : (ts : List Tree) → AllWritten ts → Elements (chain ts nil)
 in_chain [] h = no_elements
@@ -80,12 +79,7 @@ mutual
   spelled_written (empty_list e n c) = a_list_term no_rest
   spelled_written (a_list {ts = ts} e n row c) = a_list_term (before_rest ts nil (row_written row) no_rest)
   spelled_written (a_list_with_tail {ts = ts} {t = t} e n row b m spells x c) = a_list_term (before_rest ts (tail_of t) (row_written row) (tail_rest (spelled_written spells)))
-  spelled_written (a_float e k) = an_other_term
-  spelled_written (an_empty_map e n c k) = an_other_term
-  spelled_written (a_map e n r c k) = an_other_term
-  spelled_written (an_empty_binary e n c k) = an_other_term
-  spelled_written (a_binary e n r c k) = an_other_term
-  spelled_written (a_fun e a b c h i j k m o p q) = an_other_term
+  spelled_written _ = an_other_term
 
   row_written : {d : ℕ} {l m : Lexeme} {ts : List Tree} → Row d l ts m → AllWritten ts
   row_written (one spells n) = (spelled_written spells, tt)
@@ -99,9 +93,8 @@ if_moved k x true w rest = (w, rest x.1)
 if_moved k x false w rest = tt
 
 next_written : (k : ℕ) (p : Place) (r : Result (Option (Tree × Place)) Fault) → form_at p ≡ r → ((q : Place) → FormsWritten (some_forms k q)) → FormsWritten (forms_on (r >>= λ o. Ok (moved p o)) (some_forms k))
-next_written k p (Err fault) e rest = tt
-next_written k p (Ok None) e rest = tt
 next_written k p (Ok (Some x)) e rest = if_moved k x (nat_lt (length x.1.rest) (length p.rest)) (form_written ((forms_are p x.0 x.1).0 e)) rest
+next_written k p _ e rest = tt
 
 some_written : (k : ℕ) (p : Place) → FormsWritten (some_forms k p)
 unfolding next_form
@@ -117,13 +110,7 @@ all_elements no_elements = tt
 all_elements (an_element_first w rest) = (w, all_elements rest)
 
 pub parts_written : {t : Tree} → Written t → (text : List ℕ) (parts : List Tree) → shape t ≡ tagged text parts → AllWritten parts
-parts_written an_integer_term text parts e = absurd (cc)
-parts_written an_atom_term text parts e = absurd (cc)
-parts_written (a_list_term r) text parts e = absurd (cc)
-parts_written an_other_term text parts e = absurd (cc)
-parts_written (a_tuple_term no_elements) text parts e = absurd (cc)
 parts_written (a_tuple_term (an_element_first {rest = rest} an_atom_term others)) text parts e = let same : elements rest ≡ parts = cc in subst AllWritten same (all_elements others)
-parts_written (a_tuple_term (an_element_first an_integer_term others)) text parts e = absurd (cc)
-parts_written (a_tuple_term (an_element_first (a_tuple_term x) others)) text parts e = absurd (cc)
-parts_written (a_tuple_term (an_element_first (a_list_term x) others)) text parts e = absurd (cc)
-parts_written (a_tuple_term (an_element_first an_other_term others)) text parts e = absurd (cc)
+parts_written (a_tuple_term (an_element_first _ others)) text parts e = absurd (cc)
+parts_written (a_tuple_term no_elements) text parts e = absurd (cc)
+parts_written _ text parts e = absurd (cc)

@@ -1,21 +1,22 @@
 -- The forms of a listing that hold no item. One that is misshapen is refused before any atom in it is numbered.
 use Rattle.std.specs.Prelude.{ℕ, List, [], ◌∷◌, Bool, ◌&&◌, false, true, Option, Some, None, option_map, is_some, if◌then◌else◌}
 use Rattle.bx_terms.specs.declared.faults.Fault.TheVariants as faults
+use Rattle.bx_terms.specs.declared.atom_table.AtomId.{AtomId}
 use Rattle.bx_text.specs.Tree.{Tree}
 use Rattle.bx_listing.specs.declared.code_form.Export.{Export}
 use Rattle.bx_listing.specs.declared.words.FormWord.{FormWord}
 use Rattle.bx_listing.specs.declared.words.FormWord.TheVariants as words
-use Rattle.bx_listing.specs.Reading.{Reading, ◌>>=◌, each, give, refuse, wanted, named}
+use Rattle.bx_listing.specs.Reading.{Reading, ◌>>=◌, each, give, refuse, wanted, named, no_line}
 use Rattle.bx_listing.specs.Shape.{Shape, tagged, shape, number, word, list_elements}
 use Rattle.bx_listing.specs.Words.{form_word}
 use Rattle.bx_listing.specs.ListedCode.{ListedFunction}
 
-abbrev pub bad_form : {A : Type 0} → ℕ → Reading A
-bad_form line = refuse (faults.BadForm line)
+abbrev pub bad_form : {A : Type 0} → Reading A
+bad_form = refuse (faults.BadForm no_line)
 
 -- what must have this shape
-abbrev pub head : {A : Type 0} → ℕ → Option A → Reading A
-head line = wanted (faults.BadForm line)
+abbrev pub head : {A : Type 0} → Option A → Reading A
+head = wanted (faults.BadForm no_line)
 
 -- M of `{module,M}`
 abbrev pub module_of : FormWord → List Tree → Option (List ℕ)
@@ -25,6 +26,10 @@ module_of _ _ = None
 abbrev pub module_name : Shape → Option (List ℕ)
 module_name (tagged text parts) = module_of (form_word text) parts
 module_name _ = None
+
+-- the atom that M is
+abbrev pub module_form : Shape → Reading AtomId
+module_form s = head (module_name s) >>= named
 
 -- `{F,A}`
 abbrev pub offer_of : List ℕ → List Tree → Option (List ℕ × ℕ)
@@ -42,27 +47,27 @@ abbrev pub are_offers : List Tree → Bool
 are_offers [] = true
 are_offers (t ∷ ts) = is_some (offer t) && are_offers ts
 
-abbrev pub named_offer_of : ℕ → Option (List ℕ × ℕ) → Reading Export
-named_offer_of line (Some o) = named line o.0 >>= λ function. give (record { function = function; arity = o.1 })
-named_offer_of line None = bad_form line
+abbrev pub named_offer_of : Option (List ℕ × ℕ) → Reading Export
+named_offer_of (Some o) = named o.0 >>= λ function. give (record { function = function; arity = o.1 })
+named_offer_of None = bad_form
 
-abbrev pub named_offer : ℕ → Tree → Reading Export
-named_offer line t = named_offer_of line (offer t)
+abbrev pub named_offer : Tree → Reading Export
+named_offer t = named_offer_of (offer t)
 
-abbrev pub named_offers : ℕ → List Tree → Reading (List Export)
-named_offers line ts = each (named_offer line) ts
+abbrev pub named_offers : List Tree → Reading (List Export)
+named_offers ts = each named_offer ts
 
-abbrev pub offers : ℕ → List Tree → Reading (List Export)
-offers line ts = if are_offers ts then named_offers line ts else bad_form line
+abbrev pub offers : List Tree → Reading (List Export)
+offers ts = if are_offers ts then named_offers ts else bad_form
 
 -- `{exports,[{F,A},..]}`
-abbrev pub exports_of : ℕ → FormWord → List Tree → Reading (List Export)
-exports_of line words.Exports (es ∷ []) = head line (list_elements es) >>= offers line
-exports_of line _ _ = bad_form line
+abbrev pub exports_of : FormWord → List Tree → Reading (List Export)
+exports_of words.Exports (es ∷ []) = head (list_elements es) >>= offers
+exports_of _ _ = bad_form
 
-abbrev pub exports_form : ℕ → Shape → Reading (List Export)
-exports_form line (tagged text parts) = exports_of line (form_word text) parts
-exports_form line _ = bad_form line
+abbrev pub exports_form : Shape → Reading (List Export)
+exports_form (tagged text parts) = exports_of (form_word text) parts
+exports_form _ = bad_form
 
 -- `{attributes,T}`
 abbrev pub is_attributes_of : FormWord → List Tree → Bool
@@ -83,10 +88,10 @@ is_labels (tagged text parts) = is_labels_of (form_word text) parts
 is_labels _ = false
 
 -- `{function,F,A,Entry}`, what stands behind the word
-abbrev pub begun : ℕ → Option (List ℕ) → Option ℕ → Option ℕ → Reading ListedFunction
-begun line (Some name) (Some arity) (Some entry) = named line name >>= λ name. give (record { name = name; arity = arity; entry = entry; items = [] })
-begun line _ _ _ = bad_form line
+abbrev pub begun : Option (List ℕ) → Option ℕ → Option ℕ → Reading ListedFunction
+begun (Some name) (Some arity) (Some entry) = named name >>= λ name. give (record { name = name; arity = arity; entry = entry; items = [] })
+begun _ _ _ = bad_form
 
-abbrev pub function_form : ℕ → List Tree → Reading ListedFunction
-function_form line (name ∷ arity ∷ entry ∷ []) = begun line (word name) (number arity) (number entry)
-function_form line _ = bad_form line
+abbrev pub function_form : List Tree → Reading ListedFunction
+function_form (name ∷ arity ∷ entry ∷ []) = begun (word name) (number arity) (number entry)
+function_form _ = bad_form

@@ -1,5 +1,5 @@
 -- The item that a form is; `None` for an annotation `{'%',T}`, which is ignored.
-use Rattle.std.specs.Prelude.{ℕ, [], Option, option_map}
+use Rattle.std.specs.Prelude.{[], Option, option_map}
 use Rattle.bx_listing.specs.Items.{Item}
 use Rattle.bx_listing.specs.Reading.{Reading, ◌>>=◌, give}
 use Rattle.bx_listing.specs.Shape.{Shape}
@@ -8,5 +8,5 @@ use Rattle.bx_listing.specs.Rows.{Read, item_row}
 abbrev pub read_as : Read → Option Item
 read_as r = option_map (λ op. record { op = op; operands = r.1 }) r.0
 
-abbrev pub item : ℕ → Shape → Reading (Option Item)
-item line t = item_row line [] t >>= λ r. give (read_as r)
+abbrev pub item : Shape → Reading (Option Item)
+item t = item_row [] t >>= λ r. give (read_as r)

@@ -10,10 +10,10 @@ use Rattle.bx_listing.specs.declared.code_form.Export.{Export}
 use Rattle.bx_listing.specs.Items.{Item}
 use Rattle.bx_listing.specs.declared.words.FormWord.{FormWord}
 use Rattle.bx_listing.specs.declared.words.FormWord.TheVariants as words
-use Rattle.bx_listing.specs.Reading.{Reading, ◌>>=◌, from_result, give, refuse, named, stored, stored_if}
+use Rattle.bx_listing.specs.Reading.{Reading, ◌>>=◌, from_result, give, refuse, stored, stored_if, on_line}
 use Rattle.bx_listing.specs.Shape.{Shape, bare, tagged, other, shape}
 use Rattle.bx_listing.specs.Words.{form_word}
-use Rattle.bx_listing.specs.HeadForms.{bad_form, head, module_name, exports_form, is_attributes, is_labels, function_form}
+use Rattle.bx_listing.specs.HeadForms.{bad_form, module_name, module_form, exports_form, is_attributes, is_labels, function_form}
 use Rattle.bx_listing.specs.ItemForms.{item}
 use Rattle.bx_listing.specs.Forms.{Forms, ends, broken, form, forms}
 use Rattle.bx_listing.specs.ListedCode.{ListedFunction, ListedModule}
@@ -44,26 +44,29 @@ abbrev pub with_optional : ℕ → Option Item → List ListedFunction → List 
 with_optional line (Some item) done = with_item line item done
 with_optional line None done = done
 
-abbrev pub begun_function : ℕ → List ListedFunction → List Tree → Reading (List ListedFunction)
-begun_function line done parts = stored (function_form line parts) >>= λ f. give (done ++ f ∷ [])
+abbrev pub begun_function : List ListedFunction → List Tree → Reading (List ListedFunction)
+begun_function done parts = stored (function_form parts) >>= λ f. give (done ++ f ∷ [])
 
 abbrev pub with_form_item : ℕ → List ListedFunction → Shape → Reading (List ListedFunction)
-with_form_item line done t = stored_if is_some (item line t) >>= λ i. give (with_optional line i done)
+with_form_item line done t = stored_if is_some (item t) >>= λ i. give (with_optional line i done)
 
 -- there are no items before the first function
 abbrev pub with_form : ℕ → List ListedFunction → Shape → Reading (List ListedFunction)
-with_form line [] t = bad_form line
+with_form line [] t = bad_form
 with_form line done t = with_form_item line done t
 
 abbrev pub part_of : ℕ → List ListedFunction → List ℕ → List Tree → FormWord → Reading (List ListedFunction)
-part_of line done text parts words.Function = begun_function line done parts
+part_of line done text parts words.Function = begun_function done parts
 part_of line done text parts _ = with_form line done (tagged text parts)
+
+abbrev pub form_part : ℕ → List ListedFunction → Shape → Reading (List ListedFunction)
+form_part line done (tagged text parts) = part_of line done text parts (form_word text)
+form_part line done (bare text) = with_form line done (bare text)
+form_part line done other = with_form line done other
 
 -- what a form adds to the functions before it
 abbrev pub part : ℕ → List ListedFunction → Shape → Reading (List ListedFunction)
-part line done (tagged text parts) = part_of line done text parts (form_word text)
-part line done (bare text) = with_form line done (bare text)
-part line done other = with_form line done other
+part line done t = on_line line (form_part line done t)
 
 -- what the forms add to them
 abbrev pub functions : List ListedFunction → Forms → Reading (List ListedFunction)
@@ -97,16 +100,13 @@ abbrev pub behind_exports : ℕ → AtomId → Forms → List Export → Reading
 behind_exports last name rest exports = from_result (behind_head last rest) >>= listed name exports
 
 abbrev pub exported : ℕ → AtomId → Taken → Reading ListedModule
-exported last name f = exports_form f.line (shape f.tree) >>= behind_exports last name f.rest
+exported last name f = on_line f.line (exports_form (shape f.tree)) >>= behind_exports last name f.rest
 
 abbrev pub behind_name : ℕ → Forms → AtomId → Reading ListedModule
 behind_name last rest name = from_result (taken last rest) >>= exported last name
 
-abbrev pub named_listing : ℕ → ℕ → Forms → List ℕ → Reading ListedModule
-named_listing last line rest text = named line text >>= behind_name last rest
-
 abbrev pub listing_from : ℕ → Taken → Reading ListedModule
-listing_from last f = head f.line (module_name (shape f.tree)) >>= named_listing last f.line f.rest
+listing_from last f = on_line f.line (module_form (shape f.tree)) >>= behind_name last f.rest
 
 -- the listing that these forms are, in a text that ends in that line
 abbrev pub listing : ℕ → Forms → Reading ListedModule

@@ -8,11 +8,11 @@ use Rattle.bx_text.specs.declared.node.Sort.TheVariants as sorts
 use Rattle.bx_text.specs.Number.{is_large}
 use Rattle.bx_text.specs.Tree as texts
 use Rattle.bx_text.specs.Tree.{Tree, integer, atom, tuple, list, nil, cons}
-use Rattle.bx_listing.specs.Reading.{Reading, ◌>>=◌, give, refuse, named, stored}
+use Rattle.bx_listing.specs.Reading.{Reading, ◌>>=◌, give, refuse, named, stored, no_line}
 
 -- an integer of 64 bits
-abbrev pub small : ℕ → ℤ → Reading ℤ
-small line n = if is_large n then refuse (faults.LiteralRange line) else give n
+abbrev pub small : ℤ → Reading ℤ
+small n = if is_large n then refuse (faults.LiteralRange no_line) else give n
 
 -- a term that is no higher than terms may be
 abbrev pub kept : term.Tree → Option term.Tree
@@ -65,20 +65,20 @@ sort_name sorts.Map = codes "map"
 sort_name sorts.Binary = codes "binary"
 sort_name sorts.Fun = codes "fun"
 
-abbrev pub parts : ℕ → Tree → Parts
-parts line (integer s n) = no_row (small line n >>= λ n. give (Some (term.int n)))
-parts line (atom s text) = no_row (named line text >>= λ a. give (Some (term.atom a.0)))
-parts line (tuple s row) = no_row (stored (parts line row).row >>= λ r. give (kept_tuple r.elements))
-parts line (list s row) = no_row (stored (parts line row).row >>= λ r. give (kept_list r.elements r.tail))
-parts line (texts.other s k text) = no_row (refuse (faults.Unsupported line (sort_name k)))
-parts line nil = no_row (give (Some term.nil))
-parts line (cons t rest) = record {
+abbrev pub parts : Tree → Parts
+parts (integer s n) = no_row (small n >>= λ n. give (Some (term.int n)))
+parts (atom s text) = no_row (named text >>= λ a. give (Some (term.atom a.0)))
+parts (tuple s row) = no_row (stored (parts row).row >>= λ r. give (kept_tuple r.elements))
+parts (list s row) = no_row (stored (parts row).row >>= λ r. give (kept_list r.elements r.tail))
+parts (texts.other s k text) = no_row (refuse (faults.Unsupported no_line (sort_name k)))
+parts nil = no_row (give (Some term.nil))
+parts (cons t rest) = record {
   alone = give None;
-  row = stored (parts line t).alone >>= λ x. (parts line rest).row >>= λ r. give (longer x r);
+  row = stored (parts t).alone >>= λ x. (parts rest).row >>= λ r. give (longer x r);
 }
 
-abbrev pub literal : ℕ → Tree → Reading (Option term.Tree)
-literal line t = (parts line t).alone
+abbrev pub literal : Tree → Reading (Option term.Tree)
+literal t = (parts t).alone
 
 -- what stands in a text, and not a row
 abbrev pub IsNode : Tree → Type 0

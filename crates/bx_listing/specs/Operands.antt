@@ -1,5 +1,4 @@
--- The operands of instructions, by their sorts. Each is read from left to right; the first fault is that of the form, which
--- begins on the line given.
+-- The operands of instructions, by their sorts. Each is read from left to right, up to the first fault.
 use Rattle.std.specs.Prelude.{ℕ, List, [], ◌∷◌, Option, Some, None, option_map, codes, nat_eq, if◌then◌else◌}
 use Rattle.bx_terms.specs.declared.faults.Fault.TheVariants as faults
 use Rattle.bx_terms.specs.Tree as term
@@ -12,17 +11,17 @@ use Rattle.bx_listing.specs.declared.items.Operand.{Operand}
 use Rattle.bx_listing.specs.declared.items.Operand.TheVariants as operands
 use Rattle.bx_listing.specs.declared.words.OperandWord.{OperandWord}
 use Rattle.bx_listing.specs.declared.words.OperandWord.TheVariants as words
-use Rattle.bx_listing.specs.Reading.{Reading, ◌>>=◌, give, refuse, wanted, named}
+use Rattle.bx_listing.specs.Reading.{Reading, ◌>>=◌, give, refuse, wanted, named, no_line}
 use Rattle.bx_listing.specs.Shape.{Shape, bare, tagged, other, shape, elements, number, word}
 use Rattle.bx_listing.specs.Words.{operand_word}
 use Rattle.bx_listing.specs.Literals.{small, literal}
 
-abbrev pub bad_operand : {A : Type 0} → ℕ → Reading A
-bad_operand line = refuse (faults.BadOperand line)
+abbrev pub bad_operand : {A : Type 0} → Reading A
+bad_operand = refuse (faults.BadOperand no_line)
 
 -- what must have this shape
-abbrev pub operand : {A : Type 0} → ℕ → Option A → Reading A
-operand line = wanted (faults.BadOperand line)
+abbrev pub operand : {A : Type 0} → Option A → Reading A
+operand = wanted (faults.BadOperand no_line)
 
 -- R of `{tr,R,T}`, however often it is wrapped so
 abbrev pub untyped_of : Tree → OperandWord → Tree → List Tree → Tree
@@ -64,104 +63,104 @@ abbrev pub label : Tree → Option ℕ
 label t = label_in (shape t)
 
 -- an atom alone, as it stands in `{extfunc,M,F,A}`
-abbrev pub atom_word : ℕ → Tree → Reading AtomId
-atom_word line t = operand line (word t) >>= named line
+abbrev pub atom_word : Tree → Reading AtomId
+atom_word t = operand (word t) >>= named
 
 -- `{atom,A}`
-abbrev pub atom_of : ℕ → OperandWord → List Tree → Reading Operand
-atom_of line words.Atom (t ∷ []) = atom_word line t >>= λ a. give (operands.Atom a)
-atom_of line _ _ = bad_operand line
+abbrev pub atom_of : OperandWord → List Tree → Reading Operand
+atom_of words.Atom (t ∷ []) = atom_word t >>= λ a. give (operands.Atom a)
+atom_of _ _ = bad_operand
 
-abbrev pub atom_in : ℕ → Shape → Reading Operand
-atom_in line (tagged text parts) = atom_of line (operand_word text) parts
-atom_in line _ = bad_operand line
+abbrev pub atom_in : Shape → Reading Operand
+atom_in (tagged text parts) = atom_of (operand_word text) parts
+atom_in _ = bad_operand
 
-abbrev pub atom_operand : ℕ → Tree → Reading Operand
-atom_operand line t = atom_in line (shape t)
+abbrev pub atom_operand : Tree → Reading Operand
+atom_operand t = atom_in (shape t)
 
 -- `{integer,I}`, an integer of 64 bits
-abbrev pub integer_source : ℕ → Tree → Reading Operand
-integer_source line (integer s n) = small line n >>= λ n. give (operands.Integer n)
-integer_source line t = bad_operand line
+abbrev pub integer_source : Tree → Reading Operand
+integer_source (integer s n) = small n >>= λ n. give (operands.Integer n)
+integer_source t = bad_operand
 
 -- `{atom,A}`
-abbrev pub atom_source : ℕ → Tree → Reading Operand
-atom_source line t = atom_word line t >>= λ a. give (operands.Atom a)
+abbrev pub atom_source : Tree → Reading Operand
+atom_source t = atom_word t >>= λ a. give (operands.Atom a)
 
 -- `{literal,T}`, as high as terms may be, which is looked at when all of it was read
-abbrev pub within_height : ℕ → Option term.Tree → Reading Operand
-within_height line (Some t) = give (operands.Literal t)
-within_height line None = refuse (faults.LiteralRange line)
+abbrev pub within_height : Option term.Tree → Reading Operand
+within_height (Some t) = give (operands.Literal t)
+within_height None = refuse (faults.LiteralRange no_line)
 
-abbrev pub literal_source : ℕ → Tree → Reading Operand
-literal_source line t = literal line t >>= within_height line
+abbrev pub literal_source : Tree → Reading Operand
+literal_source t = literal t >>= within_height
 
 -- what is neither a register nor one of the values that may stand in an instruction is no source
-abbrev pub source_of : ℕ → Tree → OperandWord → List Tree → Reading Operand
-source_of line t words.Integer (n ∷ []) = integer_source line n
-source_of line t words.Atom (a ∷ []) = atom_source line a
-source_of line t words.Literal (u ∷ []) = literal_source line u
-source_of line t words.Float (f ∷ []) = refuse (faults.Unsupported line (codes "float"))
-source_of line t _ _ = operand line (register t)
+abbrev pub source_of : Tree → OperandWord → List Tree → Reading Operand
+source_of t words.Integer (n ∷ []) = integer_source n
+source_of t words.Atom (a ∷ []) = atom_source a
+source_of t words.Literal (u ∷ []) = literal_source u
+source_of t words.Float (f ∷ []) = refuse (faults.Unsupported no_line (codes "float"))
+source_of t _ _ = operand (register t)
 
-abbrev pub word_source : ℕ → OperandWord → Reading Operand
-word_source line words.Nil = give operands.Nil
-word_source line _ = bad_operand line
+abbrev pub word_source : OperandWord → Reading Operand
+word_source words.Nil = give operands.Nil
+word_source _ = bad_operand
 
-abbrev pub source_in : ℕ → Tree → Shape → Reading Operand
-source_in line t (bare text) = word_source line (operand_word text)
-source_in line t (tagged text parts) = source_of line t (operand_word text) parts
-source_in line t other = bad_operand line
+abbrev pub source_in : Tree → Shape → Reading Operand
+source_in t (bare text) = word_source (operand_word text)
+source_in t (tagged text parts) = source_of t (operand_word text) parts
+source_in t other = bad_operand
 
 -- a register, or a value that stands in the instruction
-abbrev pub source : ℕ → Tree → Reading Operand
-source line t = source_in line t (shape t)
+abbrev pub source : Tree → Reading Operand
+source t = source_in t (shape t)
 
 -- an atom or an integer
-abbrev pub value_of : ℕ → OperandWord → List Tree → Reading Operand
-value_of line words.Integer (n ∷ []) = integer_source line n
-value_of line words.Atom (a ∷ []) = atom_source line a
-value_of line words.Float (f ∷ []) = refuse (faults.Unsupported line (codes "float"))
-value_of line _ _ = bad_operand line
+abbrev pub value_of : OperandWord → List Tree → Reading Operand
+value_of words.Integer (n ∷ []) = integer_source n
+value_of words.Atom (a ∷ []) = atom_source a
+value_of words.Float (f ∷ []) = refuse (faults.Unsupported no_line (codes "float"))
+value_of _ _ = bad_operand
 
-abbrev pub value_in : ℕ → Shape → Reading Operand
-value_in line (tagged text parts) = value_of line (operand_word text) parts
-value_in line _ = bad_operand line
+abbrev pub value_in : Shape → Reading Operand
+value_in (tagged text parts) = value_of (operand_word text) parts
+value_in _ = bad_operand
 
-abbrev pub value : ℕ → Tree → Reading Operand
-value line t = value_in line (shape t)
+abbrev pub value : Tree → Reading Operand
+value t = value_in (shape t)
 
 -- what stands behind `extfunc`
-abbrev pub external : ℕ → Tree → Tree → Tree → Reading Operand
-external line m f a = do
-  owner ← atom_word line m
-  function ← atom_word line f
-  count ← operand line (number a)
+abbrev pub external : Tree → Tree → Tree → Reading Operand
+external m f a = do
+  owner ← atom_word m
+  function ← atom_word f
+  count ← operand (number a)
   give (operands.Import (record { «module» = owner; function = function; arity = count }))
 
-abbrev pub callee_of : ℕ → OperandWord → List Tree → Reading Operand
-callee_of line words.External (m ∷ f ∷ a ∷ []) = external line m f a
-callee_of line _ _ = bad_operand line
+abbrev pub callee_of : OperandWord → List Tree → Reading Operand
+callee_of words.External (m ∷ f ∷ a ∷ []) = external m f a
+callee_of _ _ = bad_operand
 
-abbrev pub callee_in : ℕ → Shape → Reading Operand
-callee_in line (tagged text parts) = callee_of line (operand_word text) parts
-callee_in line _ = bad_operand line
+abbrev pub callee_in : Shape → Reading Operand
+callee_in (tagged text parts) = callee_of (operand_word text) parts
+callee_in _ = bad_operand
 
 -- `{extfunc,M,F,A}`
-abbrev pub callee : ℕ → Tree → Reading Operand
-callee line t = callee_in line (shape t)
+abbrev pub callee : Tree → Reading Operand
+callee t = callee_in (shape t)
 
 -- `{KIND,N}`
-abbrev pub amount_of : ℕ → List ℕ → List Tree → Reading Operand
-amount_of line text (n ∷ []) = named line text >>= λ kind. operand line (number n) >>= λ count. give (operands.Amount (record { kind = kind; count = count }))
-amount_of line text _ = bad_operand line
+abbrev pub amount_of : List ℕ → List Tree → Reading Operand
+amount_of text (n ∷ []) = named text >>= λ kind. operand (number n) >>= λ count. give (operands.Amount (record { kind = kind; count = count }))
+amount_of text _ = bad_operand
 
-abbrev pub amount_in : ℕ → Shape → Reading Operand
-amount_in line (tagged text parts) = amount_of line text parts
-amount_in line _ = bad_operand line
+abbrev pub amount_in : Shape → Reading Operand
+amount_in (tagged text parts) = amount_of text parts
+amount_in _ = bad_operand
 
-abbrev pub amount : ℕ → Tree → Reading Operand
-amount line t = amount_in line (shape t)
+abbrev pub amount : Tree → Reading Operand
+amount t = amount_in (shape t)
 
 abbrev pub fail_label : ℕ → Operand
 fail_label n = if nat_eq n 0 then operands.NoLabel else operands.Label n
@@ -187,10 +186,10 @@ plain sorts.Mark t = Some operands.Nil
 plain _ t = None
 
 -- one operand
-abbrev pub simple : ℕ → Sort → Tree → Reading Operand
-simple line sorts.Source t = source line t
-simple line sorts.Value t = value line t
-simple line sorts.Atom t = atom_operand line t
-simple line sorts.Callee t = callee line t
-simple line sorts.Amount t = amount line t
-simple line sort t = operand line (plain sort t)
+abbrev pub simple : Sort → Tree → Reading Operand
+simple sorts.Source t = source t
+simple sorts.Value t = value t
+simple sorts.Atom t = atom_operand t
+simple sorts.Callee t = callee t
+simple sorts.Amount t = amount t
+simple sort t = operand (plain sort t)

@@ -2,58 +2,76 @@
 
 ghost use Rattle.std.specs.Prelude.{◌≡◌, IfOk};
 ghost use Rattle.bx_terms.specs.declared.faults.Fault.TheVariants.{Unsupported};
-ghost use Rattle.bx_text.specs.Tree.{span_of};
-ghost use Rattle.bx_listing.specs.Reading.{Answers, named};
+ghost use Rattle.bx_listing.specs.Reading.{Answers, named, no_line, placed, placed_answer};
 
 use bx_terms::{AtomId, Atoms, Fault, Name};
-use bx_text::Node;
 use std::alloc::{AllocError, Global};
 
-/// Reads a form. Its refusals name the line on which the form begins.
+/// Reads forms. Its refusals name no line: who reads a form adds the one on which it begins.
 #[derive(Clone, Copy)]
 pub(crate) struct FormReader {
     pub alloc: Global,
-    pub line: usize,
 }
 
 impl FormReader {
-    pub(crate) fn new(alloc: Global, form: &Node) -> FormReader
-        ensures { result.line ≡ (span_of form.now).line }
-    {
-        let line = form.span().line;
-        FormReader { alloc, line }
-    }
-
-    /// Numbers the atom of this text, which stands in the form.
+    /// Numbers the atom of this text, which stands in a form.
+    #[tactic(auto, using(crate::proofs::NamedAtoms::name_answered))]
     pub(crate) fn name_atom(self, atoms: &mut Atoms, text: &str) -> Result<AtomId, Fault>
-        ensures { Answers (λ atom. atom) atoms.old atoms.new result (named self.line text.now) }
+        ensures { Answers (λ atom. atom) atoms.old atoms.new result (named text.now) }
     {
-        match atoms.name(self.alloc, text) {
-            Ok(atom) => Ok(atom),
-            Err(fault) => Err(fault.at_line(self.line)),
-        }
+        atoms.name(self.alloc, text)
     }
 
     /// The refusal of what is outside the subset, by its name.
     pub(crate) fn unsupported(self, name: &str) -> Result<Fault, AllocError>
-        ensures { IfOk result (λ fault. fault ≡ Unsupported self.line name.now) }
+        ensures { IfOk result (λ fault. fault ≡ Unsupported no_line name.now) }
     {
-        let line = self.line;
         let name = Name::new(self.alloc, name)?;
-        Ok(Fault::Unsupported { line, name })
+        Ok(Fault::Unsupported { line: 0, name })
     }
+}
 
-    /// The refusal of a form that is out of place or misshapen.
-    pub(crate) fn bad_form(self) -> Fault
-        ensures { result ≡ Fault.BadForm self.line }
-    {
-        Fault::BadForm { line: self.line }
+/// The refusal of a form that is out of place or misshapen.
+pub(crate) fn bad_form() -> Fault
+    ensures { result ≡ Fault.BadForm no_line }
+{
+    Fault::BadForm { line: 0 }
+}
+
+/// The refusal of a form's operand, or of their number.
+pub(crate) fn bad_operand() -> Fault
+    ensures { result ≡ Fault.BadOperand no_line }
+{
+    Fault::BadOperand { line: 0 }
+}
+
+/// The refusal of an integer outside 64 bits, or of a literal that is too high.
+pub(crate) fn literal_range() -> Fault
+    ensures { result ≡ Fault.LiteralRange no_line }
+{
+    Fault::LiteralRange { line: 0 }
+}
+
+/// The answer to the form that begins on that line: its refusal names the line.
+pub(crate) fn on_line<T: Drop>(line: usize, answer: Result<T, Fault>) -> Result<T, Fault>
+    ensures { result ≡ placed_answer line answer }
+{
+    match answer {
+        Ok(read) => Ok(read),
+        Err(fault) => Err(placed(line, fault)),
     }
+}
 
-    /// The refusal of a form's operand, or of their number.
-    pub(crate) fn bad_operand(self) -> Fault
-        ensures { result ≡ Fault.BadOperand self.line }
-    {
-        Fault::BadOperand { line: self.line }
+fn placed(line: usize, fault: Fault) -> Fault
+    ensures { result ≡ placed line fault }
+{
+    match fault {
+        Fault::TooManyAtoms { .. } => Fault::TooManyAtoms { line: Some(line) },
+        Fault::AtomTooLong { .. } => Fault::AtomTooLong { line: Some(line) },
+        Fault::Unsupported { name, .. } => Fault::Unsupported { line, name },
+        Fault::BadOperand { .. } => Fault::BadOperand { line },
+        Fault::LiteralRange { .. } => Fault::LiteralRange { line },
+        Fault::Memory => Fault::Memory,
+        _ => Fault::BadForm { line },
     }
 }

@@ -1,48 +1,59 @@
 //! The forms of a listing that hold no item: `module`, `exports`, `attributes`, `labels` and `function`.
 
 ghost use Rattle.std.specs.Prelude.{◌≡◌, option_map};
-ghost use Rattle.bx_listing.specs.HeadForms.{module_name, offer, are_offers, named_offer, named_offers, offers, exports_form, is_attributes, is_labels, function_form};
+ghost use Rattle.bx_listing.specs.HeadForms.{module_name, module_form, offer, are_offers, named_offer, named_offers, offers, exports_form, is_attributes, is_labels, function_form};
 ghost use Rattle.bx_text.specs.View.{elements_seen};
 ghost use Rattle.bx_listing.specs.Seen.{seen};
 ghost use Rattle.bx_listing.specs.Reading.{Answers};
 
 use crate::code_form::Export;
-use crate::form_reader::FormReader;
+use crate::form_reader::{FormReader, bad_form};
 use crate::listing::Function;
 use crate::shapes::{Shape, list_elements, number, shape_of, word};
 use crate::words::{FormWord, form_word};
-use bx_terms::{Atoms, Fault};
+use bx_terms::{AtomId, Atoms, Fault};
 use bx_text::{Elements, Node};
 
 impl FormReader {
+    /// The module's name, of `{module,M}`.
+    pub(crate) fn module_form(self, atoms: &mut Atoms, form: Shape) -> Result<AtomId, Fault>
+        ensures { Answers (λ name. name) atoms.old atoms.new result
+            (module_form (seen form.entry)) }
+    {
+        match module_name(form) {
+            Some(name) => self.name_atom(atoms, name),
+            None => Err(bad_form()),
+        }
+    }
+
     /// The exported functions, of `{exports,[{F,A},..]}`.
     pub(crate) fn exports_form(self, atoms: &mut Atoms, form: Shape) -> Result<Vec<Export>, Fault>
         ensures { Answers (λ exports. exports.items) atoms.old atoms.new result
-            (exports_form self.line (seen form.entry)) }
+            (exports_form (seen form.entry)) }
     {
         let Shape::Tagged(text, [list]) = form else {
-            return Err(self.bad_form());
+            return Err(bad_form());
         };
         match (form_word(text), list_elements(list)) {
             (FormWord::Exports, Some(list)) => self.offers(atoms, list),
-            _ => Err(self.bad_form()),
+            _ => Err(bad_form()),
         }
     }
 
     fn offers(self, atoms: &mut Atoms, list: Elements) -> Result<Vec<Export>, Fault>
         ensures { Answers (λ exports. exports.items) atoms.old atoms.new result
-            (offers self.line (elements_seen list.entry)) }
+            (offers (elements_seen list.entry)) }
     {
         if are_offers(list) {
             self.named_offers(atoms, list)
         } else {
-            Err(self.bad_form())
+            Err(bad_form())
         }
     }
 
     fn named_offers(self, atoms: &mut Atoms, list: Elements) -> Result<Vec<Export>, Fault>
         ensures { Answers (λ exports. exports.items) atoms.old atoms.new result
-            (named_offers self.line (elements_seen list.entry)) }
+            (named_offers (elements_seen list.entry)) }
     {
         let mut exports = Vec::new(self.alloc);
         for i in 0..list.len() {
@@ -56,37 +67,36 @@ impl FormReader {
 
     fn named_offer(self, atoms: &mut Atoms, node: &Node) -> Result<Export, Fault>
         ensures { Answers (λ export. export) atoms.old atoms.new result
-            (named_offer self.line node.now) }
+            (named_offer node.now) }
     {
         match offer(node) {
             Some((name, arity)) => {
                 let function = self.name_atom(atoms, name)?;
                 Ok(Export { function, arity })
             }
-            None => Err(self.bad_form()),
+            None => Err(bad_form()),
         }
     }
 
     /// The function that begins with `{function,F,A,Entry}`, of which these are the parts.
     pub(crate) fn function_form(self, atoms: &mut Atoms, parts: &[Node]) -> Result<Function, Fault>
         ensures { Answers (λ function. function) atoms.old atoms.new result
-            (function_form self.line parts.now) }
+            (function_form parts.now) }
     {
         let [name, arity, entry] = parts else {
-            return Err(self.bad_form());
+            return Err(bad_form());
         };
         match (word(name), number(arity), number(entry)) {
             (Some(name), Some(arity), Some(entry)) => {
                 let name = self.name_atom(atoms, name)?;
                 Ok(Function::new(self.alloc, name, arity, entry))
             }
-            _ => Err(self.bad_form()),
+            _ => Err(bad_form()),
         }
     }
 }
 
-/// The module's name, of `{module,M}`.
-pub(crate) fn module_name<'v>(form: Shape<'v, '_>) -> Option<&'v str>
+fn module_name<'v>(form: Shape<'v, '_>) -> Option<&'v str>
     ensures { option_map (λ name. name.now) result ≡ module_name (seen form.entry) }
 {
     let Shape::Tagged(text, [name]) = form else {

@@ -7,7 +7,7 @@ ghost use Rattle.bx_listing.specs.Literals.{sort_name, kept_cons, kept_before, k
 ghost use Rattle.bx_listing.specs.LiteralRows.{row_of, with_last};
 ghost use Rattle.bx_listing.specs.Reading.{Answers};
 
-use crate::form_reader::FormReader;
+use crate::form_reader::{FormReader, literal_range};
 use bx_terms::{Atoms, Fault, Term, TermRefusal};
 use bx_text::{Elements, Node, Sort, View};
 use std::alloc::{AllocError, Global};
@@ -26,12 +26,12 @@ impl FormReader {
     #[cycle(literal)]
     pub(crate) fn literal(self, atoms: &mut Atoms, node: &Node) -> Result<Option<Term>, Fault>
         ensures read { Answers (λ term. term) atoms.old atoms.new result
-            (literal self.line node.now) }
+            (literal node.now) }
         ensures node { IsNode node.now }
     {
         match node.view() {
             View::Integer(value) => Ok(Some(Term::int(value))),
-            View::Large(_) => Err(Fault::LiteralRange { line: self.line }),
+            View::Large(_) => Err(literal_range()),
             View::Atom(text) => {
                 let atom = self.name_atom(atoms, text)?;
                 Ok(Some(Term::atom(atom)))
@@ -56,7 +56,7 @@ impl FormReader {
         tail: Option<&Node>,
     ) -> Result<Row, Fault>
         ensures { Answers row_of atoms.old atoms.new result
-            (parts self.line (chain (elements_seen elements.entry) (tail_seen tail.entry))).row }
+            (parts (chain (elements_seen elements.entry) (tail_seen tail.entry))).row }
     {
         let mut kept = Some(Vec::new(self.alloc));
         for i in 0..elements.len() {

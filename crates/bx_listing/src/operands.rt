@@ -5,7 +5,7 @@ ghost use Rattle.bx_listing.specs.Operands.{untyped, register, only_y, label, at
 ghost use Rattle.bx_listing.specs.Shape.{word};
 ghost use Rattle.bx_listing.specs.Reading.{Table, Answers};
 
-use crate::form_reader::FormReader;
+use crate::form_reader::{FormReader, bad_operand, literal_range};
 use crate::items::{Amount, Import, Operand};
 use crate::shapes::{Shape, number, shape_of, word};
 use crate::words::{OperandWord, operand_word};
@@ -16,73 +16,61 @@ use bx_text::{Node, View};
 impl FormReader {
     /// An atom that stands alone.
     fn atom_word(self, atoms: &mut Atoms, node: &Node) -> Result<AtomId, Fault>
-        ensures { Answers (λ atom. atom) atoms.old atoms.new result (atom_word self.line node.now) }
+        ensures { Answers (λ atom. atom) atoms.old atoms.new result (atom_word node.now) }
     {
         match word(node) {
             Some(text) => self.name_atom(atoms, text),
-            None => Err(self.bad_operand()),
+            None => Err(bad_operand()),
         }
     }
 
     /// The atom of `{atom,A}`.
     fn atom_operand(self, atoms: &mut Atoms, node: &Node) -> Result<Operand, Fault>
         ensures { Answers (λ atom. atom) atoms.old atoms.new result
-            (atom_operand self.line node.now) }
+            (atom_operand node.now) }
     {
         let Shape::Tagged(word, [operand]) = shape_of(node) else {
-            return Err(self.bad_operand());
+            return Err(bad_operand());
         };
         match operand_word(word) {
             OperandWord::Atom => self.atom_source(atoms, operand),
-            _ => Err(self.bad_operand()),
+            _ => Err(bad_operand()),
         }
     }
 
     /// A register, or a value that stands in the instruction.
     fn source(self, atoms: &mut Atoms, node: &Node) -> Result<Operand, Fault>
         ensures { Answers (λ source. source) atoms.old atoms.new result
-            (source self.line node.now) }
+            (source node.now) }
     {
         match shape_of(node) {
             Shape::Bare(word) => match operand_word(word) {
                 OperandWord::Nil => Ok(Operand::Nil),
-                _ => Err(self.bad_operand()),
+                _ => Err(bad_operand()),
             },
             Shape::Tagged(word, parts) => match (operand_word(word), parts) {
-                (OperandWord::Integer, [integer]) => self.integer_source(integer),
+                (OperandWord::Integer, [integer]) => integer_source(integer),
                 (OperandWord::Atom, [atom]) => self.atom_source(atoms, atom),
                 (OperandWord::Literal, [term]) => self.literal_source(atoms, term),
                 (OperandWord::Float, [_]) => Err(self.unsupported("float")?),
-                _ => register(node).ok_or(self.bad_operand()),
+                _ => register(node).ok_or(bad_operand()),
             },
-            Shape::Other => Err(self.bad_operand()),
+            Shape::Other => Err(bad_operand()),
         }
     }
 
     /// An atom or an integer.
     fn value(self, atoms: &mut Atoms, node: &Node) -> Result<Operand, Fault>
-        ensures { Answers (λ value. value) atoms.old atoms.new result (value self.line node.now) }
+        ensures { Answers (λ value. value) atoms.old atoms.new result (value node.now) }
     {
         let Shape::Tagged(word, [operand]) = shape_of(node) else {
-            return Err(self.bad_operand());
+            return Err(bad_operand());
         };
         match operand_word(word) {
-            OperandWord::Integer => self.integer_source(operand),
+            OperandWord::Integer => integer_source(operand),
             OperandWord::Atom => self.atom_source(atoms, operand),
             OperandWord::Float => Err(self.unsupported("float")?),
-            _ => Err(self.bad_operand()),
-        }
-    }
-
-    /// The integer of `{integer,I}`.
-    fn integer_source(self, node: &Node) -> Result<Operand, Fault>
-        ensures { (texts : Table) → Answers (λ source. source) texts texts result
-            (integer_source self.line node.now) }
-    {
-        match node.view() {
-            View::Integer(value) => Ok(Operand::Integer(value)),
-            View::Large(_) => Err(Fault::LiteralRange { line: self.line }),
-            _ => Err(self.bad_operand()),
+            _ => Err(bad_operand()),
         }
     }
 
@@ -90,7 +78,7 @@ impl FormReader {
     #[tactic(auto, using(crate::proofs::Readings::refused_first))]
     fn atom_source(self, atoms: &mut Atoms, node: &Node) -> Result<Operand, Fault>
         ensures { Answers (λ source. source) atoms.old atoms.new result
-            (atom_source self.line node.now) }
+            (atom_source node.now) }
     {
         let atom = self.atom_word(atoms, node)?;
         Ok(Operand::Atom(atom))
@@ -100,25 +88,25 @@ impl FormReader {
     #[tactic(auto, using(crate::proofs::Readings::refused_first))]
     fn literal_source(self, atoms: &mut Atoms, node: &Node) -> Result<Operand, Fault>
         ensures { Answers (λ source. source) atoms.old atoms.new result
-            (literal_source self.line node.now) }
+            (literal_source node.now) }
     {
         match self.literal(atoms, node)? {
             Some(term) => Ok(Operand::Literal(term)),
-            None => Err(Fault::LiteralRange { line: self.line }),
+            None => Err(literal_range()),
         }
     }
 
     /// The function of `{extfunc,M,F,A}`.
     fn callee(self, atoms: &mut Atoms, node: &Node) -> Result<Operand, Fault>
         ensures { Answers (λ callee. callee) atoms.old atoms.new result
-            (callee self.line node.now) }
+            (callee node.now) }
     {
         let Shape::Tagged(word, [module, function, count]) = shape_of(node) else {
-            return Err(self.bad_operand());
+            return Err(bad_operand());
         };
         match operand_word(word) {
             OperandWord::External => self.external(atoms, module, function, count),
-            _ => Err(self.bad_operand()),
+            _ => Err(bad_operand()),
         }
     }
 
@@ -131,7 +119,7 @@ impl FormReader {
         count: &Node,
     ) -> Result<Operand, Fault>
         ensures { Answers (λ callee. callee) atoms.old atoms.new result
-            (external self.line «module».now function.now count.now) }
+            (external «module».now function.now count.now) }
     {
         let module = self.atom_word(atoms, module)?;
         let function = self.atom_word(atoms, function)?;
@@ -141,7 +129,7 @@ impl FormReader {
                 function,
                 arity,
             })),
-            None => Err(self.bad_operand()),
+            None => Err(bad_operand()),
         }
     }
 
@@ -149,22 +137,22 @@ impl FormReader {
     #[tactic(auto, using(crate::proofs::Readings::refused_first))]
     fn amount(self, atoms: &mut Atoms, node: &Node) -> Result<Operand, Fault>
         ensures { Answers (λ amount. amount) atoms.old atoms.new result
-            (amount self.line node.now) }
+            (amount node.now) }
     {
         let Shape::Tagged(kind, [count]) = shape_of(node) else {
-            return Err(self.bad_operand());
+            return Err(bad_operand());
         };
         let kind = self.name_atom(atoms, kind)?;
         match number(count) {
             Some(count) => Ok(Operand::Amount(Amount { kind, count })),
-            None => Err(self.bad_operand()),
+            None => Err(bad_operand()),
         }
     }
 
     /// An operand of a sort.
     pub(crate) fn simple(self, atoms: &mut Atoms, sort: Sort, node: &Node) -> Result<Operand, Fault>
         ensures { Answers (λ operand. operand) atoms.old atoms.new result
-            (simple self.line sort node.now) }
+            (simple sort node.now) }
     {
         match sort {
             Sort::Source => self.source(atoms, node),
@@ -172,8 +160,20 @@ impl FormReader {
             Sort::Atom => self.atom_operand(atoms, node),
             Sort::Callee => self.callee(atoms, node),
             Sort::Amount => self.amount(atoms, node),
-            _ => plain(sort, node).ok_or(self.bad_operand()),
+            _ => plain(sort, node).ok_or(bad_operand()),
         }
+    }
+}
+
+/// The integer of `{integer,I}`.
+fn integer_source(node: &Node) -> Result<Operand, Fault>
+    ensures { (texts : Table) → Answers (λ source. source) texts texts result
+        (integer_source node.now) }
+{
+    match node.view() {
+        View::Integer(value) => Ok(Operand::Integer(value)),
+        View::Large(_) => Err(literal_range()),
+        _ => Err(bad_operand()),
     }
 }
 

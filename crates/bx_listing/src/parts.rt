@@ -1,15 +1,17 @@
 //! What each form behind the head adds to the functions before it.
 
 ghost use Rattle.std.specs.Prelude.{◌≡◌, OnOk, OnErr, IsSome};
-ghost use Rattle.bx_listing.specs.Listing.{with_optional, part, with_form_item, with_form, begun_function};
+ghost use Rattle.bx_listing.specs.Listing.{with_optional, form_part, with_form_item, with_form, begun_function};
 ghost use Rattle.bx_listing.specs.ItemForms.{read_as, item};
 ghost use Rattle.bx_listing.specs.Seen.{seen};
+ghost use Rattle.bx_listing.specs.Shape.{shape};
+ghost use Rattle.bx_text.specs.Tree.{span_of};
 ghost use Rattle.bx_listing.specs.Reading.{Answers};
 
-use crate::form_reader::FormReader;
+use crate::form_reader::{FormReader, bad_form};
 use crate::items::Operand;
 use crate::listing::Function;
-use crate::shapes::Shape;
+use crate::shapes::{Shape, shape_of};
 use crate::words::{FormWord, form_word};
 use bx_ops::Op;
 use bx_terms::{Atoms, Fault};
@@ -23,12 +25,12 @@ impl FormReader {
         atoms: &mut Atoms,
         functions: &mut Vec<Function>,
         operands: &mut Vec<Operand>,
-        form: Shape,
+        form: &Node,
     ) -> Result<(), Fault>
         ensures { Answers (λ done. functions.new.items) atoms.old atoms.new result
-            (part self.line functions.old.items (seen form.entry)) }
+            (form_part (span_of form.now).line functions.old.items (shape form.now)) }
     {
-        match form {
+        match shape_of(form) {
             Shape::Tagged(text, parts) => match form_word(text) {
                 FormWord::Function => self.begin_function(atoms, functions, parts),
                 _ => self.add_form(atoms, functions, operands, form),
@@ -45,7 +47,7 @@ impl FormReader {
         parts: &[Node],
     ) -> Result<(), Fault>
         ensures { Answers (λ done. functions.new.items) atoms.old atoms.new result
-            (begun_function self.line functions.old.items parts.now) }
+            (begun_function functions.old.items parts.now) }
     {
         let function = self.function_form(atoms, parts)?;
         functions.push(function)?;
@@ -58,13 +60,13 @@ impl FormReader {
         atoms: &mut Atoms,
         functions: &mut Vec<Function>,
         operands: &mut Vec<Operand>,
-        form: Shape,
+        form: &Node,
     ) -> Result<(), Fault>
         ensures { Answers (λ done. functions.new.items) atoms.old atoms.new result
-            (with_form self.line functions.old.items (seen form.entry)) }
+            (with_form (span_of form.now).line functions.old.items (shape form.now)) }
     {
         if functions.is_empty() {
-            return Err(self.bad_form());
+            return Err(bad_form());
         }
         self.add_form_item(atoms, functions, operands, form)
     }
@@ -75,13 +77,13 @@ impl FormReader {
         atoms: &mut Atoms,
         functions: &mut Vec<Function>,
         operands: &mut Vec<Operand>,
-        form: Shape,
+        form: &Node,
     ) -> Result<(), Fault>
         ensures { Answers (λ done. functions.new.items) atoms.old atoms.new result
-            (with_form_item self.line functions.old.items (seen form.entry)) }
+            (with_form_item (span_of form.now).line functions.old.items (shape form.now)) }
     {
-        let op = self.item(atoms, operands, form)?;
-        add_item(functions, operands, self.line, op)?;
+        let op = self.item(atoms, operands, shape_of(form))?;
+        add_item(functions, operands, form.span().line, op)?;
         Ok(())
     }
 
@@ -93,7 +95,7 @@ impl FormReader {
         form: Shape,
     ) -> Result<Option<Op>, Fault>
         ensures { Answers (λ op. read_as (op, operands.new.items)) atoms.old atoms.new result
-            (item self.line (seen form.entry)) }
+            (item (seen form.entry)) }
     {
         operands.clear();
         self.read_item(atoms, operands, form)

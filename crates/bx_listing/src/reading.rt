@@ -11,10 +11,12 @@ ghost use Rattle.bx_listing.specs.Dropped.{dropped, IsDropped, MakeSame};
 ghost use Rattle.bx_listing.specs.Listing as listings;
 ghost use Rattle.bx_listing.specs.Locations.{located, located_behind, located_exports, locations, passed};
 ghost use Rattle.bx_listing.specs.Taking.{ReadsForms};
-ghost use Rattle.bx_listing.specs.Reading.{Reads, Answers};
+ghost use Rattle.bx_listing.specs.Reading.{Reads, Answers, on_line};
+ghost use Rattle.bx_listing.specs.HeadForms.{module_form, exports_form};
 
-use crate::form_reader::FormReader;
-use crate::head_forms::{is_attributes, is_labels, module_name};
+use crate::code_form::Export;
+use crate::form_reader::{FormReader, on_line};
+use crate::head_forms::{is_attributes, is_labels};
 use crate::items::Operand;
 use crate::listing::{Function, Listing};
 use crate::locations::Locations;
@@ -160,6 +162,7 @@ fn functions(
     Ok((functions, locations.fitted()))
 }
 
+#[tactic(auto, using(crate::proofs::Readings::answers_placed))]
 fn take_form(
     alloc: Global,
     atoms: &mut Atoms,
@@ -170,8 +173,29 @@ fn take_form(
     ensures { Answers (λ done. functions.new.items) atoms.old atoms.new result
         (listings.part (span_of form.now).line functions.old.items (shape form.now)) }
 {
-    let reader = FormReader::new(alloc, form);
-    reader.part(atoms, functions, operands, shape_of(form))
+    let reader = FormReader { alloc };
+    on_line(
+        form.span().line,
+        reader.part(atoms, functions, operands, form),
+    )
+}
+
+#[tactic(auto, using(crate::proofs::Readings::answers_placed))]
+fn take_name(alloc: Global, atoms: &mut Atoms, form: &Node) -> Result<AtomId, Fault>
+    ensures { Answers (λ name. name) atoms.old atoms.new result
+        (on_line (span_of form.now).line (module_form (shape form.now))) }
+{
+    let reader = FormReader { alloc };
+    on_line(form.span().line, reader.module_form(atoms, shape_of(form)))
+}
+
+#[tactic(auto, using(crate::proofs::Readings::answers_placed))]
+fn take_exports(alloc: Global, atoms: &mut Atoms, form: &Node) -> Result<Vec<Export>, Fault>
+    ensures { Answers (λ exports. exports.items) atoms.old atoms.new result
+        (on_line (span_of form.now).line (exports_form (shape form.now))) }
+{
+    let reader = FormReader { alloc };
+    on_line(form.span().line, reader.exports_form(atoms, shape_of(form)))
 }
 
 /// Where the items stand is asked: one form more.
@@ -249,11 +273,7 @@ fn read(alloc: Global, atoms: &mut Atoms, source: Source<'_>) -> Result<(Listing
         (last_line source.entry.text.now) (forms (place_in source.entry.text.now 0))) }
 {
     let (form, behind) = head_form(alloc, source.text, Reader::at(source.text, 0))?;
-    let reader = FormReader::new(alloc, &form);
-    let Some(module) = module_name(shape_of(&form)) else {
-        return Err(reader.bad_form());
-    };
-    let name = reader.name_atom(atoms, module)?;
+    let name = take_name(alloc, atoms, &form)?;
     behind_name(alloc, atoms, source, name, behind)
 }
 
@@ -271,8 +291,7 @@ fn behind_name(
         (last_line source.entry.text.now) (forms (place behind.entry))) }
 {
     let (form, behind) = head_form(alloc, source.text, behind)?;
-    let reader = FormReader::new(alloc, &form);
-    let exports = reader.exports_form(atoms, shape_of(&form))?;
+    let exports = take_exports(alloc, atoms, &form)?;
     let (functions, locations) = functions_behind(alloc, atoms, source, behind)?;
     Ok((Listing::new(name, exports, functions), locations))
 }

@@ -8,7 +8,7 @@ ghost use Rattle.bx_listing.specs.Operands.{label, register};
 ghost use Rattle.bx_listing.specs.Rows.{members, listed, is_even, is_label, is_x, list_of, slot, row, agrees, amounts, heap, formed_item, written_item, tuple_item, bare_item, item_row};
 ghost use Rattle.bx_listing.specs.Reading.{Answers};
 
-use crate::form_reader::FormReader;
+use crate::form_reader::{FormReader, bad_form, bad_operand};
 use crate::items::Operand;
 use crate::operand_texts::behind;
 use crate::operands::{label, register};
@@ -30,7 +30,7 @@ impl FormReader {
         nodes: Elements,
     ) -> Result<(), Fault>
         ensures { Answers (λ done. operands.new.items) atoms.old atoms.new result
-            (members self.line operands.old.items first second (elements_seen nodes.entry)) }
+            (members operands.old.items first second (elements_seen nodes.entry)) }
     {
         let mut this = first;
         let mut next = second;
@@ -57,7 +57,7 @@ impl FormReader {
         nodes: Elements,
     ) -> Result<(), Fault>
         ensures { Answers (λ done. operands.new.items) atoms.old atoms.new result
-            (list_of self.line operands.old.items first second (elements_seen nodes.entry)) }
+            (list_of operands.old.items first second (elements_seen nodes.entry)) }
     {
         operands.push(Operand::List(nodes.len()))?;
         self.members(atoms, operands, first, second, nodes)
@@ -72,7 +72,7 @@ impl FormReader {
         node: &Node,
     ) -> Result<(), Fault>
         ensures { Answers (λ done. operands.new.items) atoms.old atoms.new result
-            (slot self.line operands.old.items (Slot.One sort) node.now) }
+            (slot operands.old.items (Slot.One sort) node.now) }
     {
         let operand = self.simple(atoms, sort, node)?;
         operands.push(operand)?;
@@ -88,23 +88,23 @@ impl FormReader {
         node: &Node,
     ) -> Result<(), Fault>
         ensures { Answers (λ done. operands.new.items) atoms.old atoms.new result
-            (slot self.line operands.old.items kind node.now) }
+            (slot operands.old.items kind node.now) }
     {
         match kind {
             Slot::One(sort) => self.one(atoms, operands, sort, node),
             Slot::Many(sort) => match listed(node) {
                 Some(nodes) => self.list_of(atoms, operands, sort, sort, nodes),
-                None => Err(self.bad_operand()),
+                None => Err(bad_operand()),
             },
             Slot::Pairs(first, second) => match listed(node) {
                 Some(nodes) if is_even(nodes) => {
                     self.list_of(atoms, operands, first, second, nodes)
                 }
-                _ => Err(self.bad_operand()),
+                _ => Err(bad_operand()),
             },
             Slot::NoLabel if is_no_label(node) => Ok(()),
             Slot::ToX0 if is_x0(node) => Ok(()),
-            Slot::NoLabel | Slot::ToX0 => Err(self.bad_operand()),
+            Slot::NoLabel | Slot::ToX0 => Err(bad_operand()),
             Slot::Heap => self.heap(atoms, operands, node),
         }
     }
@@ -112,7 +112,7 @@ impl FormReader {
     /// A heap's size: a number, or the amounts of its parts.
     fn heap(self, atoms: &mut Atoms, operands: &mut Vec<Operand>, node: &Node) -> Result<(), Fault>
         ensures { Answers (λ done. operands.new.items) atoms.old atoms.new result
-            (heap self.line operands.old.items node.now) }
+            (heap operands.old.items node.now) }
     {
         match amounts(node) {
             Some(nodes) => self.list_of(atoms, operands, Sort::Amount, Sort::Amount, nodes),
@@ -129,7 +129,7 @@ impl FormReader {
         arguments: Arguments,
     ) -> Result<(), Fault>
         ensures { Answers (λ done. operands.new.items) atoms.old atoms.new result
-            (row self.line operands.old.items slots.now (terms arguments.entry)) }
+            (row operands.old.items slots.now (terms arguments.entry)) }
     {
         for i in 0..slots.len() {
             let Some(part) = arguments.part(i) else {
@@ -151,7 +151,7 @@ impl FormReader {
         form: Form,
     ) -> Result<Option<Op>, Fault>
         ensures { Answers (λ op. (op, operands.new.items)) atoms.old atoms.new result
-            (formed_item self.line operands.old.items (formed form.entry)) }
+            (formed_item operands.old.items (formed form.entry)) }
     {
         let from = operands.len();
         let op = form.op;
@@ -160,7 +160,7 @@ impl FormReader {
                 if agrees(behind(operands.as_slice(), from)) {
                     Ok(Some(op))
                 } else {
-                    Err(self.bad_operand())
+                    Err(bad_operand())
                 }
             }
             Err(fault) => Err(fault),
@@ -177,7 +177,7 @@ impl FormReader {
         parts: &[Node],
     ) -> Result<Option<Op>, Fault>
         ensures { Answers (λ op. (op, operands.new.items)) atoms.old atoms.new result
-            (written_item self.line operands.old.items text.now word parts.now) }
+            (written_item operands.old.items text.now word parts.now) }
     {
         match self.tuple_form(text, word, parts) {
             Ok(form) => self.formed_item(atoms, operands, form),
@@ -194,7 +194,7 @@ impl FormReader {
         parts: &[Node],
     ) -> Result<Option<Op>, Fault>
         ensures { Answers (λ op. (op, operands.new.items)) atoms.old atoms.new result
-            (tuple_item self.line operands.old.items text.now word parts.now) }
+            (tuple_item operands.old.items text.now word parts.now) }
     {
         match (word, parts) {
             (FormWord::Annotation, [_]) => Ok(None),
@@ -210,7 +210,7 @@ impl FormReader {
         text: &str,
     ) -> Result<Option<Op>, Fault>
         ensures { Answers (λ op. (op, operands.new.items)) atoms.old atoms.new result
-            (bare_item self.line operands.old.items text.now) }
+            (bare_item operands.old.items text.now) }
     {
         match self.bare_form(text, form_word(text)) {
             Ok(op) => Ok(Some(op)),
@@ -226,7 +226,7 @@ impl FormReader {
         form: Shape,
     ) -> Result<Option<Op>, Fault>
         ensures { Answers (λ op. (op, operands.new.items)) atoms.old atoms.new result
-            (item_row self.line operands.old.items (seen form.entry)) }
+            (item_row operands.old.items (seen form.entry)) }
     {
         match form {
             Shape::Tagged(text, parts) => self.tuple_item(
@@ -237,7 +237,7 @@ impl FormReader {
                 parts,
             ),
             Shape::Bare(text) => self.bare_item(atoms, operands, text),
-            Shape::Other => Err(self.bad_form()),
+            Shape::Other => Err(bad_form()),
         }
     }
 }

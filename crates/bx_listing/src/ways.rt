@@ -8,7 +8,7 @@ ghost use Rattle.bx_text.specs.View.{elements_seen};
 ghost use Rattle.bx_listing.specs.Formed.{formed, terms};
 ghost use Rattle.bx_listing.specs.Taking.{FormGives};
 
-use crate::form_reader::FormReader;
+use crate::form_reader::{FormReader, bad_form, bad_operand};
 use crate::shapes::{list_elements, word};
 use crate::words::FormWord;
 use bx_ops::{Op, Way, bif_by_name, op_named, slots, way};
@@ -55,29 +55,9 @@ pub(crate) struct Form<'v, 'a> {
 }
 
 impl FormReader {
-    /// An instruction whose operands are as many as the table says.
-    fn counted<'v, 'a>(self, form: Form<'v, 'a>) -> Result<Form<'v, 'a>, Fault>
-        ensures { FormGives formed result
-            (counted self.line form.entry.op (terms form.entry.arguments)) }
-    {
-        let Arguments {
-            before,
-            list,
-            behind,
-        } = form.arguments;
-        let left = slots(form.op).len();
-        if before.len() <= left {
-            let left = left - before.len();
-            if list.len() <= left && behind.len() == left - list.len() {
-                return Ok(form);
-            }
-        }
-        Err(self.bad_operand())
-    }
-
     /// The instruction that is written as a tuple of its name and its operands.
     fn named_form<'v, 'a>(self, text: &str, parts: &'v [Node<'a>]) -> Result<Form<'v, 'a>, Fault>
-        ensures { FormGives formed result (named_form self.line text.now parts.now) }
+        ensures { FormGives formed result (named_form text.now parts.now) }
     {
         let Some(op) = op_named(text) else {
             return Err(self.unsupported(text)?);
@@ -89,9 +69,9 @@ impl FormReader {
                     list: Elements::Nodes(&parts[..0]),
                     behind: &parts[..0],
                 };
-                self.counted(Form { op, arguments })
+                counted(Form { op, arguments })
             }
-            Way::Bare => Err(self.bad_operand()),
+            Way::Bare => Err(bad_operand()),
             _ => Err(self.unsupported(text)?),
         }
     }
@@ -99,82 +79,49 @@ impl FormReader {
     /// The instruction that is written as its name alone.
     fn bare_op(self, text: &str) -> Result<Op, Fault>
         ensures { FormGives (λ op. (op, [])) result
-            (bare_op self.line text.now (with_name text.now)) }
+            (bare_op text.now (with_name text.now)) }
     {
         let Some(op) = op_named(text) else {
             return Err(self.unsupported(text)?);
         };
         match way(op) {
             Way::Bare => Ok(op),
-            Way::Plain => Err(self.bad_operand()),
+            Way::Plain => Err(bad_operand()),
             _ => Err(self.unsupported(text)?),
         }
     }
 
     /// The instruction that is written as this word alone.
     pub(crate) fn bare_form(self, text: &str, form: FormWord) -> Result<Op, Fault>
-        ensures { FormGives (λ op. (op, [])) result (bare_form self.line text.now form) }
+        ensures { FormGives (λ op. (op, [])) result (bare_form text.now form) }
     {
         match form {
             FormWord::Module
             | FormWord::Exports
             | FormWord::Attributes
             | FormWord::Labels
-            | FormWord::Function => Err(self.bad_form()),
+            | FormWord::Function => Err(bad_form()),
             FormWord::Annotation => Err(self.unsupported(text)?),
             FormWord::Named => self.bare_op(text),
-            _ => Err(self.bad_operand()),
+            _ => Err(bad_operand()),
         }
     }
 
-    /// The test that is written as `{test,NAME,LABEL,[OPERAND,..]}`, without the first two.
-    fn test_row<'v, 'a>(self, op: Op, rest: &'v [Node<'a>]) -> Result<Form<'v, 'a>, Fault>
-        ensures { FormGives formed result (test_row self.line op rest.now) }
-    {
-        let [_, list] = rest else {
-            return Err(self.bad_operand());
-        };
-        let Some(list) = list_elements(list) else {
-            return Err(self.bad_operand());
-        };
-        let arguments = Arguments {
-            before: &rest[..1],
-            list,
-            behind: &rest[..0],
-        };
-        self.counted(Form { op, arguments })
-    }
-
     fn test_form<'v, 'a>(self, parts: &'v [Node<'a>]) -> Result<Form<'v, 'a>, Fault>
-        ensures { FormGives formed result (test_form self.line parts.now) }
+        ensures { FormGives formed result (test_form parts.now) }
     {
         let [name, rest @ ..] = parts else {
-            return Err(self.bad_operand());
+            return Err(bad_operand());
         };
         let Some(text) = word(name) else {
-            return Err(self.bad_operand());
+            return Err(bad_operand());
         };
         let Some(op) = op_named(text) else {
             return Err(self.unsupported(text)?);
         };
         match way(op) {
-            Way::Test => self.test_row(op, rest),
+            Way::Test => test_row(op, rest),
             _ => Err(self.unsupported(text)?),
-        }
-    }
-
-    /// A BIF of these arguments, or `raise`, with its register behind them.
-    fn bif_row<'v, 'a>(
-        self,
-        op: Option<Op>,
-        arguments: Arguments<'v, 'a>,
-    ) -> Result<Form<'v, 'a>, Fault>
-        ensures { FormGives formed result (bif_row self.line op arguments.entry.before.now
-            (elements_seen arguments.entry.list) arguments.entry.behind.now) }
-    {
-        match (op, arguments.behind) {
-            (Some(op), [_]) => self.counted(Form { op, arguments }),
-            _ => Err(self.bad_operand()),
         }
     }
 
@@ -185,7 +132,7 @@ impl FormReader {
         op: Option<Op>,
         arguments: Arguments<'v, 'a>,
     ) -> Result<Form<'v, 'a>, Fault>
-        ensures { FormGives formed result (bif_found self.line text.now op
+        ensures { FormGives formed result (bif_found text.now op
             arguments.entry.before.now (elements_seen arguments.entry.list)
             arguments.entry.behind.now
             (guard_bif_with text.now (length (elements_seen arguments.entry.list)))) }
@@ -195,22 +142,22 @@ impl FormReader {
             let called = format!(in self.alloc; "{text}/{count}")?;
             return Err(self.unsupported(called.as_str())?);
         }
-        self.bif_row(op, arguments)
+        bif_row(op, arguments)
     }
 
     #[tactic(auto, using(crate::proofs::BifParts::bif_parts))]
     fn bif_form<'v, 'a>(self, parts: &'v [Node<'a>]) -> Result<Form<'v, 'a>, Fault>
-        ensures { FormGives formed result (bif_form self.line parts.now) }
+        ensures { FormGives formed result (bif_form parts.now) }
     {
         let [name, _, list, behind @ ..] = parts else {
-            return Err(self.bad_operand());
+            return Err(bad_operand());
         };
         let (Some(text), Some(list)) = (word(name), list_elements(list)) else {
-            return Err(self.bad_operand());
+            return Err(bad_operand());
         };
         if is_raise(text, list) {
             let before = &parts[1..2];
-            return self.bif_row(
+            return bif_row(
                 Some(Op::Raise),
                 Arguments {
                     before,
@@ -233,38 +180,18 @@ impl FormReader {
 
     #[tactic(auto, using(crate::proofs::BifParts::gc_bif_parts))]
     fn gc_bif_form<'v, 'a>(self, parts: &'v [Node<'a>]) -> Result<Form<'v, 'a>, Fault>
-        ensures { FormGives formed result (gc_bif_form self.line parts.now) }
+        ensures { FormGives formed result (gc_bif_form parts.now) }
     {
         let [name, _, _, list, behind @ ..] = parts else {
-            return Err(self.bad_operand());
+            return Err(bad_operand());
         };
         let (Some(text), Some(list)) = (word(name), list_elements(list)) else {
-            return Err(self.bad_operand());
+            return Err(bad_operand());
         };
         let before = &parts[..3];
         self.bif_found(
             text,
             gc_bif_op(list.len()),
-            Arguments {
-                before,
-                list,
-                behind,
-            },
-        )
-    }
-
-    fn raise_form<'v, 'a>(self, parts: &'v [Node<'a>]) -> Result<Form<'v, 'a>, Fault>
-        ensures { FormGives formed result (raise_form self.line parts.now) }
-    {
-        let [_, list, behind @ ..] = parts else {
-            return Err(self.bad_operand());
-        };
-        let Some(list) = list_elements(list) else {
-            return Err(self.bad_operand());
-        };
-        let before = &parts[..1];
-        self.bif_row(
-            Some(Op::Raise),
             Arguments {
                 before,
                 list,
@@ -280,22 +207,91 @@ impl FormReader {
         form: FormWord,
         parts: &'v [Node<'a>],
     ) -> Result<Form<'v, 'a>, Fault>
-        ensures { FormGives formed result (tuple_form self.line text.now form parts.now) }
+        ensures { FormGives formed result (tuple_form text.now form parts.now) }
     {
         match form {
             FormWord::Module
             | FormWord::Exports
             | FormWord::Attributes
             | FormWord::Labels
-            | FormWord::Function => Err(self.bad_form()),
+            | FormWord::Function => Err(bad_form()),
             FormWord::Annotation => Err(self.unsupported(text)?),
             FormWord::Test => self.test_form(parts),
             FormWord::Bif => self.bif_form(parts),
             FormWord::GcBif => self.gc_bif_form(parts),
-            FormWord::Raise => self.raise_form(parts),
+            FormWord::Raise => raise_form(parts),
             FormWord::Named => self.named_form(text, parts),
         }
     }
+}
+
+/// An instruction whose operands are as many as the table says.
+fn counted<'v, 'a>(form: Form<'v, 'a>) -> Result<Form<'v, 'a>, Fault>
+    ensures { FormGives formed result
+        (counted form.entry.op (terms form.entry.arguments)) }
+{
+    let Arguments {
+        before,
+        list,
+        behind,
+    } = form.arguments;
+    let left = slots(form.op).len();
+    if before.len() <= left {
+        let left = left - before.len();
+        if list.len() <= left && behind.len() == left - list.len() {
+            return Ok(form);
+        }
+    }
+    Err(bad_operand())
+}
+
+/// The test that is written as `{test,NAME,LABEL,[OPERAND,..]}`, without the first two.
+fn test_row<'v, 'a>(op: Op, rest: &'v [Node<'a>]) -> Result<Form<'v, 'a>, Fault>
+    ensures { FormGives formed result (test_row op rest.now) }
+{
+    let [_, list] = rest else {
+        return Err(bad_operand());
+    };
+    let Some(list) = list_elements(list) else {
+        return Err(bad_operand());
+    };
+    let arguments = Arguments {
+        before: &rest[..1],
+        list,
+        behind: &rest[..0],
+    };
+    counted(Form { op, arguments })
+}
+
+/// A BIF of these arguments, or `raise`, with its register behind them.
+fn bif_row<'v, 'a>(op: Option<Op>, arguments: Arguments<'v, 'a>) -> Result<Form<'v, 'a>, Fault>
+    ensures { FormGives formed result (bif_row op arguments.entry.before.now
+        (elements_seen arguments.entry.list) arguments.entry.behind.now) }
+{
+    match (op, arguments.behind) {
+        (Some(op), [_]) => counted(Form { op, arguments }),
+        _ => Err(bad_operand()),
+    }
+}
+
+fn raise_form<'v, 'a>(parts: &'v [Node<'a>]) -> Result<Form<'v, 'a>, Fault>
+    ensures { FormGives formed result (raise_form parts.now) }
+{
+    let [_, list, behind @ ..] = parts else {
+        return Err(bad_operand());
+    };
+    let Some(list) = list_elements(list) else {
+        return Err(bad_operand());
+    };
+    let before = &parts[..1];
+    bif_row(
+        Some(Op::Raise),
+        Arguments {
+            before,
+            list,
+            behind,
+        },
+    )
 }
 
 fn bif_op(arguments: usize) -> Option<Op>

@@ -6,11 +6,11 @@ use Rattle.bx_text.specs.declared.node.Span.{Span}
 use Rattle.bx_text.specs.Place.{Place}
 use Rattle.bx_text.specs.Token.{spelled, Lexeme}
 use Rattle.bx_text.specs.Terms.{span, letters, tail_of}
-use Rattle.bx_text.specs.Tree.{Tree, integer, atom, tuple, list, other, nil, cons, chain}
-use Rattle.bx_text.specs.Grammar.{Strings, no_string, a_string, Spells, an_integer, an_atom, strings, empty_tuple, a_tuple, empty_list, a_list, a_list_with_tail, a_float, an_empty_map, a_map, an_empty_binary, a_binary, a_fun, Row, one, more, Form, a_form}
+use Rattle.bx_text.specs.Tree.{Tree, integer, atom, tuple, list, nil, cons, chain}
+use Rattle.bx_text.specs.Grammar.{Strings, no_string, a_string, Spells, strings, a_tuple, a_list, a_list_with_tail, Row, one, more, Form, a_form}
 use Rattle.bx_listing.specs.Shape.{shape, tagged, elements, proper, list_elements}
-use Rattle.bx_listing.specs.Forms.{Forms, ends, broken, form}
-use Rattle.bx_listing.specs.FormsOf.{AreForms, none_follows, one_follows, is_refused}
+use Rattle.bx_listing.specs.Forms.{Forms, form}
+use Rattle.bx_listing.specs.FormsOf.{AreForms, one_follows}
 
 abbrev mutual
   pub depth : Tree → ℕ
@@ -29,10 +29,6 @@ abbrev mutual
 abbrev pub AreLow : ℕ → List Tree → Type 0
 AreLow d ts = AllByRecursion (λ t. depth t ≤ d) ts
 
-pub lower : (d e : ℕ) (ts : List Tree) → d ≤ e → AreLow d ts → AreLow e ts
-lower d e [] l a = tt
-lower d e (t ∷ ts) l a = (omega (arith, a.0), lower d e ts l a.1)
-
 both_low : (d : ℕ) (ts us : List Tree) → AreLow d ts → AreLow d us → AreLow d (ts ++ us)
 both_low d [] us a b = b
 both_low d (t ∷ ts) us a b = (a.0, both_low d ts us a.1 b)
@@ -50,32 +46,19 @@ strings_low (no_string h) d = tt
 strings_low (a_string {l = l} {b = w} {ts = ts} n e rest) d = both_low d (letters (span l l.after) (spelled w)) ts (codes_low d (span l l.after) (chars (spelled w))) (strings_low rest d)
 
 tail_low : (d : ℕ) (t : Tree) → depth t ≤ d → row_depth (tail_of t) ≤ d
-tail_low d (integer s n) h = omega arith
-tail_low d (atom s w) h = omega arith
 tail_low d (tuple s t) h = h
-tail_low d (list s t) h = omega arith
-tail_low d (other s k w) h = omega arith
-tail_low d nil h = omega arith
 tail_low d (cons t u) h = h
+tail_low d _ h = omega arith
 
 mutual
   spelled_low : {d : ℕ} {l : Lexeme} {t : Tree} {q : Place} → Spells d l t q → depth t ≤ d
-  spelled_low (an_integer e) = omega arith
-  spelled_low (an_atom e) = omega arith
   spelled_low (strings {d = d} {l = l} {b = w} {ts = ts} e h) =
       let low = chain_low d (letters (span l l.after) (spelled w) ++ ts) nil (both_low d (letters (span l l.after) (spelled w)) ts (codes_low d (span l l.after) (chars (spelled w))) (strings_low h d)) (omega arith) in
       omega (arith, low)
-  spelled_low (empty_tuple e n c) = omega arith
   spelled_low (a_tuple {d = d} {ts = ts} e n row c) = let low = chain_low d ts nil (row_low row) (omega arith) in omega (arith, low)
-  spelled_low (empty_list e n c) = omega arith
   spelled_low (a_list {d = d} {ts = ts} e n row c) = let low = chain_low d ts nil (row_low row) (omega arith) in omega (arith, low)
   spelled_low (a_list_with_tail {d = d} {ts = ts} {t = t} e n row b m spells x c) = let low = chain_low d ts (tail_of t) (row_low row) (tail_low d t (spelled_low spells)) in omega (arith, low)
-  spelled_low (a_float e k) = omega arith
-  spelled_low (an_empty_map e n c k) = omega arith
-  spelled_low (a_map e n r c k) = omega arith
-  spelled_low (an_empty_binary e n c k) = omega arith
-  spelled_low (a_binary e n r c k) = omega arith
-  spelled_low (a_fun e a b c h i j k m o p q) = omega arith
+  spelled_low _ = omega arith
 
   row_low : {d : ℕ} {l m : Lexeme} {ts : List Tree} → Row d l ts m → AreLow d ts
   row_low (one spells n) = (spelled_low spells, tt)
@@ -83,28 +66,21 @@ mutual
 
 -- forms that nest as deep as is read
 abbrev pub FormsLow : Forms → Type 0
-FormsLow ends = Unit {0}
-FormsLow (broken fault) = Unit {0}
 FormsLow (form line t rest) = (depth t ≤ 256) × FormsLow rest
+FormsLow _ = Unit {0}
 
 form_low : {d : ℕ} {p q : Place} {t : Tree} → Form d p t q → depth t ≤ d
 form_low (a_form n spells m c) = spelled_low spells
 
 pub forms_low : {p : Place} {fs : Forms} → AreForms p fs → FormsLow fs
-forms_low (none_follows b) = tt
 forms_low (one_follows f rest) = (form_low f, forms_low rest)
-forms_low (is_refused e) = tt
+forms_low _ = tt
 
 -- the parts of a tuple and of a list
 
 elements_low : (d : ℕ) (row : Tree) → row_depth row ≤ d → AreLow d (elements row)
 elements_low d (cons t u) h = (omega arith, elements_low d u (omega arith))
-elements_low d (integer s n) h = tt
-elements_low d (atom s w) h = tt
-elements_low d (tuple s t) h = tt
-elements_low d (list s t) h = tt
-elements_low d (other s k w) h = tt
-elements_low d nil h = tt
+elements_low d _ h = tt
 
 pub parts_low : (d : ℕ) (t : Tree) (w : List ℕ) (parts : List Tree) → shape t ≡ tagged w parts → depth t ≤ suc d → AreLow d parts
 parts_low d (tuple s (cons (atom r v) row)) w parts e h = let same : elements row ≡ parts = cc in subst (AreLow d) same (elements_low d row (omega arith))

@@ -1,5 +1,6 @@
 -- An item that was read is one that can be written.
 use Rattle.std.proofs.Common.{◌≡◌, ◌≢◌, ℕ, suc, ◌≤◌, Bool, true, false, ◌&&◌, List, [], ◌∷◌, ◌++◌, length, drop, Some, None, refl, sym, ◌∙◌, subst, arith, codes, nat_eq, if◌then◌else◌}
+use Rattle.std.proofs.lemmas.Bool.{and_parts}
 use Rattle.std.specs.Prelude.{nat_le}
 use Rattle.std.specs.List.{AllByRecursion}
 use Rattle.std.proofs.lemmas.Bool.Decides.{nat_tests, Decides-eqb}
@@ -27,7 +28,6 @@ use Rattle.bx_listing.proofs.ListedItems.{no_slots}
 use Rattle.bx_listing.proofs.ListedSlots.{slots_length}
 use Rattle.bx_listing.proofs.Fitting.{item_fits}
 use Rattle.bx_listing_laws.specs.Writable.{IsWritableOperand, FaultIsSaid, depth_left, IsWritableItem}
-use Rattle.bx_listing_laws.proofs.Operands.{both}
 use Rattle.bx_listing_laws.proofs.Depths.{depth, AreLow, parts_low, list_low}
 use Rattle.bx_listing_laws.proofs.ReadOperands.{Within, Stands, AllStand, operand_writable, members_writable}
 
@@ -39,9 +39,8 @@ SlotStands k (slot_kinds.Pairs r s) t = depth t ≤ suc (suc (suc k))
 SlotStands k s t = Unit {0}
 
 abbrev AllPlaces : ℕ → List Slot → List Tree → Type 0
-AllPlaces k [] ts = Unit {0}
-AllPlaces k (s ∷ ss) [] = Unit {0}
 AllPlaces k (s ∷ ss) (t ∷ ts) = SlotStands k s t × AllPlaces k ss ts
+AllPlaces k _ _ = Unit {0}
 
 stands : (k : ℕ) (s : Sort) (t : Tree) → depth t ≤ suc k → Stands k s t
 stands k sorts.Source t h = h
@@ -89,10 +88,9 @@ slots_writable last k (a_slot {before = b} {between = c} {os = os} {more = more}
 
 reach : ℕ → ℕ → Slot → Bool
 reach d k (slot_kinds.One sorts.Source) = nat_le d (suc k)
-reach d k (slot_kinds.One s) = true
 reach d k (slot_kinds.Many s) = nat_le d (suc (suc (suc k)))
 reach d k (slot_kinds.Pairs r s) = nat_le d (suc (suc (suc k)))
-reach d k s = true
+reach d k _ = true
 
 reach_all : ℕ → ℕ → List Slot → Bool
 reach_all d k [] = true
@@ -104,18 +102,14 @@ at_most d k e = grind (arith, nat_tests)
 slot_stands : (d k : ℕ) (s : Slot) (t : Tree) → depth t ≤ d → reach d k s ≡ true → SlotStands k s t
 unfolding reach
 slot_stands d k (slot_kinds.One sorts.Source) t h e = omega (arith, at_most d (suc k) e)
-slot_stands d k (slot_kinds.One _) t h e = tt
 slot_stands d k (slot_kinds.Many s) t h e = omega (arith, at_most d (suc (suc (suc k))) e)
 slot_stands d k (slot_kinds.Pairs r s) t h e = omega (arith, at_most d (suc (suc (suc k))) e)
-slot_stands d k slot_kinds.NoLabel t h e = tt
-slot_stands d k slot_kinds.ToX0 t h e = tt
-slot_stands d k slot_kinds.Heap t h e = tt
+slot_stands d k _ t h e = tt
 
 places : (d k : ℕ) (ss : List Slot) (ts : List Tree) → AreLow d ts → reach_all d k ss ≡ true → AllPlaces k ss ts
 unfolding reach_all
-places d k [] ts a e = tt
-places d k (s ∷ ss) [] a e = tt
-places d k (s ∷ ss) (t ∷ ts) a e = let room = both (reach d k s) (reach_all d k ss) e in (slot_stands d k s t a.0 room.0, places d k ss ts a.1 room.1)
+places d k (s ∷ ss) (t ∷ ts) a e = let room = and_parts (reach d k s) (reach_all d k ss) e in (slot_stands d k s t a.0 room.0, places d k ss ts a.1 room.1)
+places d k _ _ a e = tt
 
 plain_reach : (op : Op) → way op ≡ ways.Plain → reach_all 255 (depth_left op) (slots op) ≡ true
 unfolding reach reach_all
@@ -206,7 +200,7 @@ by_op ops.Bif1 b c ts named n os are e = fault_said are
 by_op ops.Bif2 b c ts named n os are e = fault_said are
 by_op ops.GcBif1 b c ts named n os are e = fault_said are
 by_op ops.GcBif2 b c ts named n os are e = fault_said are
-by_op ops.Bif0 b c ts named n os are e = let no = (both (is_one sorts.Bif0 (operands.Bif named)) (is_row (slot_kinds.NoLabel ∷ slot_kinds.One sorts.Register ∷ []) (operands.Label n ∷ os)) e).1 in absurd (cc)
+by_op ops.Bif0 b c ts named n os are e = let no = (and_parts (is_one sorts.Bif0 (operands.Bif named)) (is_row (slot_kinds.NoLabel ∷ slot_kinds.One sorts.Register ∷ []) (operands.Label n ∷ os)) e).1 in absurd (cc)
 by_op _ b c ts named n os are e = absurd (cc)
 
 item_said : (op : Op) (b c : Table) (ts : List Tree) (os : List Operand) → AreSlots b (slots op) ts os c → is_row (slots op) os ≡ true → FaultIsSaid os
@@ -217,4 +211,4 @@ pub item_writable : (last b c : Table) (t : Tree) (i : Item) → IsItem b t i c 
 item_writable last b c t i (ts, written, are, agree) l h =
     let fit = item_fits b c t i (ts, written, are, agree) in
     let all = slots_writable last (depth_left i.op) are l (item_places written (slots_length are) h) in
-    (all.0, (fit, all.1, item_said i.op b c ts i.operands are (both (is_row (slots i.op) i.operands) (agrees i.operands) fit).0))
+    (all.0, (fit, all.1, item_said i.op b c ts i.operands are (and_parts (is_row (slots i.op) i.operands) (agrees i.operands) fit).0))

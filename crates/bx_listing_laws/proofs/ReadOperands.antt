@@ -49,17 +49,11 @@ number_low _ n e = absurd (cc)
 
 inner_low : (x : term.Tree) → inner_nesting x ≤ nesting x
 inner_low (term.tuple t) = omega arith
-inner_low (term.cons t u) = omega arith
-inner_low term.nil = omega arith
-inner_low (term.int n) = omega arith
-inner_low (term.atom a) = omega arith
-inner_low (term.pid p) = omega arith
+inner_low _ = omega arith
 
 alone_depth : {b c : Table} {t : Tree} {x : term.Tree} → IsTerm b t x c → row_depth t ≡ depth t
 alone_depth (an_int h) = refl
-alone_depth (a_name h) = refl
-alone_depth (a_tuple h) = refl
-alone_depth (a_list h) = refl
+alone_depth _ = refl
 
 module _ (last : Table) where
   mutual

@@ -14,7 +14,7 @@ use Rattle.bx_terms.specs.AtomText.{printed_atom}
 use Rattle.bx_text.specs.declared.node.Span.{Span}
 use Rattle.bx_text.specs.Number.{is_large}
 use Rattle.bx_text.specs.Printed.{integer_text, node_text, rest_text}
-use Rattle.bx_text.specs.Tree.{Tree, integer, atom, tuple, list, other, nil, cons, chain}
+use Rattle.bx_text.specs.Tree.{Tree, integer, atom, tuple, list, nil, cons, chain}
 use Rattle.bx_text.proofs.Shown.{small_text}
 use Rattle.bx_text_laws.specs.Shown.{Shown, ShownRow, ShownList, ShownRest, nowhere, unplaced}
 use Rattle.bx_listing.specs.Shape.{tagged, shape, elements, number, in_range, word, proper, list_elements}
@@ -53,57 +53,27 @@ between (w ∷ ws) end = w ++ behind ws end
 
 pub atom_is : (u : Tree) (w : List ℕ) → unplaced u ≡ atom nowhere w → (s : Span) × (u ≡ atom s w)
 atom_is (atom s v) w e = let same : v ≡ w = cc in (s, ap (atom s) same)
-atom_is (integer s n) w e = absurd (cc)
-atom_is (tuple s t) w e = absurd (cc)
-atom_is (list s t) w e = absurd (cc)
-atom_is (other s k v) w e = absurd (cc)
-atom_is nil w e = absurd (cc)
-atom_is (cons t v) w e = absurd (cc)
+atom_is _ w e = absurd (cc)
 
 pub integer_is : (u : Tree) (n : ℤ) → unplaced u ≡ integer nowhere n → (s : Span) × (u ≡ integer s n)
 integer_is (integer s m) n e = let same : m ≡ n = cc in (s, ap (integer s) same)
-integer_is (atom s v) n e = absurd (cc)
-integer_is (tuple s t) n e = absurd (cc)
-integer_is (list s t) n e = absurd (cc)
-integer_is (other s k v) n e = absurd (cc)
-integer_is nil n e = absurd (cc)
-integer_is (cons t v) n e = absurd (cc)
+integer_is _ n e = absurd (cc)
 
 pub tuple_is : (u t : Tree) → unplaced u ≡ tuple nowhere (unplaced t) → (s : Span) × (row : Tree) × (u ≡ tuple s row) × (unplaced row ≡ unplaced t)
 tuple_is (tuple s row) t e = (s, row, refl, cc)
-tuple_is (integer s n) t e = absurd (cc)
-tuple_is (atom s v) t e = absurd (cc)
-tuple_is (list s v) t e = absurd (cc)
-tuple_is (other s k v) t e = absurd (cc)
-tuple_is nil t e = absurd (cc)
-tuple_is (cons a v) t e = absurd (cc)
+tuple_is _ t e = absurd (cc)
 
 pub list_is : (u t : Tree) → unplaced u ≡ list nowhere (unplaced t) → (s : Span) × (row : Tree) × (u ≡ list s row) × (unplaced row ≡ unplaced t)
 list_is (list s row) t e = (s, row, refl, cc)
-list_is (integer s n) t e = absurd (cc)
-list_is (atom s v) t e = absurd (cc)
-list_is (tuple s v) t e = absurd (cc)
-list_is (other s k v) t e = absurd (cc)
-list_is nil t e = absurd (cc)
-list_is (cons a v) t e = absurd (cc)
+list_is _ t e = absurd (cc)
 
 pub nil_is : (u : Tree) → unplaced u ≡ nil → u ≡ nil
 nil_is nil e = refl
-nil_is (integer s n) e = absurd (cc)
-nil_is (atom s v) e = absurd (cc)
-nil_is (tuple s t) e = absurd (cc)
-nil_is (list s t) e = absurd (cc)
-nil_is (other s k v) e = absurd (cc)
-nil_is (cons t v) e = absurd (cc)
+nil_is _ e = absurd (cc)
 
 pub cons_is : (u a b : Tree) → unplaced u ≡ cons (unplaced a) (unplaced b) → (t : Tree) × (v : Tree) × (u ≡ cons t v) × (unplaced t ≡ unplaced a) × (unplaced v ≡ unplaced b)
 cons_is (cons t v) a b e = (t, v, refl, cc, cc)
-cons_is (integer s n) a b e = absurd (cc)
-cons_is (atom s v) a b e = absurd (cc)
-cons_is (tuple s t) a b e = absurd (cc)
-cons_is (list s t) a b e = absurd (cc)
-cons_is (other s k v) a b e = absurd (cc)
-cons_is nil a b e = absurd (cc)
+cons_is _ a b e = absurd (cc)
 
 -- the parts of a row
 proper_is : (row : Tree) (ts : List Tree) → unplaced row ≡ unplaced (chain ts nil) → (us : List Tree) × (elements row ≡ us) × (proper row ≡ Some us) × (map unplaced us ≡ map unplaced ts)

@@ -153,9 +153,8 @@ labels_text_is n = append_assoc (codes "{labels," ++ decimal n) (codes "}") (cod
 -- the number of labels is one that a listing may hold
 
 label_low : (names : Table) (k n : ℕ) (os : List Operand) → InRange n → AllByRecursion (IsWritableOperand names k) os → InRange (label_above n os)
-label_low names k n [] h a = h
 label_low names k n (operands.Place l ∷ os) h a = let m : l ≤ 4294967295 = a.0 in omega arith
-label_low names k n (_ ∷ os) h a = h
+label_low names k n _ h a = h
 
 labels_low : (names : Table) (n : ℕ) (is : List Item) → InRange n → AllByRecursion (IsWritableItem names) is → InRange (labels_above n is)
 labels_low names n [] h a = h

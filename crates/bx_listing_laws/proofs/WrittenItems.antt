@@ -1,5 +1,6 @@
 -- The text of an instruction, a label or a line mark is read as the same item.
 use Rattle.std.proofs.Common.{◌≡◌, ℕ, suc, Bool, true, ◌&&◌, List, [], ◌∷◌, ◌++◌, map, length, take, drop, Some, refl, sym, ap, ◌∙◌, subst, codes, append_assoc}
+use Rattle.std.proofs.lemmas.Bool.{and_parts}
 use Rattle.std.specs.Prelude.{nat_lt}
 use Rattle.std.specs.List.{AllByRecursion, list_all}
 use Rattle.bx_terms.specs.AtomTable.{IsAtomTable}
@@ -25,7 +26,7 @@ use Rattle.bx_listing.specs.Writing.{operand_text, list_text, grouped_text, way_
 use Rattle.bx_listing.specs.Fits.{is_one, is_row}
 use Rattle.bx_listing.proofs.ListedItems.{no_slots}
 use Rattle.bx_listing_laws.specs.Writable.{IsWritableOperand, FaultIsSaid, depth_left, IsWritableItem}
-use Rattle.bx_listing_laws.proofs.Operands.{both, one, end, row1, row4}
+use Rattle.bx_listing_laws.proofs.Operands.{one, end, row1, row4}
 use Rattle.bx_listing_laws.proofs.Trees.{Printed, PrintedAll, reworded, plain_utf8, word_printed, none_printed, more_printed, tagged_printed, list_printed}
 use Rattle.bx_listing_laws.proofs.WrittenOperands.{one_part, part, suits, operand_printed}
 use Rattle.bx_listing_laws.proofs.WrittenSlots.{list_text_is, suit_all, row_printed}
@@ -59,13 +60,7 @@ bare_item names op os at fit =
 
 plain_suits : (op : Op) → way op ≡ ways.Plain → suit_all 252 (depth_left op) (slots op) ≡ true
 plain_suits ops.Label at = refl
-plain_suits ops.Bif0 at = absurd (cc)
-plain_suits ops.Bif1 at = absurd (cc)
-plain_suits ops.Bif2 at = absurd (cc)
-plain_suits ops.GcBif1 at = absurd (cc)
-plain_suits ops.GcBif2 at = absurd (cc)
-plain_suits ops.Raise at = absurd (cc)
-plain_suits _ at = refl
+plain_suits _ at = cc
 
 plain_item : (names : Table) (op : Op) (os : List Operand) → IsAtomTable names → way op ≡ ways.Plain → is_row (slots op) os ≡ true → agrees os ≡ true
     → AllByRecursion (IsWritableOperand names (depth_left op)) os → Printed 256 (way_text names ways.Plain (printed_atom (opcode op).name) (slots op) os) (IsOf names op os)
@@ -101,12 +96,11 @@ ones_printed : (d k : ℕ) (names : Table) (ss : List Sort) (os : List Operand) 
     → PrintedAll (suc d) (map (operand_text names) os) (λ us. AreSlots names (ones ss) us os names)
 unfolding suit_ones
 ones_printed d k names [] [] table e a l = none_printed no_slot
-ones_printed d k names [] (o ∷ os) table e a l = absurd (cc)
-ones_printed d k names (s ∷ ss) [] table e a l = absurd (cc)
 ones_printed d k names (s ∷ ss) (o ∷ os) table e a l =
-    let fit = both (is_one s o) (is_row (ones ss) os) e in
-    let room = both (suits d k s) (suit_ones d k ss) l in
+    let fit = and_parts (is_one s o) (is_row (ones ss) os) e in
+    let room = and_parts (suits d k s) (suit_ones d k ss) l in
     more_printed (operand_printed d k names s o table fit.0 a.0 room.0) (ones_printed d k names ss os table fit.1 a.1 room.1) (λ u us is are. a_slot (an_operand is) are)
+ones_printed d k names _ _ table e a l = absurd (cc)
 
 test_text : (names : Table) (name : List ℕ) (o : Operand) (os : List Operand)
     → codes "{test," ++ (name ++ (44 ∷ (operand_text names o ++ 44 ∷ (list_text names os ++ 125 ∷ [])))) ≡ way_text names ways.Test name [] (o ∷ os)
@@ -120,7 +114,7 @@ test_by : (names : Table) (op : Op) (ss : List Sort) (os : List Operand) → IsA
     → Printed 256 (way_text names ways.Test (printed_atom (opcode op).name) (slots op) os) (IsOf names op os)
 test_by names op ss [] table at are fit agree a l = absurd (cc)
 test_by names op ss (o ∷ os) table at are fit agree a l =
-    let parts = both (is_one sorts.Target o) (is_row (ones ss) os) fit in
+    let parts = and_parts (is_one sorts.Target o) (is_row (ones ss) os) fit in
     reworded (test_text names (printed_atom (opcode op).name) o os)
     (tagged_printed 255 (codes "test") (plain_utf8 (codes "test") refl)
     (part (word_printed 255 (opcode op).name {Is = λ u. word u ≡ Some (opcode op).name} (plain_utf8 (opcode op).name (opcode_ascii op)) (λ u w. w))
@@ -204,5 +198,5 @@ module _ (names : Table) (table : IsAtomTable names) where
 pub item_printed : (names : Table) (i : Item) → IsAtomTable names → IsWritableItem names i
     → Printed 256 (way_text names (way i.op) (printed_atom (opcode i.op).name) (slots i.op) i.operands) (λ u. IsItem names u i names)
 item_printed names i table (fit, h, said) =
-    let parts = both (is_row (slots i.op) i.operands) (agrees i.operands) fit in
+    let parts = and_parts (is_row (slots i.op) i.operands) (agrees i.operands) fit in
     by_way names table i.op i.operands (way i.op) refl parts.0 h said parts.1

@@ -1,5 +1,6 @@
 -- The text of operands in their places is read as the same operands.
 use Rattle.std.proofs.Common.{◌≡◌, ℕ, zero, suc, ◌+◌, ◌≤◌, ◌%◌, Bool, true, false, ◌&&◌, List, [], ◌∷◌, ◌++◌, map, length, take, drop, Some, refl, sym, ap, ◌∙◌, subst, arith, codes, append_assoc, take-append-drop, length-take}
+use Rattle.std.proofs.lemmas.Bool.{and_parts}
 use Rattle.std.specs.Prelude.{nat_le, ◌==◌}
 use Rattle.std.specs.List.{AllByRecursion}
 use Rattle.std.proofs.lemmas.Bool.Decides.{nat_tests}
@@ -17,7 +18,6 @@ use Rattle.bx_listing.specs.ListedItems.{AreMembers, no_member, a_member, IsSlot
 use Rattle.bx_listing.specs.Writing.{operand_text, added_text, list_text, slot_text, operand_span, slot_span, slots_text}
 use Rattle.bx_listing.specs.Fits.{is_one, are_members, begin_members, is_row}
 use Rattle.bx_listing_laws.specs.Writable.{IsWritableOperand}
-use Rattle.bx_listing_laws.proofs.Operands.{both}
 use Rattle.bx_listing_laws.proofs.Trees.{Printed, PrintedAll, weaker, reworded, behind, between, none_printed, more_printed, list_printed, nothing_printed}
 use Rattle.bx_listing_laws.proofs.WrittenOperands.{single, suits, operand_printed}
 
@@ -32,9 +32,8 @@ list_text_is names [] = refl
 list_text_is names (o ∷ os) = ap (λ w. 91 ∷ w) (append_assoc (operand_text names o) (added_text names os) (93 ∷ []) ∙ ap (λ w. operand_text names o ++ w) (added_is names os (93 ∷ [])))
 
 all_taken : (P : Operand → Type 0) (n : ℕ) (os : List Operand) → AllByRecursion P os → AllByRecursion P (take n os)
-all_taken P zero os a = tt
-all_taken P (suc n) [] a = tt
 all_taken P (suc n) (o ∷ os) a = (a.0, all_taken P n os a.1)
+all_taken P _ _ a = tt
 
 all_left : (P : Operand → Type 0) (n : ℕ) (os : List Operand) → AllByRecursion P os → AllByRecursion P (drop n os)
 all_left P zero os a = a
@@ -47,7 +46,7 @@ pub members_printed : (d k : ℕ) (names : Table) (this next : Sort) (os : List 
     → suits d k this ≡ true → suits d k next ≡ true → PrintedAll (suc d) (map (operand_text names) os) (λ us. AreMembers names this next us os names)
 members_printed d k names this next [] table e a s t = none_printed no_member
 members_printed d k names this next (o ∷ os) table e a s t =
-    let fit = both (is_one this o) (are_members next this os) e in
+    let fit = and_parts (is_one this o) (are_members next this os) e in
     more_printed (operand_printed d k names this o table fit.0 a.0 s) (members_printed d k names next this os table fit.1 a.1 t s) (λ u us is are. a_member is are)
 
 members_length : {b c : Table} {this next : Sort} {ts : List Tree} {os : List Operand} → AreMembers b this next ts os c → length ts ≡ length os
@@ -88,7 +87,7 @@ module _ (d k : ℕ) (names : Table) (table : IsAtomTable names) where
   many_slot : (s : Sort) (n : ℕ) (os : List Operand) → begin_members n s s os ≡ true → AllByRecursion (IsWritableOperand names k) os → suits d k s ≡ true
       → SlotPrinted (suc (suc (suc d))) names (slot_kinds.Many s) (operands.List n ∷ os) (operands.List n ∷ take n os)
   many_slot s n os e a l =
-      let fit = both (nat_le n (length os)) (are_members s s (take n os)) e in
+      let fit = and_parts (nat_le n (length os)) (are_members s s (take n os)) e in
       record {
         text = codes "{list," ++ list_text names (take n os) ++ codes "}";
         is = refl;
@@ -100,7 +99,7 @@ module _ (d k : ℕ) (names : Table) (table : IsAtomTable names) where
   pairs_slot : (s t : Sort) (n : ℕ) (os : List Operand) → (n % 2 == 0) ≡ true → begin_members n s t os ≡ true → AllByRecursion (IsWritableOperand names k) os → suits d k s ≡ true → suits d k t ≡ true
       → SlotPrinted (suc (suc (suc d))) names (slot_kinds.Pairs s t) (operands.List n ∷ os) (operands.List n ∷ take n os)
   pairs_slot s t n os even e a l m =
-      let fit = both (nat_le n (length os)) (are_members s t (take n os)) e in
+      let fit = and_parts (nat_le n (length os)) (are_members s t (take n os)) e in
       record {
         text = codes "{list," ++ list_text names (take n os) ++ codes "}";
         is = refl;
@@ -113,7 +112,7 @@ module _ (d k : ℕ) (names : Table) (table : IsAtomTable names) where
   amounts_slot : (n : ℕ) (os : List Operand) → begin_members n sorts.Amount sorts.Amount os ≡ true → AllByRecursion (IsWritableOperand names k) os
       → SlotPrinted (suc (suc (suc d))) names slot_kinds.Heap (operands.List n ∷ os) (operands.List n ∷ take n os)
   amounts_slot n os e a =
-      let fit = both (nat_le n (length os)) (are_members sorts.Amount sorts.Amount (take n os)) e in
+      let fit = and_parts (nat_le n (length os)) (are_members sorts.Amount sorts.Amount (take n os)) e in
       record {
         text = codes "{alloc," ++ list_text names (take n os) ++ codes "}";
         is = refl;
@@ -173,30 +172,26 @@ list_span n o os = let is : 1 + n ≡ suc n = omega arith in ap (λ k. drop k (o
 pub row_printed : (d k : ℕ) (names : Table) (ss : List Slot) (os : List Operand) → IsAtomTable names → is_row ss os ≡ true → AllByRecursion (IsWritableOperand names k) os → suit_all d k ss ≡ true
     → RowPrinted (suc (suc (suc d))) names ss os
 row_printed d k names [] [] table e a l = record { texts = []; is = λ end. refl; printed = none_printed no_slot }
-row_printed d k names [] (o ∷ os) table e a l = absurd (cc)
-row_printed d k names (slot_kinds.NoLabel ∷ ss) os table e a l = absurd (cc)
-row_printed d k names (slot_kinds.ToX0 ∷ ss) os table e a l = absurd (cc)
-row_printed d k names (slot_kinds.One s ∷ ss) [] table e a l = absurd (cc)
 row_printed d k names (slot_kinds.One s ∷ ss) (o ∷ os) table e a l =
-    let fit = both (is_one s o) (is_row ss os) e in
-    let room = both (suits (suc (suc d)) k s) (suit_all d k ss) l in
+    let fit = and_parts (is_one s o) (is_row ss os) e in
+    let room = and_parts (suits (suc (suc d)) k s) (suit_all d k ss) l in
     place_ahead (one_slot (suc (suc d)) k names s o os table fit.0 a.0 room.0) (one_span s o os fit.0) refl (row_printed d k names ss os table fit.1 a.1 room.1)
 row_printed d k names (slot_kinds.Many s ∷ ss) (operands.List n ∷ os) table e a l =
-    let fit = both (begin_members n s s os) (is_row ss (drop n os)) e in
-    let room = both (suits d k s) (suit_all d k ss) l in
+    let fit = and_parts (begin_members n s s os) (is_row ss (drop n os)) e in
+    let room = and_parts (suits d k s) (suit_all d k ss) l in
     place_ahead (many_slot d k names table s n os fit.0 a.1 room.0) (list_span n (operands.List n) os) (ap (λ os. operands.List n ∷ os) (take-append-drop n os))
     (row_printed d k names ss (drop n os) table fit.1 (all_left (IsWritableOperand names k) n os a.1) room.1)
 row_printed d k names (slot_kinds.Pairs s t ∷ ss) (operands.List n ∷ os) table e a l =
-    let even = both (n % 2 == 0) (begin_members n s t os && is_row ss (drop n os)) e in
-    let fit = both (begin_members n s t os) (is_row ss (drop n os)) even.1 in
-    let room = both (suits d k s && suits d k t) (suit_all d k ss) l in
-    let each = both (suits d k s) (suits d k t) room.0 in
+    let even = and_parts (n % 2 == 0) (begin_members n s t os && is_row ss (drop n os)) e in
+    let fit = and_parts (begin_members n s t os) (is_row ss (drop n os)) even.1 in
+    let room = and_parts (suits d k s && suits d k t) (suit_all d k ss) l in
+    let each = and_parts (suits d k s) (suits d k t) room.0 in
     place_ahead (pairs_slot d k names table s t n os even.0 fit.0 a.1 each.0 each.1) (list_span n (operands.List n) os) (ap (λ os. operands.List n ∷ os) (take-append-drop n os))
     (row_printed d k names ss (drop n os) table fit.1 (all_left (IsWritableOperand names k) n os a.1) room.1)
 row_printed d k names (slot_kinds.Heap ∷ ss) (operands.Number n ∷ os) table e a l =
     place_ahead (size_slot (suc (suc d)) k n names os table a.0) refl refl (row_printed d k names ss os table e a.1 l)
 row_printed d k names (slot_kinds.Heap ∷ ss) (operands.List n ∷ os) table e a l =
-    let fit = both (begin_members n sorts.Amount sorts.Amount os) (is_row ss (drop n os)) e in
+    let fit = and_parts (begin_members n sorts.Amount sorts.Amount os) (is_row ss (drop n os)) e in
     place_ahead (amounts_slot d k names table n os fit.0 a.1) (list_span n (operands.List n) os) (ap (λ os. operands.List n ∷ os) (take-append-drop n os))
     (row_printed d k names ss (drop n os) table fit.1 (all_left (IsWritableOperand names k) n os a.1) l)
-row_printed d k names (s ∷ ss) os table e a l = absurd (cc)
+row_printed d k names _ _ table e a l = absurd (cc)

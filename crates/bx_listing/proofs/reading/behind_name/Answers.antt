@@ -2,7 +2,7 @@ use Rattle.std.proofs.Common.{List, Ok, Err, inl, inr}
 use Rattle.std.proofs.lemmas.Result.{err_from_is_err_and}
 use Rattle.bx_text.specs.Place.{place}
 use Rattle.bx_text.specs.Forms.{takes_memory}
-use Rattle.bx_listing.specs.Reading.{from_result, Takes}
+use Rattle.bx_listing.specs.Reading.{from_result, Takes, on_line}
 use Rattle.bx_listing.specs.Shape.{shape}
 use Rattle.bx_listing.specs.Forms.{forms, last_line}
 use Rattle.bx_listing.specs.HeadForms.{exports_form}
@@ -27,10 +27,10 @@ returns-in_err-exports-clause-read c =
     let last = last_line c.args.source.text.now in
     let f = listings.taken_at c.in_ok-form.form (place c.in_ok-form.behind) in
     let here : ReadsForms (place c.args.behind) = inr (taken_form last (forms (place c.args.behind)) f c.in_ok-form.ensures) in
-    let exports = exports_form f.line (shape f.tree) in
+    let exports = on_line f.line (exports_form (shape f.tree)) in
     rw (p.1, p.2) (exported-reads {X = ListedModule} (ReadsForms (place c.args.behind)) (λ x. x) _ _ (Err _) last (forms (place c.args.behind)) f c.args.name c.in_ok-form.ensures
     (refuses_first (ReadsForms (place c.args.behind)) _ _ _ exports (listings.behind_exports last c.args.name f.rest)
-    (refuses_wider (Takes exports c.args.atoms.now) (ReadsForms (place c.args.behind)) _ _ _ exports (λ h. here) (rw (c.new-reader.ensures, c.shape_of.ensures) at c.in_err-exports.ensures))))
+    (refuses_wider (Takes exports c.args.atoms.now) (ReadsForms (place c.args.behind)) _ _ _ exports (λ h. here) c.in_err-exports.ensures)))
 
 pub returns-in_err-functions-clause-read : goal.returns-in_err-functions-clause-read
 returns-in_err-functions-clause-read c =
@@ -39,7 +39,7 @@ returns-in_err-functions-clause-read c =
     let f = listings.taken_at c.in_ok-form.form (place c.in_ok-form.behind) in
     let here : ReadsForms (place c.args.behind) = inr (taken_form last (forms (place c.args.behind)) f c.in_ok-form.ensures) in
     rw (p.1, p.2) (listing-reads {X = List ListedFunction} (ReadsForms (place c.args.behind)) (λ x. x) _ _ _ (Err _) last (forms (place c.args.behind)) f c.args.name _ c.in_ok-form.ensures
-    (rw (c.new-reader.ensures, c.shape_of.ensures) at c.in_ok-exports.ensures)
+    c.in_ok-exports.ensures
     (refuses_wider (ReadsForms (place c.in_ok-form.behind)) (ReadsForms (place c.args.behind)) _ _ _ (listings.functions_behind last f.rest) (λ h. here) c.in_err-functions.ensures.read))
 
 pub returns-clause-read : goal.returns-clause-read
@@ -47,7 +47,7 @@ returns-clause-read c =
     let last = last_line c.args.source.text.now in
     let f = listings.taken_at c.in_ok-form.form (place c.in_ok-form.behind) in
     rw c.new.ensures (listing-reads {X = List ListedFunction} (ReadsForms (place c.args.behind)) (λ x. x) _ _ _ (Ok _) last (forms (place c.args.behind)) f c.args.name _ c.in_ok-form.ensures
-    (rw (c.new-reader.ensures, c.shape_of.ensures) at c.in_ok-exports.ensures)
+    c.in_ok-exports.ensures
     c.in_ok-functions.ensures.read)
 
 pub returns-clause-located : goal.returns-clause-located

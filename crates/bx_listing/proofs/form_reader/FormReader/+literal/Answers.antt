@@ -20,14 +20,14 @@ literal_row-returns-in_err-kept-in-Ok t c =
     let here : c.loop-i.i < length ts = omega (arith, c.loop-i-test.true, c.len-i-end.ensures) in
     let at = element_at ts c.loop-i.i _ _ c.node.ensures c.at.ensures in
     let p = err_from_is_err_and c.from_residual.result c.from_residual.ensures.1 in
-    rw (p.1, p.2) (memory_after_element _ _ _ _ _ _ _ _ _ _ here at c.loop-i.invariant.grown c.loop-i.invariant.so_far c.loop-i.invariant.wants c.in-Ok.ensures.read)
+    rw (p.1, p.2) (memory_after_element _ _ _ _ _ _ _ _ _ here at c.loop-i.invariant.grown c.loop-i.invariant.so_far c.loop-i.invariant.wants c.in-Ok.ensures.read)
 
 pub literal_row-returns-in-Err : goal.literal_row-returns-in-Err
 literal_row-returns-in-Err t c =
     let ts = elements_seen c.args.elements in
     let here : c.loop-i.i < length ts = omega (arith, c.loop-i-test.true, c.len-i-end.ensures) in
     let at = element_at ts c.loop-i.i _ _ c.node.ensures c.at.ensures in
-    refuses_element _ _ _ _ _ _ _ _ _ _ here at c.loop-i.invariant.grown c.loop-i.invariant.so_far c.loop-i.invariant.wants c.in-Err.ensures.read
+    refuses_element _ _ _ _ _ _ _ _ _ here at c.loop-i.invariant.grown c.loop-i.invariant.so_far c.loop-i.invariant.wants c.in-Err.ensures.read
 
 pub literal_row-loop-i-preserved : goal.literal_row-loop-i-preserved
 literal_row-loop-i-preserved t c =
@@ -35,9 +35,9 @@ literal_row-loop-i-preserved t c =
     let here : c.loop-i.i < length ts = omega (arith, c.loop-i-test.true, c.len-i-end.ensures) in
     let at = element_at ts c.loop-i.i _ _ c.node.ensures c.at.ensures in
     record {
-      so_far = rw c.in_ok-kept-in-Ok.ensures (sym (resumed_next c.args.self.line (elements_seen c.args.elements) _ _ c.node.result.now _ _ _ _ here at c.in-Ok.ensures.read) ∙ c.loop-i.invariant.so_far);
-      wants = element_takes c.args.self.line (elements_seen c.args.elements) _ _ c.node.result.now _ _ _ _ here at c.loop-i.invariant.wants c.in-Ok.ensures.read;
-      grown = grown_after c.args.self.line c.node.result.now _ _ _ _ c.loop-i.invariant.grown c.in-Ok.ensures.read;
+      so_far = rw c.in_ok-kept-in-Ok.ensures (sym (resumed_next (elements_seen c.args.elements) _ _ c.node.result.now _ _ _ _ here at c.in-Ok.ensures.read) ∙ c.loop-i.invariant.so_far);
+      wants = element_takes (elements_seen c.args.elements) _ _ c.node.result.now _ _ _ _ here at c.loop-i.invariant.wants c.in-Ok.ensures.read;
+      grown = grown_after c.node.result.now _ _ _ _ c.loop-i.invariant.grown c.in-Ok.ensures.read;
     }
 
 pub literal_row-literal-requires : goal.literal_row-literal-requires
@@ -58,26 +58,26 @@ literal_row-literal-requires-in-Some t c =
 pub literal_row-returns-in-Ok-literal : goal.literal_row-returns-in-Ok-literal
 literal_row-returns-in-Ok-literal t c =
     let past : length (elements_seen c.args.elements) ≤ c.loop-i.i = omega (arith, c.loop-i-test.false, c.len-i-end.ensures) in
-    rw c.in-Some.is (ends_with c.args.self.line (elements_seen c.args.elements) c.in-Some.node.now _ _ _ _ _ _ past c.in-Ok-literal.ensures.node (rw c.in-Some.is at c.loop-i.invariant.so_far) c.in-Ok-literal.ensures.read)
+    rw c.in-Some.is (ends_with (elements_seen c.args.elements) c.in-Some.node.now _ _ _ _ _ _ past c.in-Ok-literal.ensures.node (rw c.in-Some.is at c.loop-i.invariant.so_far) c.in-Ok-literal.ensures.read)
 
 pub literal_row-returns-in-Err-literal : goal.literal_row-returns-in-Err-literal
 literal_row-returns-in-Err-literal t c =
     let past : length (elements_seen c.args.elements) ≤ c.loop-i.i = omega (arith, c.loop-i-test.false, c.len-i-end.ensures) in
-    rw c.in-Some.is (refuses_tail c.args.self.line (elements_seen c.args.elements) c.in-Some.node.now _ _ _ _ _ _ past c.in-Err-literal.ensures.node c.loop-i.invariant.grown (rw c.in-Some.is at c.loop-i.invariant.so_far) (rw c.in-Some.is at c.loop-i.invariant.wants) c.in-Err-literal.ensures.read)
+    rw c.in-Some.is (refuses_tail (elements_seen c.args.elements) c.in-Some.node.now _ _ _ _ _ _ past c.in-Err-literal.ensures.node c.loop-i.invariant.grown (rw c.in-Some.is at c.loop-i.invariant.so_far) (rw c.in-Some.is at c.loop-i.invariant.wants) c.in-Err-literal.ensures.read)
 
 pub literal_row-returns-in-None : goal.literal_row-returns-in-None
 literal_row-returns-in-None t c =
     let past : length (elements_seen c.args.elements) ≤ c.loop-i.i = omega (arith, c.loop-i-test.false, c.len-i-end.ensures) in
-    rw (c.in-None.is, c.nil.ensures) (ends_without c.args.self.line (elements_seen c.args.elements) _ _ _ _ past (rw c.in-None.is at c.loop-i.invariant.so_far))
+    rw (c.in-None.is, c.nil.ensures) (ends_without (elements_seen c.args.elements) _ _ _ _ past (rw c.in-None.is at c.loop-i.invariant.so_far))
 
 pub literal-returns-in_err-tuple-in-Tuple-clause-read : goal.literal-returns-in_err-tuple-in-Tuple-clause-read
 literal-returns-in_err-tuple-in-Tuple-clause-read t c =
     let p = err_from_is_err_and c.from_residual-in_err-tuple-in-Tuple.result c.from_residual-in_err-tuple-in-Tuple.ensures.1 in
-    let said : Refused c.args.atoms.now c.literal_row.new.atoms Memory (literal c.args.self.line (tuple (span_of c.args.node.now) (chain c.in-Tuple.elements.now nil))) = wanting_stored (λ _. true) _ _ ((parts c.args.self.line (chain c.in-Tuple.elements.now nil)).row) _ (λ r. give (kept_tuple r.elements)) c.in_ok-row-in-Tuple.ensures refl in
-    rw (p.1, p.2) (subst (λ n. Refused c.args.atoms.now c.literal_row.new.atoms Memory (literal c.args.self.line n)) c.in-Tuple.ensures.content said)
+    let said : Refused c.args.atoms.now c.literal_row.new.atoms Memory (literal (tuple (span_of c.args.node.now) (chain c.in-Tuple.elements.now nil))) = wanting_stored (λ _. true) _ _ ((parts (chain c.in-Tuple.elements.now nil)).row) _ (λ r. give (kept_tuple r.elements)) c.in_ok-row-in-Tuple.ensures refl in
+    rw (p.1, p.2) (subst (λ n. Refused c.args.atoms.now c.literal_row.new.atoms Memory (literal n)) c.in-Tuple.ensures.content said)
 
 pub literal-returns-in_err-list-in-List-clause-read : goal.literal-returns-in_err-list-in-List-clause-read
 literal-returns-in_err-list-in-List-clause-read t c =
     let p = err_from_is_err_and c.from_residual-in_err-list-in-List.result c.from_residual-in_err-list-in-List.ensures.1 in
-    let said : Refused c.args.atoms.now c.literal_row-in-List.new.atoms Memory (literal c.args.self.line (list (span_of c.args.node.now) (chain (elements_seen c.in-List.elements) (tail_seen c.in-List.tail)))) = wanting_stored (λ _. true) _ _ ((parts c.args.self.line (chain (elements_seen c.in-List.elements) (tail_seen c.in-List.tail))).row) _ (λ r. give (kept_list r.elements r.tail)) c.in_ok-row-in-List.ensures refl in
-    rw (p.1, p.2) (subst (λ n. Refused c.args.atoms.now c.literal_row-in-List.new.atoms Memory (literal c.args.self.line n)) c.in-List.ensures.content said)
+    let said : Refused c.args.atoms.now c.literal_row-in-List.new.atoms Memory (literal (list (span_of c.args.node.now) (chain (elements_seen c.in-List.elements) (tail_seen c.in-List.tail)))) = wanting_stored (λ _. true) _ _ ((parts (chain (elements_seen c.in-List.elements) (tail_seen c.in-List.tail))).row) _ (λ r. give (kept_list r.elements r.tail)) c.in_ok-row-in-List.ensures refl in
+    rw (p.1, p.2) (subst (λ n. Refused c.args.atoms.now c.literal_row-in-List.new.atoms Memory (literal n)) c.in-List.ensures.content said)

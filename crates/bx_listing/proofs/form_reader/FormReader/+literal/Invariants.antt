@@ -13,7 +13,7 @@ decreases-literal_row l = 1 + 2 * nodes (chain (elements_seen l.elements) (tail_
 
 abbrev pub invariant-literal_row-loop-i : goal.invariant-literal_row-loop-i
 invariant-literal_row-loop-i l = record {
-  so_far : resumed (option_map (λ ts. ts.items) l.kept) ((row l.self.line (drop l.i (elements_seen l.elements)) (tail_seen l.tail)).run l.atoms) ≡ (row l.self.line (elements_seen l.elements) (tail_seen l.tail)).run l.fn.atoms;
-  wants : Takes (row l.self.line (drop l.i (elements_seen l.elements)) (tail_seen l.tail)) l.atoms → Takes (row l.self.line (elements_seen l.elements) (tail_seen l.tail)) l.fn.atoms;
+  so_far : resumed (option_map (λ ts. ts.items) l.kept) ((row (drop l.i (elements_seen l.elements)) (tail_seen l.tail)).run l.atoms) ≡ (row (elements_seen l.elements) (tail_seen l.tail)).run l.fn.atoms;
+  wants : Takes (row (drop l.i (elements_seen l.elements)) (tail_seen l.tail)) l.atoms → Takes (row (elements_seen l.elements) (tail_seen l.tail)) l.fn.atoms;
   grown : Begins l.fn.atoms l.atoms;
 }

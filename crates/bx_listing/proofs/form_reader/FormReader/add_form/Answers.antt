@@ -1,5 +1,6 @@
 use Rattle.std.proofs.Common.{◌≡◌, ◌<◌, length, vec_len, sym, subst, ◌∙◌}
-use Rattle.bx_listing.specs.Seen.{seen}
+use Rattle.bx_text.specs.Tree.{span_of}
+use Rattle.bx_listing.specs.Shape.{shape}
 use Rattle.bx_listing.proofs.Functions.{in_last, not_none}
 use Rattle.bx_listing.proofs.form_reader.FormReader.add_form.Goals as goal
 
@@ -7,4 +8,4 @@ pub returns : goal.returns
 returns c =
     let size : vec_len c.args.functions.now ≡ length c.args.functions.now.items = c.args.functions.now.ok.0 in
     let some : 0 < length c.args.functions.now.items = subst (λ n. 0 < n) size (not_none (vec_len c.args.functions.now) (sym c.is_empty.ensures ∙ c.if-is_empty.false)) in
-    in_last _ _ _ _ c.args.self.line c.args.functions.now.items (seen c.args.form) some c.add_form_item.ensures
+    in_last _ _ _ _ (span_of c.args.form.now).line c.args.functions.now.items (shape c.args.form.now) some c.add_form_item.ensures

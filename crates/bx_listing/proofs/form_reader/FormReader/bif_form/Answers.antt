@@ -7,4 +7,4 @@ use Rattle.bx_listing.proofs.form_reader.FormReader.bif_form.Goals as goal
 pub returns : goal.returns
 returns c =
     let op = c.bif_op.ensures ∙ ap bif_op c.len.ensures in
-    rw (bif_listed c.args.self.line c.args.parts.now _ _ _ (elements_seen c.in-Some-Some.list) c.bif_op.result c.in-len3-up.len_at_least c.name-item.is c.list-item.is c.in-Some-Some.ensures c.in-Some-Some.ensures' (c.if-is_raise.ensures) op) c.bif_found.ensures
+    rw (bif_listed c.args.parts.now _ _ _ (elements_seen c.in-Some-Some.list) c.bif_op.result c.in-len3-up.len_at_least c.name-item.is c.list-item.is c.in-Some-Some.ensures c.in-Some-Some.ensures' (c.if-is_raise.ensures) op) c.bif_found.ensures

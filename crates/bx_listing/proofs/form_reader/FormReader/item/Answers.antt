@@ -6,4 +6,4 @@ use Rattle.bx_listing.proofs.Readings.{answers_given}
 use Rattle.bx_listing.proofs.form_reader.FormReader.item.Goals as goal
 
 pub returns : goal.returns
-returns c = answers_given (λ op. (op, c.read_item.new.operands.items)) read_as _ _ _ (item_row c.args.self.line [] (seen c.args.form)) (rw c.clear.ensures.items at c.read_item.ensures)
+returns c = answers_given (λ op. (op, c.read_item.new.operands.items)) read_as _ _ _ (item_row [] (seen c.args.form)) (rw c.clear.ensures.items at c.read_item.ensures)

@@ -14,14 +14,14 @@ returns-in_err-push-in-Ok c =
     let here : c.loop-i.i < length ts = omega (arith, c.loop-i-test.true, c.len-i-end.ensures) in
     let at = element_at ts c.loop-i.i _ _ c.node.ensures c.at.ensures in
     let p = err_from_is_err_and c.from_residual.result c.from_residual.ensures.1 in
-    rw (p.1, p.2) (members_memory c.args.self.line _ _ _ _ _ _ _ _ _ _ (members c.args.self.line c.args.operands.now.items c.args.first c.args.second (elements_seen c.args.nodes)) here at c.loop-i.invariant.grown c.loop-i.invariant.so_far c.loop-i.invariant.wants c.in-Ok.ensures)
+    rw (p.1, p.2) (members_memory _ _ _ _ _ _ _ _ _ _ (members c.args.operands.now.items c.args.first c.args.second (elements_seen c.args.nodes)) here at c.loop-i.invariant.grown c.loop-i.invariant.so_far c.loop-i.invariant.wants c.in-Ok.ensures)
 
 pub returns-in-Err : goal.returns-in-Err
 returns-in-Err c =
     let ts = elements_seen c.args.nodes in
     let here : c.loop-i.i < length ts = omega (arith, c.loop-i-test.true, c.len-i-end.ensures) in
     let at = element_at ts c.loop-i.i _ _ c.node.ensures c.at.ensures in
-    members_refuses c.args.self.line _ _ _ _ _ _ _ _ _ _ (members c.args.self.line c.args.operands.now.items c.args.first c.args.second (elements_seen c.args.nodes)) here at c.loop-i.invariant.grown c.loop-i.invariant.so_far c.loop-i.invariant.wants c.in-Err.ensures
+    members_refuses _ _ _ _ _ _ _ _ _ _ (members c.args.operands.now.items c.args.first c.args.second (elements_seen c.args.nodes)) here at c.loop-i.invariant.grown c.loop-i.invariant.so_far c.loop-i.invariant.wants c.in-Err.ensures
 
 pub loop-i-preserved : goal.loop-i-preserved
 loop-i-preserved c =
@@ -29,7 +29,7 @@ loop-i-preserved c =
     let here : c.loop-i.i < length ts = omega (arith, c.loop-i-test.true, c.len-i-end.ensures) in
     let at = element_at ts c.loop-i.i _ _ c.node.ensures c.at.ensures in
     record {
-      so_far = rw c.in_ok-push-in-Ok.ensures.items (members_next c.args.self.line _ _ _ _ _ _ _ _ _ _ here at c.loop-i.invariant.so_far c.in-Ok.ensures);
-      wants = rw c.in_ok-push-in-Ok.ensures.items (members_takes c.args.self.line _ _ _ _ _ _ _ _ _ _ (members c.args.self.line c.args.operands.now.items c.args.first c.args.second (elements_seen c.args.nodes)) here at c.loop-i.invariant.wants c.in-Ok.ensures);
-      grown = grown_after (simple c.args.self.line c.loop-i.this c.node.result.now) _ _ _ _ c.loop-i.invariant.grown c.in-Ok.ensures;
+      so_far = rw c.in_ok-push-in-Ok.ensures.items (members_next _ _ _ _ _ _ _ _ _ _ here at c.loop-i.invariant.so_far c.in-Ok.ensures);
+      wants = rw c.in_ok-push-in-Ok.ensures.items (members_takes _ _ _ _ _ _ _ _ _ _ (members c.args.operands.now.items c.args.first c.args.second (elements_seen c.args.nodes)) here at c.loop-i.invariant.wants c.in-Ok.ensures);
+      grown = grown_after (simple c.loop-i.this c.node.result.now) _ _ _ _ c.loop-i.invariant.grown c.in-Ok.ensures;
     }

@@ -16,9 +16,9 @@ loop-i-preserved c =
     let here : c.loop-i.i < length ts = omega (arith, c.loop-i-test.true, c.len-i-end.ensures) in
     let at = element_at ts c.loop-i.i _ _ c.node.ensures c.at.ensures in
     record {
-      so_far = rw c.in_ok-push-in-Ok.ensures.items (each_next (named_offer c.args.self.line) _ _ _ _ _ _ _ _ here at c.loop-i.invariant.so_far c.in-Ok.ensures);
-      wants = each_takes (named_offer c.args.self.line) _ _ _ _ _ _ _ here at c.loop-i.invariant.wants c.in-Ok.ensures;
-      grown = grown_after (named_offer c.args.self.line c.node.result.now) _ _ _ _ c.loop-i.invariant.grown c.in-Ok.ensures;
+      so_far = rw c.in_ok-push-in-Ok.ensures.items (each_next named_offer _ _ _ _ _ _ _ _ here at c.loop-i.invariant.so_far c.in-Ok.ensures);
+      wants = each_takes named_offer _ _ _ _ _ _ _ here at c.loop-i.invariant.wants c.in-Ok.ensures;
+      grown = grown_after (named_offer c.node.result.now) _ _ _ _ c.loop-i.invariant.grown c.in-Ok.ensures;
     }
 
 pub returns-in_err-push-in-Ok : goal.returns-in_err-push-in-Ok
@@ -27,16 +27,16 @@ returns-in_err-push-in-Ok c =
     let here : c.loop-i.i < length ts = omega (arith, c.loop-i-test.true, c.len-i-end.ensures) in
     let at = element_at ts c.loop-i.i _ _ c.node.ensures c.at.ensures in
     let p = err_from_is_err_and c.from_residual.result c.from_residual.ensures.1 in
-    rw (p.1, p.2) (each_memory (named_offer c.args.self.line) _ _ _ _ _ _ _ _ here at c.loop-i.invariant.grown c.loop-i.invariant.so_far c.loop-i.invariant.wants c.in-Ok.ensures)
+    rw (p.1, p.2) (each_memory named_offer _ _ _ _ _ _ _ _ here at c.loop-i.invariant.grown c.loop-i.invariant.so_far c.loop-i.invariant.wants c.in-Ok.ensures)
 
 pub returns-in-Err : goal.returns-in-Err
 returns-in-Err c =
     let ts = elements_seen c.args.list in
     let here : c.loop-i.i < length ts = omega (arith, c.loop-i-test.true, c.len-i-end.ensures) in
     let at = element_at ts c.loop-i.i _ _ c.node.ensures c.at.ensures in
-    each_refuses (named_offer c.args.self.line) _ _ _ _ _ _ _ _ here at c.loop-i.invariant.grown c.loop-i.invariant.so_far c.loop-i.invariant.wants c.in-Err.ensures
+    each_refuses named_offer _ _ _ _ _ _ _ _ here at c.loop-i.invariant.grown c.loop-i.invariant.so_far c.loop-i.invariant.wants c.in-Err.ensures
 
 pub returns : goal.returns
 returns c =
     let past : length (elements_seen c.args.list) ≤ c.loop-i.i = omega (arith, c.loop-i-test.false, c.len-i-end.ensures) in
-    each_ends (named_offer c.args.self.line) _ _ _ _ _ past c.loop-i.invariant.so_far
+    each_ends named_offer _ _ _ _ _ past c.loop-i.invariant.so_far

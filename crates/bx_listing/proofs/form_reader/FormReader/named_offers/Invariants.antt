@@ -7,7 +7,7 @@ use Rattle.bx_listing.proofs.form_reader.FormReader.named_offers.Given as goal
 
 abbrev pub invariant-loop-i : goal.invariant-loop-i
 invariant-loop-i l = record {
-  so_far : resumed l.exports.items ((each (named_offer l.self.line) (drop l.i (elements_seen l.list))).run l.atoms) ≡ (each (named_offer l.self.line) (elements_seen l.list)).run l.fn.atoms;
-  wants : Takes (each (named_offer l.self.line) (drop l.i (elements_seen l.list))) l.atoms → Takes (each (named_offer l.self.line) (elements_seen l.list)) l.fn.atoms;
+  so_far : resumed l.exports.items ((each named_offer (drop l.i (elements_seen l.list))).run l.atoms) ≡ (each named_offer (elements_seen l.list)).run l.fn.atoms;
+  wants : Takes (each named_offer (drop l.i (elements_seen l.list))) l.atoms → Takes (each named_offer (elements_seen l.list)) l.fn.atoms;
   grown : Begins l.fn.atoms l.atoms;
 }
