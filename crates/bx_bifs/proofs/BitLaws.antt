@@ -18,76 +18,31 @@ use Rattle.bx_bifs.proofs.TwosComplement.{and_fits, or_fits, xor_fits, not_fits}
 -- the bits of m that n has not
 without : (m n place : ℕ) → bit_at (m - bit_and m n) place ≡ min (bit_at m place) (1 - bit_at n place)
 without m n place =
-    let common : bit_and m (bit_and m n) ≡ bit_and m n = twice in
-    let parts = xor_add_and m (bit_and m n) in
-    let left : bit_xor m (bit_and m n) ≡ m - bit_and m n = omega arith in
-    let one = bit_at_xor m (bit_and m n) place in
-    let two = bit_at_and m n place in
-    let three = bit_at-lt m place in
-    let four = bit_at-lt n place in
-    ap (λ k. bit_at k place) (sym left) ∙ omega arith
-  where
-    twice : bit_and m (bit_and m n) ≡ bit_and m n
-    twice = same_from_bits (bit_and m (bit_and m n)) (bit_and m n) each
-      where
-        each : (i : ℕ) → bit_at (bit_and m (bit_and m n)) i ≡ bit_at (bit_and m n) i
-        each i =
-            let one = bit_at_and m (bit_and m n) i in
-            let two = bit_at_and m n i in
-            omega arith
+    let twice = same_from_bits (bit_and m (bit_and m n)) (bit_and m n) (λ i. omega (arith, bit_at_and m (bit_and m n) i, bit_at_and m n i)) in
+    let left : bit_xor m (bit_and m n) ≡ m - bit_and m n = omega (arith, xor_add_and m (bit_and m n)) in
+    ap (λ k. bit_at k place) (sym left) ∙ omega (arith, bit_at_xor m (bit_and m n) place, bit_at_and m n place, bit_at-lt m place, bit_at-lt n place)
 
 and_each : (a b : ℤ) (place : ℕ) → bit (bits_and a b) place ≡ min (bit a place) (bit b place)
 and_each (pos m) (pos n) place = bit_at_and m n place
 and_each (pos m) (negsuc n) place = without m n place
-and_each (negsuc m) (pos n) place =
-    let turned = and_comm m n in
-    let one = without n m place in
-    ap (λ k. bit_at (n - k) place) turned ∙ omega arith
-and_each (negsuc m) (negsuc n) place =
-    let one = bit_at_or m n place in
-    let two = bit_at-lt m place in
-    let three = bit_at-lt n place in
-    omega arith
+and_each (negsuc m) (pos n) place = ap (λ k. bit_at (n - k) place) (and_comm m n) ∙ omega (arith, without n m place)
+and_each (negsuc m) (negsuc n) place = omega (arith, bit_at_or m n place, bit_at-lt m place, bit_at-lt n place)
 
 or_each : (a b : ℤ) (place : ℕ) → bit (bits_or a b) place ≡ max (bit a place) (bit b place)
 or_each (pos m) (pos n) place = bit_at_or m n place
-or_each (pos m) (negsuc n) place =
-    let one = without n m place in
-    let two = bit_at-lt m place in
-    let three = bit_at-lt n place in
-    ap (λ k. 1 - bit_at (n - k) place) (and_comm m n) ∙ omega arith
-or_each (negsuc m) (pos n) place =
-    let one = without m n place in
-    let two = bit_at-lt m place in
-    let three = bit_at-lt n place in
-    omega arith
-or_each (negsuc m) (negsuc n) place =
-    let one = bit_at_and m n place in
-    let two = bit_at-lt m place in
-    let three = bit_at-lt n place in
-    omega arith
+or_each (pos m) (negsuc n) place = ap (λ k. 1 - bit_at (n - k) place) (and_comm m n) ∙ omega (arith, without n m place, bit_at-lt m place, bit_at-lt n place)
+or_each (negsuc m) (pos n) place = omega (arith, without m n place, bit_at-lt m place, bit_at-lt n place)
+or_each (negsuc m) (negsuc n) place = omega (arith, bit_at_and m n place, bit_at-lt m place, bit_at-lt n place)
 
 xor_each : (a b : ℤ) (place : ℕ) → bit (bits_xor a b) place ≡ (bit a place + bit b place) % 2
 xor_each (pos m) (pos n) place = bit_at_xor m n place
-xor_each (pos m) (negsuc n) place =
-    let one = bit_at_xor m n place in
-    let two = bit_at-lt m place in
-    let three = bit_at-lt n place in
-    omega arith
-xor_each (negsuc m) (pos n) place =
-    let one = bit_at_xor m n place in
-    let two = bit_at-lt m place in
-    let three = bit_at-lt n place in
-    omega arith
-xor_each (negsuc m) (negsuc n) place =
-    let one = bit_at_xor m n place in
-    let two = bit_at-lt m place in
-    let three = bit_at-lt n place in
-    omega arith
+xor_each (pos m) (negsuc n) place = omega (arith, bit_at_xor m n place, bit_at-lt m place, bit_at-lt n place)
+xor_each (negsuc m) (pos n) place = omega (arith, bit_at_xor m n place, bit_at-lt m place, bit_at-lt n place)
+xor_each (negsuc m) (negsuc n) place = omega (arith, bit_at_xor m n place, bit_at-lt m place, bit_at-lt n place)
 
 not_each : (a : ℤ) (place : ℕ) → bit (bits_not a) place ≡ 1 - bit a place
 not_each (pos m) place = refl
-not_each (negsuc m) place = let two = bit_at-lt m place in omega arith
+not_each (negsuc m) place = omega (arith, bit_at-lt m place)
 
 in_64_bits : (z : ℤ) → IsInRange z → FitsSigned w64 z
 in_64_bits (pos n) h = let above = h.1 in record { sfits = omega (arith, ints) }

@@ -1,6 +1,6 @@
 -- Lists and tuples that natives build.
 use Rattle.std.proofs.Common.{◌≡◌, ℕ, zero, suc, ◌<◌, ◌≤◌, ℤ, pos, negsuc, ◌<ℤ◌, List, [], ◌∷◌, ◌++◌, length, Option, Some, None, true, false, refl, sym, ap, ◌∙◌, append_assoc, append-nil, arith}
-use Rattle.std.specs.Prelude.{Bool, option_map, nat_le, nat_lt, if◌then◌else◌, slice_set}
+use Rattle.std.specs.Prelude.{option_map, nat_le, nat_lt, slice_set}
 use Rattle.std.proofs.lemmas.Int.{ints}
 use Rattle.std.proofs.lemmas.Bool.Decides.{nat_tests}
 use Rattle.bx_terms.specs.declared.kinds.Trap.TheVariants.{TermHeight}
@@ -37,20 +37,12 @@ pub one_ahead : (ts : List Tree) (t rest : Tree) → ahead (ts ++ t ∷ []) rest
 one_ahead [] t rest = refl
 one_ahead (u ∷ ts) t rest = ap (cons u) (one_ahead ts t rest)
 
-high : (t : Tree) (b : Bool) → nat_le (height t) 10000 ≡ b → 10000 < height t → (if b then Value t else Trap TermHeight) ≡ Trap TermHeight
-high t true e h = absurd (grind (arith, nat_tests))
-high t false e h = refl
-
-low : (t : Tree) (b : Bool) → nat_le (height t) 10000 ≡ b → height t ≤ 10000 → (if b then Value t else Trap TermHeight) ≡ Value t
-low t true e h = refl
-low t false e h = absurd (grind (arith, nat_tests))
-
 -- a term that would be too high is not built
 pub all_high : (t : Tree) → 10000 < height t → Trap TermHeight ≡ built t
-all_high t h = sym (high t (nat_le (height t) 10000) refl h)
+all_high t h = let no : nat_le (height t) 10000 ≡ false = grind (arith, nat_tests) in rw no
 
 pub none_ahead : (t : Tree) → height t ≤ 10000 → Value t ≡ built t
-none_ahead t h = sym (low t (nat_le (height t) 10000) refl h)
+none_ahead t h = let yes : nat_le (height t) 10000 ≡ true = grind (arith, nat_tests) in rw yes
 
 -- an element in the place of another
 pub put_before : (t : Tree) (ts : List Tree) (place : ℤ) → place <ℤ pos 1 → badarg ≡ put_at place t ts
@@ -58,16 +50,8 @@ put_before t ts (pos zero) h = refl
 put_before t ts (pos (suc n)) h = absurd (omega (arith, ints))
 put_before t ts (negsuc n) h = refl
 
-past : (t : Tree) (ts : List Tree) (n : ℕ) (b : Bool) → nat_lt n (length ts) ≡ b → length ts ≤ n → badarg ≡ (if b then built (tuple (listed (slice_set ts n t))) else badarg)
-past t ts n true e h = absurd (grind (arith, nat_tests))
-past t ts n false e h = refl
-
 pub put_past : (t : Tree) (ts : List Tree) (n : ℕ) → length ts ≤ n → badarg ≡ put_at (pos (suc n)) t ts
-put_past t ts n h = past t ts n (nat_lt n (length ts)) refl h
-
-there : (t : Tree) (ts : List Tree) (n : ℕ) (b : Bool) → nat_lt n (length ts) ≡ b → n < length ts → built (tuple (listed (slice_set ts n t))) ≡ (if b then built (tuple (listed (slice_set ts n t))) else badarg)
-there t ts n true e h = refl
-there t ts n false e h = absurd (grind (arith, nat_tests))
+put_past t ts n h = let no : nat_lt n (length ts) ≡ false = grind (arith, nat_tests) in rw no
 
 pub put_there : (t : Tree) (ts : List Tree) (n : ℕ) → n < length ts → built (tuple (listed (slice_set ts n t))) ≡ put_at (pos (suc n)) t ts
-put_there t ts n h = there t ts n (nat_lt n (length ts)) refl h
+put_there t ts n h = let yes : nat_lt n (length ts) ≡ true = grind (arith, nat_tests) in rw yes

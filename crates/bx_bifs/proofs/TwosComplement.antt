@@ -21,100 +21,39 @@ and_turned m n hm hn =
 and_both_turned : (m n : ℕ) → m < 2 ^ 64 → n < 2 ^ 64 → bit_and (turned m) (turned n) ≡ turned (bit_or m n)
 and_both_turned m n hm hn =
     let below : turned n < 2 ^ 64 = omega arith in
-    let one = and_turned m (turned n) hm below in
-    let two = and_turned n m hn hm in
-    let three = or_add_and m n in
-    let four = and_comm n m in
-    let five = and_comm m (turned n) in
-    omega arith
+    omega (arith, and_turned m (turned n) hm below, and_turned n m hn hm, or_add_and m n, and_comm n m, and_comm m (turned n))
 
 and_bits : (x y : ℤ) → FitsSigned w64 x → FitsSigned w64 y → bit_and (cast_unsigned w64 x) (cast_unsigned w64 y) ≡ cast_unsigned w64 (bits_and x y)
 and_bits (pos m) (pos n) p q = refl
-and_bits (pos m) (negsuc n) p q =
-    let hm = p.sfits in
-    let hn = q.sfits in
-    let one = and_turned n m (omega arith) (omega arith) in
-    let two = and_comm n m in
-    let three = and_comm m (turned n) in
-    omega arith
-and_bits (negsuc m) (pos n) p q =
-    let hm = p.sfits in
-    let hn = q.sfits in
-    let one = and_turned m n (omega arith) (omega arith) in
-    omega arith
-and_bits (negsuc m) (negsuc n) p q =
-    let hm = p.sfits in
-    let hn = q.sfits in
-    and_both_turned m n (omega arith) (omega arith)
+and_bits (pos m) (negsuc n) p q = omega (arith, p.sfits, q.sfits, and_turned n m (omega (arith, q.sfits)) (omega (arith, p.sfits)), and_comm n m, and_comm m (turned n))
+and_bits (negsuc m) (pos n) p q = omega (arith, p.sfits, q.sfits, and_turned m n (omega (arith, p.sfits)) (omega (arith, q.sfits)))
+and_bits (negsuc m) (negsuc n) p q = and_both_turned m n (omega (arith, p.sfits)) (omega (arith, q.sfits))
 
 or_bits : (x y : ℤ) → FitsSigned w64 x → FitsSigned w64 y → bit_or (cast_unsigned w64 x) (cast_unsigned w64 y) ≡ cast_unsigned w64 (bits_or x y)
 or_bits (pos m) (pos n) p q = refl
-or_bits (pos m) (negsuc n) p q =
-    let hm = p.sfits in
-    let hn = q.sfits in
-    let one = and_bits (pos m) (negsuc n) p q in
-    let two = or_add_and m (turned n) in
-    let three = and_le_r m n in
-    let four = and_le_l m n in
-    omega arith
-or_bits (negsuc m) (pos n) p q =
-    let hm = p.sfits in
-    let hn = q.sfits in
-    let one = and_bits (negsuc m) (pos n) p q in
-    let two = or_add_and (turned m) n in
-    let three = and_le_r m n in
-    let four = and_le_l m n in
-    omega arith
+or_bits (pos m) (negsuc n) p q = omega (arith, p.sfits, q.sfits, and_bits (pos m) (negsuc n) p q, or_add_and m (turned n), and_le_r m n, and_le_l m n)
+or_bits (negsuc m) (pos n) p q = omega (arith, p.sfits, q.sfits, and_bits (negsuc m) (pos n) p q, or_add_and (turned m) n, and_le_r m n, and_le_l m n)
 or_bits (negsuc m) (negsuc n) p q =
-    let hm = p.sfits in
-    let hn = q.sfits in
-    let one = and_bits (negsuc m) (negsuc n) p q in
-    let two = or_add_and (turned m) (turned n) in
-    let three = or_add_and m n in
-    let four = or_lt 63 m n hm hn in
-    omega arith
+    omega (arith, p.sfits, q.sfits, and_bits (negsuc m) (negsuc n) p q, or_add_and (turned m) (turned n), or_add_and m n, or_lt 63 m n p.sfits q.sfits)
 
 xor_bits : (x y : ℤ) → FitsSigned w64 x → FitsSigned w64 y → bit_xor (cast_unsigned w64 x) (cast_unsigned w64 y) ≡ cast_unsigned w64 (bits_xor x y)
 xor_bits (pos m) (pos n) p q = refl
-xor_bits (pos m) (negsuc n) p q =
-    let hm = p.sfits in
-    let hn = q.sfits in
-    let one = and_bits (pos m) (negsuc n) p q in
-    let two = xor_add_and m (turned n) in
-    let three = xor_add_and m n in
-    let four = and_le_r m n in
-    let five = and_le_l m n in
-    omega arith
-xor_bits (negsuc m) (pos n) p q =
-    let hm = p.sfits in
-    let hn = q.sfits in
-    let one = and_bits (negsuc m) (pos n) p q in
-    let two = xor_add_and (turned m) n in
-    let three = xor_add_and m n in
-    let four = and_le_r m n in
-    let five = and_le_l m n in
-    omega arith
+xor_bits (pos m) (negsuc n) p q = omega (arith, p.sfits, q.sfits, and_bits (pos m) (negsuc n) p q, xor_add_and m (turned n), xor_add_and m n, and_le_r m n, and_le_l m n)
+xor_bits (negsuc m) (pos n) p q = omega (arith, p.sfits, q.sfits, and_bits (negsuc m) (pos n) p q, xor_add_and (turned m) n, xor_add_and m n, and_le_r m n, and_le_l m n)
 xor_bits (negsuc m) (negsuc n) p q =
-    let hm = p.sfits in
-    let hn = q.sfits in
-    let one = and_bits (negsuc m) (negsuc n) p q in
-    let two = xor_add_and (turned m) (turned n) in
-    let three = xor_add_and m n in
-    let four = or_add_and m n in
-    let five = or_lt 63 m n hm hn in
-    omega arith
+    omega (arith, p.sfits, q.sfits, and_bits (negsuc m) (negsuc n) p q, xor_add_and (turned m) (turned n), xor_add_and m n, or_add_and m n, or_lt 63 m n p.sfits q.sfits)
 
 pub and_fits : (x y : ℤ) → FitsSigned w64 x → FitsSigned w64 y → FitsSigned w64 (bits_and x y)
-and_fits (pos m) (pos n) p q = let hm = p.sfits in let le = and_le_l m n in record { sfits = omega arith }
-and_fits (pos m) (negsuc n) p q = let hm = p.sfits in record { sfits = omega arith }
-and_fits (negsuc m) (pos n) p q = let hn = q.sfits in record { sfits = omega arith }
+and_fits (pos m) (pos n) p q = record { sfits = omega (arith, p.sfits, and_le_l m n) }
+and_fits (pos m) (negsuc n) p q = record { sfits = omega (arith, p.sfits) }
+and_fits (negsuc m) (pos n) p q = record { sfits = omega (arith, q.sfits) }
 and_fits (negsuc m) (negsuc n) p q = record { sfits = or_lt 63 m n p.sfits q.sfits }
 
 pub or_fits : (x y : ℤ) → FitsSigned w64 x → FitsSigned w64 y → FitsSigned w64 (bits_or x y)
 or_fits (pos m) (pos n) p q = record { sfits = or_lt 63 m n p.sfits q.sfits }
-or_fits (pos m) (negsuc n) p q = let hn = q.sfits in record { sfits = omega arith }
-or_fits (negsuc m) (pos n) p q = let hm = p.sfits in record { sfits = omega arith }
-or_fits (negsuc m) (negsuc n) p q = let hm = p.sfits in let le = and_le_l m n in record { sfits = omega arith }
+or_fits (pos m) (negsuc n) p q = record { sfits = omega (arith, q.sfits) }
+or_fits (negsuc m) (pos n) p q = record { sfits = omega (arith, p.sfits) }
+or_fits (negsuc m) (negsuc n) p q = record { sfits = omega (arith, p.sfits, and_le_l m n) }
 
 pub xor_fits : (x y : ℤ) → FitsSigned w64 x → FitsSigned w64 y → FitsSigned w64 (bits_xor x y)
 xor_fits (pos m) (pos n) p q = record { sfits = xor_lt 63 m n p.sfits q.sfits }
@@ -138,8 +77,8 @@ differing_bits_given x y p q =
     ap (λ n. computed (Some (cast_signed w64 n))) (xor_bits x y p q) ∙ ap (λ z. computed (Some z)) (to_z-of_z w64 (bits_xor x y) fit) ∙ given (bits_xor x y) fit
 
 not_bits : (x : ℤ) → FitsSigned w64 x → 2 ^ 64 - 1 - cast_unsigned w64 x ≡ cast_unsigned w64 (bits_not x)
-not_bits (pos m) p = let hm = p.sfits in omega arith
-not_bits (negsuc m) p = let hm = p.sfits in omega arith
+not_bits (pos m) p = omega (arith, p.sfits)
+not_bits (negsuc m) p = omega (arith, p.sfits)
 
 pub not_fits : (x : ℤ) → FitsSigned w64 x → FitsSigned w64 (bits_not x)
 not_fits (pos m) p = record { sfits = p.sfits }

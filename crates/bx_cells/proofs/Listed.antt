@@ -8,11 +8,8 @@ use Rattle.std.specs.FinMap as map
 use Rattle.std.specs.FinMap.{entries-insert, len-entries, len-empty}
 use Rattle.std.specs.FinMap.Entries.{put, by_order}
 use Rattle.std.proofs.lemmas.Bool.Decides.{nat_tests}
+use Rattle.std.proofs.lemmas.List.{nil_from_length}
 use Rattle.bx_cells.specs.Indexed.{indexed, listed}
-
-no_length : {A : Type 0} (es : List A) → length es ≡ 0 → es ≡ []
-no_length [] e = refl
-no_length (x ∷ es) e = absurd (omega arith)
 
 less : (a b : ℕ) → a < b → nat_cmp a b ≡ Less
 less a b h = let t : nat_lt a b ≡ true = grind (arith, nat_tests) in ap (λ x. cond x Less (cond (a == b) Equal Greater)) t
@@ -32,7 +29,7 @@ put_first k v [] a = refl
 put_first k v (e ∷ es) a = ap (λ o. by_order o ((k, v) ∷ e ∷ es) ((e.0, v) ∷ es) (e ∷ put nat_cmp k v es)) (less k e.0 a)
 
 entries_none : {A : Type 0} → map.entries (map.empty {X = A} {R = nat_cmp}) ≡ []
-entries_none {A} = no_length (map.entries (map.empty {X = A} {R = nat_cmp})) (sym (len-entries map.empty) ∙ len-empty nat_cmp A)
+entries_none {A} = nil_from_length (map.entries (map.empty {X = A} {R = nat_cmp})) (sym (len-entries map.empty) ∙ len-empty nat_cmp A)
 
 pub entries_listed : {A : Type 0} (n : ℕ) (cells : List (Option A)) → map.entries (indexed n cells) ≡ listed n cells
 entries_listed n [] = entries_none

@@ -1,6 +1,6 @@
 -- Frames in a row, the topmost last, and the registers of one frame.
-use Rattle.std.proofs.Common.{◌≡◌, ℕ, ◌+◌, ◌<◌, ◌≤◌, List, [], ◌∷◌, length, get_or, take, drop, reverse, ap, sym, ◌∙◌, arith, add-one, drop-cons}
-use Rattle.std.proofs.lemmas.List.{take_more, take_more_same, take_all, reverse-append}
+use Rattle.std.proofs.Common.{◌≡◌, ℕ, ◌+◌, ◌<◌, List, [], ◌∷◌, length, get_or, take, drop, reverse, ap, sym, ◌∙◌, arith, add-one, drop-cons}
+use Rattle.std.proofs.lemmas.List.{take_more, take_all, reverse-append}
 use Rattle.std.specs.Prelude.{Option}
 use Rattle.bx_cells.specs.declared.values.Value.{Value}
 use Rattle.bx_cells.specs.Stack.{lowest_tag}
@@ -12,14 +12,6 @@ lowest_from cells i d h = let e : drop i cells ≡ get_or cells i d ∷ drop (i 
 -- one frame more is one more on top
 pub reverse_next : {A : Type 0} (xs : List A) (i : ℕ) (d : A) → i < length xs → reverse (take (i + 1) xs) ≡ get_or xs i d ∷ reverse (take i xs)
 reverse_next xs i d h = ap reverse (take_more xs i d h) ∙ reverse-append (take i xs) (get_or xs i d ∷ [])
-
--- two rows that were the same so far, and whose next elements are, are the same one further
-pub same_so_far : {A : Type 0} (xs ys : List A) (i : ℕ) (d : A) → i < length xs → i < length ys → take i xs ≡ take i ys → get_or xs i d ≡ get_or ys i d → take (i + 1) xs ≡ take (i + 1) ys
-same_so_far xs ys i d = take_more_same xs ys i d
-
--- rows of one length that are the same as far as they go are the same
-pub same_whole : {A : Type 0} (xs ys : List A) (i : ℕ) → length xs ≤ i → length ys ≤ i → take i xs ≡ take i ys → xs ≡ ys
-same_whole xs ys i hx hy e = sym (take_all i xs hx) ∙ e ∙ take_all i ys hy
 
 -- the last of a row is the first of it turned round
 pub reverse_last : {A : Type 0} (xs : List A) (n : ℕ) (d : A) → length xs ≡ n + 1 → reverse xs ≡ get_or xs n d ∷ reverse (take n xs)

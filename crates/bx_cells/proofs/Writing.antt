@@ -1,5 +1,7 @@
 -- Registers from arguments, and a written y register.
 use Rattle.std.proofs.Common.{◌≡◌, ℕ, zero, suc, ◌≢◌, List, [], ◌∷◌, refl, ap, ◌∙◌}
+use Rattle.std.proofs.lemmas.Option.{slice_get_within}
+use Rattle.bx_share.proofs.Places.{get_set_same, get_set_other}
 use Rattle.std.specs.Prelude.{Option, Some, None, Ok, slice_get, slice_set, option_map}
 use Rattle.std.specs.FinMap as map
 use Rattle.bx_terms.specs.Tree.{Tree}
@@ -19,19 +21,6 @@ held_at (t ∷ terms) (suc n) = held_at terms n
 pub held_terms : (terms : List Tree) (n : ℕ) → map.get (holding terms) n ≡ option_map Term (slice_get terms n)
 held_terms terms n = get_indexed (all_held terms) n ∙ held_at terms n
 
--- what a write in a row makes of the row's elements
-get_set : {A : Type 0} (xs : List A) (n : ℕ) (x y : A) → slice_get xs n ≡ Some x → slice_get (slice_set xs n y) n ≡ Some y
-get_set [] n x y e = cc
-get_set (z ∷ xs) zero x y e = refl
-get_set (z ∷ xs) (suc n) x y e = get_set xs n x y e
-
-get_set_other : {A : Type 0} (xs : List A) (n k : ℕ) (y : A) → k ≢ n → slice_get (slice_set xs n y) k ≡ slice_get xs k
-get_set_other [] n k y e = refl
-get_set_other (z ∷ xs) zero zero y e = absurd (e refl)
-get_set_other (z ∷ xs) zero (suc k) y e = refl
-get_set_other (z ∷ xs) (suc n) zero y e = refl
-get_set_other (z ∷ xs) (suc n) (suc k) y e = get_set_other xs n k y (λ same. e (ap (λ m. suc m) same))
-
 pub written_y : (n : ℕ) (v : Value) (frames after : List StackFrame) → with_y n v frames ≡ Ok after → y_cell n after ≡ Ok (Some v)
 written_y n v [] after e = cc
 written_y n v (f ∷ frames) after e = go (slice_get f.cells n) refl e
@@ -40,7 +29,7 @@ written_y n v (f ∷ frames) after e = go (slice_get f.cells n) refl e
     go None past e = cc
     go (Some c) at e =
         let same : after ≡ record f { cells = slice_set f.cells n (Some v) } ∷ frames = cc in
-        ap (y_cell n) same ∙ ap there (get_set f.cells n c (Some v) at)
+        ap (y_cell n) same ∙ ap there (get_set_same f.cells n (Some v) (slice_get_within f.cells n c at))
 
 pub other_y : (n k : ℕ) (v : Value) (frames after : List StackFrame) → with_y n v frames ≡ Ok after → k ≢ n → y_cell k after ≡ y_cell k frames
 other_y n k v [] after e ne = cc

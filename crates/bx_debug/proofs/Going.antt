@@ -1,5 +1,5 @@
 -- Walks that go on, and walks that are over.
-use Rattle.std.proofs.Common.{◌≡◌, ℕ, ◌+◌, ◌≤◌, List, ◌++◌, length, take, drop, Option, Some, None, refl, sym, ap, ◌∙◌, subst, arith}
+use Rattle.std.proofs.Common.{◌≡◌, ℕ, ◌+◌, ◌≤◌, List, ◌++◌, length, take, drop, Option, None, refl, sym, ap, ◌∙◌, subst, arith}
 use Rattle.std.proofs.lemmas.List.{length-take, length-take-le, take-append-drop, take-take}
 use Rattle.bx_load.specs.Image.{Loaded}
 use Rattle.bx_world.specs.declared.choices.Choice.{Choice}
@@ -7,28 +7,14 @@ use Rattle.bx_world.specs.World.{State}
 use Rattle.bx_world.specs.Running.{Ended, ran}
 use Rattle.bx_replay.specs.Courses.{Course}
 use Rattle.bx_debug.specs.Going.{walked}
-use Rattle.bx_debug.specs.Leading.{led, all_enabled, come, Begins, Leads, Reaches, Walks, Went}
+use Rattle.bx_debug.specs.Leading.{come, Begins, Leads, Reaches, Walks, Went}
 use Rattle.bx_debug.specs.Places.{PlaceSet}
 use Rattle.bx_debug.specs.declared.stops.Stop.{Stop}
-use Rattle.bx_debug.specs.declared.stops.Stop.TheVariants.{Done}
 use Rattle.bx_debug.proofs.Leads.{ran_from}
 use Rattle.bx_debug.proofs.Stretches.{leads_joined, take_both}
-use Rattle.bx_debug.proofs.Walking.{leads_none, told_stopped, told_whole}
 
 come_of : (end : Ended) → end.refused ≡ None → end ≡ come end.world end.applied
 come_of end none = ap (λ r. record { world = end.world; applied = end.applied; refused = r }) none
-
--- no choice is applied yet
-pub walks_none : (image : Loaded) (places : PlaceSet) (choices : List Choice) (from here : State) (at : ℕ) (trail : Course) (stop : Stop) → Begins image from at trail here stop → Walks places choices trail here None
-walks_none image places choices from here at trail stop b =
-    let zero : length trail.choices ≡ 0 = ap length b.none in
-    let shown : here ≡ trail.start.world = b.shown ∙ sym (ap (λ (e : Ended). e.world) b.begins) in
-    record {
-      unrefused = ap (λ (e : Ended). e.refused) b.begins;
-      taken = b.none ∙ ap (λ n. take n choices) (sym zero);
-      leads = subst (λ n. Leads trail.image places choices trail.start.world n here None) (sym zero)
-          (subst (λ (w : State). Leads trail.image places choices trail.start.world 0 w None) (sym shown) (leads_none trail.image places choices trail.start.world));
-    }
 
 -- choices more were applied, of those that stand next
 module _ (places : PlaceSet) (choices : List Choice) (trail : Course) (here next : State) (part : List Choice) (k n : ℕ) (stop : Option Stop) (walks : Walks places choices trail here None)
@@ -88,27 +74,3 @@ went_from image from here there at trail walk stop b w =
 pub told_from : (image : Loaded) (places : PlaceSet) (choices : List Choice) (from here : State) (at : ℕ) (trail : Course) (stop : Stop) (told : List Choice × Stop) → Begins image from at trail here stop
     → walked trail.image places choices here ≡ told → walked image places choices from ≡ told
 told_from image places choices from here at trail stop told b is = (λ i. walked (sym b.code i) places choices (sym b.shown i)) ∙ is
-
--- a walk that was stopped, or has gone all the way
-pub is_over : (image : Loaded) (places : PlaceSet) (choices : List Choice) (from here : State) (at : ℕ) (trail : Course) (stop : Option Stop) → trail.image ≡ image → trail.start ≡ come from at → Walks places choices trail here stop
-    → Went image from at trail here
-is_over image places choices from here at trail stop code begins w =
-    let world_is : trail.start.world ≡ from = ap (λ (e : Ended). e.world) begins in
-    record {
-      code = code;
-      begins = begins;
-      made = (λ i. all_enabled (sym code i) (w.taken i) (sym world_is i)) ∙ w.leads.made;
-      shown = w.leads.shown ∙ (λ i. led (code i) (sym w.taken i) (world_is i));
-    }
-
-pub told_of : (image : Loaded) (places : PlaceSet) (choices : List Choice) (from here : State) (at : ℕ) (trail : Course) (stop : Stop) → trail.image ≡ image → trail.start ≡ come from at → Walks places choices trail here (Some stop)
-    → walked image places choices from ≡ (trail.choices, stop)
-told_of image places choices from here at trail stop code begins w =
-    let world_is : trail.start.world ≡ from = ap (λ (e : Ended). e.world) begins in
-    (λ i. walked (sym code i) places choices (sym world_is i)) ∙ told_stopped trail.image places choices trail.start.world (length trail.choices) here stop w.leads ∙ (λ i. (sym w.taken i, stop))
-
-pub told_all : (image : Loaded) (places : PlaceSet) (choices : List Choice) (from here : State) (at : ℕ) (trail : Course) → trail.image ≡ image → trail.start ≡ come from at → length choices ≤ length trail.choices
-    → Walks places choices trail here None → walked image places choices from ≡ (trail.choices, Done)
-told_all image places choices from here at trail code begins whole w =
-    let world_is : trail.start.world ≡ from = ap (λ (e : Ended). e.world) begins in
-    (λ i. walked (sym code i) places choices (sym world_is i)) ∙ told_whole trail.image places choices trail.start.world (length trail.choices) here whole w.leads ∙ (λ i. (sym w.taken i, Done))

@@ -2,7 +2,7 @@
 use Rattle.std.proofs.Common.{◌≡◌, ℕ, ◌+◌, ◌-◌, ◌<◌, ◌≤◌, List, [], ◌∷◌, ◌++◌, length, replicate, take, Bool, true, false, Option, Some, None, Result, Ok, Err, refl, sym, ap, ◌∙◌, subst, arith, length-append}
 use Rattle.std.specs.Prelude.{◌==◌, ◌||◌, is_some, if◌then◌else◌, nat_lt}
 use Rattle.std.proofs.lemmas.List.{take_at, length-take-le}
-use Rattle.std.proofs.lemmas.Bool.{eqb-false, le-ltb, ltb-false}
+use Rattle.std.proofs.lemmas.Bool.{eqb-false, le-ltb, ltb-false, and_from}
 use Rattle.bx_terms.proofs.Outcomes.{ok_pair, bind_ok}
 use Rattle.bx_terms.specs.declared.atom_table.AtomId.{AtomId}
 use Rattle.bx_terms.specs.declared.faults.Fault.{Fault}
@@ -33,7 +33,7 @@ use Rattle.bx_debug.specs.Tidying.{tidy_of, undone}
 use Rattle.bx_debug.proofs.Exchanging.{may_so}
 use Rattle.bx_debug.proofs.Swapping.{session_exchanged}
 use Rattle.bx_debug.proofs.Leads.{enabled_both, enabled_take, ran_all}
-use Rattle.bx_debug.proofs.Stopped.{walked_enabled, and_true}
+use Rattle.bx_debug.proofs.Stopped.{walked_enabled}
 
 -- every choice of the session was enabled where it was made
 record Made (image : Loaded) (start : State) (s : History) : Type 0 where
@@ -64,7 +64,7 @@ step_made : (image : Loaded) (start : State) (choice : Choice) (s : History) (wh
     → Made image start (kept_unless s (or_refused why (with_made (choice ∷ []) s)))
 step_made image start choice s None is m =
     let able : can (world_of s) choice ≡ true = able_unless (is_some (world_of s).trap) (can (world_of s) choice) is in
-    made_more image start (choice ∷ []) s m (and_true (can (world_of s) choice) true able refl)
+    made_more image start (choice ∷ []) s m (and_from (can (world_of s) choice) true able refl)
 step_made image start choice s (Some fault) is m = m
 
 moved : (image : Loaded) (start : State) (s : History) (at : ℕ) → Made image start s → at ≤ length s.choices → Made image start (record s { at = at })

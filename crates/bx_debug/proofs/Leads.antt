@@ -1,7 +1,8 @@
 -- Where lists of enabled choices lead.
 use Rattle.std.proofs.Common.{◌≡◌, ℕ, suc, ◌+◌, ◌≤◌, List, [], ◌∷◌, ◌++◌, length, take, drop, Bool, true, false, refl, sym, ap, ◌∙◌, subst, arith}
-use Rattle.std.specs.Prelude.{◌&&◌, Option, Some, None, is_some, IsSome, Contains, if◌then◌else◌}
+use Rattle.std.specs.Prelude.{Option, Some, None, is_some, IsSome, Contains, if◌then◌else◌}
 use Rattle.std.proofs.lemmas.List.{take-append-drop}
+use Rattle.std.proofs.lemmas.Bool.{and_parts, and_from}
 use Rattle.bx_terms.specs.declared.kinds.Trap.{Trap}
 use Rattle.bx_load.specs.Image.{Loaded}
 use Rattle.bx_world.specs.declared.choices.Choice.{Choice}
@@ -12,14 +13,6 @@ use Rattle.bx_world.specs.Running.{Ended, advanced, ran, unchosen}
 use Rattle.bx_world.proofs.Lawful.{few_applied, nothing_enabled}
 use Rattle.bx_world.proofs.Members.{can_is_enabled}
 use Rattle.bx_debug.specs.Leading.{led, all_enabled, come}
-
-both : (a b : Bool) → (a && b) ≡ true → (a ≡ true) × (b ≡ true)
-both true b e = (refl, e)
-both false b e = cc
-
-and : (a b : Bool) → a ≡ true → b ≡ true → (a && b) ≡ true
-and true b e h = h
-and false b e h = e
 
 -- in a world that has trapped nothing is enabled
 none_among : (w : State) (choice : Choice) (trap : Option (Trap × ℕ)) → w.trap ≡ trap → can w choice ≡ true → is_some trap ≡ false
@@ -42,26 +35,17 @@ led-append image (choice ∷ first) more w = led-append image first more (chosen
 pub enabled_both : (image : Loaded) (first more : List Choice) (w : State) → all_enabled image first w ≡ true → all_enabled image more (led image first w) ≡ true → all_enabled image (first ++ more) w ≡ true
 enabled_both image [] more w a b = b
 enabled_both image (choice ∷ first) more w a b =
-    let parts = both (can w choice) (all_enabled image first (chosen image choice w)) a in
-    and (can w choice) _ parts.0 (enabled_both image first more (chosen image choice w) parts.1 b)
+    let parts = and_parts (can w choice) (all_enabled image first (chosen image choice w)) a in
+    and_from (can w choice) _ parts.0 (enabled_both image first more (chosen image choice w) parts.1 b)
 
 pub enabled_first : (image : Loaded) (first more : List Choice) (w : State) → all_enabled image (first ++ more) w ≡ true → all_enabled image first w ≡ true
 enabled_first image [] more w a = refl
 enabled_first image (choice ∷ first) more w a =
-    let parts = both (can w choice) (all_enabled image (first ++ more) (chosen image choice w)) a in
-    and (can w choice) _ parts.0 (enabled_first image first more (chosen image choice w) parts.1)
-
-pub enabled_more : (image : Loaded) (first more : List Choice) (w : State) → all_enabled image (first ++ more) w ≡ true → all_enabled image more (led image first w) ≡ true
-enabled_more image [] more w a = a
-enabled_more image (choice ∷ first) more w a =
-    let parts = both (can w choice) (all_enabled image (first ++ more) (chosen image choice w)) a in
-    enabled_more image first more (chosen image choice w) parts.1
+    let parts = and_parts (can w choice) (all_enabled image (first ++ more) (chosen image choice w)) a in
+    and_from (can w choice) _ parts.0 (enabled_first image first more (chosen image choice w) parts.1)
 
 pub enabled_take : (image : Loaded) (n : ℕ) (choices : List Choice) (w : State) → all_enabled image choices w ≡ true → all_enabled image (take n choices) w ≡ true
 enabled_take image n choices w a = enabled_first image (take n choices) (drop n choices) w (subst (λ (cs : List Choice). all_enabled image cs w ≡ true) (sym (take-append-drop n choices)) a)
-
-pub enabled_drop : (image : Loaded) (n : ℕ) (choices : List Choice) (w : State) → all_enabled image choices w ≡ true → all_enabled image (drop n choices) (led image (take n choices) w) ≡ true
-enabled_drop image n choices w a = enabled_more image (take n choices) (drop n choices) w (subst (λ (cs : List Choice). all_enabled image cs w ≡ true) (sym (take-append-drop n choices)) a)
 
 -- an enabled choice is applied by a run
 first_of : (t b : Bool) (x y z : Ended) → t ≡ false → b ≡ true → (if t then x else if b then y else z) ≡ y
@@ -76,7 +60,7 @@ pub ran_from : (image : Loaded) (choices : List Choice) (w : State) (n : ℕ) �
     → ran image choices (come w n) ≡ come (led image choices w) (n + length choices)
 ran_from image [] w n a = let none : n ≡ n + 0 = omega arith in ap (come w) none
 ran_from image (choice ∷ more) w n a =
-    let parts = both (can w choice) (all_enabled image more (chosen image choice w)) a in
+    let parts = and_parts (can w choice) (all_enabled image more (chosen image choice w)) a in
     let count : n + 1 + length more ≡ n + suc (length more) = omega arith in
     ap (ran image more) (advanced_enabled image choice w n parts.0)
     ∙ ran_from image more (chosen image choice w) (n + 1) parts.1
@@ -100,4 +84,4 @@ all_applied image (choice ∷ more) w n all =
     let least : n + 1 ≤ (advanced image choice (come w n)).applied = omega arith in
     let able : can w choice ≡ true = was_enabled (is_some w.trap) (can w choice) n (come w n) (come (chosen image choice w) (n + 1)) (record { world = w; applied = n; refused = Some choice }) refl refl least in
     let next = advanced_enabled image choice w n able in
-    and (can w choice) _ able (all_applied image more (chosen image choice w) (n + 1) (ap (λ (e : Ended). (ran image more e).applied) (sym next) ∙ all ∙ omega arith))
+    and_from (can w choice) _ able (all_applied image more (chosen image choice w) (n + 1) (ap (λ (e : Ended). (ran image more e).applied) (sym next) ∙ all ∙ omega arith))

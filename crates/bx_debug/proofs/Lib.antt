@@ -1,5 +1,4 @@
 pub mod Leads
-pub mod Applies
 pub mod Sets
 pub mod Sameness
 pub mod Walking

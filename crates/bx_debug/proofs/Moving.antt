@@ -21,15 +21,6 @@ run_shown trail at here s =
     ran_all trail.image (take at trail.choices) trail.start.world (enabled_take trail.image at trail.choices trail.start.world s.made)
     ∙ (λ i. come (sym s.shown i) (length-take-le at trail.choices s.within i))
 
--- a session before its first choice
-pub session_begun : (trail : Course) (here : State) → trail.start ≡ unchosen trail.start.world → trail.choices ≡ [] → here ≡ trail.start.world → IsSession trail 0 here
-session_begun trail here begins none is = record {
-  begins = begins;
-  within = omega arith;
-  made = ap (λ cs. all_enabled trail.image cs trail.start.world) none;
-  shown = is;
-}
-
 -- another position
 pub session_moved : (trail : Course) (at to : ℕ) (here there : State) → IsSession trail at here → to ≤ length trail.choices → there ≡ led trail.image (take to trail.choices) trail.start.world → IsSession trail to there
 session_moved trail at to here there s within is = record { begins = s.begins; within = within; made = s.made; shown = is }

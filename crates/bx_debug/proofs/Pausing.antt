@@ -1,5 +1,5 @@
 -- How often a process runs, by what is so behind each run.
-use Rattle.std.proofs.Common.{◌≡◌, ◌⊎◌, inl, inr, ℕ, zero, suc, ◌+◌, ◌<◌, ◌≤◌, List, [], ◌∷◌, replicate, Bool, true, false, Option, Some, None, refl, sym, ap, ◌∙◌, subst, add-one, arith, option_map}
+use Rattle.std.proofs.Common.{◌≡◌, ◌⊎◌, inl, inr, ℕ, zero, suc, ◌+◌, ◌<◌, ◌≤◌, List, ◌∷◌, replicate, Bool, true, false, Option, Some, None, refl, sym, ap, ◌∙◌, subst, add-one, arith, option_map}
 use Rattle.std.proofs.lemmas.Bool.{cases_lt}
 use Rattle.std.specs.Prelude.{◌&&◌, is_none, is_some, if◌then◌else◌}
 use Rattle.bx_terms.specs.declared.kinds.Trap.{Trap}
@@ -8,7 +8,7 @@ use Rattle.bx_load.specs.Image.{Loaded}
 use Rattle.bx_world.specs.declared.choices.Choice.{Choice}
 use Rattle.bx_world.specs.declared.choices.Choice.TheVariants.{Run}
 use Rattle.bx_world.specs.Choosing.{chosen}
-use Rattle.bx_world.specs.Enabled.{able, can}
+use Rattle.bx_world.specs.Enabled.{able}
 use Rattle.bx_world.specs.World.{State}
 use Rattle.bx_debug.specs.Going.{else_stop, halted, stop_before, stop_behind}
 use Rattle.bx_debug.specs.Meeting.{meeting}

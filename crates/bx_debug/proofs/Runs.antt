@@ -9,7 +9,7 @@ use Rattle.bx_world.specs.World.{State}
 use Rattle.bx_debug.specs.Going.{behind_choice, stop_before, stop_behind, unless_stopped, walked}
 use Rattle.bx_debug.specs.Pausing.{after_runs, least, pause_at, run_of, runs_to}
 use Rattle.bx_debug.specs.Places.{PlaceSet}
-use Rattle.bx_debug.specs.Sessions.{History, gone, with_made, world_of}
+use Rattle.bx_debug.specs.Sessions.{History, with_made, world_of}
 use Rattle.bx_debug.specs.declared.pauses.Bound.{Bound}
 use Rattle.bx_debug.specs.declared.pauses.Pause.{Pause}
 use Rattle.bx_debug.specs.declared.stops.Stop.{Stop}

@@ -1,6 +1,8 @@
 -- Where choices are stopped, and why.
 use Rattle.std.proofs.Common.{◌≡◌, ◌≢◌, ℕ, ◌≤◌, List, [], ◌∷◌, ◌++◌, length, Bool, true, false, Option, Some, None, refl, sym, ap, subst, arith, length-append}
-use Rattle.std.specs.Prelude.{◌&&◌, if◌then◌else◌}
+use Rattle.std.proofs.lemmas.Bool.{and_from}
+use Rattle.std.proofs.lemmas.List.{nil_from_length}
+use Rattle.std.specs.Prelude.{if◌then◌else◌}
 use Rattle.bx_terms.specs.declared.kinds.Trap.{Trap}
 use Rattle.bx_terms.specs.declared.places.Place.{Place}
 use Rattle.bx_load.specs.Image.{Loaded}
@@ -17,10 +19,6 @@ use Rattle.bx_debug.specs.Stopping.{IsWhy, TellsWhy}
 use Rattle.bx_debug.specs.declared.stops.Stop.{Stop}
 use Rattle.bx_debug.specs.declared.stops.Stop.TheVariants.{Done, Break, NotEnabled, Trapped}
 use Rattle.bx_debug.proofs.Walking.{enabled_unless, walked_before, walked_behind, walked_on}
-
-pub and_true : (a b : Bool) → a ≡ true → b ≡ true → (a && b) ≡ true
-and_true true b e h = h
-and_true false b e h = e
 
 -- a walk of one choice and more: it is not applied, or it is applied and stops the walk, or the walk goes on behind it
 walked_cases : (image : Loaded) (places : PlaceSet) (choice : Choice) (more : List Choice) (w : State) (P : List Choice × Stop → Type 0)
@@ -52,21 +50,17 @@ walked_enabled image places (choice ∷ more) w =
     let further = walked_enabled image places more (chosen image choice w) in
     walked_cases image places choice more w (λ walk. all_enabled image walk.0 w ≡ true)
     (λ stop is. refl)
-    (λ stop free is. and_true (can w choice) true (enabled_unless choice w free) refl)
-    (λ free is. and_true (can w choice) (all_enabled image (walked image places more (chosen image choice w)).0 (chosen image choice w)) (enabled_unless choice w free) further)
+    (λ stop free is. and_from (can w choice) true (enabled_unless choice w free) refl)
+    (λ free is. and_from (can w choice) (all_enabled image (walked image places more (chosen image choice w)).0 (chosen image choice w)) (enabled_unless choice w free) further)
 
 -- what stands before the last of a list's elements
 abbrev Earlier : Loaded → PlaceSet → State → List Choice → Type 0
 Earlier image places w made = (before : List Choice) (choice : Choice) (after : List Choice) → made ≡ before ++ choice ∷ after → after ≢ [] → stop_behind places choice (led image (before ++ choice ∷ []) w) ≡ None
 
-no_more : {A : Type 0} (xs : List A) → length xs ≡ 0 → xs ≡ []
-no_more [] h = refl
-no_more (x ∷ xs) h = absurd (omega arith)
-
 one_alone : (choice : Choice) (made before : List Choice) (c : Choice) (after : List Choice) → length made ≤ 1 → made ≡ before ++ c ∷ after → after ≡ []
 one_alone choice made before c after few is =
     let long : length made ≡ length (before ++ c ∷ after) = ap length is in
-    no_more after (omega (arith, length-append before (c ∷ after)))
+    nil_from_length after (omega (arith, length-append before (c ∷ after)))
 
 earlier_on : (image : Loaded) (places : PlaceSet) (choice : Choice) (rest : List Choice) (w : State) → stop_behind places choice (chosen image choice w) ≡ None → Earlier image places (chosen image choice w) rest
     → Earlier image places w (choice ∷ rest)

@@ -3,7 +3,7 @@
 use Rattle.std.proofs.Common.{◌≡◌, ◌≢◌, ℕ, zero, suc, ◌+◌, ◌<◌, ◌≤◌, ◌⊎◌, inl, inr, List, [], ◌∷◌, ◌++◌, length, take, drop, get_or, Bool, true, false, Option, Some, None, refl, sym, ap, ◌∙◌, subst, arith, length-append}
 use Rattle.std.specs.Prelude.{◌||◌, if◌then◌else◌, is_some}
 use Rattle.std.specs.FinSet as set
-use Rattle.std.proofs.lemmas.List.{drop_more, take_all, take-append-le}
+use Rattle.std.proofs.lemmas.List.{drop_more, take_all, take-append-le, get_or_default}
 use Rattle.bx_terms.specs.declared.kinds.Trap.{Trap}
 use Rattle.bx_load.specs.Image.{Loaded}
 use Rattle.bx_world.specs.declared.choices.Choice.{Choice}
@@ -16,7 +16,7 @@ use Rattle.bx_debug.specs.Going.{break_behind, ended_by, else_stop, halted, stop
 use Rattle.bx_debug.specs.Leading.{Leads, Reaches}
 use Rattle.bx_debug.specs.declared.stops.Stop.{Stop}
 use Rattle.bx_debug.specs.declared.stops.Stop.TheVariants.{NotEnabled, Trapped}
-use Rattle.bx_debug.proofs.Walking.{breaks_none, leads_before, leads_behind, leads_none, leads_on, same_element}
+use Rattle.bx_debug.proofs.Walking.{breaks_none, leads_before, leads_behind, leads_none, leads_on}
 
 -- why it went no further
 abbrev pub why : Ended → Option Stop
@@ -148,7 +148,7 @@ unbroken_all image choices from at (suc n) end within given so_far =
     let short : at < length choices = omega arith in
     let choice = get_or choices at (Run 0) in
     let next = advanced image choice end in
-    let on = unbroken_on image choices from at end choice short (same_element choices at (Run 0) choice short) given so_far in
+    let on = unbroken_on image choices from at end choice short (get_or_default choices at (Run 0) choice short) given so_far in
     subst (λ (cs : List Choice). Unbroken image choices from (ran image (take (suc n) cs) end)) (sym (drop_more choices at (Run 0) short))
     (unbroken_all image choices from (at + 1) n next (omega arith) (given_on image choice at end given) on)
 

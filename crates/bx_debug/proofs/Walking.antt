@@ -1,8 +1,8 @@
 -- Walks, choice by choice.
-use Rattle.std.proofs.Common.{◌≡◌, ◌≢◌, ℕ, zero, suc, ◌+◌, ◌<◌, ◌≤◌, List, [], ◌∷◌, ◌++◌, length, take, drop, get_or, Bool, true, false, Option, Some, None, refl, sym, ap, ◌∙◌, subst, append_assoc, arith}
+use Rattle.std.proofs.Common.{◌≡◌, ◌≢◌, ℕ, suc, ◌+◌, ◌<◌, List, [], ◌∷◌, ◌++◌, length, take, drop, get_or, Bool, true, false, Option, Some, None, refl, sym, ap, ◌∙◌, subst, append_assoc, arith}
 use Rattle.std.specs.Prelude.{◌&&◌, if◌then◌else◌, is_some}
 use Rattle.bx_terms.specs.declared.faults.Fault.TheVariants as faults
-use Rattle.std.proofs.lemmas.List.{append-nil, drop_all, take_more, drop_more}
+use Rattle.std.proofs.lemmas.List.{append-nil, take_more, drop_more}
 use Rattle.bx_terms.specs.declared.kinds.Trap.{Trap}
 use Rattle.bx_load.specs.Image.{Loaded}
 use Rattle.bx_world.specs.declared.choices.Choice.{Choice}
@@ -156,19 +156,6 @@ leads_behind image places choices from i here choice next stop short is done sto
           ∙ (λ j. (taken j, stop));
     }
 
--- it is stopped there
-pub told_stopped : (image : Loaded) (places : PlaceSet) (choices : List Choice) (from : State) (applied : ℕ) (here : State) (stop : Stop)
-    → Leads image places choices from applied here (Some stop) → walked image places choices from ≡ (take applied choices, stop)
-told_stopped image places choices from applied here stop lead = lead.told ∙ (λ j. (append-nil (take applied choices) j, stop))
-
--- all are applied
-pub told_whole : (image : Loaded) (places : PlaceSet) (choices : List Choice) (from : State) (applied : ℕ) (here : State)
-    → length choices ≤ applied → Leads image places choices from applied here None → walked image places choices from ≡ (take applied choices, Done)
-told_whole image places choices from applied here whole lead =
-    lead.told
-    ∙ ap (λ (cs : List Choice). resumed (take applied choices) (walked image places cs here)) (drop_all applied choices whole)
-    ∙ (λ j. (append-nil (take applied choices) j, Done))
-
 -- where no breakpoint is set nothing breaks
 set_nowhere : (place : Place) → is_set set.empty place ≡ false
 set_nowhere place = set.contains-empty pair_cmp (numbers place)
@@ -205,12 +192,6 @@ one_applied image places choice w made stop free told =
     sym (ap (λ (k : List Choice × Stop). k.0) told)
     ∙ ap (λ (k : List Choice × Stop). k.0) (open_here (stop_before choice w) _ unstopped)
     ∙ first_unless choice (stop_behind places choice (chosen image choice w))
-
--- an element of a list, whatever stands for one past its end
-pub same_element : {A : Type 0} (xs : List A) (i : ℕ) (d e : A) → i < length xs → get_or xs i d ≡ get_or xs i e
-same_element [] i d e h = absurd (omega arith)
-same_element (x ∷ xs) zero d e h = refl
-same_element (x ∷ xs) (suc i) d e h = same_element xs i d e (omega arith)
 
 pub applied_here : (image : Loaded) (choice : Choice) (here next : State) (stop : Option Stop) → stop ≡ None → Chooses image choice here next stop → Chooses image choice here next None
 applied_here image choice here next stop none done = subst (λ (s : Option Stop). Chooses image choice here next s) none done

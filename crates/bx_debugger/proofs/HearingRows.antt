@@ -1,7 +1,8 @@
 -- Bytes that are heard one after another.
-use Rattle.std.proofs.Common.{◌≡◌, ◌∙◌, ◌+◌, ◌≤◌, ◌⊎◌, inl, inr, ℕ, suc, true, false, ◌||◌, List, [], ◌∷◌, ◌++◌, Option, Result, Ok, Err, length, take, append_assoc, length-append, arith, refl, sym, ap, subst}
+use Rattle.std.proofs.Common.{◌≡◌, ◌∙◌, ◌+◌, ◌≤◌, ◌⊎◌, inl, inr, ℕ, true, false, ◌||◌, List, [], ◌++◌, Option, Result, Ok, Err, length, take, append_assoc, length-append, arith, refl, sym, ap, subst}
 use Rattle.std.specs.Io.KnownBytes.{Appends, Consumes, IsAtEnd}
 use Rattle.std.proofs.KnownBytes.{Appends-trans, Consumes-trans}
+use Rattle.std.proofs.Math.Seq.{take-append-add}
 use Rattle.bx_debug.specs.Sessions.{History}
 use Rattle.bx_engine.specs.Sources.{Sources}
 use Rattle.bx_debugger.specs.Answers.{after_lines, has_quit}
@@ -59,20 +60,6 @@ follows-append w v u h i j a b first second =
           subst (Appends w u) e (Appends-trans w v u (told h (ended_in h a)) (told (heard h a) (ended_in (heard h a) b)) first.written then.written);
     }
 
--- no byte
-pub follows_nothing : (w : Option (List ℕ)) (h : Hearing) → Appends w w [] → Follows w w h h []
-follows_nothing w h none = record {
-  state = hearing_is h (heard h []) refl refl (omega arith) refl (omega arith);
-  goes_on = refl;
-  written = none;
-}
-
-take_behind : (xs ys : List (List ℕ)) (k : ℕ) → take (length xs + k) (xs ++ ys) ≡ xs ++ take k ys
-take_behind [] ys k = let e : 0 + k ≡ k = omega arith in rw e refl
-take_behind (x ∷ xs) ys k =
-    let e : suc (length xs) + k ≡ suc (length xs + k) = omega arith in
-    rw e (ap (λ (ls : List (List ℕ)). x ∷ ls) (take_behind xs ys k))
-
 -- memory that lacks behind bytes that were heard
 pub lacks_behind : (w v u : Option (List ℕ)) (h i : Hearing) (a b : List ℕ) → Follows w v h i a → Lacks v u i b → Lacks w u h (a ++ b)
 lacks_behind w v u h i a b first second =
@@ -81,7 +68,7 @@ lacks_behind w v u h i a b first second =
     let k = then.0 in
     let count = length (ended_in h a) + k in
     let taken : take count (lines_in h (a ++ b)) ≡ ended_in h a ++ take k (lines_in (heard h a) b) =
-    ap (take count) (sym lines) ∙ take_behind (ended_in h a) (lines_in (heard h a) b) k in (
+    ap (take count) (sym lines) ∙ take-append-add (ended_in h a) (lines_in (heard h a) b) k in (
       count,
       (let l = ap length lines in let m = length-append (ended_in h a) (lines_in (heard h a) b) in let short = then.1 in omega arith),
       ap has_quit taken ∙ quit-append (ended_in h a) (take k (lines_in (heard h a) b)) ∙ ap (λ q. q || has_quit (take k (lines_in (heard h a) b))) first.goes_on ∙ then.2,

@@ -1,5 +1,6 @@
 -- Exchanges as they are answered.
-use Rattle.std.proofs.Common.{◌≡◌, ◌∙◌, ℕ, Bool, true, false, List, Result, Ok, Err, refl, sym, ap}
+use Rattle.std.proofs.Common.{◌≡◌, ◌∙◌, ℕ, Bool, List, Result, Ok, Err, sym, ap}
+use Rattle.std.proofs.lemmas.Bool.{false_from_ne_true}
 use Rattle.std.specs.Prelude.{IfOk}
 use Rattle.bx_terms.specs.Outcomes.{Does}
 use Rattle.bx_terms.specs.declared.faults.Fault.{Fault}
@@ -9,10 +10,6 @@ use Rattle.bx_debug.specs.Sessions.{History}
 use Rattle.bx_debug.specs.Swapping.{MaySwap, Swaps, swapped}
 use Rattle.bx_debug.proofs.Exchanging.{may_so, so_may}
 use Rattle.bx_debugger.specs.Answers.{Moves, moved}
-
-never : (b : Bool) → (b ≡ true → ⊥) → b ≡ false
-never true never_is = absurd (never_is refl)
-never false never_is = refl
 
 abbrev ok_of : History → Result (History × Unit {0}) Fault
 ok_of s = Ok (s, tt)
@@ -24,7 +21,7 @@ swap_done : (k : ℕ) (old new : History) → MaySwap k old → new ≡ swapped 
 swap_done k old new may is = ap (λ (b : Bool). swap_by b k old) (so_may k old may) ∙ ap ok_of (sym is)
 
 swap_refused : (k position : ℕ) (old : History) → (MaySwap k old → ⊥) → position ≡ k → swap_of k old ≡ Err (NotIndependent position)
-swap_refused k position old never_may is = ap (λ (b : Bool). swap_by b k old) (never (may_swap k old) (λ e. never_may (may_so k old e))) ∙ ap err_of (sym is)
+swap_refused k position old never_may is = ap (λ (b : Bool). swap_by b k old) (false_from_ne_true (may_swap k old) (λ e. never_may (may_so k old e))) ∙ ap err_of (sym is)
 
 -- an exchange moves a session as its test tells
 pub swap_moves : (k : ℕ) (old new : History) (result : Result (Unit {0}) Fault) → Swaps k old new result → Moves old new result (swap_of k old)

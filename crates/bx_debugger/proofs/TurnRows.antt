@@ -1,31 +1,17 @@
 -- What one reading of bytes comes to.
-use Rattle.std.proofs.Common.{◌≡◌, ◌∙◌, ◌+◌, ◌<◌, ◌≤◌, inl, inr, ℕ, ◌||◌, List, [], ◌∷◌, ◌++◌, Option, Some, None, Result, Ok, Err, IfErr, length, take, drop, get_or, append_assoc, arith, refl, sym, ap, subst}
-use Rattle.std.proofs.lemmas.List.{take-append-drop, take-take, take_more, length-take-le, length-append}
-use Rattle.std.specs.Io.KnownBytes.{Appends, Consumes, IsAtEnd, Keeps}
-use Rattle.std.proofs.KnownBytes.{Appends-trans, Keeps-refl}
+use Rattle.std.proofs.Common.{◌≡◌, ◌∙◌, ◌+◌, ◌<◌, ◌≤◌, inl, inr, ℕ, ◌||◌, List, [], ◌∷◌, ◌++◌, Option, Some, Result, Ok, Err, length, take, drop, get_or, append_assoc, arith, refl, sym, ap, subst}
+use Rattle.std.proofs.lemmas.List.{take-append-drop, take-take, take_more, length-append}
+use Rattle.std.specs.Io.KnownBytes.{Appends, Consumes}
+use Rattle.std.proofs.KnownBytes.{Appends-trans}
 use Rattle.bx_debugger.specs.Lines.{begun_line, last_line}
-use Rattle.bx_debugger.specs.Talks.{Breaks, Broken, Ends, Finishes, Follows, Hearing, Hears, Talks, Turns, ended_in, heard, lines_in, quits, told}
+use Rattle.bx_debugger.specs.Talks.{Breaks, Broken, Ends, Follows, Hearing, Talks, ended_in, heard, lines_in, quits, told}
 use Rattle.bx_engine.specs.declared.failures.Failure.{Failure}
 use Rattle.bx_engine.specs.declared.failures.Failure.TheVariants.{Refused, Read, Write, Start}
 use Rattle.bx_terms.specs.declared.faults.Fault.TheVariants.{Memory, TooLarge}
 use Rattle.bx_debugger.specs.declared.talks.Next.{Next}
 use Rattle.bx_debugger.specs.declared.talks.Next.TheVariants.{More, Over}
 use Rattle.bx_debugger.proofs.LineRows.{answers_past, ended-append}
-use Rattle.bx_debugger.proofs.HearingRows.{begun_behind, fails_behind, follows_nothing, follows-append, lacks_behind, quits-append, told_behind}
-use Rattle.bx_debugger.proofs.ByteRows.{appends_none}
-
--- nothing was given
-pub consumes_none : (had rest : Option (List ℕ)) → Keeps had rest → Consumes had rest []
-consumes_none None rest k = tt
-consumes_none (Some xs) None k = k
-consumes_none (Some xs) (Some ys) k = sym k
-
--- no byte was heard yet
-pub follows_none : (w : Option (List ℕ)) (h : Hearing) → Follows w w h h []
-follows_none w h = follows_nothing w h (appends_none w w (Keeps-refl w))
-
-pub hears_none : (w had rest : Option (List ℕ)) (h : Hearing) → Keeps had rest → Hears w w had rest h h []
-hears_none w had rest h k = record { given = consumes_none had rest k; within = omega arith; follows = follows_none w h }
+use Rattle.bx_debugger.proofs.HearingRows.{begun_behind, fails_behind, follows-append, lacks_behind, quits-append, told_behind}
 
 -- hearing that breaks off behind bytes that were heard
 pub breaks_behind : (w v u : Option (List ℕ)) (h i : Hearing) (a b : List ℕ) (answer : Result Next Failure) → Follows w v h i a → Breaks v u i b answer → Breaks w u h (a ++ b) answer
@@ -67,13 +53,6 @@ pub follows_more : (w v u : Option (List ℕ)) (h i j : Hearing) (bytes : List �
 follows_more w v u h i j bytes n short first second =
     subst (Follows w u h j) (sym (take_more bytes n 0 short)) (follows-append w v u h i j (take n bytes) (get_or bytes n 0 ∷ []) first second)
 
--- there is room for one byte more
-pub room_left : (w v : Option (List ℕ)) (h i : Hearing) (bytes : List ℕ) (n : ℕ) → n < length bytes → length bytes ≤ h.left → Follows w v h i (take n bytes) → 0 < i.left
-room_left w v h i bytes n short within f =
-    let l = ap (λ (k : Hearing). k.left) f.state in
-    let m : length (take n bytes) ≡ n = length-take-le n bytes (omega arith) in
-    omega arith
-
 -- what was given, cut where the limit is
 pub consumes_cut : (had rest : Option (List ℕ)) (chunk : List ℕ) (count within : ℕ) → within ≤ count → Consumes had rest (take count chunk)
     → Consumes had rest (take within chunk ++ drop within (take count chunk))
@@ -81,21 +60,6 @@ consumes_cut had rest chunk count within le c =
     let cut : take within chunk ++ drop within (take count chunk) ≡ take count chunk =
     ap (λ (t : List ℕ). t ++ drop within (take count chunk)) (sym (take-take within count chunk le)) ∙ take-append-drop within (take count chunk) in
     subst (Consumes had rest) (sym cut) c
-
--- the reader failed
-pub talks_unread : (file : ℕ) (w had rest : Option (List ℕ)) (h : Hearing) → Keeps had rest → Talks file h w w had rest (Err (Read file))
-talks_unread file w had rest h k = ([], [], consumes_none had rest k, omega arith, (refl, refl, refl, appends_none w w (Keeps-refl w)))
-
--- the reader is at its end
-pub turns_end : (file : ℕ) (w v had rest : Option (List ℕ)) (h after : Hearing) (answer : Result Next Failure) → Consumes had rest [] → IsAtEnd rest → Finishes w v h answer
-    → Turns file h after w v had rest answer
-turns_end file w v had rest h after (Ok More) c e f = absurd f
-turns_end file w v had rest h after (Ok Over) c e f = ([], [], c, omega arith, (inl (e, refl), f))
-turns_end file w v had rest h after (Err (Refused Memory n)) c e f = ([], [], c, omega arith, f)
-turns_end file w v had rest h after (Err (Refused fault n)) c e f = absurd f
-turns_end file w v had rest h after (Err (Read n)) c e f = absurd f
-turns_end file w v had rest h after (Err Write) c e f = ([], [], c, omega arith, (inr (e, refl), f))
-turns_end file w v had rest h after (Err Start) c e f = absurd f
 
 consumes_so : (had rest : Option (List ℕ)) (piece extra read past : List ℕ) → piece ≡ read ++ past → Consumes had rest (piece ++ extra) → Consumes had rest (read ++ (past ++ extra))
 consumes_so had rest piece extra read past e c =
@@ -130,8 +94,3 @@ talks_broken file w v had rest h piece extra failure c le b =
 pub talks_large : (file : ℕ) (w v had rest : Option (List ℕ)) (h after : Hearing) (piece extra : List ℕ) → Consumes had rest (piece ++ extra) → length piece ≡ h.left → 0 < length extra
     → Follows w v h after piece → Talks file h w v had rest (Err (Refused TooLarge (Some file)))
 talks_large file w v had rest h after piece extra c full some f = (piece, extra, c, omega arith, (refl, full, some, f.goes_on, f.written))
-
--- all that came was heard
-pub hears_all : (w v had rest : Option (List ℕ)) (h after : Hearing) (piece : List ℕ) → Consumes had rest piece → length piece ≤ h.left → Follows w v h after piece
-    → Hears w v had rest h after piece
-hears_all w v had rest h after piece c le f = record { given = c; within = le; follows = f }

@@ -17,7 +17,9 @@ use Rattle.bx_debug.specs.declared.pauses.Bound.{Bound}
 use Rattle.bx_debug.specs.declared.pauses.Bound.TheVariants.{Event, Meeting}
 use Rattle.bx_debug.specs.declared.stops.Stop.{Stop}
 use Rattle.bx_engine.specs.Sources.{Sources}
-use Rattle.bx_debugger.specs.Commands.{Ordered, Step, Back, Forward, Go, Until, Run, Swap, Tidy, Undo, Break, Clear, Show, Where, Look, Signals, Open, Items, Trace, Plan, Help, ordered_by}
+use Rattle.bx_debugger.specs.declared.commands.Command.{Command}
+use Rattle.bx_debugger.specs.declared.commands.Command.TheVariants.{Step, Back, Forward, Go, Until, Run, Swap, Tidy, Undo, Break, Clear, Show, Where, Look, Signals, Open, Items, Trace, Plan, Help}
+use Rattle.bx_debugger.specs.Commands.{ordered_by}
 use Rattle.bx_debugger.specs.Functions.{list_answer}
 use Rattle.bx_debugger.specs.Help.{help_answer}
 use Rattle.bx_debugger.specs.Look.{look_answer}
@@ -79,7 +81,7 @@ planned n name choices =
     else plan_line name choices ++ codes "\n"
 
 -- the answer to a command on line n, and the session behind it
-abbrev pub replied : Sources → ℕ → Ordered → History → List ℕ × History
+abbrev pub replied : Sources → ℕ → Command → History → List ℕ × History
 replied sources n (Step choice) s = moved n s (stepped choice s)
 replied sources n (Back count) s = moved n s (back count s)
 replied sources n (Forward count) s = moved n s (forward count s)
@@ -102,7 +104,7 @@ replied sources n (Plan name) s = (planned n name (behind s), s)
 replied sources n Help s = (help_answer, s)
 
 -- a line that spells no command is refused
-abbrev pub ordered_so : Sources → ℕ → Option Ordered → History → List ℕ × History
+abbrev pub ordered_so : Sources → ℕ → Option Command → History → List ℕ × History
 ordered_so sources n None s = (refused_line n (BadCommand n), s)
 ordered_so sources n (Some order) s = replied sources n order s
 

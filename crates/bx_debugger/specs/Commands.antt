@@ -8,36 +8,10 @@ use Rattle.bx_terms.specs.declared.places.Place.{Place}
 use Rattle.bx_asm.specs.declared.unit.Head.{Head}
 use Rattle.bx_load.specs.Functions.{function_of}
 use Rattle.bx_load.specs.Image.{Loaded, item_at, place_of, target, there}
-use Rattle.bx_world.specs.declared.choices.Choice.{Choice}
 use Rattle.bx_plan.specs.Reading.{cut, choice_of, entries_of, is_name, number_of, spread}
 use Rattle.bx_engine.specs.Starts.{has_colon, token_in}
-
-pub data Ordered : Type 0 where
-  Step : Choice → Ordered
-  Back : ℕ → Ordered
-  Forward : ℕ → Ordered
-  Go : List Choice → Ordered
-  -- a process up to its next event, and behind where it next meets others
-  Until : ℕ → Ordered
-  Run : ℕ → Ordered
-  Swap : ℕ → Ordered
-  Tidy : Ordered
-  -- the choice of that number
-  Undo : ℕ → Ordered
-  Break : Place → Ordered
-  Clear : Place → Ordered
-  Show : Ordered
-  Where : Ordered
-  Look : ℕ → Ordered
-  Signals : Ordered
-  Open : Ordered
-  -- the items of a function: the address of the first, and the number behind the last
-  Items : Place → ℕ → Ordered
-  -- how many of the last choices
-  Trace : ℕ → Ordered
-  -- with this name
-  Plan : List ℕ → Ordered
-  Help : Ordered
+use Rattle.bx_debugger.specs.declared.commands.Command.{Command}
+use Rattle.bx_debugger.specs.declared.commands.Command.TheVariants.{Step, Back, Forward, Go, Until, Run, Swap, Tidy, Undo, Break, Clear, Show, Where, Look, Signals, Open, Items, Trace, Plan, Help}
 
 -- how far a move, and which item, a line may name
 abbrev pub most_number : ℕ
@@ -103,15 +77,15 @@ abbrev pub place_named : Loaded → List ℕ → Option Place
 place_named image text = or_place (place_in image text) (beginning image (function_in image text))
 
 -- the items of a function
-abbrev pub items_of : Place × Head → Ordered
+abbrev pub items_of : Place × Head → Command
 items_of f = Items f.0 (f.0.item + f.1.count)
 
 -- a name that a plan takes
-abbrev pub plan_named : List ℕ → Option Ordered
+abbrev pub plan_named : List ℕ → Option Command
 plan_named name = if is_name name then Some (Plan name) else None
 
 -- a command that is a word alone; `go` alone makes no choice
-abbrev pub alone : List ℕ → Option Ordered
+abbrev pub alone : List ℕ → Option Command
 alone word =
     if bytes_eq word (codes "go") then Some (Go [])
     else if bytes_eq word (codes "show") then Some Show
@@ -123,7 +97,7 @@ alone word =
     else None
 
 -- a command's word, and what stands behind the space
-abbrev pub about : Loaded → List ℕ × List ℕ → Option Ordered
+abbrev pub about : Loaded → List ℕ × List ℕ → Option Command
 about image parts =
     if bytes_eq parts.0 (codes "step") then option_map Step (choice_of parts.1)
     else if bytes_eq parts.0 (codes "back") then option_map Back (number_of most_number parts.1)
@@ -141,10 +115,10 @@ about image parts =
     else if bytes_eq parts.0 (codes "plan") then plan_named parts.1
     else None
 
-abbrev pub by_parts : Loaded → List ℕ → Option (List ℕ × List ℕ) → Option Ordered
+abbrev pub by_parts : Loaded → List ℕ → Option (List ℕ × List ℕ) → Option Command
 by_parts image line None = alone line
 by_parts image line (Some parts) = about image parts
 
 -- what a line orders, over that loaded code
-abbrev pub ordered_by : Loaded → List ℕ → Option Ordered
+abbrev pub ordered_by : Loaded → List ℕ → Option Command
 ordered_by image line = by_parts image line (cut 32 line)

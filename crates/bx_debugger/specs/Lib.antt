@@ -9,7 +9,6 @@ pub mod Open
 pub mod Stops
 pub mod Help
 pub mod Commands
-pub mod CommandView
 pub mod Answers
 pub mod Lines
 pub mod Talks

@@ -14,6 +14,3 @@ begun_line line (b ∷ bytes) = if b == 10 then begun_line [] bytes else begun_l
 abbrev pub last_line : List ℕ → List (List ℕ)
 last_line [] = []
 last_line (b ∷ bytes) = (b ∷ bytes) ∷ []
-
-abbrev pub lines_of : List ℕ → List (List ℕ)
-lines_of bytes = ended_lines [] bytes ++ last_line (begun_line [] bytes)

@@ -5,13 +5,12 @@ ghost use Rattle.bx_terms.specs.AtomTable as atoms;
 ghost use Rattle.bx_terms.specs.Outcomes.{Gives};
 ghost use Rattle.bx_plan.specs.Reading.{number_of};
 ghost use Rattle.bx_debugger.specs.Commands.{about, alone, beginning, function_in, function_there, items_of, ordered_by, place_in, place_named, place_there, plan_named};
-ghost use Rattle.bx_debugger.specs.CommandView.{ordered};
 
 use bx_asm::Head;
 use bx_engine::token_at;
 use bx_load::Image;
 use bx_plan::{Schedule, choice_of, cut, name_of, number_of, read_choices};
-use bx_terms::{Fault, Place};
+use bx_terms::{Fault, Name, Place};
 use bx_world::Choice;
 use std::alloc::{AllocError, Global};
 
@@ -58,7 +57,7 @@ pub(crate) enum Command {
     /// Shows so many of the last choices, and what each met.
     Trace(u32),
     /// Shows the choices so far as a line of a plan, of this name.
-    Plan(String),
+    Plan(Name),
     /// Shows the commands.
     Help,
 }
@@ -71,8 +70,7 @@ pub(crate) fn command_of(
     image: &Image,
     line: &[u8],
 ) -> Result<Option<Command>, Fault>
-    ensures { Gives ⊤ (λ command. option_map ordered command) result
-        (Ok (ordered_by image.now line.now)) }
+    ensures { Gives ⊤ (λ command. command) result (Ok (ordered_by image.now line.now)) }
 {
     match cut(line, b' ') {
         Some((word, rest)) => about(alloc, image, word, rest),
@@ -82,7 +80,7 @@ pub(crate) fn command_of(
 
 /// The command that is a word alone.
 fn alone(alloc: Global, word: &[u8]) -> Option<Command>
-    ensures { option_map ordered result ≡ alone word.now }
+    ensures { result ≡ alone word.now }
 {
     if word == b"go".as_slice() {
         return Some(Command::Go(Schedule::new(alloc)));
@@ -110,8 +108,7 @@ fn alone(alloc: Global, word: &[u8]) -> Option<Command>
 
 /// The command of a word, and of what stands behind the space.
 fn about(alloc: Global, image: &Image, word: &[u8], rest: &[u8]) -> Result<Option<Command>, Fault>
-    ensures { Gives ⊤ (λ command. option_map ordered command) result
-        (Ok (about image.now (word.now, rest.now))) }
+    ensures { Gives ⊤ (λ command. command) result (Ok (about image.now (word.now, rest.now))) }
 {
     if word == b"step".as_slice() {
         return Ok(choice_of(rest).map(Command::Step));
@@ -245,8 +242,7 @@ fn place_named(alloc: Global, image: &Image, text: &[u8]) -> Result<Option<Place
 
 /// The command to show the items of the function that `M:F/A` names, where there is one.
 fn items_named(alloc: Global, image: &Image, text: &[u8]) -> Result<Option<Command>, Fault>
-    ensures { Gives ⊤ (λ command. option_map ordered command) result
-        (Ok (option_map items_of (function_in image.now text.now))) }
+    ensures { Gives ⊤ (λ command. command) result (Ok (option_map items_of (function_in image.now text.now))) }
 {
     match function_in(alloc, image, text)? {
         Some((first, head)) => Ok(Some(Command::Items(first, first.item + head.count))),
@@ -256,13 +252,10 @@ fn items_named(alloc: Global, image: &Image, text: &[u8]) -> Result<Option<Comma
 
 /// The command to show the choices as a line of a plan of this name, where a plan takes it.
 fn plan_named(alloc: Global, name: &[u8]) -> Result<Option<Command>, Fault>
-    ensures { Gives ⊤ (λ command. option_map ordered command) result (Ok (plan_named name.now)) }
+    ensures { Gives ⊤ (λ command. command) result (Ok (plan_named name.now)) }
 {
     match name_of(name) {
-        Some(name) => {
-            let name = String::from_str(alloc, name)?;
-            Ok(Some(Command::Plan(name)))
-        }
+        Some(name) => Ok(Some(Command::Plan(Name::new(alloc, name)?))),
         None => Ok(None),
     }
 }

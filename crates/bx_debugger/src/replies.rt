@@ -5,7 +5,6 @@ ghost use Rattle.bx_terms.specs.Refusals.{refusal};
 ghost use Rattle.bx_terms.specs.declared.faults.Fault.{Fault};
 ghost use Rattle.bx_debug.specs.Sessions.{History, behind, world_of};
 ghost use Rattle.bx_debugger.specs.Answers.{Moves, answered, looked, moved, planned, ran_line, refused_line, refused_text, replied, traced, went_line, shown_lines};
-ghost use Rattle.bx_debugger.specs.CommandView.{ordered};
 ghost use Rattle.bx_debugger.specs.Functions.{list_answer};
 ghost use Rattle.bx_debugger.specs.Help.{help_answer};
 ghost use Rattle.bx_debugger.specs.Open.{open_answer};
@@ -62,7 +61,7 @@ fn reply(
     command: &Command,
 ) -> Result<String, Fault>
     ensures { IfOk result (λ text. (string_bytes text, session.new) ≡ replied sources.now number
-        (ordered command.now) session.old) }
+        command.now session.old) }
 {
     match command {
         Command::Step(choice) => {
@@ -113,7 +112,7 @@ fn reply(
             Ok(item_lines(alloc, &program, *first, *past)?)
         }
         Command::Trace(count) => traced(alloc, session, sources, number, *count),
-        Command::Plan(name) => planned(alloc, session, number, name),
+        Command::Plan(name) => planned(alloc, session, number, name.as_str()),
         Command::Help => Ok(help_lines(alloc)?),
     }
 }

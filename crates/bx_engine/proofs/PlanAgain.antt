@@ -1,13 +1,14 @@
 -- Lines that are written of schedules are read back as these, where they are read at all.
 use Rattle.std.proofs.Common.{◌≡◌, ◌∙◌, ℕ, zero, suc, ◌+◌, ◌≤◌, Bool, true, false, List, [], ◌∷◌, ◌++◌, length, replicate, Option, Some, None, Result, Ok, Err, append-nil, append_assoc, refl, sym, ap, subst, cond, arith}
 use Rattle.std.proofs.lemmas.Bool.Decides.{nat_tests}
+use Rattle.std.proofs.lemmas.Bool.{or_parts}
 use Rattle.std.specs.List.{AllByRecursion}
-use Rattle.std.specs.Prelude.{codes, ◌||◌, nat_lt}
+use Rattle.std.specs.Prelude.{codes, nat_lt}
 use Rattle.bx_terms.specs.Outcomes.{◌>>=◌}
 use Rattle.bx_terms.specs.declared.faults.Fault.{Fault}
 use Rattle.bx_terms.specs.declared.faults.Fault.TheVariants.{NameTwice, TooLong}
 use Rattle.bx_plan.specs.Entry.{Entry}
-use Rattle.bx_plan.specs.Grammar.{AreEntries, HasPids, IsEntry, IsName, IsSchedule}
+use Rattle.bx_plan.specs.Grammar.{AreEntries, HasPids, IsName}
 use Rattle.bx_plan.specs.Plans.{Named, has_name, is_too_long, named, plan_of, with_lines, with_read, with_schedule}
 use Rattle.bx_plan.specs.Reading.{line_of, parts_of, spread}
 use Rattle.bx_plan.proofs.Headings.{line_spelled}
@@ -36,13 +37,9 @@ entries_sound : (text : List ℕ) (es : List Entry) → AreEntries text es → A
 entries_sound text [] h = tt
 entries_sound text (e ∷ es) h = all_replicate e.1 e.0 (spread es) h.2.0 (entries_sound h.1 es h.3)
 
-or_false : (a b : Bool) → (a || b) ≡ false → a ≡ false
-or_false true b e = e
-or_false false b e = refl
-
 few_of : (plan : List Named) (schedule : Named) → is_too_long plan schedule ≡ false → length schedule.1 ≤ 100000
 few_of plan schedule e =
-    let short : nat_lt 100000 (length schedule.1) ≡ false = or_false (nat_lt 100000 (length schedule.1)) _ e in
+    let short : nat_lt 100000 (length schedule.1) ≡ false = (or_parts (nat_lt 100000 (length schedule.1)) _ e).0 in
     grind (arith, nat_tests)
 
 all_put : (plan : List Named) (schedule : Named) → AllByRecursion IsSound plan → IsSound schedule → AllByRecursion IsSound (plan ++ schedule ∷ [])

@@ -1,7 +1,8 @@
 -- Choices that are gathered into entries.
 use Rattle.std.proofs.Common.{◌≡◌, ◌≢◌, ◌∙◌, ℕ, zero, suc, ◌+◌, ◌<◌, Bool, true, false, List, [], ◌∷◌, ◌++◌, append_assoc, refl, replicate, sym, ap, cond, arith}
 use Rattle.std.proofs.lemmas.Bool.Decides.{nat_tests}
-use Rattle.std.specs.Prelude.{◌&&◌, ◌==◌, Some, slice_get}
+use Rattle.std.proofs.lemmas.Bool.{and_parts}
+use Rattle.std.specs.Prelude.{◌==◌, Some, slice_get}
 use Rattle.bx_plan.specs.Entry.{Entry}
 use Rattle.bx_plan.specs.Nodes.{choice_eq}
 use Rattle.bx_world.specs.declared.choices.Choice.{Choice}
@@ -12,14 +13,10 @@ use Rattle.bx_engine.specs.PlanLines.{before, entries_words, entry_words, gather
 nat_same : (p q : ℕ) → (p == q) ≡ true → p ≡ q
 nat_same p q e = grind (arith, nat_tests)
 
-both : (a b : Bool) → (a && b) ≡ true → (a ≡ true) × (b ≡ true)
-both true b e = (refl, e)
-both false b e = let no : false ≡ true = e in cc
-
 pub same_choice : (c d : Choice) → choice_eq c d ≡ true → c ≡ d
 same_choice (Run p) (Run q) e = ap Run (nat_same p q e)
 same_choice (Deliver p q) (Deliver r s) e =
-    let parts = both (p == r) (q == s) e in
+    let parts = and_parts (p == r) (q == s) e in
     ap (λ x. Deliver x q) (nat_same p r parts.0) ∙ ap (λ x. Deliver r x) (nat_same q s parts.1)
 same_choice (Expire p) (Expire q) e = ap Expire (nat_same p q e)
 same_choice (Run p) (Deliver r s) e = let no : false ≡ true = e in cc

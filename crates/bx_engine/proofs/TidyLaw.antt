@@ -1,5 +1,5 @@
 -- A plan of tidied schedules may be read where they may, and has the report of the plan that was given.
-use Rattle.std.proofs.Common.{◌≡◌, ◌∙◌, ◌⊎◌, inl, inr, ℕ, ◌+◌, ◌≤◌, ◌<◌, Bool, true, false, List, [], ◌∷◌, ◌++◌, length, map, Option, Some, None, Result, Ok, Err, refl, sym, ap, subst, cond, arith}
+use Rattle.std.proofs.Common.{◌≡◌, ◌∙◌, inl, inr, ℕ, ◌≤◌, Bool, true, false, List, [], ◌∷◌, ◌++◌, length, Option, Some, None, Result, Ok, Err, refl, sym, ap, subst, cond, arith}
 use Rattle.std.proofs.lemmas.Bool.Decides.{nat_tests}
 use Rattle.std.specs.List.{AllByRecursion}
 use Rattle.std.specs.Prelude.{nat_lt, take, IsOk}
@@ -17,18 +17,18 @@ use Rattle.bx_world.specs.declared.choices.Choice.{Choice}
 use Rattle.bx_world.specs.World.{State, started}
 use Rattle.bx_world.specs.Running.{ran, unchosen}
 use Rattle.bx_replay.specs.Courses.{Course}
-use Rattle.bx_replay.specs.Exchanges.{exchanged_at, with_exchange, MayExchange}
-use Rattle.bx_replay.specs.Moving.{exchanged, AllMay, IsExchanged}
+use Rattle.bx_replay.specs.Exchanges.{with_exchange}
+use Rattle.bx_replay.specs.Moving.{exchanged, AllMay}
 use Rattle.bx_replay.proofs.Bringing.{long_after}
 use Rattle.bx_replay.proofs.Turning.{around, new, old}
 use Rattle.bx_swaps.specs.Exchanges.{from_start}
-use Rattle.bx_swaps.specs.Tidying.{IsTidied, IsTidyFrom}
+use Rattle.bx_swaps.specs.Tidying.{IsTidyFrom}
 use Rattle.bx_swaps.proofs.Ends.{exchanged_end}
 use Rattle.bx_engine.specs.Inputs.{input_limit}
 use Rattle.bx_engine.specs.Loads.{ClearUpTo, image_of, of_no_file, plan_in}
 use Rattle.bx_engine.specs.Runs.{Names, entry_in, or_start, report_in, report_of, reported, run_behind, run_of}
 use Rattle.bx_engine.specs.Starts.{start_in}
-use Rattle.bx_engine.specs.Tidying.{AreTidied, IsPastLimits, IsTidiedText, IsTidyOf, LinesWithin, TidiesAt, TidiesBy, plan_text}
+use Rattle.bx_engine.specs.Tidying.{AreTidied, IsPastLimits, IsTidiedText, IsTidyOf, LinesWithin, TidiesAt, TidiesBy}
 use Rattle.bx_engine.specs.Units.{◌>>=◌, FilesGive, fault_in, in_file, sized}
 use Rattle.bx_engine.specs.declared.failures.Failure.{Failure}
 use Rattle.bx_engine.specs.declared.failures.Failure.TheVariants.{Refused}
@@ -132,15 +132,6 @@ pub same_report : (start : List ℕ) (names : Names) (given : List (List ℕ)) (
 same_report start names given planned text e is =
     ap (λ (o : Option Names). or_start o >>= λ n. run_behind n given text) e ∙ text_behind names given planned text is
     ∙ sym (ap (λ (o : Option Names). or_start o >>= λ n. run_behind n given planned) e)
-
--- where there is such a text, there is a report
-pub report_there : (start : List ℕ) (names : Names) (given : List (List ℕ)) (planned text : List ℕ) → start_in start ≡ Some names → IsTidyOf names given planned text → IsOk (run_of start given planned)
-report_there start names given planned text e is =
-    let said : run_of start given planned ≡ Ok (report_lines is.image.atoms (reported_alone is.image is.entry is.plan)) =
-    ap (λ (o : Option Names). or_start o >>= λ n. run_behind n given planned) e
-    ∙ behind_is names given planned is.image is.plan is.loaded (planned_ok (length given) planned is.plan is.within is.read)
-    ∙ ap of_no_file (report_is is.image names is.entry is.start is.plan is.found is.begins) in
-    subst IsOk (sym said) refl
 
 -- ---- what comes of the files
 

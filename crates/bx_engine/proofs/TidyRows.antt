@@ -1,16 +1,15 @@
 -- Lines of tidied schedules, one behind the other.
-use Rattle.std.proofs.Common.{◌≡◌, ◌∙◌, ℕ, ◌+◌, ◌<◌, List, [], ◌∷◌, ◌++◌, length, take, Option, Some, None, Result, Ok, Err, append-nil, append_assoc, refl, sym, ap, subst, arith}
+use Rattle.std.proofs.Common.{◌≡◌, ◌∙◌, ℕ, ◌+◌, ◌<◌, List, [], ◌∷◌, ◌++◌, length, take, Option, Some, None, Result, Ok, Err, append-nil, append_assoc, refl, sym, ap, subst}
 use Rattle.std.specs.Prelude.{codes, slice_get, slice_index_or, false, true, IsOk, IsSome}
 use Rattle.std.proofs.lemmas.List.{take_more}
 use Rattle.std.proofs.lemmas.Option.{slice_get-get_or}
 use Rattle.bx_terms.specs.declared.faults.Fault.{Fault}
-use Rattle.bx_terms.specs.declared.faults.Fault.TheVariants.{Memory}
 use Rattle.bx_load.specs.Image.{Loaded}
 use Rattle.bx_plan.specs.Plans.{Named}
 use Rattle.bx_world.specs.World.{State, begun_at}
 use Rattle.bx_terms.specs.declared.places.Place.{Place}
 use Rattle.bx_engine.specs.PlanLines.{plan_line}
-use Rattle.bx_engine.specs.Tidying.{AreLinesOf, AreTidied, PushesAt, PushesTidied, TidiesAt, TidiesFrom, plan_text}
+use Rattle.bx_engine.specs.Tidying.{AreLinesOf, AreTidied, PushesAt, PushesTidied, TidiesAt, plan_text}
 
 one_more : (image : Loaded) (start : State) (olds news : List Named) (old new : Named) → AreTidied image start olds news → AreTidied image start (old ∷ []) (new ∷ []) → AreTidied image start (olds ++ old ∷ []) (news ++ new ∷ [])
 one_more image start [] [] old new are is = is
@@ -24,9 +23,6 @@ text_more (s ∷ plan) new =
     ap (λ t. (plan_line s.0 s.1 ++ codes "\n") ++ t) (text_more plan new)
     ∙ sym (append_assoc (plan_line s.0 s.1 ++ codes "\n") (plan_text plan) (plan_line new.0 new.1 ++ codes "\n"))
 
-pub none_yet : (image : Loaded) (start : State) → AreLinesOf image start [] []
-none_yet image start = record { tidied = []; are = tt; lines = refl }
-
 pushed_more : (image : Loaded) (start : State) (before : List Named) (schedule : Named) (old new : List ℕ) → AreLinesOf image start before old → PushesTidied image start schedule old new → AreLinesOf image start (before ++ schedule ∷ []) new
 pushed_more image start before schedule old new so_far put = record {
   tidied = so_far.tidied ++ (schedule.0, put.choices) ∷ [];
@@ -39,16 +35,6 @@ lines_more image start plan n old new h so_far put =
     let schedule = slice_index_or plan n ([], []) in
     subst (λ (p : List Named). AreLinesOf image start p new) (sym (take_more plan n ([], []) h))
     (pushed_more image start (take n plan) schedule old new so_far (subst (λ o. PushesAt image start o old new) (slice_get-get_or plan n ([], []) h) put))
-
--- a fault where there is a start is memory
-pub fails_at : {X Y : Type 0} (found : Result State Fault) (wanted : State → X → Type 0) (pushed : State → Y → Type 0) (fault : Fault) → IsOk found → ((start : State) → found ≡ Ok start → TidiesFrom (pushed start) (Err fault))
-    → TidiesAt found wanted (Err fault)
-fails_at {X} {Y} (Ok start) wanted pushed fault there h = go fault (h start refl)
-  where
-    go : (f : Fault) → TidiesFrom (pushed start) (Err f) → TidiesFrom (wanted start) (Err f)
-    go Memory k = tt
-    go f k = absurd k
-fails_at (Err other) wanted pushed fault there h = absurd (let never : false ≡ true = there in cc)
 
 pub done_at : {X : Type 0} (found : Result State Fault) (wanted : State → X → Type 0) (x : X) → IsOk found → ((start : State) → found ≡ Ok start → wanted start x) → TidiesAt found wanted (Ok x)
 done_at (Ok start) wanted x there h = h start refl

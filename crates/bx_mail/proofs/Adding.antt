@@ -2,12 +2,13 @@
 use Rattle.std.proofs.Common.{◌≡◌, ◌≢◌, ℕ, zero, suc, ◌+◌, ◌<◌, ◌^◌, List, [], ◌∷◌, ◌++◌, length, refl, ap, sym, subst, ◌∙◌, arith, length-append, append_assoc}
 use Rattle.std.specs.Prelude.{Option, Some, None, slice_get, slice_set}
 use Rattle.std.proofs.lemmas.List.{append-nil, length-set}
+use Rattle.bx_share.proofs.Places.{get_set_other, get_last}
 use Rattle.bx_terms.specs.Tree.{Tree}
 use Rattle.bx_mail.specs.declared.slots.Slot.{Slot}
 use Rattle.bx_mail.specs.Mail.{Mail, added}
 use Rattle.bx_mail.specs.Slots.{full, vacant, message_in, next_in, Relinked, Opened}
 use Rattle.bx_mail.specs.Joined.{Leads, Ends, Frees, Joined}
-use Rattle.bx_mail.proofs.Chains.{leads_append, Keeps, leads_kept, apart, full_apart, none_empty, slot_of, end_leads, ends_kept, same_frees, frees_kept, set_here, set_other, get_end, leads_wider, ends_wider}
+use Rattle.bx_mail.proofs.Chains.{leads_append, Keeps, leads_kept, apart, full_apart, none_empty, slot_of, end_leads, ends_kept, same_frees, frees_kept, set_here, leads_wider, ends_wider}
 
 none_free : (ss : List Slot) (n : ℕ) → Frees ss n None → n ≡ 0
 none_free ss zero h = refl
@@ -26,7 +27,7 @@ opened ss ss0 first last saved None passed len at mail j o bound =
       len_is = j.len_is;
       spare = suc zero;
       others = omega (arith, j.others, n, length-append ss (vacant None ∷ []));
-      frees = (length ss, None, refl, get_end ss (vacant None), refl);
+      frees = (length ss, None, refl, get_last ss (vacant None), refl);
       bounded = subst (λ l. length l < 2 ^ 32) o.1 bound;
     } in
     subst (λ l. Joined l first last saved (Some at) passed len mail) (sym o.1) (subst (λ x. Joined wide first last saved (Some x) passed len mail) (sym o.0) k)
@@ -91,7 +92,7 @@ add_one ss ss' first first' saved passed len at mail message j e f =
     let v = at_free ss first None saved passed len at mail j in
     let t : Added ss ss' None at message = record {
       filled = ap (λ l. slice_get l at) e ∙ set_here ss at (vacant v.0) (full message None) v.1;
-      kept = (λ i ne _. ap (λ l. slice_get l i) e ∙ set_other ss at i (full message None) ne);
+      kept = (λ i ne _. ap (λ l. slice_get l i) e ∙ get_set_other ss at i (full message None) ne);
       as_many = ap length e ∙ length-set ss at (full message None);
     } in
     let none : mail.passed ≡ [] = no_first mail.passed mail.rest j.at_last in
@@ -116,11 +117,11 @@ add_behind ss ss' first first' saved passed len at l mail message j f e =
     let ne : l ≢ at = full_apart ss x v.0 slot.0 at l v.1 slot.1 in
     let ss1 : List Slot = slice_set ss at (full message None) in
     let new : Slot = record { message = message_in (slice_get ss1 l); next = Some at } in
-    let old_l : slice_get ss1 l ≡ Some (full x slot.0) = set_other ss at l (full message None) ne ∙ slot.1 in
+    let old_l : slice_get ss1 l ≡ Some (full x slot.0) = get_set_other ss at l (full message None) ne ∙ slot.1 in
     let new_l : slice_get ss' l ≡ Some (full x (Some at)) = ap (λ k. slice_get k l) e ∙ set_here ss1 l (full x slot.0) new old_l ∙ ap (λ o. Some (record { message = message_in o; next = Some at })) old_l in
     let t : Added ss ss' (Some l) at message = record {
-      filled = ap (λ k. slice_get k at) e ∙ set_other ss1 l at new (λ w. ne (sym w)) ∙ set_here ss at (vacant v.0) (full message None) v.1;
-      kept = (λ i na nl. ap (λ k. slice_get k i) e ∙ set_other ss1 l i new (λ w. nl (ap (λ n. Some n) (sym w))) ∙ set_other ss at i (full message None) na);
+      filled = ap (λ k. slice_get k at) e ∙ get_set_other ss1 l at new (λ w. ne (sym w)) ∙ set_here ss at (vacant v.0) (full message None) v.1;
+      kept = (λ i na nl. ap (λ k. slice_get k i) e ∙ get_set_other ss1 l i new (λ w. nl (ap (λ n. Some n) (sym w))) ∙ get_set_other ss at i (full message None) na);
       as_many = ap length e ∙ length-set ss1 l new ∙ length-set ss at (full message None);
     } in
     let above : (top : ℕ) → Keeps ss ss' 1 top = λ top i y ns c low high.

@@ -1,5 +1,7 @@
 -- Slots that lead through messages: joined, parted, and kept where other slots are written.
 use Rattle.std.proofs.Common.{◌≡◌, ◌≢◌, ℕ, zero, suc, ◌+◌, ◌<◌, ◌≤◌, List, [], ◌∷◌, ◌++◌, length, refl, ap, sym, subst, ◌∙◌, arith, length-append, append_assoc}
+use Rattle.std.proofs.lemmas.Option.{slice_get_within}
+use Rattle.bx_share.proofs.Places.{get_more, get_set_same}
 use Rattle.std.specs.Prelude.{Option, Some, None, slice_get, slice_set}
 use Rattle.bx_terms.specs.Tree.{Tree}
 use Rattle.bx_mail.specs.declared.slots.Slot.{Slot}
@@ -120,30 +122,12 @@ frees_kept ss ss' (suc n) top p h within keeps = (h.0, h.1, h.2, keeps h.0 n h.1
 
 -- a row of slots, written at one place
 pub set_here : (ss : List Slot) (i : ℕ) (s t : Slot) → slice_get ss i ≡ Some s → slice_get (slice_set ss i t) i ≡ Some t
-set_here [] i s t h = cc
-set_here (x ∷ ss) zero s t h = refl
-set_here (x ∷ ss) (suc i) s t h = set_here ss i s t h
-
-pub set_other : (ss : List Slot) (i j : ℕ) (t : Slot) → j ≢ i → slice_get (slice_set ss i t) j ≡ slice_get ss j
-set_other [] i j t ne = refl
-set_other (x ∷ ss) zero zero t ne = absurd (ne refl)
-set_other (x ∷ ss) zero (suc j) t ne = refl
-set_other (x ∷ ss) (suc i) zero t ne = refl
-set_other (x ∷ ss) (suc i) (suc j) t ne = set_other ss i j t (λ e. ne (ap (λ n. suc n) e))
+set_here ss i s t h = get_set_same ss i t (slice_get_within ss i s h)
 
 -- a row of slots with one more
-pub get_wider : (ss : List Slot) (i : ℕ) (s t : Slot) → slice_get ss i ≡ Some s → slice_get (ss ++ t ∷ []) i ≡ Some s
-get_wider [] i s t h = cc
-get_wider (x ∷ ss) zero s t h = h
-get_wider (x ∷ ss) (suc i) s t h = get_wider ss i s t h
-
-pub get_end : (ss : List Slot) (t : Slot) → slice_get (ss ++ t ∷ []) (length ss) ≡ Some t
-get_end [] t = refl
-get_end (x ∷ ss) t = get_end ss t
-
 pub leads_wider : (ss : List Slot) (t : Slot) (ms : List Tree) (p q : Option ℕ) → Leads ss ms p q → Leads (ss ++ t ∷ []) ms p q
 leads_wider ss t [] p q h = h
-leads_wider ss t (m ∷ ms) p q h = (h.0, h.1, h.2, get_wider ss h.0 (full m h.1) t h.3, leads_wider ss t ms h.1 q h.4)
+leads_wider ss t (m ∷ ms) p q h = (h.0, h.1, h.2, get_more ss (t ∷ []) h.0 (full m h.1) h.3, leads_wider ss t ms h.1 q h.4)
 
 pub ends_wider : (ss : List Slot) (t : Slot) (ms : List Tree) (p e : Option ℕ) → Ends ss ms p e → Ends (ss ++ t ∷ []) ms p e
 ends_wider ss t ms p None h = h

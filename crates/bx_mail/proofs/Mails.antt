@@ -1,5 +1,5 @@
 -- A mailbox that is joined: what its links lead to, and how it is joined after a pass or a reset.
-use Rattle.std.proofs.Common.{◌≡◌, ℕ, ◌+◌, ◌-◌, ◌<◌, ◌^◌, List, [], ◌∷◌, ◌++◌, length, refl, ap, sym, subst, ◌∙◌, arith, length-append, append_assoc}
+use Rattle.std.proofs.Common.{◌≡◌, ℕ, ◌+◌, ◌-◌, List, [], ◌∷◌, ◌++◌, length, refl, ap, sym, subst, ◌∙◌, arith, length-append, append_assoc}
 use Rattle.std.specs.Prelude.{Option, Some, None, IsSome, IsTrue, false, slice_get}
 use Rattle.std.proofs.lemmas.List.{append-nil}
 use Rattle.bx_terms.specs.Tree.{Tree}
@@ -110,9 +110,6 @@ no_current ss first last saved free passed len mail j e = ap first_of (no_rest s
 
 pub not_told : (mail : Mail) → current mail ≡ None → (IsTrue false → IsSome (current mail)) × (IsSome (current mail) → IsTrue false)
 not_told mail e = subst (λ o. (IsTrue false → IsSome o) × (IsSome o → IsTrue false)) (sym e) (λ t. t, λ t. t)
-
-pub len_below : (ss : List Slot) (first last saved free : Option ℕ) (passed len : ℕ) (mail : Mail) → Joined ss first last saved free passed len mail → len < 2 ^ 32
-len_below ss first last saved free passed len mail j = omega (arith, j.others, j.bounded)
 
 -- the saved and the last slot are slots
 pub saved_full : (ss : List Slot) (first last saved free : Option ℕ) (passed len : ℕ) (mail : Mail) (at : ℕ) → Joined ss first last saved free passed len mail → saved ≡ Some at → (m : Tree) × (next : Option ℕ) × (slice_get ss at ≡ Some (full m next)) × Leads ss mail.rest next None

@@ -2,12 +2,13 @@
 use Rattle.std.proofs.Common.{◌≡◌, ◌≢◌, ℕ, suc, ◌+◌, ◌-◌, List, [], ◌∷◌, ◌++◌, length, refl, ap, sym, subst, ◌∙◌, arith, length-append, append_assoc}
 use Rattle.std.specs.Prelude.{Option, Some, None, slice_get, slice_set}
 use Rattle.std.proofs.lemmas.List.{append-nil, length-set}
+use Rattle.bx_share.proofs.Places.{get_set_other}
 use Rattle.bx_terms.specs.Tree.{Tree}
 use Rattle.bx_mail.specs.declared.slots.Slot.{Slot}
 use Rattle.bx_mail.specs.Mail.{Mail, taken, take_first}
 use Rattle.bx_mail.specs.Slots.{full, vacant, message_in, next_in, link_behind, last_behind, Relinked}
 use Rattle.bx_mail.specs.Joined.{Leads, Ends, Joined}
-use Rattle.bx_mail.proofs.Chains.{leads_append, Keeps, leads_kept, apart, full_apart, ends_behind, ends_append, ends_kept, end_leads, slot_of, frees_kept, set_here, set_other}
+use Rattle.bx_mail.proofs.Chains.{leads_append, Keeps, leads_kept, apart, full_apart, ends_behind, ends_append, ends_kept, end_leads, slot_of, frees_kept, set_here}
 use Rattle.bx_mail.proofs.Mails.{parts}
 
 -- what a taking leaves of the slots: the one that held the message is free, and the others are kept but for the saved one
@@ -60,7 +61,7 @@ take_cut ss ss' first first' last saved free next passed len at ps rs m j here t
 take_first_one : (ss ss' : List Slot) (first first' last free next : Option ℕ) (passed len at : ℕ) (ps rs : List Tree) (m : Tree) → Joined ss first last None free passed len (record { passed = ps; rest = m ∷ rs }) → slice_get ss at ≡ Some (full m next) → Leads ss rs next None → first ≡ Some at → ss' ≡ slice_set ss at (vacant free) → first' ≡ next → Joined ss' first' (last_behind None next last) None (Some at) 0 (len - 1) (record { passed = []; rest = ps ++ rs })
 take_first_one ss ss' first first' last free next passed len at ps rs m j here behind starts e f =
     let gone : slice_get ss' at ≡ Some (vacant free) = ap (λ l. slice_get l at) e ∙ set_here ss at (full m next) (vacant free) here in
-    let t : Taken ss ss' None free at = record { emptied = gone; kept = (λ i ne _. ap (λ l. slice_get l i) e ∙ set_other ss at i (vacant free) ne); as_many = ap length e ∙ length-set ss at (vacant free) } in
+    let t : Taken ss ss' None free at = record { emptied = gone; kept = (λ i ne _. ap (λ l. slice_get l i) e ∙ get_set_other ss at i (vacant free) ne); as_many = ap length e ∙ length-set ss at (vacant free) } in
     let here_on : Leads ss (m ∷ rs) (Some at) None = (at, next, refl, here, behind) in
     let keeps : Keeps ss ss' 0 (length rs) = λ i x ns c low top. t.kept i (apart ss (m ∷ rs) (x ∷ ns) at i here_on c (omega arith)) (λ n. cc) in
     let cut : Cut ss' ps first' None next = record { leads = subst (λ l. Leads ss' l first' next) (sym j.at_saved) f; ends = j.at_saved } in
@@ -77,12 +78,12 @@ take_behind ss ss' first first' last free next passed len at s ps rs m j here to
     let ne : s ≢ at = apart ss (m ∷ rs) (x ∷ m ∷ rs) at s here_on from_s (omega arith) in
     let ss1 : List Slot = slice_set ss at (vacant free) in
     let new : Slot = record { message = message_in (slice_get ss1 s); next = next } in
-    let old_s : slice_get ss1 s ≡ Some (full x slot.0) = set_other ss at s (vacant free) ne ∙ slot.1 in
+    let old_s : slice_get ss1 s ≡ Some (full x slot.0) = get_set_other ss at s (vacant free) ne ∙ slot.1 in
     let new_s : slice_get ss' s ≡ Some (full x next) = ap (λ l. slice_get l s) e ∙ set_here ss1 s (full x slot.0) new old_s ∙ ap (λ o. Some (record { message = message_in o; next = next })) old_s in
-    let gone : slice_get ss' at ≡ Some (vacant free) = ap (λ l. slice_get l at) e ∙ set_other ss1 s at new (λ w. ne (sym w)) ∙ set_here ss at (full m next) (vacant free) here in
+    let gone : slice_get ss' at ≡ Some (vacant free) = ap (λ l. slice_get l at) e ∙ get_set_other ss1 s at new (λ w. ne (sym w)) ∙ set_here ss at (full m next) (vacant free) here in
     let t : Taken ss ss' (Some s) free at = record {
       emptied = gone;
-      kept = (λ i na ns. ap (λ l. slice_get l i) e ∙ set_other ss1 s i new (λ w. ns (ap (λ n. Some n) (sym w))) ∙ set_other ss at i (vacant free) na);
+      kept = (λ i na ns. ap (λ l. slice_get l i) e ∙ get_set_other ss1 s i new (λ w. ns (ap (λ n. Some n) (sym w))) ∙ get_set_other ss at i (vacant free) na);
       as_many = ap length e ∙ length-set ss1 s new ∙ length-set ss at (vacant free);
     } in
     let away : (i : ℕ) (y : Tree) (ns : List Tree) → Leads ss (y ∷ ns) (Some i) None → length ns ≢ length rs → length ns ≢ suc (length rs) → slice_get ss' i ≡ slice_get ss i =

@@ -6,6 +6,7 @@ use Rattle.std.proofs.lemmas.Bool.Decides.{nat_tests}
 use Rattle.std.proofs.lemmas.List.{map-append}
 use Rattle.std.proofs.lemmas.List.Folds.{list_any-append}
 use Rattle.std.proofs.lemmas.List.Splits.{length-slice_split}
+use Rattle.std.proofs.lemmas.Bool.{or_parts}
 use Rattle.std.specs.Str.{bytes_eq}
 use Rattle.bx_terms.specs.Outcomes.{◌>>=◌}
 use Rattle.bx_terms.specs.declared.faults.Fault.{Fault}
@@ -65,10 +66,6 @@ lines_after n before (line ∷ lines) more = one (with_read n before (line_of li
   one (Err fault) on = refl
   one (Ok next) on = let e : n + 1 + length lines ≡ n + suc (length lines) = omega arith in on next ∙ ap (λ m. with_lines (n + 1) next lines >>= λ middle. with_lines m middle more) e
 
-or_false : (a b : Bool) → (a || b) ≡ false → (a ≡ false) × (b ≡ false)
-or_false true b e = cc
-or_false false b e = (refl, e)
-
 prefix_behind : (front more : List (List Choice)) (path : List Choice) → IsPrefix more path → IsPrefix (front ++ more) path
 prefix_behind [] more path h = h
 prefix_behind (one ∷ front) more path h = inr (prefix_behind front more path h)
@@ -82,13 +79,13 @@ fewer front before schedule =
 
 short_alone : (front before : List Named) (schedule : Named) → is_too_long (front ++ before) schedule ≡ false → is_too_long before schedule ≡ false
 short_alone front before schedule e =
-    let parts = or_false (nat_lt 100000 (length schedule.1)) _ e in
+    let parts = or_parts (nat_lt 100000 (length schedule.1)) _ e in
     let fewer_here = fewer front before schedule in
     let few : nat_lt 1000000 (node_count (choices_of (before ++ schedule ∷ []))) ≡ false = grind (arith, nat_tests, parts.1, fewer_here) in
     ap (λ long. long || nat_lt 1000000 (node_count (choices_of (before ++ schedule ∷ [])))) parts.0 ∙ few
 
 new_alone : (name : List ℕ) (front before : List Named) → has_name name (front ++ before) ≡ false → has_name name before ≡ false
-new_alone name front before e = (or_false (has_name name front) (has_name name before) (sym (list_any-append (λ s. bytes_eq name s.0) front before) ∙ e)).1
+new_alone name front before e = (or_parts (has_name name front) (has_name name before) (sym (list_any-append (λ s. bytes_eq name s.0) front before) ∙ e)).1
 
 -- what lines make of a plan behind some schedules, they make of it alone
 abbrev Alone : List Named → Answer → List Named → Type 0

@@ -1,7 +1,8 @@
 -- What a run of `remove_message` takes.
 use Rattle.std.proofs.Common.{◌≡◌, ℕ, ◌<◌, true, false, refl, sym, ap, subst, ◌∙◌}
-use Rattle.std.specs.Prelude.{◌&&◌, is_none, if◌then◌else◌, Bool, List, [], ◌∷◌, length, Option, Some, None, Result, Ok, Err, MatchOption, slice_get}
+use Rattle.std.specs.Prelude.{is_none, if◌then◌else◌, Bool, List, [], ◌∷◌, length, Option, Some, None, Result, Ok, Err, MatchOption, slice_get}
 use Rattle.std.proofs.lemmas.Option.{slice_get_within}
+use Rattle.std.proofs.lemmas.Bool.{and_parts}
 use Rattle.bx_terms.specs.Outcomes.{◌>>=◌}
 use Rattle.bx_terms.specs.Tree.{Tree}
 use Rattle.bx_terms.specs.declared.faults.Fault.TheVariants.{NotEnabled}
@@ -103,10 +104,6 @@ attempted_removed image number x stands = told_removed x.mailbox x (tried number
 abbrev LivesOn : ℕ → Mail → State → Type 0
 LivesOn p old w = (message : Tree) × (y : Process) × (slice_get w.processes p ≡ Some (Live y)) × TakesOut message old y.mailbox
 
-and_right : (a b : Bool) → a && b ≡ true → b ≡ true
-and_right true b h = h
-and_right false b h = absurd (cc)
-
 module _ (image : Loaded) (w : State) (p : ℕ) (x : Process) (within : p < length w.processes) where
   abbrev RunsOn : State → Type 0
   RunsOn after = after.trap ≡ None → LivesOn p x.mailbox after
@@ -125,7 +122,7 @@ module _ (image : Loaded) (w : State) (p : ℕ) (x : Process) (within : p < leng
 lives_on : (image : Loaded) (w : State) (p : ℕ) (x : Process) → Removes image w p x → LivesOn p x.mailbox (chosen image (Run p) w)
 lives_on image w p x removes =
     let within = slice_get_within w.processes p (Live x) removes.lives in
-    let able = ap (may_at may_run) (sym removes.lives) ∙ and_right (is_none w.trap) (may_at may_run (slice_get w.processes p)) removes.enabled in
+    let able = ap (may_at may_run) (sym removes.lives) ∙ (and_parts (is_none w.trap) (may_at may_run (slice_get w.processes p)) removes.enabled).1 in
     subst (λ o. RunsOn image w p x within (changes.after (Run p) w (run_coming image p (length w.processes) o))) (sym removes.lives)
     (able_on image w p x within (can_run x) able (attempted_removed image p x removes.stands)) removes.runs
 

@@ -1,12 +1,11 @@
 -- The queues of one sender, by rising receiver.
 use Rattle.std.proofs.Common.{◌≡◌, ◌≢◌, ℕ, zero, suc, ◌+◌, ◌==◌, ◌<◌, ◌≤◌, List, [], ◌∷◌, length, get_or, Bool, true, false, cond, Ok, Err, refl, sym, ap, subst, ◌∙◌, arith, nat_cmp}
-use Rattle.std.specs.Prelude.{None, nat_lt, ◌-◌, ◌&&◌, slice_index_or, slice_set}
+use Rattle.std.specs.Prelude.{None, ◌&&◌, slice_index_or, slice_set}
 use Rattle.std.specs.List.{insert}
 use Rattle.std.specs.List.Sorted.{IsSearchInRange, IsBinarySearchResult, IsNonDecreasingBy}
 use Rattle.std.specs.Ordering.{ordering_index}
 use Rattle.std.proofs.lemmas.Cmp.{ranked}
-use Rattle.std.proofs.lemmas.List.{get_or_default, length-set}
-use Rattle.std.proofs.lemmas.List.Edits.{length-insert, get_or-insert_at, get_or-insert_below, get_or-insert_above}
+use Rattle.std.proofs.lemmas.List.{get_or_default}
 use Rattle.std.proofs.lemmas.List.Sorted.{IsNonDecreasingBy-from_default}
 use Rattle.std.proofs.lemmas.Bool.Decides.{nat_tests}
 use Rattle.bx_signals.specs.Waiting.{first, rest, front}
@@ -97,82 +96,6 @@ module _ {S : Type 0} where
 
   pub opened_same : (row : Row S) (q at : ℕ) → IsGapOf row q at → SameRow row (insert row at (q, []))
   opened_same row q at gap = nothing_new row (insert row at (q, [])) q (queue_missed row q at gap) (inserted row q at [] gap.0 (nowhere row q at gap))
-
-  key_of : ℕ × List S → ℕ
-  key_of line = line.0
-
-  pub opened_place : (row : Row S) (q at : ℕ) → IsGapOf row q at → to_at (insert row at (q, [])) at ≡ q
-  opened_place row q at gap = ap (λ (l : ℕ × List S). l.0) (get_or-insert_at row at (q, []) (0, []) gap.0)
-
-  key_below : (row : Row S) (q at k : ℕ) → at ≤ length row → k < at → to_at (insert row at (q, [])) k ≡ to_at row k
-  key_below row q at k here lt = ap (λ (l : ℕ × List S). l.0) (get_or-insert_below row at (q, []) (0, []) k lt here)
-
-  key_above : (row : Row S) (q at k : ℕ) → at ≤ length row → at ≤ k → to_at (insert row at (q, [])) (k + 1) ≡ to_at row k
-  key_above row q at k here le = ap (λ (l : ℕ × List S). l.0) (get_or-insert_above row at (q, []) (0, []) k le here)
-
-  pub opened_rising : (row : Row S) (q at : ℕ) → IsRising row → IsGapOf row q at → IsRising (insert row at (q, []))
-  opened_rising row q at rising gap j k lt within = three (nat_lt k at) refl (nat_lt j at) refl
-    where
-      new : Row S
-      new = insert row at (q, [])
-
-      long : k < length row + 1
-      long = omega (arith, within, length-insert row at (q, []) gap.0)
-
-      own : to_at new at ≡ q
-      own = opened_place row q at gap
-
-      -- the pid behind the gap, one place further
-      high : (n : ℕ) → at < n → n < length row + 1 → q < to_at new n
-      high n above short =
-          let m : ℕ = n - 1 in
-          let n_is : n ≡ m + 1 = omega arith in
-          let key : to_at new n ≡ to_at row m = ap (to_at new) n_is ∙ key_above row q at m gap.0 (omega arith) in
-          omega (arith, key, gap.2 m (omega arith) (omega arith))
-
-      low : (n : ℕ) → n < at → to_at new n < q
-      low n below = omega (arith, key_below row q at n gap.0 below, gap.1 n below)
-
-      three : (b : Bool) → nat_lt k at ≡ b → (c : Bool) → nat_lt j at ≡ c → to_at new j < to_at new k
-      three true kb c cb =
-          let k_low : k < at = grind (arith, nat_tests) in
-          let j_low : j < at = omega arith in
-          omega (arith, key_below row q at j gap.0 j_low, key_below row q at k gap.0 k_low, rising j k lt (omega (arith, gap.0)))
-      three false kb true cb =
-          let j_low : j < at = grind (arith, nat_tests) in
-          let k_high : at ≤ k = grind (arith, nat_tests) in
-          four (k == at) refl j_low k_high
-        where
-          four : (d : Bool) → (k == at) ≡ d → j < at → at ≤ k → to_at new j < to_at new k
-          four true is below above = let same : k ≡ at = grind (arith, nat_tests) in omega (arith, low j below, own, ap (to_at new) same)
-          four false is below above = let other : at < k = grind (arith, nat_tests) in omega (arith, low j below, high k other long)
-      three false kb false cb =
-          let j_high : at ≤ j = grind (arith, nat_tests) in
-          four (j == at) refl j_high
-        where
-          four : (d : Bool) → (j == at) ≡ d → at ≤ j → to_at new j < to_at new k
-          four true is above = let same : j ≡ at = grind (arith, nat_tests) in omega (arith, own, ap (to_at new) same, high k (omega (arith, same, lt)) long)
-          four false is above =
-              let j_above : at < j = grind (arith, nat_tests) in
-              let m : ℕ = j - 1 in
-              let n : ℕ = k - 1 in
-              let j_is : j ≡ m + 1 = omega arith in
-              let k_is : k ≡ n + 1 = omega arith in
-              let j_key : to_at new j ≡ to_at row m = ap (to_at new) j_is ∙ key_above row q at m gap.0 (omega arith) in
-              let k_key : to_at new k ≡ to_at row n = ap (to_at new) k_is ∙ key_above row q at n gap.0 (omega arith) in
-              omega (arith, j_key, k_key, rising m n (omega (arith, lt)) (omega (arith, long)))
-
-  -- a queue is replaced at its place
-  set_pid : (row : Row S) (at k : ℕ) (old new : ℕ × List S) → at < length row → old ≡ get_or row at old → new.0 ≡ old.0 → to_at (slice_set row at new) k ≡ to_at row k
-  set_pid [] at k old new here is same = absurd (omega (arith, here))
-  set_pid (line ∷ row) zero zero old new here is same = same ∙ ap (λ (l : ℕ × List S). l.0) is
-  set_pid (line ∷ row) zero (suc k) old new here is same = refl
-  set_pid (line ∷ row) (suc at) zero old new here is same = refl
-  set_pid (line ∷ row) (suc at) (suc k) old new here is same = set_pid row at k old new (omega (arith, here)) is same
-
-  pub set_rising : (row : Row S) (at : ℕ) (old new : ℕ × List S) → at < length row → old ≡ get_or row at old → new.0 ≡ old.0 → IsRising row → IsRising (slice_set row at new)
-  set_rising row at old new here is same rising j k lt within =
-      omega (arith, set_pid row at j old new here is same, set_pid row at k old new here is same, rising j k lt (omega (arith, within, length-set row at new)))
 
   replaced : (row : Row S) (q at : ℕ) (new : ℕ × List S) → at < length row → to_at row at ≡ q → new.0 ≡ q → NoneBefore row q at → Replaced row (slice_set row at new) q new.1
   replaced [] q at new here is same none k = absurd (omega (arith, here))

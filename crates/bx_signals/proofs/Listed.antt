@@ -5,16 +5,12 @@ use Rattle.std.specs.Ordering.{nat_cmp, ordering_then}
 use Rattle.std.specs.FinMap as map
 use Rattle.std.specs.FinMap.Entries.{put, by_order}
 use Rattle.std.specs.Prelude.{nat_lt, ◌==◌, map as list_map}
-use Rattle.std.proofs.lemmas.List.{map-append}
+use Rattle.std.proofs.lemmas.List.{map-append, nil_from_length}
 use Rattle.std.proofs.lemmas.Bool.Decides.{nat_tests}
 use Rattle.std.specs.FinMap.{entries-insert, len-entries, len-empty}
 use Rattle.bx_signals.specs.Channels.{pair_cmp, Channels, waiting, with_waiting, pairs}
 use Rattle.bx_signals.specs.Rows.{Row, to_at, IsRising, AllRising, row_map, rows_map, pair_if, row_pairs, rows_pairs}
 use Rattle.bx_signals.proofs.Maps.{pair_cmp_total, with_own, apart_below, rows_below}
-
-no_length : {A : Type 0} (es : List A) → length es ≡ 0 → es ≡ []
-no_length [] e = refl
-no_length (x ∷ es) e = absurd (omega arith)
 
 less : (a b : ℕ) → a < b → nat_cmp a b ≡ Less
 less a b h = let t : nat_lt a b ≡ true = grind (arith, nat_tests) in ap (λ x. cond x Less (cond (a == b) Equal Greater)) t
@@ -91,7 +87,7 @@ module _ {S : Type 0} where
   above_rows p n r (row ∷ rows) h = above_there p n r row (rows_entries (r + 1) rows) h (above_rows p n (r + 1) rows (omega (arith, h)))
 
   entries_none : map.entries (map.empty {X = S × List S} {R = pair_cmp}) ≡ []
-  entries_none = no_length (map.entries (map.empty {X = S × List S} {R = pair_cmp})) (sym (len-entries map.empty) ∙ len-empty pair_cmp (S × List S))
+  entries_none = nil_from_length (map.entries (map.empty {X = S × List S} {R = pair_cmp})) (sym (len-entries map.empty) ∙ len-empty pair_cmp (S × List S))
 
   -- what waits to receivers below those of a row
   row_below : (p : ℕ) (row : Row S) (m : Channels S) (q : ℕ) → Over q row → waiting m (p, q) ≡ [] → waiting (row_map p row m) (p, q) ≡ []

@@ -9,11 +9,13 @@ use Rattle.std.specs.FinMap as map
 use Rattle.std.specs.FinMap.{get-insert, get-remove, get-empty, same_map, nat_cmp-IsAntisymmetric, IsAntisymmetric}
 use Rattle.std.proofs.lemmas.Bool.Decides.{nat_tests}
 use Rattle.std.proofs.lemmas.List.{length-append, take_more}
-use Rattle.std.proofs.lemmas.Option.{slice_get_past}
+use Rattle.std.proofs.lemmas.Option.{slice_get_past, slice_get_read}
 use Rattle.std.proofs.Math.Seq.{take-append_seam}
+use Rattle.std.proofs.lemmas.Bool.{and_parts, and_right, and_left}
+use Rattle.bx_share.proofs.Places.{get_set_same, get_set_other}
 use Rattle.bx_signals.specs.Waiting.{first, rest, front}
 use Rattle.bx_signals.specs.Channels.{pair_cmp, Channels, in_order, waiting, with_waiting, put, taken, taken_back, put_to_all, taken_back_all}
-use Rattle.bx_signals.specs.Rows.{Row, IsRising, AllRising, CoversAll, or_empty, queue_in, queue_at, row_map, rows_map, Replaced, SameRow}
+use Rattle.bx_signals.specs.Rows.{Row, AllRising, CoversAll, or_empty, queue_in, queue_at, row_map, rows_map, Replaced, SameRow}
 
 pub pair_cmp_total : IsTotalOrder pair_cmp
 pair_cmp_total = then_total (on_total (λ (r : ℕ × ℕ). r.0) nat_cmp_total) (on_total (λ (r : ℕ × ℕ). r.1) nat_cmp_total)
@@ -37,41 +39,12 @@ tied x y = sym (tied_then (nat_cmp x.0 y.0) (nat_cmp x.1 y.1)) ∙ (λ i. unsign
 self_is : (p q : ℕ) → ((p == p) && (q == q)) ≡ true
 self_is p q = let a : (p == p) ≡ true = grind (arith, nat_tests) in let b : (q == q) ≡ true = grind (arith, nat_tests) in λ i. a i && b i
 
-both : (a b : Bool) → (a && b) ≡ true → (a ≡ true) × (b ≡ true)
-both true b e = (refl, e)
-both false b e = let no : false ≡ true = e in cc
-
 pub equal_pair : (r k : ℕ × ℕ) → ((r.0 == k.0) && (r.1 == k.1)) ≡ true → r ≡ k
 equal_pair r k e =
-    let parts = both (r.0 == k.0) (r.1 == k.1) e in
+    let parts = and_parts (r.0 == k.0) (r.1 == k.1) e in
     let first : r.0 ≡ k.0 = let h = parts.0 in grind (arith, nat_tests) in
     let second : r.1 ≡ k.1 = let h = parts.1 in grind (arith, nat_tests) in
     λ i. (first i, second i)
-
-no_and : (a b : Bool) → b ≡ false → (a && b) ≡ false
-no_and true b e = e
-no_and false b e = refl
-
-and_no : (a b : Bool) → a ≡ false → (a && b) ≡ false
-and_no true b e = let no : true ≡ false = e in cc
-and_no false b e = refl
-
-get_set_same : {A : Type 0} (xs : List A) (n : ℕ) (y : A) → n < length xs → slice_get (slice_set xs n y) n ≡ Some y
-get_set_same [] n y h = absurd (omega arith)
-get_set_same (z ∷ xs) zero y h = refl
-get_set_same (z ∷ xs) (suc n) y h = get_set_same xs n y (omega arith)
-
-get_set_other : {A : Type 0} (xs : List A) (n k : ℕ) (y : A) → k ≢ n → slice_get (slice_set xs n y) k ≡ slice_get xs k
-get_set_other [] n k y e = refl
-get_set_other (z ∷ xs) zero zero y e = absurd (e refl)
-get_set_other (z ∷ xs) zero (suc k) y e = refl
-get_set_other (z ∷ xs) (suc n) zero y e = refl
-get_set_other (z ∷ xs) (suc n) (suc k) y e = get_set_other xs n k y (λ same. e (ap (λ m. suc m) same))
-
-get_of : {A : Type 0} (xs : List A) (n : ℕ) (x : A) → n < length xs → x ≡ get_or xs n x → slice_get xs n ≡ Some x
-get_of [] n x h e = absurd (omega arith)
-get_of (z ∷ xs) zero x h e = ap Some (sym e)
-get_of (z ∷ xs) (suc n) x h e = get_of xs n x (omega arith) e
 
 past : {A : Type 0} (xs : List (List A)) (n : ℕ) → length xs ≤ n → or_empty (slice_get xs n) ≡ []
 past xs n h = ap or_empty (slice_get_past xs n h)
@@ -142,11 +115,11 @@ module _ {S : Type 0} where
   apart r k ss m e = waiting_with k ss m r ∙ ap (λ b. cond b ss (waiting m r)) e
 
   pub apart_below : (p n q : ℕ) (ss : List S) (m : Channels S) → q < n → waiting (with_waiting (p, n) ss m) (p, q) ≡ waiting m (p, q)
-  apart_below p n q ss m h = let f : (q == n) ≡ false = grind (arith, nat_tests) in apart (p, q) (p, n) ss m (no_and (p == p) (q == n) f)
+  apart_below p n q ss m h = let f : (q == n) ≡ false = grind (arith, nat_tests) in apart (p, q) (p, n) ss m (and_right (p == p) (q == n) f)
 
   row_else : (p : ℕ) (row : Row S) (m : Channels S) (a b : ℕ) → a ≢ p → waiting (row_map p row m) (a, b) ≡ waiting m (a, b)
   row_else p [] m a b e = refl
-  row_else p (line ∷ row) m a b e = let f : (a == p) ≡ false = grind (arith, nat_tests) in apart (a, b) (p, line.0) line.1 _ (and_no (a == p) (b == line.0) f) ∙ row_else p row m a b e
+  row_else p (line ∷ row) m a b e = let f : (a == p) ≡ false = grind (arith, nat_tests) in apart (a, b) (p, line.0) line.1 _ (and_left (a == p) (b == line.0) f) ∙ row_else p row m a b e
 
   row_here : (p : ℕ) (row : Row S) (m : Channels S) (a b : ℕ) → a ≡ p → waiting m (a, b) ≡ [] → waiting (row_map p row m) (a, b) ≡ queue_in row b
   row_here p [] m a b e none = none
@@ -186,7 +159,7 @@ module _ {S : Type 0} where
           go true e =
               let same : a ≡ p = grind (arith, nat_tests) in
               ap (λ x. queue_at (slice_set rows p row') x b) same ∙ ap (λ o. queue_in (or_empty o) b) (get_set_same rows p row' here) ∙ new b
-              ∙ ap (λ o. cond (b == q) ss (queue_in (or_empty o) b)) (sym (ap (slice_get rows) same ∙ get_of rows p row here is))
+              ∙ ap (λ o. cond (b == q) ss (queue_in (or_empty o) b)) (sym (ap (slice_get rows) same ∙ slice_get_read rows (length rows) p row refl here is))
           go false e = let other : a ≢ p = grind (arith, nat_tests) in ap (λ o. queue_in (or_empty o) b) (get_set_other rows p a row' other)
 
   -- the same where what waits there is what was made of what waited
@@ -194,10 +167,10 @@ module _ {S : Type 0} where
       → rows_map 0 (slice_set rows p row') ≡ with_waiting (p, q) (f (waiting (rows_map 0 rows) (p, q))) (rows_map 0 rows)
   set_row_by rows p q row row' f here is new =
       set_row rows p q row row' (f (queue_in row q)) here is new
-      ∙ ap (λ ss. with_waiting (p, q) (f ss) (rows_map 0 rows)) (sym (waiting_rows rows p q ∙ ap (λ o. queue_in (or_empty o) q) (get_of rows p row here is)))
+      ∙ ap (λ ss. with_waiting (p, q) (f ss) (rows_map 0 rows)) (sym (waiting_rows rows p q ∙ ap (λ o. queue_in (or_empty o) q) (slice_get_read rows (length rows) p row refl here is)))
 
   pub row_waits : (rows : List (Row S)) (p q : ℕ) (row : Row S) → p < length rows → row ≡ get_or rows p row → waiting (rows_map 0 rows) (p, q) ≡ queue_in row q
-  row_waits rows p q row here is = waiting_rows rows p q ∙ ap (λ o. queue_in (or_empty o) q) (get_of rows p row here is)
+  row_waits rows p q row here is = waiting_rows rows p q ∙ ap (λ o. queue_in (or_empty o) q) (slice_get_read rows (length rows) p row refl here is)
 
   -- a row with the same queues
   pub set_same_row : (rows : List (Row S)) (p : ℕ) (row row' : Row S) → p < length rows → row ≡ get_or rows p row → SameRow row row' → rows_map 0 (slice_set rows p row') ≡ rows_map 0 rows
@@ -210,7 +183,7 @@ module _ {S : Type 0} where
           go true e =
               let same_p : a ≡ p = grind (arith, nat_tests) in
               ap (λ x. queue_at (slice_set rows p row') x b) same_p ∙ ap (λ o. queue_in (or_empty o) b) (get_set_same rows p row' here) ∙ same b
-              ∙ ap (λ o. queue_in (or_empty o) b) (sym (ap (slice_get rows) same_p ∙ get_of rows p row here is))
+              ∙ ap (λ o. queue_in (or_empty o) b) (sym (ap (slice_get rows) same_p ∙ slice_get_read rows (length rows) p row refl here is))
           go false e = let other : a ≢ p = grind (arith, nat_tests) in ap (λ o. queue_in (or_empty o) b) (get_set_other rows p a row' other)
 
   -- nothing waits from a process that has no row
@@ -240,14 +213,6 @@ module _ {S : Type 0} where
   pub all_taken_back : (p : ℕ) (qs : List ℕ) (s : S) (m : Channels S) → taken_back_all p qs (put_to_all p qs s m) ≡ m
   all_taken_back p [] s m = refl
   all_taken_back p (q ∷ qs) s m = ap (taken_back (p, q)) (all_taken_back p qs s (put (p, q) s m)) ∙ taken_back_put p q s m
-
-  -- rows that rise
-  pub rising_set : (rows : List (Row S)) (p : ℕ) (row : Row S) → AllRising rows → IsRising row → AllRising (slice_set rows p row)
-  rising_set [] p row rising own k here = absurd (omega (arith, here))
-  rising_set (first ∷ rows) zero row rising own zero here = own
-  rising_set (first ∷ rows) zero row rising own (suc k) here = rising (suc k) here
-  rising_set (first ∷ rows) (suc p) row rising own zero here = rising zero (omega arith)
-  rising_set (first ∷ rows) (suc p) row rising own (suc k) here = rising_set rows p row (λ j there. rising (suc j) (omega (arith, there))) own k (omega (arith, here))
 
   pub rising_more : (rows : List (Row S)) → AllRising rows → AllRising (rows ++ [] ∷ [])
   rising_more [] rising zero here = λ j k lt there. absurd (omega (arith, there))

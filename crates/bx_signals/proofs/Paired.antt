@@ -1,5 +1,5 @@
 -- The pairs of the channels in which something waits, as they are found one after the other.
-use Rattle.std.proofs.Common.{◌≡◌, ◌≢◌, ℕ, ◌+◌, ◌<◌, ◌≤◌, List, [], ◌∷◌, ◌++◌, length, get_or, drop, Result, Ok, Err, refl, sym, ap, ◌∙◌, append_assoc, arith}
+use Rattle.std.proofs.Common.{◌≡◌, ◌≢◌, ℕ, ◌+◌, ◌<◌, ◌≤◌, List, [], ◌∷◌, ◌++◌, length, get_or, drop, Result, Ok, Err, refl, sym, ap, ◌∙◌, arith}
 use Rattle.std.proofs.lemmas.List.{length-append}
 use Rattle.std.specs.Prelude.{OnErr}
 use Rattle.bx_share.specs.Rows.{rest_at}
@@ -29,21 +29,8 @@ module _ {S : Type 0} where
   pair_found p at row line done all here is some whole =
       ap (λ ps. done ++ ps) (sym (row_from p at row line here is ∙ ap (λ ps. ps ++ row_pairs p (drop (at + 1) row)) (pair_some p line.0 line.1 some))) ∙ whole
 
-  pub pair_passed : (p at : ℕ) (row : Row S) (line : ℕ × List S) (done all : List (ℕ × ℕ)) → at < length row → line ≡ get_or row at line → line.1 ≡ [] → done ++ row_pairs p (drop at row) ≡ all
-      → done ++ row_pairs p (drop (at + 1) row) ≡ all
-  pair_passed p at row line done all here is none whole =
-      ap (λ ps. done ++ ps) (sym (row_from p at row line here is ∙ ap (λ ss. pair_if p line.0 ss ++ row_pairs p (drop (at + 1) row)) none)) ∙ whole
-
   rows_drop : (p at : ℕ) (rows : List (Row S)) (row : Row S) → at < length rows → row ≡ get_or rows at row → rows_pairs p (drop at rows) ≡ row_pairs p row ++ rows_pairs (p + 1) (drop (at + 1) rows)
   rows_drop p at rows row here is = ap (rows_pairs p) (rest_at rows at row here is)
-
-  -- the pairs of one row more
-  pub row_found : (at : ℕ) (rows : List (Row S)) (row : Row S) (done new all : List (ℕ × ℕ)) → at < length rows → row ≡ get_or rows at row → new ≡ done ++ row_pairs at row
-      → done ++ rows_pairs at (drop at rows) ≡ all → new ++ rows_pairs (at + 1) (drop (at + 1) rows) ≡ all
-  row_found at rows row done new all here is found whole =
-      ap (λ ps. ps ++ rows_pairs (at + 1) (drop (at + 1) rows)) found
-      ∙ append_assoc done (row_pairs at row) (rows_pairs (at + 1) (drop (at + 1) rows))
-      ∙ ap (λ ps. done ++ ps) (sym (rows_drop at at rows row here is)) ∙ whole
 
   -- where a row has some, there are some
   pub row_some : (at : ℕ) (rows : List (Row S)) (row : Row S) (old done all : List (ℕ × ℕ)) → at < length rows → row ≡ get_or rows at row → row_pairs at row ≢ []

@@ -1,11 +1,10 @@
 -- Choices that are set aside, behind those that come before them.
-use Rattle.std.proofs.Common.{◌≡◌, ◌∙◌, ℕ, ◌+◌, ◌-◌, ◌<◌, ◌≤◌, Bool, true, false, List, length, take, drop, refl, sym, ap, subst, arith}
-use Rattle.std.specs.Prelude.{◌==◌, if◌then◌else◌, slice_get, None, IsTrue}
+use Rattle.std.proofs.Common.{◌≡◌, ◌∙◌, ℕ, ◌+◌, ◌-◌, ◌<◌, ◌≤◌, Bool, true, false, length, take, drop, refl, sym, ap, arith}
+use Rattle.std.specs.Prelude.{◌==◌, if◌then◌else◌, slice_get}
 use Rattle.std.proofs.lemmas.Bool.{eqb-true, eqb-false}
 use Rattle.std.proofs.lemmas.List.{length-drop, length-take-le}
-use Rattle.bx_world.specs.declared.choices.Choice.{Choice}
 use Rattle.bx_world.specs.declared.choices.Choice.TheVariants.{Run}
-use Rattle.bx_world.specs.Running.{Ended, ran}
+use Rattle.bx_world.specs.Running.{Ended}
 use Rattle.bx_replay.specs.Courses.{Course, reached}
 use Rattle.bx_replay.specs.Moving.{brought, Brings, IsExchanged}
 use Rattle.bx_replay.proofs.Bringing.{among_more, brought_before, brought_next, ends_after, further, long_after}
@@ -59,9 +58,7 @@ prefix_applied : (c : Course) (m n : ℕ) → m ≤ n → n ≤ length c.choices
 prefix_applied c m n le within all =
     let few = bounded c m (omega arith) in
     let on = ap (λ (e : Ended). e.applied) (onward c.image c.start c.choices m n (reached m c) c.choices le refl refl) in
-    let more = few_applied c.image (take (n - m) (drop m c.choices)) (reached m c) in
-    let short = length-take-le (n - m) (drop m c.choices) (omega (arith, length-drop m c.choices)) in
-    omega arith
+    omega (arith, few_applied c.image (take (n - m) (drop m c.choices)) (reached m c), length-take-le (n - m) (drop m c.choices) (omega (arith, length-drop m c.choices)))
 
 pub undone_leads : (count k : ℕ) (old new : Course) (before : ℕ) → count ≤ length old.choices → (reached count old).applied ≡ old.start.applied + count → IsSetAside count k old new before → IsUndone count k old new before
 undone_leads count k old new before within all aside =

@@ -1,9 +1,9 @@
 -- Trails of a schedule from the start on, and what comes of them.
-use Rattle.std.proofs.Common.{◌≡◌, ◌∙◌, ℕ, zero, suc, ◌+◌, ◌<◌, ◌≤◌, Bool, true, false, List, [], ◌∷◌, length, take, Result, Ok, Err, Some, None, Option, refl, sym, ap, subst, arith}
+use Rattle.std.proofs.Common.{◌≡◌, ◌∙◌, ℕ, zero, suc, ◌+◌, ◌≤◌, Bool, true, false, List, [], ◌∷◌, length, take, Result, Ok, Err, Some, None, Option, refl, sym, ap, subst, arith}
 use Rattle.std.specs.Prelude.{IfOk, IsSome, is_some, not, ◌||◌}
 use Rattle.std.proofs.lemmas.List.{take_all}
 use Rattle.bx_terms.specs.declared.faults.Fault.{Fault}
-use Rattle.bx_terms.specs.declared.faults.Fault.TheVariants.{Memory, NotIndependent}
+use Rattle.bx_terms.specs.declared.faults.Fault.TheVariants.{NotIndependent}
 use Rattle.bx_terms.specs.declared.places.Place.{Place}
 use Rattle.bx_load.specs.Image.{Loaded}
 use Rattle.bx_world.specs.declared.choices.Choice.{Choice}
@@ -56,9 +56,6 @@ module _ (image : Loaded) (found : Result State Fault) (choices : List Choice) (
       subst (λ (r : Result State Fault). IsUndo image r choices k (Ok (new.choices, before))) (sym b.there)
       (subst (λ (c : Course). IsUndone (applied_of given) k given c before) (exchanged_is (applied_of given) given new moved.aside.exchanged) moved)
 
-  pub undo_refused : (k : ℕ) → count ≤ k → IsUndo image found choices k (Err (NotIndependent k))
-  undo_refused k past = subst (λ (r : Result State Fault). IsUndo image r choices k (Err (NotIndependent k))) (sym b.there) (refl, omega (arith, count_is))
-
 -- where the start is exported
 pub export_there : (place found : Option Place) (none : Bool) → found ≡ place → is_some found ≡ not none → none ≡ false → IsSome place
 export_there place found none e s f = ap (λ o. is_some o) (sym e) ∙ s ∙ ap not f
@@ -68,18 +65,6 @@ undo_past image None choices k there past = absurd (let never : false ≡ true =
 undo_past image (Some place) choices k there past = let few = few_applied image choices (unchosen (begun place)) in (refl, omega arith)
 
 -- ---- how many are applied
-
-grows_by : (image : Loaded) (c : Choice) (end : Ended) (stays able : Bool) → (is_some end.refused || is_some end.world.trap) ≡ stays → can end.world c ≡ able → end.applied ≤ (advanced image c end).applied
-grows_by image c end true able s a = let e = ap (λ (x : Ended). x.applied) (next_is image c end true able s a) in omega arith
-grows_by image c end false true s a = let e = ap (λ (x : Ended). x.applied) (next_is image c end false true s a) in omega arith
-grows_by image c end false false s a = let e = ap (λ (x : Ended). x.applied) (next_is image c end false false s a) in omega arith
-
-grows : (image : Loaded) (choices : List Choice) (end : Ended) → end.applied ≤ (ran image choices end).applied
-grows image [] end = omega arith
-grows image (c ∷ more) end =
-    let one = grows_by image c end (is_some end.refused || is_some end.world.trap) (can end.world c) refl refl in
-    let rest = grows image more (advanced image c end) in
-    omega arith
 
 -- as many as are applied of all, the first so many are
 first_of : (image : Loaded) (c : Choice) (more : List Choice) (end : Ended) (stays able : Bool) (n : ℕ) → (is_some end.refused || is_some end.world.trap) ≡ stays → can end.world c ≡ able

@@ -1,5 +1,6 @@
 -- A choice that comes forward, one exchange after another.
 use Rattle.std.proofs.Common.{◌≡◌, ◌∙◌, ℕ, zero, suc, ◌+◌, ◌-◌, ◌<◌, ◌≤◌, Bool, true, false, List, length, inl, inr, refl, sym, ap, subst, arith}
+use Rattle.std.proofs.lemmas.Bool.{false_from_ne_true, cases_lt}
 use Rattle.std.specs.Prelude.{if◌then◌else◌}
 use Rattle.bx_world.specs.declared.choices.Choice.{Choice}
 use Rattle.bx_world.specs.declared.choices.Choice.TheVariants.{Run}
@@ -7,15 +8,10 @@ use Rattle.bx_replay.specs.Courses.{Course}
 use Rattle.bx_replay.specs.Exchanges.{with_exchange, MayExchange}
 use Rattle.bx_replay.specs.Moving.{brought, Brings, IsExchanged}
 use Rattle.bx_replay.proofs.Bringing.{among_more, brought_here, brought_on, further, none_made, one_made}
-use Rattle.bx_replay.proofs.Prefixes.{below}
 use Rattle.bx_swaps.specs.Telling.{may_exchange}
 use Rattle.bx_swaps.specs.Tidying.{forward}
 use Rattle.bx_swaps.proofs.Ends.{exchanged_is}
 use Rattle.bx_swaps.proofs.Telling.{may_so, so_may}
-
-pub never : (b : Bool) → (b ≡ true → ⊥) → b ≡ false
-never true never_is = absurd (never_is refl)
-never false never_is = refl
 
 abbrev on_if : ℕ → ℕ → Course → Bool → ℕ × Course
 on_if most at c may = if may then forward most (at - 1) (with_exchange (at - 1) c) else (at, c)
@@ -40,14 +36,14 @@ module _ (from to : ℕ) (old new : Course) (at : ℕ) (within : from < length o
       (ap (λ (cs : List Choice). record old { choices = cs }) (brought_on old.choices from (Run 0) within (j - 1) (omega (arith, less, le))))
 
   stays : to < at → may_exchange (at - 1) (stood at) ≡ false
-  stays less = never (may_exchange (at - 1) (stood at)) (λ e. b.stuck less (subst (λ (c : Course). MayExchange (at - 1) c) (sym new_is) (may_so (at - 1) (stood at) e)))
+  stays less = false_from_ne_true (may_exchange (at - 1) (stood at)) (λ e. b.stuck less (subst (λ (c : Course). MayExchange (at - 1) c) (sym new_is) (may_so (at - 1) (stood at) e)))
 
   on : (n j : ℕ) → j ≡ to + n → at ≤ j → j ≤ from → forward n j (stood j) ≡ (at, stood at)
   on zero j is low high =
       let reach = b.reach in
       let here : j ≡ at = omega (arith, is, low, reach) in
       ap (λ i. (i, stood i)) here
-  on (suc n) j is low high = elim (below at j) [
+  on (suc n) j is low high = elim (cases_lt at j) [
     | inl less ↦
         ap (on_if n j (stood j)) (passes j less high) ∙ ap (forward n (j - 1)) (moved j less high)
         ∙ on n (j - 1) (omega (arith, is)) (omega (arith, less)) (omega (arith, high))

@@ -3,7 +3,6 @@ use Rattle.std.proofs.Common.{◌≡◌, ◌∙◌, ℕ, zero, suc, ◌+◌, ◌
 use Rattle.std.specs.Prelude.{◌==◌, if◌then◌else◌, nat_lt, Option, Some, None, option_map, IfSome, slice_get, slice_index_or}
 use Rattle.std.proofs.lemmas.Bool.{le-ltb, lt-ltb, ltb-false}
 use Rattle.std.proofs.lemmas.List.{drop_more}
-use Rattle.std.proofs.lemmas.Option.{slice_get-get_or}
 use Rattle.bx_world.specs.declared.choices.Choice.{Choice}
 use Rattle.bx_world.specs.Enabled.{actor}
 use Rattle.bx_replay.specs.Courses.{Course}
@@ -140,27 +139,12 @@ alike_here cs at next count p x order less within is same =
     ap (λ ys. option_map (λ n. next - at + n) (before_first p ys)) (first_here cs next count x less within is)
     ∙ ap (λ b. option_map (λ n. next - at + n) (if b then Some 0 else option_map suc rest)) same ∙ ap Some none
 
-pub alike_none : (cs : List Choice) (at next count p : ℕ) → count ≤ next → found at next (count - next) p cs ≡ None
-alike_none cs at next count p past = let none : count - next ≡ 0 = omega (arith, past) in ap (λ n. found at next n p cs) none
-
-pub alike_first : (cs : List Choice) (at left : ℕ) (last : Choice) → 0 < at → at - 1 < length cs → last ≡ slice_index_or cs (at - 1) last → found at at left (actor last) cs ≡ next_alike at left cs
-alike_first cs at left last some within is =
-    whole (before_first (actor last) (take left (drop at cs)))
-    ∙ ap (λ o. before_alike o (take left (drop at cs))) (ap Some is ∙ sym (slice_get-get_or cs (at - 1) last within))
-  where
-    whole : (o : Option ℕ) → option_map (λ n. at - at + n) o ≡ o
-    whole None = refl
-    whole (Some n) = let none : at - at + n ≡ n = omega arith in ap Some none
-
 -- what is answered
 pub alike_found : (cs : List Choice) (at next count p : ℕ) (x : Choice) → at ≤ next → next < count → next < length cs → x ≡ slice_index_or cs next x → (actor x == p) ≡ true
     → found at next (count - next) p cs ≡ next_alike at (count - at) cs → Some next ≡ option_map (λ n. at + n) (next_alike at (count - at) cs)
 alike_found cs at next count p x order less within is same so_far =
     let there : next ≡ at + (next - at) = omega (arith, order) in
     ap Some there ∙ ap (option_map (λ n. at + n)) (sym (alike_here cs at next count p x order less within is same) ∙ so_far)
-
-pub alike_lost : (cs : List Choice) (at next count p : ℕ) → count ≤ next → found at next (count - next) p cs ≡ next_alike at (count - at) cs → None ≡ option_map (λ n. at + n) (next_alike at (count - at) cs)
-alike_lost cs at next count p past so_far = ap (option_map (λ n. at + n)) (sym (alike_none cs at next count p past) ∙ so_far)
 
 -- ---- aside
 

@@ -12,6 +12,7 @@ use Rattle.std.proofs.lemmas.List.Folds.{list_any_at, list_any-append}
 use Rattle.std.proofs.lemmas.List.Quantifiers.{position-Some}
 use Rattle.std.proofs.lemmas.Map.Keys.{apart_from_distinct, IsDistinct-push}
 use Rattle.std.proofs.lemmas.Cmp.{nat_list_eq_equiv}
+use Rattle.bx_share.proofs.Places.{get_more, get_last}
 use Rattle.bx_terms.specs.declared.atom_table.AtomId.{AtomId}
 use Rattle.bx_terms.specs.declared.faults.Fault.{Fault}
 use Rattle.bx_terms.specs.declared.faults.Fault.TheVariants.{TooManyAtoms}
@@ -21,16 +22,6 @@ use Rattle.bx_terms.specs.Naming.{naming, numbered, naming_all, atom}
 use borrow.Author.Tests.{ltb-true}
 use Rattle.bx_terms.proofs.Outcomes.{ok_is, ok_pair, bind_ok}
 use Rattle.bx_terms.proofs.AtomTables.{list_any-place, list_any_none, grown}
-
-module _ {X : Type 0} where
-  slice_get_more : (xs ys : List X) (i : ℕ) (x : X) → slice_get xs i ≡ Some x → slice_get (xs ++ ys) i ≡ Some x
-  slice_get_more [] ys i x e = cc
-  slice_get_more (y ∷ xs) ys zero x e = e
-  slice_get_more (y ∷ xs) ys (suc i) x e = slice_get_more xs ys i x e
-
-  slice_get_last : (xs : List X) (x : X) → slice_get (xs ++ x ∷ []) (length xs) ≡ Some x
-  slice_get_last [] x = refl
-  slice_get_last (y ∷ xs) x = slice_get_last xs x
 
 same : (xs ys : List ℕ) → bytes_eq xs ys ≡ true → xs ≡ ys
 same xs ys e = (bytes_eq-Decides xs ys).0 e
@@ -121,7 +112,7 @@ pub number_stays : (texts after : List (List ℕ)) (text old : List ℕ) (a : At
 number_stays texts after text old a i h e =
     elim (named_cases texts after text a h) [
       | inl was ↦ rw was.stays e
-      | inr came ↦ rw came.grows (slice_get_more texts (text ∷ []) i old e)
+      | inr came ↦ rw came.grows (get_more texts (text ∷ []) i old e)
     ]
 
 pub found_after : (texts after : List (List ℕ)) (text : List ℕ) (a : AtomId) → IsAtomTable texts → naming texts text ≡ Ok (after, a) → (number_of after text ≡ Some a.0) × (slice_get after a.0 ≡ Some text)
@@ -130,7 +121,7 @@ found_after texts after text a table h =
       | inl was ↦ (rw was.stays was.held, rw was.stays (text_at texts table.distinct text a.0 was.held))
       | inr came ↦
           let once : IsDistinct bytes_eq (texts ++ text ∷ []) = IsDistinct-push nat_list_eq_equiv texts text table.distinct (list_any_none (bytes_eq text) texts came.new) in
-          let last = slice_get_last texts text in
+          let last = get_last texts text in
           let there : slice_get after a.0 ≡ Some text = rw (came.grows, came.last) last in
           (rw came.grows (number_at (texts ++ text ∷ []) once text a.0 (rw came.last last)), there)
     ]

@@ -1,10 +1,10 @@
 -- Tables of atoms: what is held, and what a new text adds.
-use Rattle.std.proofs.Common.{◌≡◌, ℕ, ◌+◌, ◌<◌, ◌≤◌, Bool, true, false, not, cond, ◌||◌, List, [], ◌∷◌, ◌++◌, length, get_or, map, fold, Option, Some, None, Ok, String, bytes_eq, position, nat_lt, refl, sym, ◌∙◌, ap, subst, arith, lit≤}
+use Rattle.std.proofs.Common.{◌≡◌, ℕ, ◌+◌, ◌<◌, ◌≤◌, Bool, true, false, not, cond, ◌||◌, List, [], ◌∷◌, ◌++◌, length, get_or, fold, Some, None, Ok, bytes_eq, position, nat_lt, refl, sym, ◌∙◌, ap, subst, arith, lit≤}
 use Rattle.bx_terms.specs.FixedAtoms.{fixed_atoms}
 use Rattle.std.specs.List.{prefix_len, list_any}
 use Rattle.std.specs.Str.{IsUtf8, is_utf8, chars}
 use Rattle.std.proofs.lemmas.Str.{encodes-chars, length-le-encodes, is_utf8-from_IsUtf8}
-use Rattle.std.proofs.lemmas.List.{length-map, map-append, length-append, length-take, take-append-le}
+use Rattle.std.proofs.lemmas.List.{length-append, length-take, take-append-le}
 use Rattle.std.proofs.lemmas.List.Sums.{AllPass-from_list_all}
 use Rattle.std.proofs.lemmas.List.Quantifiers.{position-Some}
 use Rattle.std.proofs.lemmas.List.Elements.{All-push}
@@ -12,8 +12,6 @@ use Rattle.std.proofs.lemmas.Map.Keys.{IsDistinct-push}
 use Rattle.std.proofs.lemmas.Slice.Eq.{bytes_eq-Decides}
 use Rattle.std.proofs.lemmas.Map.Made.{IsDistinct-from_count}
 use Rattle.std.proofs.lemmas.Cmp.{nat_list_eq_equiv}
-use Rattle.std.specs.String.{string_bytes, string_eq}
-use Rattle.indexmap.specs.IndexSet.{insert_key}
 use Rattle.bx_terms.specs.declared.fixed.TheConstants.{TEXTS}
 use Rattle.bx_terms.specs.Naming.{naming, atom}
 use Rattle.bx_terms.specs.AtomTable.{is_short, number_of, used, IsAtomTable}
@@ -21,15 +19,6 @@ use Rattle.bx_terms.specs.AtomTable.{is_short, number_of, used, IsAtomTable}
 -- a text has no more characters than bytes
 pub count_of_chars : (bs : List ℕ) → IsUtf8 bs → length (chars bs) ≤ length bs
 count_of_chars bs u = subst (λ (xs : List ℕ). length (chars bs) ≤ length xs) (encodes-chars bs u) (length-le-encodes (chars bs))
-
-module _ {X Y : Type 0} where
-  prefix_len-map : (p : X → Bool) (f : Y → X) (ys : List Y) → prefix_len p (map f ys) ≡ prefix_len (λ y. p (f y)) ys
-  prefix_len-map p f [] = refl
-  prefix_len-map p f (y ∷ ys) = rw (prefix_len-map p f ys)
-
-  -- the first place is the same in the list of what `f` gives
-  pub position-map : (p : X → Bool) (f : Y → X) (ys : List Y) → position p (map f ys) ≡ position (λ y. p (f y)) ys
-  position-map p f ys = rw (prefix_len-map (λ x. not (p x)) f ys, length-map ys f)
 
 -- a text is in the list exactly where it has a place
 pub list_any-place : {X : Type 0} (p : X → Bool) (xs : List X) → list_any p xs ≡ nat_lt (prefix_len (λ x. not (p x)) xs) (length xs)
@@ -84,10 +73,6 @@ fixed_table = record {
   fixed = refl;
 }
 
--- the place of a text among strings
-pub number_among : {Z : Type 0} (names : List (String Z)) (text : List ℕ) → number_of (map string_bytes names) text ≡ position (λ name. bytes_eq text (string_bytes name)) names
-number_among names text = position-map (bytes_eq text) string_bytes names
-
 -- where a text is held its number is given, and nothing is added
 pub naming_held : (texts : List (List ℕ)) (text : List ℕ) (i : ℕ) → IsAtomTable texts → number_of texts text ≡ Some i → naming texts text ≡ Ok (texts, atom i)
 naming_held texts text i table held = rw (known_short texts text i table held, held)
@@ -96,34 +81,6 @@ naming_held texts text i table held = rw (known_short texts text i table held, h
 pub naming_new : (texts : List (List ℕ)) (text : List ℕ) → is_short text ≡ true → number_of texts text ≡ None → length texts < 65536
     → naming texts text ≡ Ok (texts ++ text ∷ [], atom (length texts))
 naming_new texts text short new room = let fits : nat_lt (length texts) 65536 ≡ true = grind arith in rw (short, new, fits)
-
-pub list_any_some : {X : Type 0} (p : X → Bool) (xs : List X) (i : ℕ) → position p xs ≡ Some i → list_any p xs ≡ true
-list_any_some p xs i some = list_any-place p xs ∙ by (nat_lt (prefix_len (λ x. not (p x)) xs) (length xs)) some
-  where
-    by : (b : Bool) → cond b (Some (prefix_len (λ x. not (p x)) xs)) None ≡ Some i → b ≡ true
-    by true e = refl
-    by false e = cc
-
--- the strings of a table after one went in
-pub inserted : {Z : Type 0} (names after : List (String Z)) (name : String Z) (texts : List (List ℕ)) (text : List ℕ)
-    → map string_bytes names ≡ texts → string_bytes name ≡ text → after ≡ insert_key string_eq names name
-    → map string_bytes after ≡ used texts text
-inserted names after name texts text view is put =
-    by (position (string_eq name) names) refl ∙ (λ i. used (view i) (is i))
-  where
-    by : (o : Option ℕ) → position (string_eq name) names ≡ o → map string_bytes after ≡ used (map string_bytes names) (string_bytes name)
-    by None e =
-        let there : number_of (map string_bytes names) (string_bytes name) ≡ None = number_among names (string_bytes name) ∙ e in
-        let put_last : after ≡ names ++ name ∷ [] = rw (list_any_none (string_eq name) names e) at put in
-        rw (there, put_last) (map-append string_bytes names (name ∷ []))
-    by (Some k) e =
-        let there : number_of (map string_bytes names) (string_bytes name) ≡ Some k = number_among names (string_bytes name) ∙ e in
-        let kept : after ≡ names = rw (list_any_some (string_eq name) names k e) at put in
-        rw (there, kept)
-
--- a new text goes last
-pub used_new : (texts : List (List ℕ)) (text : List ℕ) → number_of texts text ≡ None → used texts text ≡ texts ++ text ∷ []
-used_new texts text new = rw new
 
 -- the program's table of fixed atoms is the one above
 pub fixed_by_use : fold (λ held text. used held text.now) [] TEXTS ≡ fixed_atoms

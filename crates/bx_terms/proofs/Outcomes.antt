@@ -5,9 +5,6 @@ use Rattle.bx_terms.specs.Outcomes.{◌>>=◌}
 pub ok_is : {A E : Type 0} (x y : A) → ◌≡◌ {A = Result A E} (Ok x) (Ok y) → x ≡ y
 ok_is x y e = cc
 
-pub err_is : {A E : Type 0} (x y : E) → ◌≡◌ {A = Result A E} (Err x) (Err y) → x ≡ y
-err_is x y e = cc
-
 pub ok_pair : {A B E : Type 0} (x u : A) (y v : B) → ◌≡◌ {A = Result (A × B) E} (Ok (x, y)) (Ok (u, v)) → (x ≡ u) × (y ≡ v)
 ok_pair x u y v e = let both = ok_is (x, y) (u, v) e in (ap (λ p. p.0) both, ap (λ p. p.1) both)
 

@@ -59,7 +59,9 @@ fn is_name_byte(b: u8) -> bool
 fn is_among(words: &[&str], text: &str) -> bool
     ensures { result ≡ list_any (λ word. bytes_eq text.now word.now) words.now }
 {
-    words.iter().any(|word| text == *word)
+    words
+        .iter()
+        .any(|word| text.len() == word.len() && text == *word)
 }
 
 #[tactic(auto, using(std::proofs::lemmas::Str::chars_from_encodes))]

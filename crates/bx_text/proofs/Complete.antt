@@ -29,7 +29,7 @@ text_none p (q, s, n) =
 texts_are : {p q : Place} {ts : List Tree} → Strings p ts q → (k : ℕ) → length p.rest < k → texts k p ≡ Ok (ts, q)
 texts_are (no_string {p = p} n) zero f = absurd (omega arith)
 texts_are (no_string {p = p} n) (suc k) f = ap (λ r. r >>= texts_on (texts k) p) (text_none p n)
-texts_are (a_string {p = p} {q = q} {l = l} {b = w} {ts = ts} n t s) zero f = absurd (omega arith)
+texts_are (a_string n t s) zero f = absurd (omega arith)
 texts_are (a_string {p = p} {q = q} {l = l} {b = w} {ts = ts} n t s) (suc k) f =
     ap (λ r. r >>= texts_on (texts k) p) (text_some p l w n t)
     ∙ ap (λ r. r >>= λ x. Ok (letters_of l l.token ++ x.0, x.1)) (texts_are s k (omega (arith, next_shorter p l n)))
@@ -65,8 +65,6 @@ segments_lt (more_segments {comma = comma} {next = next} s c n r) = omega (arith
 
 mutual
   pub term_le : {d : ℕ} {l : Lexeme} {t : Tree} {q : Place} → Spells d l t q → length q.rest ≤ length l.after.rest
-  term_le (an_integer e) = omega arith
-  term_le (an_atom e) = omega arith
   term_le (strings e s) = strings_le s
   term_le (empty_tuple {l = l} {m = m} e n c) = omega (arith, next_shorter l.after m n)
   term_le (a_tuple {l = l} {first = first} {m = m} e n r c) = omega (arith, next_shorter l.after first n, row_lt r)
@@ -74,13 +72,13 @@ mutual
   term_le (a_list {l = l} {first = first} {m = m} e n r c) = omega (arith, next_shorter l.after first n, row_lt r)
   term_le (a_list_with_tail {l = l} {first = first} {bar = bar} {start = start} {m = m} {r = q} e n r b f s h c) =
       omega (arith, next_shorter l.after first n, row_lt r, next_shorter bar.after start f, term_le s, next_shorter q m h)
-  term_le (a_float e k) = omega arith
   term_le (an_empty_map {l = l} {m = m} e n c k) = omega (arith, next_shorter l.after m n)
   term_le (a_map {l = l} {first = first} e n r c k) = omega (arith, next_shorter l.after first n, pairs_lt r)
   term_le (an_empty_binary {l = l} {m = m} e n c k) = omega (arith, next_shorter l.after m n)
   term_le (a_binary {l = l} {first = first} e n r c k) = omega (arith, next_shorter l.after first n, segments_lt r)
   term_le (a_fun {l = l} {f = f} {colon = colon} {g = g} {slash = slash} {n = n} e a b c h i j k m o p q) =
       omega (arith, next_shorter l.after f a, next_shorter f.after colon c, next_shorter colon.after g i, next_shorter g.after slash k, next_shorter slash.after n o)
+  term_le s = omega arith
 
   row_lt : {d : ℕ} {l m : Lexeme} {ts : List Tree} → Row d l ts m → length m.after.rest < length l.after.rest
   row_lt (one {m = m} {r = q} s n) = omega (arith, term_le s, next_shorter q m n)
@@ -93,36 +91,10 @@ mutual
 
 -- the first token of a term closes nothing
 opens_tuple : {d : ℕ} {l : Lexeme} {t : Tree} {q : Place} → Spells d l t q → closes_tuple l.token ≡ false
-opens_tuple (an_integer e) = ap closes_tuple e
-opens_tuple (an_atom e) = ap closes_tuple e
-opens_tuple (strings e s) = ap closes_tuple e
-opens_tuple (empty_tuple e n c) = ap closes_tuple e
-opens_tuple (a_tuple e n r c) = ap closes_tuple e
-opens_tuple (empty_list e n c) = ap closes_tuple e
-opens_tuple (a_list e n r c) = ap closes_tuple e
-opens_tuple (a_list_with_tail e n r b f s h c) = ap closes_tuple e
-opens_tuple (a_float e k) = ap closes_tuple e
-opens_tuple (an_empty_map e n c k) = ap closes_tuple e
-opens_tuple (a_map e n r c k) = ap closes_tuple e
-opens_tuple (an_empty_binary e n c k) = ap closes_tuple e
-opens_tuple (a_binary e n r c k) = ap closes_tuple e
-opens_tuple (a_fun e a b c h i j k m o p q) = ap closes_tuple e
+opens_tuple s = grind arith
 
 opens_list : {d : ℕ} {l : Lexeme} {t : Tree} {q : Place} → Spells d l t q → closes_list l.token ≡ false
-opens_list (an_integer e) = ap closes_list e
-opens_list (an_atom e) = ap closes_list e
-opens_list (strings e s) = ap closes_list e
-opens_list (empty_tuple e n c) = ap closes_list e
-opens_list (a_tuple e n r c) = ap closes_list e
-opens_list (empty_list e n c) = ap closes_list e
-opens_list (a_list e n r c) = ap closes_list e
-opens_list (a_list_with_tail e n r b f s h c) = ap closes_list e
-opens_list (a_float e k) = ap closes_list e
-opens_list (an_empty_map e n c k) = ap closes_list e
-opens_list (a_map e n r c k) = ap closes_list e
-opens_list (an_empty_binary e n c k) = ap closes_list e
-opens_list (a_binary e n r c k) = ap closes_list e
-opens_list (a_fun e a b c h i j k m o p q) = ap closes_list e
+opens_list s = grind arith
 
 row_opens_tuple : {d : ℕ} {l m : Lexeme} {ts : List Tree} → Row d l ts m → closes_tuple l.token ≡ false
 row_opens_tuple (one s n) = opens_tuple s
@@ -191,9 +163,9 @@ behind_next m n c f =
     ap (λ (b : Bool). if b then (lexeme_at m.after >>= λ n. Ok (terms.next n)) else Ok (terms.end m)) c ∙ ap (λ s. s >>= λ n. Ok (terms.next n)) f
 
 segments_is : {d : ℕ} {l m : Lexeme} → Segments d l m → is_comma m.token ≡ false → (k : ℕ) → length l.after.rest < k → parts (segment_at d) k l ≡ Ok m
-segments_is (one_segment {d = d} {l = l} {m = m} s) c zero f = absurd (omega arith)
+segments_is (one_segment s) c zero f = absurd (omega arith)
 segments_is (one_segment {d = d} {l = l} {m = m} s) c (suc k) f = ap (λ r. r >>= go_through (parts (segment_at d) k)) (segment_is s ∙ behind_end m c)
-segments_is (more_segments {d = d} {l = l} {comma = comma} {next = n} {m = m} s b a r) c zero f = absurd (omega arith)
+segments_is (more_segments s b a r) c zero f = absurd (omega arith)
 segments_is (more_segments {d = d} {l = l} {comma = comma} {next = n} {m = m} s b a r) c (suc k) f =
     ap (λ r. r >>= go_through (parts (segment_at d) k)) (segment_is s ∙ behind_next comma n (ap is_comma b) a)
     ∙ segments_is r c k (omega (arith, segment_lt s, next_shorter comma.after n a))
@@ -288,10 +260,10 @@ mutual
       ap (begin_by (group_at d) l) e ∙ fun_is l a (ap is_atom b) c (ap is_colon h) i (ap is_atom j) k (ap is_slash m) o (ap is_integer p) q
 
   complete_row : {d : ℕ} {l m : Lexeme} {ts : List Tree} → Row d l ts m → is_comma m.token ≡ false → (k : ℕ) → length l.after.rest < k → many (term_at d) k l ≡ Ok (ts, m)
-  complete_row (one {d = d} {l = l} {m = m} {t = t} {r = q} s n) c zero f = absurd (omega arith)
+  complete_row (one s n) c zero f = absurd (omega arith)
   complete_row (one {d = d} {l = l} {m = m} {t = t} {r = q} s n) c (suc k) f =
       ap (λ u. u >>= λ x. go_on (many (term_at d) k) x.0 x.1) (element_end (term_at d) l t q m (complete s) n c)
-  complete_row (more {d = d} {l = l} {comma = comma} {next = next} {m = m} {t = t} {ts = ts} {r = q} s n b h r) c zero f = absurd (omega arith)
+  complete_row (more s n b h r) c zero f = absurd (omega arith)
   complete_row (more {d = d} {l = l} {comma = comma} {next = next} {m = m} {t = t} {ts = ts} {r = q} s n b h r) c (suc k) f =
       ap (λ u. u >>= λ x. go_on (many (term_at d) k) x.0 x.1) (element_next (term_at d) l t q comma next (complete s) n (ap is_comma b) h)
       ∙ ap (λ u. u >>= λ x. Ok (t ∷ x.0, x.1)) (complete_row r c k (omega (arith, term_le s, next_shorter q comma n, next_shorter comma.after next h)))

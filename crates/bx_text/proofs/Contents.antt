@@ -59,11 +59,7 @@ unlike_integer s t n f g e p q unlike same = by_form g q unlike (sym (ap (form_t
     by_form : (g : Form) → IsForm g → ((m : ℤ) → g ≡ Integer m → ⊥) → form_tree s (Integer n) ≡ form_tree t g → ⊥
     by_form (Integer m) q unlike same = unlike m refl
     by_form (Large w) q unlike same = let number_is : n ≡ number w = cc in let both = small in cc
-    by_form (Atom w) q unlike same = cc
-    by_form (Tuple ts) q unlike same = cc
-    by_form (Listed ts u) q unlike same = cc
-    by_form (Text b) q unlike same = cc
-    by_form (Other k w) q unlike same = cc
+    by_form s q unlike same = cc
 
 -- nor is a kept text's number
 pub unlike_large : (s t : Span) (v : List ℕ) (f g : Form) → f ≡ Large v → IsForm f → IsForm g → ((w : List ℕ) → g ≡ Large w → ⊥) → form_tree s f ≡ form_tree t g → ⊥
@@ -75,11 +71,7 @@ unlike_large s t v f g e p q unlike same = by_form g q unlike (sym (ap (form_tre
     by_form : (g : Form) → IsForm g → ((w : List ℕ) → g ≡ Large w → ⊥) → form_tree s (Large v) ≡ form_tree t g → ⊥
     by_form (Integer m) q unlike same = let number_is : number v ≡ m = cc in let both = large in cc
     by_form (Large w) q unlike same = unlike w refl
-    by_form (Atom w) q unlike same = cc
-    by_form (Tuple ts) q unlike same = cc
-    by_form (Listed ts u) q unlike same = cc
-    by_form (Text b) q unlike same = cc
-    by_form (Other k w) q unlike same = cc
+    by_form s q unlike same = cc
 
 -- tuples are as their rows
 pub same_tuples : (s t : Span) (xs ys : List Tree) → s ≡ t → (xs ≡ ys) ↔ (tuple s (chain xs nil) ≡ tuple t (chain ys nil))

@@ -20,10 +20,6 @@ use Rattle.bx_text.proofs.Outcomes.{ok_same, bind_ok}
 use Rattle.bx_text.proofs.Sound.{sound, Goes, follow_is}
 use Rattle.bx_text.proofs.Steps.{closed_is}
 
--- which tokens stand in a text
-pub token_at_place : (p : Place) (l : Lexeme) → lexeme_at p ≡ Ok l → IsToken l
-token_at_place p l h = (p, h)
-
 pub token_behind : (p q : Place) (l : Lexeme) → skip p ≡ Ok q → lexeme_from q ≡ Ok l → IsToken l
 token_behind p q l s h = (p, ap (λ r. r >>= lexeme_from) s ∙ h)
 
@@ -57,9 +53,6 @@ kept_spelled k l q ((p, n), (d, e)) v =
     let good : kept_at k l q ≡ Ok (other (span l q) k (taken l q), q) =
     ap (λ (t : Bool). if t then Ok (other (span l q) k (taken l q), q) else Err (NotUtf8 l.line)) (same_test (utf8_valid_len (taken l q)) (length (taken l q)) v) in
     (d, p, l, span l q, q, n, sound d l (other (span l q) k (taken l q), q) (e ∙ good))
-
-pub float_kept : (d : ℕ) (l : Lexeme) → IsToken l → l.token ≡ token.float → IsKept sort.Float l l.after
-float_kept d l s t = (s, (d, ap (begin_by (group_at d) l) t))
 
 map_begins : (d : ℕ) (l m : Lexeme) → l.token ≡ token.open_map → lexeme_at l.after ≡ Ok m → term_at (suc d) l ≡ map_on (term_at d) l m
 map_begins d l m t n =
@@ -102,6 +95,3 @@ binary_kept d l m e s t n c h g = (
         ∙ ap (λ r. r >>= kept_at sort.Binary l) (closed_is closes_binary e g),
   ),
 )
-
-pub fun_kept : (l : Lexeme) (q : Place) → IsToken l → l.token ≡ token.mark Fun → (want is_atom l.after >>= want is_colon >>= want is_atom >>= want is_slash >>= want is_integer) ≡ Ok q → IsKept sort.Fun l q
-fun_kept l q s t h = (s, (0, ap (begin_by (group_at 0) l) t ∙ ap (λ r. r >>= kept_at sort.Fun l) h))

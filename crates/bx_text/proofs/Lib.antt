@@ -26,4 +26,3 @@ pub mod Sound
 pub mod Steps
 pub mod Tails
 pub mod Texts
-pub mod Views

@@ -10,11 +10,6 @@ pub gives_err : {X Y A B T U : Type 0} (v : X → A) (w : Y → B) (e : Fault) (
 gives_err v w Memory said other f g h = f h
 gives_err v w e said other f g h = g h
 
--- a refusal of what comes first is that of the whole
-pub gives_bind : {X Y A B T U : Type 0} (v : X → A) (w : Y → B) (e : Fault) (said : Result A Fault) (f : A → Result B Fault)
-    → (T → U) → Gives T v (Err e) said → Gives U w (Err e) (said >>= f)
-gives_bind v w e said f t h = gives_err v w e said (said >>= f) t (λ g. ap (λ r. r >>= f) g) h
-
 -- an answer to one definition is one to another that says the same
 pub gives_same : {X A : Type 0} (T U : Type 0) (v : X → A) (r : Result X Fault) (said other : Result A Fault)
     → (T → U) → said ≡ other → Gives T v r said → Gives U v r other

@@ -61,9 +61,8 @@ pair_form word p q h =
 
 -- the answer of a reader that takes no memory, where a refusal is not looked at
 pub pair_ends : {X A : Type 0} (v : X → A) (r : Result X Fault) (said : Result A Fault) → Gives ⊥ v r said → option_map v (result_ok r) ≡ good said
-pair_ends v (Ok x) said h = ap good (sym h)
 pair_ends v (Err Memory) said h = absurd h
-pair_ends v (Err e) said h = ap good (sym h)
+pair_ends v s said h = ap good (sym h)
 
 pub pair_forms : {X : Type 0} (v : X → Place) (r : Result X Fault) (word : List ℕ) (p : Place) → Gives ⊥ v r (pair_end 255 word p) → IfSome (result_ok r) (λ x. IsPairForm word p (v x))
 pair_forms v (Ok x) word p h = pair_form word p (v x) h

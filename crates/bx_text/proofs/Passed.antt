@@ -1,5 +1,5 @@
 -- A term that is passed over ends where it ends when it is built.
-use Rattle.std.proofs.Common.{◌≡◌, ℕ, zero, suc, ◌+◌, ◌-◌, ◌<◌, Bool, true, false, if◌then◌else◌, List, ◌∷◌, ◌++◌, length, Option, Some, None, Result, Ok, Err, refl, sym, ap, ◌∙◌}
+use Rattle.std.proofs.Common.{arith, ◌≡◌, ℕ, zero, suc, ◌+◌, ◌-◌, ◌<◌, Bool, true, false, if◌then◌else◌, List, ◌∷◌, ◌++◌, length, Option, Some, None, Result, Ok, Err, refl, sym, ap, ◌∙◌}
 use Rattle.bx_terms.specs.Outcomes.{Gives, ◌>>=◌}
 use Rattle.bx_terms.specs.declared.faults.Fault.{Fault}
 use Rattle.bx_text.specs.Place.{Place}
@@ -16,12 +16,10 @@ use Rattle.bx_text.proofs.Keeping.{followed}
 
 -- what is made of what was read makes no difference
 behind : {A B Q : Type 0} (f : A → Q → B) (r : Result (A × Q) Fault) → passed (r >>= λ x. Ok (f x.0 x.1, x.1)) ≡ passed r
-behind f (Ok x) = refl
-behind f (Err e) = refl
+behind f s = grind arith
 
 placed : {B : Type 0} (f : Place → B) (r : Result Place Fault) → passed (r >>= λ q. Ok (f q, q)) ≡ r
-placed f (Ok q) = refl
-placed f (Err e) = refl
+placed f s = grind arith
 
 -- what is made of an element and what follows it, of a tail, and of a list's elements and what ends them
 abbrev with_tree : Tree → Follow → Result (Tree × Follow) Fault
@@ -42,8 +40,7 @@ nothing m = Ok (nil, m.after)
 elements_on : (term : Reading) (k : ℕ) → ((n : Lexeme) → passed (many term k n) ≡ parts (element_passed term) k n) → (t : Tree) (r : Result Follow Fault)
     → passed ((r >>= with_tree t) >>= λ x. go_on (many term k) x.0 x.1) ≡ (r >>= go_through (parts (element_passed term) k))
 elements_on term k more t (Ok (next n)) = behind (λ ts m. t ∷ ts) (many term k n) ∙ more n
-elements_on term k more t (Ok (end m)) = refl
-elements_on term k more t (Err e) = refl
+elements_on term k more t s = refl
 
 elements_by : (term : Reading) (k : ℕ) → ((n : Lexeme) → passed (many term k n) ≡ parts (element_passed term) k n) → (r : Result (Tree × Place) Fault)
     → passed ((r >>= λ x. follow_at x.1 >>= with_tree x.0) >>= λ x. go_on (many term k) x.0 x.1) ≡ (passed r >>= follow_at >>= go_through (parts (element_passed term) k))

@@ -3,7 +3,7 @@ use Rattle.std.proofs.Common.{◌≡◌, ℕ, ◌+◌, Bool, true, false, cond, 
 use Rattle.std.specs.List.{prefix_len}
 use Rattle.std.specs.Str.{bytes_eq}
 use Rattle.std.specs.Str.Lossy.{utf8_valid_len}
-use Rattle.std.proofs.lemmas.Bool.{eqb-true}
+use Rattle.std.proofs.lemmas.Bool.{eqb-true, both_ways, true_from_ne_false, cond-false, cond_both}
 use Rattle.bx_terms.specs.Outcomes.{◌>>=◌}
 use Rattle.bx_terms.specs.declared.faults.Fault.{Fault}
 use Rattle.bx_terms.specs.declared.faults.Fault.TheVariants.{NotUtf8, BadToken, Truncated}
@@ -28,85 +28,54 @@ abbrev is_text : Token → Bool
 is_text (token.text w) = true
 is_text t = false
 
-past : (t c : Bool) (x y : Kind) → is_double x ≡ false → (is_double y ≡ true → c ≡ true) → is_double (cond t x y) ≡ true → c ≡ true
-past true c x y a b h = let z = sym a ∙ h in cc
-past false c x y a b h = b h
-
-here : (t : Bool) (x y : Kind) → is_double y ≡ false → is_double (cond t x y) ≡ true → t ≡ true
-here true x y b h = refl
-here false x y b h = let z = sym b ∙ h in cc
-
 neither : (t : Bool) (x y : Kind) → is_double x ≡ false → is_double y ≡ false → is_double (cond t x y) ≡ false
-neither true x y a b = a
-neither false x y a b = b
+neither t x y a b = cond_both t x y (λ k. is_double k ≡ false) (λ _. a) (λ _. b)
 
-double_byte : (b : ℕ) → is_double (kind_of b) ≡ true → is_quote b ≡ true
-double_byte b =
-    past (is_lower b) (eqb b 34) _ _ refl (past (is_digit b) (eqb b 34) _ _ refl (past (eqb b 195) (eqb b 34) _ _ refl (past (leb 128 b) (eqb b 34) _ _ refl
-    (past (eqb b 123) (eqb b 34) _ _ refl (past (eqb b 125) (eqb b 34) _ _ refl (past (eqb b 91) (eqb b 34) _ _ refl (past (eqb b 93) (eqb b 34) _ _ refl
-    (past (eqb b 44) (eqb b 34) _ _ refl (past (eqb b 124) (eqb b 34) _ _ refl (past (eqb b 46) (eqb b 34) _ _ refl (past (eqb b 39) (eqb b 34) _ _ refl
-    (here (eqb b 34) _ _
-    (neither (eqb b 45) _ _ refl (neither (eqb b 58) _ _ refl (neither (eqb b 47) _ _ refl (neither (eqb b 40 || eqb b 41) _ _ refl
-    (neither (eqb b 35) _ _ refl (neither (eqb b 60) _ _ refl (neither (eqb b 61) _ _ refl (neither (eqb b 62) _ _ refl refl))))))))))))))))))))
+here : (t : Bool) (x y : Kind) → t ≡ false → is_double y ≡ false → is_double (cond t x y) ≡ false
+here t x y e b = ap is_double (cond-false t x y e) ∙ b
 
-other : (t : Token) (q : Place) (x : Token × Place) → is_text t ≡ false → ◌≡◌ {A = Result (Token × Place) Fault} (Ok (t, q)) (Ok x) → is_text x.0 ≡ true → ⊥
-other t q x n e h = let z = sym n ∙ ap (λ (y : Token × Place). is_text y.0) (ok_same (t, q) x e) ∙ h in cc
+no_double : (b : ℕ) → is_quote b ≡ false → is_double (kind_of b) ≡ false
+no_double b e = search (neither, here) depth 30 fits 3000
 
-plain_word : (t : Bool) (w : List ℕ) → is_text (cond t (token.mark Fun) (token.atom (token.plain w))) ≡ false
-plain_word true w = refl
-plain_word false w = refl
+-- what is read, if anything is, is no string
+abbrev NoText : Result (Token × Place) Fault → Type 0
+NoText (Ok x) = is_text x.0 ≡ false
+NoText (Err e) = Unit {0}
 
-by_test : (t : Bool) (k : Token) (q : Place) (r : Result (Token × Place) Fault) (x : Token × Place) → is_text k ≡ false → (r ≡ Ok x → is_text x.0 ≡ true → ⊥) → cond t (Ok (k, q)) r ≡ Ok x → is_text x.0 ≡ true → ⊥
-by_test true k q r x n f e h = other k q x n e h
-by_test false k q r x n f e h = f e h
+word_other : (p : Place) → NoText (word_at p)
+word_other p = cond_both (bytes_eq (bare_at p).0 (codes "fun")) _ _ (λ t. is_text t ≡ false) (λ _. refl) (λ _. refl)
 
-refused : (t : Bool) (c : Fault) (r : Result (Token × Place) Fault) (x : Token × Place) → (r ≡ Ok x → is_text x.0 ≡ true → ⊥) → cond t (Err c) r ≡ Ok x → is_text x.0 ≡ true → ⊥
-refused true c r x f e h = cc
-refused false c r x f e h = f e h
+foreign_other : (p : Place) → NoText (foreign_at p)
+foreign_other p = cond_both (eqb (utf8_valid_len p.rest) 0) _ _ NoText (λ _. tt) (λ _. tt)
 
-no_answer : (c : Fault) (x : Token × Place) → ◌≡◌ {A = Result (Token × Place) Fault} (Err c) (Ok x) → is_text x.0 ≡ true → ⊥
-no_answer c x e h = cc
+digits_other : (p : Place) (sign n : ℕ) → NoText (digits_at p sign n)
+digits_other p sign n =
+    cond_both (eqb n 0) _ _ NoText (λ _. cond_both (eqb (length p.rest) sign) _ _ NoText (λ _. tt) (λ _. tt))
+    (λ _. cond_both (eqb (fraction_len (drop (sign + n) p.rest)) 0) _ _ NoText (λ _. refl) (λ _. refl))
 
-either : (t : Bool) (r s : Result (Token × Place) Fault) (x : Token × Place) → (r ≡ Ok x → is_text x.0 ≡ true → ⊥) → (s ≡ Ok x → is_text x.0 ≡ true → ⊥) → cond t r s ≡ Ok x → is_text x.0 ≡ true → ⊥
-either true r s x f g e h = f e h
-either false r s x f g e h = g e h
+pair_other : (c : ℕ) (k : Token) (bs : List ℕ) (p : Place) → is_text k ≡ false → NoText (pair_on c k bs p)
+pair_other c k [] p n = tt
+pair_other c k (b ∷ bs) p n = cond_both (eqb b c) _ _ NoText (λ _. n) (λ _. tt)
 
-word_other : (p : Place) (x : Token × Place) → word_at p ≡ Ok x → is_text x.0 ≡ true → ⊥
-word_other p x e h = other _ (bare_at p).1 x (plain_word (bytes_eq (bare_at p).0 (codes "fun")) (bare_at p).0) e h
+atom_other : (r : Result (Body × Place) Fault) → NoText (r >>= λ y. Ok (token.atom y.0, y.1))
+atom_other (Ok x) = refl
+atom_other (Err e) = tt
 
-foreign_other : (p : Place) (x : Token × Place) → foreign_at p ≡ Ok x → is_text x.0 ≡ true → ⊥
-foreign_other p x = refused (eqb (utf8_valid_len p.rest) 0) (NotUtf8 p.line) (Err (BadToken p.line)) x (no_answer (BadToken p.line) x)
-
-number_other : (t : Bool) (k : Token) (q r : Place) (x : Token × Place) → is_text k ≡ false → cond {A = Result (Token × Place) Fault} t (Ok (k, q)) (Ok (token.float, r)) ≡ Ok x → is_text x.0 ≡ true → ⊥
-number_other true k q r x n e h = other k q x n e h
-number_other false k q r x n e h = other token.float r x refl e h
-
-digits_other : (p : Place) (sign n : ℕ) (x : Token × Place) → digits_at p sign n ≡ Ok x → is_text x.0 ≡ true → ⊥
-digits_other p sign n x =
-    either (eqb n 0) _ _ x (refused (eqb (length p.rest) sign) (Truncated p.line) (Err (BadToken p.line)) x (no_answer (BadToken p.line) x))
-    (λ e h. number_other (eqb (fraction_len (drop (sign + n) p.rest)) 0) _ _ _ x refl e h)
-
-pair_other : (c : ℕ) (k : Token) (bs : List ℕ) (p : Place) (x : Token × Place) → is_text k ≡ false → pair_on c k bs p ≡ Ok x → is_text x.0 ≡ true → ⊥
-pair_other c k [] p x n e h = no_answer (Truncated p.line) x e h
-pair_other c k (b ∷ bs) p x n e h = by_test (eqb b c) k (after p 2) (Err (BadToken p.line)) x n (no_answer (BadToken p.line) x) e h
-
-double_kind : (k : Kind) (p : Place) (x : Token × Place) → token_by k p ≡ Ok x → is_text x.0 ≡ true → is_double k ≡ true
-double_kind kind.Letter p x e h = absurd (word_other p x e h)
-double_kind kind.Accent p x e h = absurd (either (begins is_accented_lower (drop 1 p.rest)) (word_at p) (foreign_at p) x (word_other p x) (foreign_other p x) e h)
-double_kind kind.Digit p x e h = absurd (digits_other p 0 (prefix_len is_digit (drop 0 p.rest)) x e h)
-double_kind kind.Minus p x e h = absurd (digits_other p 1 (prefix_len is_digit (drop 1 p.rest)) x e h)
-double_kind kind.Quote p x e h = let b = bind_ok (quoted_at 39 p) (λ y. Ok (token.atom y.0, y.1)) x e in absurd (other _ _ x refl b.2 h)
-double_kind kind.DoubleQuote p x e h = refl
-double_kind kind.OpenTuple p x e h = absurd (other _ _ x refl e h)
-double_kind kind.OpenList p x e h = absurd (other _ _ x refl e h)
-double_kind (kind.Mark m) p x e h = absurd (other (token.mark m) (after p 1) x refl e h)
-double_kind kind.Dot p x e h = absurd (by_test (ends (drop 1 p.rest)) (token.mark Stop) (after p 1) (Err (BadToken p.line)) x refl (no_answer (BadToken p.line) x) e h)
-double_kind kind.Hash p x e h = absurd (pair_other 123 token.open_map (drop 1 p.rest) p x refl e h)
-double_kind kind.Less p x e h = absurd (pair_other 60 token.open_binary (drop 1 p.rest) p x refl e h)
-double_kind kind.Equals p x e h = absurd (pair_other 62 (token.mark Arrow) (drop 1 p.rest) p x refl e h)
-double_kind kind.Greater p x e h = absurd (pair_other 62 (token.mark CloseBinary) (drop 1 p.rest) p x refl e h)
-double_kind kind.Foreign p x e h = absurd (foreign_other p x e h)
-double_kind kind.Nothing p x e h = absurd (no_answer (BadToken p.line) x e h)
+kind_other : (k : Kind) (p : Place) → is_double k ≡ false → NoText (token_by k p)
+kind_other kind.Letter p n = word_other p
+kind_other kind.Accent p n = cond_both (begins is_accented_lower (drop 1 p.rest)) _ _ NoText (λ _. word_other p) (λ _. foreign_other p)
+kind_other kind.Digit p n = digits_other p 0 (prefix_len is_digit (drop 0 p.rest))
+kind_other kind.Minus p n = digits_other p 1 (prefix_len is_digit (drop 1 p.rest))
+kind_other kind.Quote p n = atom_other (quoted_at 39 p)
+kind_other kind.Dot p n = cond_both (ends (drop 1 p.rest)) _ _ NoText (λ _. refl) (λ _. tt)
+kind_other kind.Hash p n = pair_other 123 token.open_map (drop 1 p.rest) p refl
+kind_other kind.Less p n = pair_other 60 token.open_binary (drop 1 p.rest) p refl
+kind_other kind.Equals p n = pair_other 62 (token.mark Arrow) (drop 1 p.rest) p refl
+kind_other kind.Greater p n = pair_other 62 (token.mark CloseBinary) (drop 1 p.rest) p refl
+kind_other kind.Foreign p n = foreign_other p
+kind_other kind.Nothing p n = tt
+kind_other kind.DoubleQuote p n = cc
+kind_other k p n = refl
 
 quote_first : (q : Place) (l : Lexeme) (w : Body) → lexeme_from q ≡ Ok l → l.token ≡ token.text w → begins is_quote q.rest ≡ true
 quote_first q l w e t =
@@ -116,7 +85,7 @@ quote_first q l w e t =
   where
     on_list : (cs : List ℕ) (x : Token × Place) → token_on cs q ≡ Ok x → is_text x.0 ≡ true → begins is_quote cs ≡ true
     on_list [] x e h = cc
-    on_list (c ∷ cs) x e h = double_byte c (double_kind (kind_of c) q x e h)
+    on_list (c ∷ cs) x e h = true_from_ne_false (is_quote c) (λ n. both_ways (is_text x.0) (subst NoText e (kind_other (kind_of c) q (no_double c n))) h)
 
 pub text_some : (p : Place) (l : Lexeme) (w : Body) → lexeme_at p ≡ Ok l → l.token ≡ token.text w → text_next p ≡ Ok (Some l)
 text_some p l w n t =

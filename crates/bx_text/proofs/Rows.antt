@@ -40,12 +40,10 @@ goes_on zero here first l s g e = subst (λ r. IsOkAnd r IsSome) (sym e ∙ ap t
 goes_on (suc turn) here first l s g e = g (omega arith)
 
 pub prefixed_none : {Q : Type 0} (r : Result (List Tree × Q) Fault) → prefixed [] r ≡ r
-prefixed_none (Ok x) = refl
-prefixed_none (Err e) = refl
+prefixed_none s = grind arith
 
 pub chained_none : {Q : Type 0} (r : Result (Tree × Q) Fault) → chained [] r ≡ r
-chained_none (Ok x) = refl
-chained_none (Err e) = refl
+chained_none s = grind arith
 
 pub chain_append : (xs ys : List Tree) (u : Tree) → chain xs (chain ys u) ≡ chain (xs ++ ys) u
 chain_append [] ys u = refl
@@ -83,11 +81,6 @@ texts_none size turn xs p q t e s =
     ∙ ap (λ r. prefixed xs (r >>= texts_on (texts (size - (turn + 1))) p)) e
     ∙ ap (λ ys. Ok (ys, p)) (append-nil xs)
     ∙ ap (λ z. Ok (xs, z)) (sym s)
-
--- a row that begins with nothing
-pub row_fails : {X Y : Type 0} (T : Type 0) (v : X → List Tree × Place) (w : Y → List Tree × Place) (e : Fault) (xs : List Tree) (r : Result (List Tree × Place) Fault) → xs ≡ [] → Gives T v (Err e) (prefixed xs r)
-    → Gives T w (Err e) r
-row_fails T v w e xs r n h = gives_err v w e (prefixed xs r) r (λ t. t) (λ g. sym (ap (λ xs. prefixed xs r) n ∙ prefixed_none r) ∙ g) h
 
 pub row_gives : (xs : List Tree) (r s : Result (List Tree × Place) Fault) → xs ≡ [] → prefixed xs r ≡ s → r ≡ s
 row_gives xs r s n h = sym (ap (λ xs. prefixed xs r) n ∙ prefixed_none r) ∙ h

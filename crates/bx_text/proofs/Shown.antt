@@ -27,8 +27,6 @@ enough (suc k) n h small = by (nat_lt n 10) refl (λ below. enough k (n / 10) be
 
 same : (k j n : ℕ) → n < k → n < j → digits_within k n ≡ digits_within j n
 unfolding digits_within
-same zero j n h i = absurd (omega arith)
-same (suc k) zero n h i = absurd (omega arith)
 same (suc k) (suc j) n h i = by (nat_lt n 10) refl (same k j (n / 10))
   where
     by : (t : Bool) → nat_lt n 10 ≡ t → (n / 10 < k → n / 10 < j → digits_within k (n / 10) ≡ digits_within j (n / 10)) → ◌≡◌ {A = List ℕ} (elim t [ true ↦ (48 + n) ∷ [] | false ↦ digits_within k (n / 10) ++ (48 + n % 10) ∷ [] ])
@@ -39,6 +37,7 @@ same (suc k) (suc j) n h i = by (nat_lt n 10) refl (same k j (n / 10))
         let below : n / 10 < k = omega arith in
         let below_too : n / 10 < j = omega arith in
         ap (λ ds. ds ++ (48 + n % 10) ∷ []) (more below below_too)
+same s t n h i = absurd (omega arith)
 
 one_digit : (n : ℕ) → n < 10 → whole_decimal n ≡ (48 + n) ∷ []
 unfolding whole_decimal digits_within
@@ -118,10 +117,9 @@ pub same_decimal : (ds es : List ℕ) → drop (prefix_len is_zero ds) ds ≡ dr
 same_decimal ds es h = sym (unshown ds) ∙ ap decimal h ∙ unshown es
 
 pub large_some : (negative : Bool) (n : ℕ) → is_large (signed negative n) ≡ true → 0 < n
-large_some true zero large = absurd (cc)
 large_some true (suc n) large = omega arith
-large_some false zero large = absurd (cc)
 large_some false (suc n) large = omega arith
+large_some s t large = absurd (cc)
 
 -- integers outside 64 bits have one sign and one magnitude
 pub signed_apart : (m n : Bool) (a b : ℕ) → is_large (signed m a) ≡ true → is_large (signed n b) ≡ true → signed m a ≡ signed n b → (m ≡ n) × (a ≡ b)
@@ -147,10 +145,9 @@ unfolding integer_text
 large_text negative ds z is large e = subst (λ z. is_large z ≡ true → integer_text z ≡ sign_text negative ++ drop (prefix_len is_zero ds) ds) is (by negative (decimal ds) refl) large
   where
     by : (t : Bool) (n : ℕ) → n ≡ decimal ds → is_large (signed t n) ≡ true → integer_text (signed t n) ≡ sign_text t ++ drop (prefix_len is_zero ds) ds
-    by true zero at l = absurd (cc)
     by true (suc n) at l = ap (λ ds. 45 ∷ ds) (ap whole_decimal at ∙ digits_shown ds e (omega arith))
-    by false zero at l = absurd (cc)
     by false (suc n) at l = ap whole_decimal at ∙ digits_shown ds e (omega arith)
+    by s t at l = absurd (cc)
 
 digits_left : (n : ℕ) (ds : List ℕ) → list_all is_digit ds ≡ true → list_all is_digit (drop n ds) ≡ true
 digits_left zero ds e = e
@@ -162,29 +159,16 @@ shown_utf8 n ds e = digits_utf8 (drop n ds) (digits_left n ds e)
 
 -- a tail stands behind a bar
 pub tail_text : (t : Tree) → IsWhole t → rest_text t ≡ codes "|" ++ node_text t
-tail_text (integer s n) w = refl
-tail_text (atom s v) w = refl
-tail_text (tuple s t) w = refl
-tail_text (list s t) w = refl
-tail_text (other s k v) w = refl
 tail_text nil w = absurd w
 tail_text (cons t u) w = absurd w
+tail_text s w = refl
 
 pub tail_ends : (t : Tree) → IsWhole t → IsEnd t
-tail_ends (integer s n) w = tt
-tail_ends (atom s v) w = tt
-tail_ends (tuple s t) w = tt
-tail_ends (list s t) w = tt
-tail_ends (other s k v) w = tt
 tail_ends nil w = absurd w
 tail_ends (cons t u) w = absurd w
+tail_ends s w = tt
 
 -- a row without elements is its end
 pub end_text : (t : Tree) → IsEnd t → row_text t ≡ rest_text t
-end_text (integer s n) w = refl
-end_text (atom s v) w = refl
-end_text (tuple s t) w = refl
-end_text (list s t) w = refl
-end_text (other s k v) w = refl
-end_text nil w = refl
 end_text (cons t u) w = absurd w
+end_text s w = refl

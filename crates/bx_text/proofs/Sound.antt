@@ -294,13 +294,7 @@ content_from (suc d) l (token.text w) q t h =
     let e = bind_ok (texts (length l.after.rest + 1) l.after) (λ y. Ok (letters_of l l.token ++ y.0, y.1)) p.0 p.1 in
     let same = ok_same {A = List Tree × Place} (letters_of l l.token ++ e.0.0, e.0.1) p.0 e.2 in
     subst (Content (suc d) l) (ap (λ (y : List Tree × Place). y.1) same ∙ p.2) (a_text t (strings_from (length l.after.rest + 1) l.after e.0 e.1))
-content_from d l token.float q t h = cc
-content_from d l (token.atom w) q t h = cc
-content_from d l token.open_tuple q t h = cc
-content_from d l token.open_list q t h = cc
-content_from d l token.open_map q t h = cc
-content_from d l token.open_binary q t h = cc
-content_from d l (token.mark m) q t h = cc
+content_from d l s q t h = cc
 
 sized_by : (b : Bool) (m e : Lexeme) → is_colon m.token ≡ b → (if b then (want is_integer m.after >>= lexeme_at) else Ok m) ≡ Ok e → Size m e
 sized_by true m e c h =
@@ -394,10 +388,7 @@ bracket_from d l token.open_tuple x sound t h = tuple_from d l x sound t h
 bracket_from d l token.open_list x sound t h = list_from d l x sound t h
 bracket_from d l token.open_map x sound t h = map_from d l x sound t h
 bracket_from d l token.open_binary x sound t h = binary_from d l x t h
-bracket_from d l (token.integer n) x sound t h = cc
-bracket_from d l token.float x sound t h = cc
-bracket_from d l (token.atom w) x sound t h = cc
-bracket_from d l (token.mark m) x sound t h = cc
+bracket_from d l s x sound t h = cc
 
 abbrev IsGroup : ℕ → Type 0
 IsGroup d = (l : Lexeme) (x : Tree × Place) → group_at d l ≡ Ok x → Spells d l x.0 x.1
@@ -410,11 +401,7 @@ begun d l (token.atom w) x group t h =
     let P : Tree × Place → Type 0 = λ y. Spells d l y.0 y.1 in subst P (ok_same {A = Tree × Place} (atom_by l w, l.after) x h) (an_atom t)
 begun d l (token.mark Fun) x group t h = fun_from d l x t h
 begun d l (token.mark m) x group t h = cc
-begun d l (token.text w) x group t h = group l x h
-begun d l token.open_tuple x group t h = group l x h
-begun d l token.open_list x group t h = group l x h
-begun d l token.open_map x group t h = group l x h
-begun d l token.open_binary x group t h = group l x h
+begun d l s x group t h = group l x h
 
 groups : (d : ℕ) → IsGroup d
 groups zero l x h = cc

@@ -15,8 +15,10 @@ use Rattle.bx_text.specs.Tree.{Tree, tuple, list, other, nil, chain}
 use Rattle.bx_text.specs.Lexing.{lexeme_at}
 use Rattle.bx_text.specs.Terms.{Reading, span, closed, closes_tuple, closes_list, is_bar, spells_list, elements_at, tuple_on, tail_of, tail_at, end_at, rest_on, rest_at, strings_at, kept_at, taken, want, is_atom, is_colon, is_slash, is_integer, fun_at, closes_binary, map_on, pair_at, parts_at, binary_on, segment_at, bracket_by, begin_by, begin, group_at, term_at}
 use Rattle.bx_text.specs.Rows.{prefixed, chained, closing, splicing}
+use Rattle.bx_text.specs.Grammar.{Spells, strings, empty_list, a_list, a_list_with_tail}
 use Rattle.bx_text.proofs.Outcomes.{ok_same, gives_err}
 use Rattle.bx_text.proofs.Rows.{chain_append}
+use Rattle.bx_text.proofs.Sound.{sound}
 
 then_chained : (xs zs : List Tree) (r : Result (Tree × Place) Fault) → chained xs (r >>= λ y. Ok (chain zs y.0, y.1)) ≡ chained (xs ++ zs) r
 then_chained xs zs (Ok y) = ap (λ t. Ok (t, y.1)) (chain_append xs zs y.0)
@@ -64,12 +66,6 @@ closing_is xs term m e =
 abbrev untailed : Tree × Place → Result (Tree × Place) Fault
 untailed x = Ok (tail_of x.0, x.1)
 
-abbrev tuple_done : Lexeme → List Tree → Place → Result (Tree × Place) Fault
-tuple_done l ts q = Ok (tuple (span l q) (chain ts nil), q)
-
-abbrev tuple_closed : Lexeme → List Tree × Lexeme → Result (Tree × Place) Fault
-tuple_closed l x = closed closes_tuple x.1 >>= tuple_done l x.0
-
 abbrev text_done : Lexeme → List Tree × Place → Result (Tree × Place) Fault
 text_done l x = Ok (list (span l x.1) (chain x.0 nil), x.1)
 
@@ -79,82 +75,20 @@ list_done l x = Ok (list (span l x.1) x.0, x.1)
 abbrev row_done : List Tree × Place → Result (Tree × Place) Fault
 row_done x = Ok (chain x.0 nil, x.1)
 
--- a tuple has no tail of its own
-tuple_end : (l : Lexeme) (ts : List Tree) (r : Result Place Fault) → ((r >>= tuple_done l ts) >>= untailed) ≡ (r >>= tuple_done l ts)
-tuple_end l ts (Ok q) = refl
-tuple_end l ts (Err e) = refl
+-- what was read is no list, where its first token begins none
+no_list : {d : ℕ} {l : Lexeme} {t : Tree} {q : Place} → Spells d l t q → spells_list l.token ≡ false → tail_of t ≡ t
+no_list (strings e s) f = let both = sym (ap spells_list e) ∙ f in cc
+no_list (empty_list e n c) f = let both = sym (ap spells_list e) ∙ f in cc
+no_list (a_list e n r c) f = let both = sym (ap spells_list e) ∙ f in cc
+no_list (a_list_with_tail e n r b g s h c) f = let both = sym (ap spells_list e) ∙ f in cc
+no_list s f = refl
 
-tuple_elements : (l : Lexeme) (r : Result (List Tree × Lexeme) Fault) → ((r >>= tuple_closed l) >>= untailed) ≡ (r >>= tuple_closed l)
-tuple_elements l (Ok x) = tuple_end l x.0 (closed closes_tuple x.1)
-tuple_elements l (Err e) = refl
-
-tuple_begun : (b : Bool) (l m : Lexeme) (r : Result (Tree × Place) Fault) → (r >>= untailed) ≡ r → ((if b then tuple_done l [] m.after else r) >>= untailed) ≡ (if b then tuple_done l [] m.after else r)
-tuple_begun true l m r h = refl
-tuple_begun false l m r h = h
-
-tuple_first : (term : Reading) (l : Lexeme) (r : Result Lexeme Fault) → ((r >>= tuple_on term l) >>= untailed) ≡ (r >>= tuple_on term l)
-tuple_first term l (Ok m) = tuple_begun (closes_tuple m.token) l m (elements_at term m >>= tuple_closed l) (tuple_elements l (elements_at term m))
-tuple_first term l (Err e) = refl
-
-tuple_tail : (d : ℕ) (l : Lexeme) → l.token ≡ token.open_tuple → (group_at d l >>= untailed) ≡ group_at d l
-tuple_tail zero l e = refl
-tuple_tail (suc d) l e =
-    let P : Token → Type 0 = λ k. (bracket_by d (begin (group_at d)) l k >>= untailed) ≡ bracket_by d (begin (group_at d)) l k in
-    subst P (sym e) (tuple_first (begin (group_at d)) l (lexeme_at l.after))
-
--- nor has a term that is kept
-kept_by : (b : Bool) (k : Sort) (l : Lexeme) (q : Place) → ((if b then Ok (other (span l q) k (taken l q), q) else Err (NotUtf8 l.line)) >>= untailed) ≡ (if b then Ok (other (span l q) k (taken l q), q) else Err (NotUtf8 l.line))
-kept_by true k l q = refl
-kept_by false k l q = refl
-
-kept_tail : (k : Sort) (l : Lexeme) (q : Place) → (kept_at k l q >>= untailed) ≡ kept_at k l q
-kept_tail k l q = kept_by (utf8_valid_len (taken l q) == length (taken l q)) k l q
-
-keeping : (k : Sort) (l : Lexeme) (r : Result Place Fault) → ((r >>= kept_at k l) >>= untailed) ≡ (r >>= kept_at k l)
-keeping k l (Ok q) = kept_tail k l q
-keeping k l (Err e) = refl
-
-fun_tail : (l : Lexeme) → (fun_at l >>= untailed) ≡ fun_at l
-fun_tail l = keeping sort.Fun l (want is_atom l.after >>= want is_colon >>= want is_atom >>= want is_slash >>= want is_integer)
-
-either_kept : (b : Bool) (k : Sort) (l : Lexeme) (q : Place) (r : Result Place Fault) → ((if b then kept_at k l q else (r >>= kept_at k l)) >>= untailed) ≡ (if b then kept_at k l q else (r >>= kept_at k l))
-either_kept true k l q r = kept_tail k l q
-either_kept false k l q r = keeping k l r
-
-map_first : (term : Reading) (l : Lexeme) (r : Result Lexeme Fault) → ((r >>= map_on term l) >>= untailed) ≡ (r >>= map_on term l)
-map_first term l (Ok m) = either_kept (closes_tuple m.token) sort.Map l m.after (parts_at (pair_at term) m >>= closed closes_tuple)
-map_first term l (Err e) = refl
-
-binary_first : (d : ℕ) (l : Lexeme) (r : Result Lexeme Fault) → ((r >>= binary_on d l) >>= untailed) ≡ (r >>= binary_on d l)
-binary_first d l (Ok m) = either_kept (closes_binary m.token) sort.Binary l m.after (parts_at (segment_at d) m >>= closed closes_binary)
-binary_first d l (Err e) = refl
-
-map_tail : (d : ℕ) (l : Lexeme) → l.token ≡ token.open_map → (group_at d l >>= untailed) ≡ group_at d l
-map_tail zero l e = refl
-map_tail (suc d) l e =
-    let P : Token → Type 0 = λ k. (bracket_by d (begin (group_at d)) l k >>= untailed) ≡ bracket_by d (begin (group_at d)) l k in
-    subst P (sym e) (map_first (begin (group_at d)) l (lexeme_at l.after))
-
-binary_tail : (d : ℕ) (l : Lexeme) → l.token ≡ token.open_binary → (group_at d l >>= untailed) ≡ group_at d l
-binary_tail zero l e = refl
-binary_tail (suc d) l e =
-    let P : Token → Type 0 = λ k. (bracket_by d (begin (group_at d)) l k >>= untailed) ≡ bracket_by d (begin (group_at d)) l k in
-    subst P (sym e) (binary_first d l (lexeme_at l.after))
+untailed_is : (r : Result (Tree × Place) Fault) → ((x : Tree × Place) → r ≡ Ok x → tail_of x.0 ≡ x.0) → (r >>= untailed) ≡ r
+untailed_is (Ok x) h = ap (λ t. Ok (t, x.1)) (h x refl)
+untailed_is (Err e) h = refl
 
 pub improper_is : (d : ℕ) (l : Lexeme) → spells_list l.token ≡ false → term_at d l ≡ tail_at (term_at d) l
-improper_is d l e = sym (by_token l.token refl e)
-  where
-    by_token : (k : Token) → l.token ≡ k → spells_list k ≡ false → (begin_by (group_at d) l k >>= untailed) ≡ begin_by (group_at d) l k
-    by_token (token.integer n) t e = refl
-    by_token (token.atom w) t e = refl
-    by_token (token.text w) t e = cc
-    by_token token.open_tuple t e = tuple_tail d l t
-    by_token token.open_list t e = cc
-    by_token token.float t e = kept_tail sort.Float l l.after
-    by_token token.open_map t e = map_tail d l t
-    by_token token.open_binary t e = binary_tail d l t
-    by_token (token.mark Fun) t e = fun_tail l
-    by_token (token.mark m) t e = refl
+improper_is d l e = sym (untailed_is (term_at d l) (λ x h. no_list (sound d l x h) e))
 
 -- such a tail behind what was found
 pub improper_gives : {X : Type 0} (T : Type 0) (tree : X → Tree) (xs : List Tree) (p : Place) (r : Result X Fault) (d : ℕ) (l : Lexeme) → spells_list l.token ≡ false → Gives T (λ x. (tree x, p)) r (term_at d l)
@@ -178,16 +112,10 @@ pub splicing_is : (xs : List Tree) (d : ℕ) (l : Lexeme) → spells_list l.toke
 splicing_is xs d l e = by_token l.token refl e
   where
     by_token : (k : Token) → l.token ≡ k → spells_list k ≡ true → splicing xs (term_at d) l k ≡ chained xs (begin_by (group_at (suc d)) l k >>= untailed)
-    by_token (token.integer n) t e = cc
-    by_token (token.atom w) t e = cc
     by_token (token.text w) t e =
         let P : Token → Type 0 = λ k. (prefixed xs (strings_at l) >>= row_done) ≡ chained xs (bracket_by d (begin (group_at d)) l k >>= untailed) in
         subst P (sym t) (text_on xs l (strings_at l))
-    by_token token.open_tuple t e = cc
     by_token token.open_list t e =
         let P : Token → Type 0 = λ k. chained xs (rest_at (term_at d) l.after) ≡ chained xs (bracket_by d (begin (group_at d)) l k >>= untailed) in
         subst P (sym t) (list_on xs l (rest_at (term_at d) l.after))
-    by_token token.float t e = cc
-    by_token token.open_map t e = cc
-    by_token token.open_binary t e = cc
-    by_token (token.mark m) t e = cc
+    by_token s t e = cc

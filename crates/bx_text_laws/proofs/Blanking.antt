@@ -1,8 +1,8 @@
 -- Exactly the blanks are skipped.
-use Rattle.std.proofs.Common.{◌≡◌, ◌≢◌, ℕ, suc, ◌+◌, Bool, true, false, cond, eqb, ◌↔◌, List, [], ◌∷◌, ◌++◌, drop, length, Result, Ok, Err, refl, sym, ap, ◌∙◌, subst, arith, append_assoc, drop_at, take_at, length-append, IsUtf8}
+use Rattle.std.proofs.Common.{◌≡◌, ◌≢◌, ℕ, suc, ◌+◌, Bool, true, false, cond, eqb, ◌↔◌, List, [], ◌∷◌, ◌++◌, drop, length, Result, Ok, Err, refl, sym, ap, ◌∙◌, subst, arith, append_assoc, inl, inr, drop_at, take_at, length-append, IsUtf8}
 use Rattle.std.specs.List.{AllByRecursion, prefix_len}
 use Rattle.std.specs.Str.Lossy.{utf8_valid_len}
-use Rattle.std.proofs.lemmas.Bool.{eqb-true, eqb-false}
+use Rattle.std.proofs.lemmas.Bool.{eqb-true, eqb-false, eq-eqb, ne_eqb, cases_Bool, false_from_ne_true, cond_both}
 use Rattle.std.proofs.lemmas.Bool.Decides.{nat_tests}
 use Rattle.std.proofs.lemmas.Str.{utf8_valid_len-IsUtf8}
 use Rattle.bx_terms.specs.declared.faults.Fault.{Fault}
@@ -36,9 +36,6 @@ here : (bs : List ℕ) (at line : ℕ) (q : Place) → NoBlank bs → ◌≡◌ 
 here bs at line q n h =
     let is : on bs at line ≡ q = ok_same (on bs at line) q h in
     subst (Passed bs at line) is ([], refl, nothing, n, (omega arith, omega arith))
-
-feed_lines : (bytes : List ℕ) → lines (10 ∷ bytes) ≡ suc (lines bytes)
-feed_lines bytes = omega arith
 
 pub other_lines : (b : ℕ) (bytes : List ℕ) → eqb b 10 ≡ false → lines (b ∷ bytes) ≡ lines bytes
 other_lines b bytes e = ap (λ (t : Bool). cond t (1 + lines bytes) (lines bytes)) e
@@ -80,10 +77,7 @@ line_is text rest a e = take_at text rest (prefix_len is_not_feed (text ++ rest)
 
 pub text_lines : (text : List ℕ) → AllByRecursion (λ b. b ≢ 10) text → lines text ≡ 0
 text_lines [] a = refl
-text_lines (t ∷ text) (n, a) = other_lines t text (unequal t n) ∙ text_lines text a
-  where
-    unequal : (t : ℕ) → t ≢ 10 → eqb t 10 ≡ false
-    unequal t n = grind (arith, nat_tests)
+text_lines (t ∷ text) (n, a) = other_lines t text (ne_eqb t 10 n) ∙ text_lines text a
 
 over_comment : (b : ℕ) (bs : List ℕ) (at line : ℕ) (q : Place) → eqb b 37 ≡ true → eqb (utf8_valid_len (line_of bs)) (length (line_of bs)) ≡ true → Over bs (at + 1) line q → Passed (b ∷ bs) at line q
 over_comment b bs at line q e v (text, bytes, t, a, ends, k, n, (f, l)) =
@@ -97,19 +91,6 @@ over_comment b bs at line q e v (text, bytes, t, a, ends, k, n, (f, l)) =
       n,
       (omega (arith, f, length-append text bytes), omega (arith, l, lines-append text bytes, text_lines text a)),
     )
-
-by_byte : (b : ℕ) (bs : List ℕ) (at line : ℕ) (q : Place) → (skip_line bs (at + 1) line ≡ Ok q → Over bs (at + 1) line q) → ((l : ℕ) → skip_from bs (at + 1) l ≡ Ok q → Passed bs (at + 1) l q)
-    → skip_from (b ∷ bs) at line ≡ Ok q → Passed (b ∷ bs) at line q
-by_byte b bs at line q over passed = by (eqb b 37) (eqb (utf8_valid_len (line_of bs)) (length (line_of bs))) (eqb b 10) (is_space b) refl refl refl refl
-  where
-    by : (c v f s : Bool) → eqb b 37 ≡ c → eqb (utf8_valid_len (line_of bs)) (length (line_of bs)) ≡ v → eqb b 10 ≡ f → is_space b ≡ s
-        → cond {A = Skipped} c (cond v (skip_line bs (at + 1) line) (Err (NotUtf8 line))) (cond f (skip_from bs (at + 1) (line + 1)) (cond s (skip_from bs (at + 1) line) (Ok (on (b ∷ bs) at line)))) ≡ Ok q
-        → Passed (b ∷ bs) at line q
-    by true true f s ec ev ef es h = over_comment b bs at line q ec ev (over h)
-    by true false f s ec ev ef es h = cc
-    by false v true s ec ev ef es h = over_feed b bs at line q ef (passed (line + 1) h)
-    by false v false true ec ev ef es h = over_space b bs at line q ef es (passed line h)
-    by false v false false ec ev ef es h = here (b ∷ bs) at line q (space_not b es, eqb-false b 37 ec) h
 
 over_end : (at line : ℕ) (q : Place) → ◌≡◌ {A = Skipped} (Ok (on [] at line)) (Ok q) → Over [] at line q
 over_end at line q h =
@@ -125,39 +106,27 @@ over_line b bs at line q e (bytes, t, k, n, (a, l)) =
     let fed : lines (b ∷ bytes) ≡ suc (lines bytes) = ap (λ (t : Bool). cond t (1 + lines bytes) (lines bytes)) e ∙ omega arith in
     ([], b ∷ bytes, ap (λ us. b ∷ us) t, tt, eqb-true b 10 e, space (feed_space b e) k, n, (omega (arith, a), omega (arith, l, fed)))
 
-in_comment : (b : ℕ) (bs : List ℕ) (at line : ℕ) (q : Place) → (skip_line bs (at + 1) line ≡ Ok q → Over bs (at + 1) line q) → (skip_from bs (at + 1) (line + 1) ≡ Ok q → Passed bs (at + 1) (line + 1) q)
-    → skip_line (b ∷ bs) at line ≡ Ok q → Over (b ∷ bs) at line q
-in_comment b bs at line q over passed = by (eqb b 10) refl
-  where
-    by : (t : Bool) → eqb b 10 ≡ t → cond {A = Skipped} t (skip_from bs (at + 1) (line + 1)) (skip_line bs (at + 1) line) ≡ Ok q → Over (b ∷ bs) at line q
-    by true e h = over_line b bs at line q e (passed h)
-    by false e h = over_byte b bs at line q e (over h)
-
 mutual
   passed : (bs : List ℕ) (at line : ℕ) (q : Place) → skip_from bs at line ≡ Ok q → Passed bs at line q
   passed [] at line q h = here [] at line q tt h
-  passed (b ∷ bs) at line q h = by_byte b bs at line q (λ g. inside bs (at + 1) line q g) (λ l g. passed bs (at + 1) l q g) h
+  passed (b ∷ bs) at line q h =
+      let P : Skipped → Type 0 = λ r. r ≡ Ok q → Passed (b ∷ bs) at line q in
+      cond_both (eqb b 37) _ _ P
+      (λ c. cond_both (eqb (utf8_valid_len (line_of bs)) (length (line_of bs))) _ _ P (λ v g. over_comment b bs at line q c v (inside bs (at + 1) line q g)) (λ _ g. cc))
+      (λ c. cond_both (eqb b 10) _ _ P (λ e g. over_feed b bs at line q e (passed bs (at + 1) (line + 1) q g))
+      (λ e. cond_both (is_space b) _ _ P (λ s g. over_space b bs at line q e s (passed bs (at + 1) line q g)) (λ s g. here (b ∷ bs) at line q (space_not b s, eqb-false b 37 c) g))) h
 
   inside : (bs : List ℕ) (at line : ℕ) (q : Place) → skip_line bs at line ≡ Ok q → Over bs at line q
   inside [] at line q h = over_end at line q h
-  inside (b ∷ bs) at line q h = in_comment b bs at line q (λ g. inside bs (at + 1) line q g) (λ g. passed bs (at + 1) (line + 1) q g) h
-
--- and blanks are skipped
-abbrev Gone : List ℕ → List ℕ → Type 0
-Gone bytes rest = (at line : ℕ) → skip_from (bytes ++ rest) at line ≡ Ok (record { rest = rest; at = at + length bytes; line = line + lines bytes })
+  inside (b ∷ bs) at line q h =
+      cond_both (eqb b 10) _ _ (λ (r : Skipped). r ≡ Ok q → Over (b ∷ bs) at line q) (λ e g. over_line b bs at line q e (passed bs (at + 1) (line + 1) q g))
+      (λ e g. over_byte b bs at line q e (inside bs (at + 1) line q g)) h
 
 not_space : (b : ℕ) → (IsSpace b → ⊥) → is_space b ≡ false
-not_space b n = by (is_space b) refl
-  where
-    by : (t : Bool) → is_space b ≡ t → t ≡ false
-    by true e = absurd (n (space_is b e))
-    by false e = refl
+not_space b n = false_from_ne_true (is_space b) (λ e. n (space_is b e))
 
 pub not_line : (b : ℕ) → is_space b ≡ false → eqb b 10 ≡ false
 not_line b e = grind (arith, nat_tests)
-
-not_percent : (b : ℕ) → b ≢ 37 → eqb b 37 ≡ false
-not_percent b n = grind (arith, nat_tests)
 
 pub space_percent : (b : ℕ) → IsSpace b → (eqb b 37 ≡ false) × (is_space b ≡ true)
 space_percent b h = (grind (arith, nat_tests), grind (arith, nat_tests))
@@ -169,63 +138,62 @@ tests_by b bs at line f s c ef es =
     ∙ ap (λ (t : Bool). cond t (skip_from bs (at + 1) (line + 1)) (cond (is_space b) (skip_from bs (at + 1) line) (Ok (on (b ∷ bs) at line)))) ef
     ∙ ap (λ (t : Bool). cond f (skip_from bs (at + 1) (line + 1)) (cond t (skip_from bs (at + 1) line) (Ok (on (b ∷ bs) at line)))) es
 
-placed : (rest : List ℕ) (a b c d : ℕ) → a ≡ b → c ≡ d → ◌≡◌ {A = Skipped} (Ok (on rest a c)) (Ok (on rest b d))
-placed rest a b c d e f = ap (λ (x : ℕ). Ok (on rest x c)) e ∙ ap (λ (x : ℕ). Ok (on rest b x)) f
+-- and blanks are skipped
+abbrev Gone : List ℕ → List ℕ → Type 0
+Gone bytes rest = (at line : ℕ) → skip_from (bytes ++ rest) at line ≡ skip_from rest (at + length bytes) (line + lines bytes)
 
-gone_none : (rest : List ℕ) → NoBlank rest → Gone [] rest
-gone_none [] n at line = placed [] at (at + 0) line (line + 0) (omega arith) (omega arith)
-gone_none (b ∷ bs) (s, p) at line =
-    let none : is_space b ≡ false = not_space b s in
-    tests_by b bs at line false false (not_percent b p) (not_line b none) none ∙ placed (b ∷ bs) at (at + 0) line (line + 0) (omega arith) (omega arith)
+moved : (rest : List ℕ) (a b c d : ℕ) → a ≡ b → c ≡ d → skip_from rest a c ≡ skip_from rest b d
+moved rest a b c d e f = ap (λ (x : ℕ). skip_from rest x c) e ∙ ap (λ (x : ℕ). skip_from rest b x) f
 
 gone_space : (b : ℕ) (bytes rest : List ℕ) → IsSpace b → Gone bytes rest → Gone (b ∷ bytes) rest
-gone_space b bytes rest h more at line = by (eqb b 10) refl
+gone_space b bytes rest h more at line = elim (cases_Bool (eqb b 10)) [ inl e ↦ fed e | inr e ↦ unfed e ]
   where
-    by : (t : Bool) → eqb b 10 ≡ t → skip_from (b ∷ (bytes ++ rest)) at line ≡ Ok (record { rest = rest; at = at + suc (length bytes); line = line + lines (b ∷ bytes) })
-    by true e =
+    fed : eqb b 10 ≡ true → skip_from (b ∷ (bytes ++ rest)) at line ≡ skip_from rest (at + suc (length bytes)) (line + lines (b ∷ bytes))
+    fed e =
         let fed : lines (b ∷ bytes) ≡ suc (lines bytes) = ap (λ (t : Bool). cond t (1 + lines bytes) (lines bytes)) e ∙ omega arith in
         tests_by b (bytes ++ rest) at line true true (space_percent b h).0 e (space_percent b h).1 ∙ more (at + 1) (line + 1)
-        ∙ placed rest (at + 1 + length bytes) (at + suc (length bytes)) (line + 1 + lines bytes) (line + lines (b ∷ bytes)) (omega arith) (omega (arith, fed))
-    by false e =
+        ∙ moved rest (at + 1 + length bytes) (at + suc (length bytes)) (line + 1 + lines bytes) (line + lines (b ∷ bytes)) (omega arith) (omega (arith, fed))
+
+    unfed : eqb b 10 ≡ false → skip_from (b ∷ (bytes ++ rest)) at line ≡ skip_from rest (at + suc (length bytes)) (line + lines (b ∷ bytes))
+    unfed e =
         tests_by b (bytes ++ rest) at line false true (space_percent b h).0 e (space_percent b h).1 ∙ more (at + 1) line
-        ∙ placed rest (at + 1 + length bytes) (at + suc (length bytes)) (line + lines bytes) (line + lines (b ∷ bytes)) (omega arith) (omega (arith, other_lines b bytes e))
+        ∙ moved rest (at + 1 + length bytes) (at + suc (length bytes)) (line + lines bytes) (line + lines (b ∷ bytes)) (omega arith) (omega (arith, other_lines b bytes e))
 
 gone_comment : (text bytes rest : List ℕ) → OnLine text → LineEnds (bytes ++ rest) → Gone bytes rest → Gone (37 ∷ (text ++ bytes)) rest
 gone_comment text bytes rest (a, u) ends more at line =
-    subst (λ us. skip_from (37 ∷ us) at line ≡ Ok (record { rest = rest; at = at + length (37 ∷ (text ++ bytes)); line = line + lines (37 ∷ (text ++ bytes)) })) (sym (append_assoc text bytes rest))
+    subst (λ us. skip_from (37 ∷ us) at line ≡ skip_from rest (at + length (37 ∷ (text ++ bytes))) (line + lines (37 ∷ (text ++ bytes)))) (sym (append_assoc text bytes rest))
     (ap (λ (t : Bool). cond t (skip_line Y (at + 1) line) (Err (NotUtf8 line))) valid
     ∙ line_skipped Y (at + 1) line
-    ∙ ap (λ n. skip_from (drop n Y) (at + 1 + n) line) count
+    ∙ ap (λ n. skip_from (drop n Y) (at + 1 + n) line) (line_len text (bytes ++ rest) a ends)
     ∙ ap (λ us. skip_from us (at + 1 + length text) line) (drop_at text (bytes ++ rest) (length text) refl)
     ∙ more (at + 1 + length text) line
-    ∙ placed rest (at + 1 + length text + length bytes) (at + length (37 ∷ (text ++ bytes))) (line + lines bytes) (line + lines (37 ∷ (text ++ bytes)))
+    ∙ moved rest (at + 1 + length text + length bytes) (at + length (37 ∷ (text ++ bytes))) (line + lines bytes) (line + lines (37 ∷ (text ++ bytes)))
     (omega (arith, length-append text bytes)) (omega (arith, lines-append text bytes, text_lines text a)))
   where
     Y : List ℕ
     Y = text ++ (bytes ++ rest)
 
-    count : prefix_len is_not_feed Y ≡ length text
-    count = line_len text (bytes ++ rest) a ends
-
-    same_test : (m n : ℕ) → m ≡ n → eqb m n ≡ true
-    same_test m n e = grind (arith, nat_tests)
-
     valid : eqb (utf8_valid_len (line_of Y)) (length (line_of Y)) ≡ true
     valid =
         let is : line_of Y ≡ text = line_is text (bytes ++ rest) a ends in
-        same_test (utf8_valid_len (line_of Y)) (length (line_of Y)) (ap utf8_valid_len is ∙ utf8_valid_len-IsUtf8 text u ∙ ap length (sym is))
+        eq-eqb (utf8_valid_len (line_of Y)) (length (line_of Y)) (ap utf8_valid_len is ∙ utf8_valid_len-IsUtf8 text u ∙ ap length (sym is))
 
-gone : {bytes rest : List ℕ} → Blank bytes rest → NoBlank rest → Gone bytes rest
-gone (nothing {rest = rest}) n = gone_none rest n
-gone (space {b = b} {bytes = bytes} {rest = rest} h k) n = gone_space b bytes rest h (gone k n)
-gone (comment text {bytes = bytes} {rest = rest} h ends k) n = gone_comment text bytes rest h ends (gone k n)
+pub gone : {bytes rest : List ℕ} → Blank bytes rest → Gone bytes rest
+gone (nothing {rest = rest}) at line = moved rest at (at + 0) line (line + 0) (omega arith) (omega arith)
+gone (space {b = b} {bytes = bytes} {rest = rest} h k) at line = gone_space b bytes rest h (gone k) at line
+gone (comment text {bytes = bytes} {rest = rest} h ends k) at line = gone_comment text bytes rest h ends (gone k) at line
+
+-- but for what follows them
+gone_none : (rest : List ℕ) (at line : ℕ) → NoBlank rest → skip_from rest at line ≡ Ok (on rest at line)
+gone_none [] at line n = refl
+gone_none (b ∷ bs) at line (s, p) = let none : is_space b ≡ false = not_space b s in tests_by b bs at line false false (ne_eqb b 37 p) (not_line b none) none
 
 passes : (p q : Place) → skip p ≡ Ok q → Passes p q
 passes p q h = passed p.rest p.at p.line q h
 
 skips : (p q : Place) → Passes p q → skip p ≡ Ok q
 skips p q (bytes, e, k, n, (a, l)) =
-    ap (λ us. skip_from us p.at p.line) e ∙ gone k n p.at p.line
+    ap (λ us. skip_from us p.at p.line) e ∙ gone k p.at p.line ∙ gone_none q.rest (p.at + length bytes) (p.line + lines bytes) n
     ∙ ap (λ (r : Place). Ok r) (same_place (record { rest = q.rest; at = p.at + length bytes; line = p.line + lines bytes }) q refl (sym a) (sym l))
 
 pub skipped_is_blank : (p q : Place) → (skip p ≡ Ok q) ↔ Passes p q

@@ -4,13 +4,15 @@ use Rattle.std.specs.List.{fold, list_all}
 use Rattle.std.specs.Char.{IsScalar}
 use Rattle.std.specs.Prelude.{nat_lt}
 use Rattle.std.proofs.lemmas.List.Sums.{fold-append}
-use Rattle.std.proofs.lemmas.Bool.{and_parts, and_from}
+use Rattle.std.proofs.lemmas.Bool.{and_parts, and_from, not-true}
+use Rattle.std.proofs.lemmas.List.{length-append}
 use Rattle.std.proofs.lemmas.Bool.Decides.{nat_tests}
 use Rattle.bx_text.specs.Named as named
 use Rattle.bx_text.specs.Named.{Open}
 use Rattle.bx_text.specs.Escapes.{digit, is_octal, is_hex, is_control, is_scalar, begins_with, step, itself, coded, known, known_last, known_in, is_whole}
 use Rattle.bx_text.specs.Escapes as escapes
 use Rattle.bx_text_laws.specs.Numerals.{Counts, Numeral, one_digit, digit_more}
+use Rattle.bx_text_laws.proofs.Runs.{push_all}
 
 -- what characters mean where something is open, and whether all is closed behind them
 abbrev pub run : Open → List ℕ → List ℕ
@@ -75,14 +77,10 @@ Ends s v = (known_last s ≡ coded v) × ((p : Open → Bool) → Tests p → p 
 pub octal_ends : (s : Open) (v : ℕ) (cs : List ℕ) → Ends s v → no_octal cs ≡ true → Turn s cs (coded v) named.nothing cs
 octal_ends s v [] ends e = record { means = ends.0 ∙ sym (append-nil (coded v)); tests = ends.1 }
 octal_ends s v (c ∷ cs) ends e =
-    let next = ends.2 c (not_true (is_octal c) e) in
+    let next = ends.2 c (not-true (is_octal c) e) in
     let turned = one_is s (begins_with c) c cs (coded v ++ itself c) next.0 next.1 in
     let plain = one named.nothing c cs in
     record { means = turned.means ∙ append_assoc (coded v) (itself c) (run (begins_with c) cs) ∙ ap (λ us. coded v ++ us) (sym plain.means); tests = λ p o. turned.tests p o ∙ sym (plain.tests p o) }
-  where
-    not_true : (t : Bool) → not t ≡ true → t ≡ false
-    not_true true e = cc
-    not_true false e = refl
 
 pub octal_one : (v : ℕ) → Ends (named.octal_digit v) v
 octal_one v = (refl, λ p o. o.0 v, λ c e. (ap (λ (t : Bool). cond t [] (coded v ++ itself c)) e, ap (λ (t : Bool). cond t (named.octal_digits (8 * v + digit c)) (begins_with c)) e))
@@ -135,14 +133,6 @@ in_base b c x l e = grind (arith, nat_tests)
 pub below : (b c : ℕ) → is_base b c ≡ true → digit c < b
 below b c e = grind (arith, nat_tests)
 
-all_push : (p : ℕ → Bool) (xs : List ℕ) (y : ℕ) → list_all p xs ≡ true → p y ≡ true → list_all p (xs ++ y ∷ []) ≡ true
-all_push p [] y a b = and_from (p y) true b refl
-all_push p (x ∷ xs) y a b = let both = and_parts (p x) (list_all p xs) a in and_from (p x) (list_all p (xs ++ y ∷ [])) both.0 (all_push p xs y both.1 b)
-
-longer : (xs : List ℕ) (y : ℕ) → 0 < length (xs ++ y ∷ [])
-longer [] y = omega arith
-longer (x ∷ xs) y = omega arith
-
 abbrev pub Value : ℕ → List ℕ → ℕ → Type 0
 Value b ds n = (list_all (is_base b) ds ≡ true) × (fold (with_digit b) 0 ds ≡ n) × (0 < length ds)
 
@@ -153,7 +143,7 @@ numeral_value (one_digit {base = b} {c = c} {x = x} (l, h)) =
 numeral_value (digit_more {base = b} {n = n} {c = c} {x = x} {cs = cs} k (l, h)) =
     let is : digit c ≡ x = counted c x h in
     let front = numeral_value k in
-    (all_push (is_base b) cs c front.0 (in_base b c x l is), fold-append (with_digit b) 0 cs (c ∷ []) ∙ ap (λ m. b * m + digit c) front.1 ∙ ap (λ y. b * n + y) is, longer cs c)
+    (push_all (is_base b) cs c front.0 (in_base b c x l is), fold-append (with_digit b) 0 cs (c ∷ []) ∙ ap (λ m. b * m + digit c) front.1 ∙ ap (λ y. b * n + y) is, omega (arith, length-append cs (c ∷ [])))
 
 more_value : (b : ℕ) (front ds : List ℕ) (n : ℕ) → b ≤ 16 → Numeral b front n → list_all (is_base b) ds ≡ true → Numeral b (front ++ ds) (fold (with_digit b) n ds)
 more_value b front [] n l k a = subst (λ cs. Numeral b cs n) (sym (append-nil front)) k

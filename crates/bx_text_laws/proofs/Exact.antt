@@ -212,20 +212,6 @@ solid_exact (string {cs = cs} {vs = vs} {bytes = bytes} q utf8) s rest = text_ex
 
 -- the others where a delimiter follows
 pub exact : {bytes : List ℕ} {t : Token} → Spelling bytes t → t ≢ named.full_stop → (rest : List ℕ) → Delimits rest → Exactly bytes t rest
-exact open_tuple n rest d = marked (123 ∷ []) rest token.open_tuple 1 refl refl (λ at line. refl)
-exact close_tuple n rest d = marked (125 ∷ []) rest named.close_tuple 1 refl refl (λ at line. refl)
-exact open_list n rest d = marked (91 ∷ []) rest token.open_list 1 refl refl (λ at line. refl)
-exact close_list n rest d = marked (93 ∷ []) rest named.close_list 1 refl refl (λ at line. refl)
-exact open_map n rest d = marked (35 ∷ 123 ∷ []) rest token.open_map 2 refl refl (λ at line. refl)
-exact open_binary n rest d = marked (60 ∷ 60 ∷ []) rest token.open_binary 2 refl refl (λ at line. refl)
-exact close_binary n rest d = marked (62 ∷ 62 ∷ []) rest named.close_binary 2 refl refl (λ at line. refl)
-exact comma n rest d = marked (44 ∷ []) rest named.comma 1 refl refl (λ at line. refl)
-exact bar n rest d = marked (124 ∷ []) rest named.bar 1 refl refl (λ at line. refl)
-exact arrow n rest d = marked (61 ∷ 62 ∷ []) rest named.arrow 2 refl refl (λ at line. refl)
-exact colon n rest d = marked (58 ∷ []) rest named.colon 1 refl refl (λ at line. refl)
-exact slash n rest d = marked (47 ∷ []) rest named.slash 1 refl refl (λ at line. refl)
-exact open_parenthesis n rest d = marked (40 ∷ []) rest named.parenthesis 1 refl refl (λ at line. refl)
-exact close_parenthesis n rest d = marked (41 ∷ []) rest named.parenthesis 1 refl refl (λ at line. refl)
 exact full_stop n rest d = absurd (n refl)
 exact the_word_fun n rest d = fun_exactly rest d
 exact (integer {ds = ds} {n = m} k) n rest d =
@@ -240,4 +226,4 @@ exact (float {ds = ds} {fs = fs} mi (m, k) (j, l) ex) n rest d =
     float_exact mi ds fs rest a.0 a.2 b.0 b.2 ex d
 exact (bare_atom x cs {bytes = bytes} small a utf8 other) n rest d = word_exact x cs bytes rest small a utf8 other d
 exact (quoted_atom {cs = cs} {vs = vs} {bytes = bytes} q utf8) n rest d = atom_exactly cs vs bytes rest q utf8
-exact (string {cs = cs} {vs = vs} {bytes = bytes} q utf8) n rest d = text_exactly cs vs bytes rest q utf8
+exact s n rest d = solid_exact s (record { integer = λ n e. cc; float = λ e. cc; atom = λ b e. cc; word = λ e. cc; stop = n }) rest

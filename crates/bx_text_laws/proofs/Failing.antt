@@ -2,18 +2,18 @@
 use Rattle.std.proofs.Common.{◌≡◌, ◌≢◌, ℕ, ◌+◌, ◌≤◌, ◌<◌, Bool, true, false, cond, eqb, leb, ◌||◌, ◌↔◌, List, [], ◌∷◌, ◌++◌, drop, length, Result, Ok, Err, refl, sym, ap, ◌∙◌, subst, arith, length-append, ◌⊎◌, inl, inr}
 use Rattle.std.specs.List.{prefix_len}
 use Rattle.std.specs.Str.Lossy.{utf8_valid_len}
-use Rattle.std.proofs.lemmas.Bool.{eqb-true, eqb-false}
+use Rattle.std.proofs.lemmas.Bool.{both_ways, eqb-true, eqb-false, leb-true, leb-false, cases_eq, cond-true, cond_both}
 use Rattle.std.proofs.lemmas.Bool.Decides.{nat_tests}
 use Rattle.std.proofs.lemmas.Str.{utf8_valid_len-IsValidUpTo}
 use Rattle.bx_terms.specs.Outcomes.{◌>>=◌}
 use Rattle.bx_terms.specs.declared.faults.Fault.{Fault}
 use Rattle.bx_terms.specs.declared.faults.Fault.TheVariants.{BadToken, Truncated, NotUtf8}
 use Rattle.bx_text.specs.Bytes.{begins, is_digit, is_lower, is_accented_lower}
-use Rattle.bx_text.specs.Place.{Place, after, feeds}
+use Rattle.bx_text.specs.Place.{Place, feeds}
 use Rattle.bx_text.specs.Named as named
 use Rattle.bx_text.specs.Token as token
 use Rattle.bx_text.specs.Token.{Token, Body}
-use Rattle.bx_text.specs.Lexing.{token_at, token_by, kind_of, punctuation_of, word_at, accent_at, foreign_at, number_at, number_by, fraction_len, stop_at, ends, pair_on, quoted_at}
+use Rattle.bx_text.specs.Lexing.{token_at, token_by, kind_of, punctuation_of, accent_at, foreign_at, number_at, number_by, fraction_len, stop_at, ends, pair_on, quoted_at}
 use Rattle.bx_text_laws.specs.Quoted.{IsQuote}
 use Rattle.bx_text_laws.specs.Spelling.{NoToken}
 use Rattle.bx_text_laws.specs.Tokens.{lines}
@@ -31,10 +31,6 @@ use Rattle.bx_text_laws.proofs.FaultsFound.{cut_found, break_found}
 abbrev Read : Type 0
 Read = Result (Token × Place) Fault
 
-both : {A : Type 0} (b : Bool) → b ≡ true → b ≡ false → A
-both true e f = cc
-both false e f = cc
-
 -- the first byte of a mark that is cut
 abbrev is_lead : ℕ → Bool
 is_lead b = eqb b 45 || (eqb b 35 || (eqb b 60 || (eqb b 61 || eqb b 62)))
@@ -48,13 +44,9 @@ InQuotes text = (es : List ℕ) × Unclosed text es × Left es
 
 lead : {text : List ℕ} → Cut text → InQuotes text ⊎ Lead text
 lead nothing = inr tt
-lead minus = inr (refl, refl)
-lead hash = inr (refl, refl)
-lead less = inr (refl, refl)
-lead equals = inr (refl, refl)
-lead greater = inr (refl, refl)
 lead (quoted u) = inl ([], u, inl refl)
 lead (escape {more = es} u e) = inl (es, u, inr e)
+lead s = inr (refl, refl)
 
 -- where no quote comes first
 abbrev Unquoted : ℕ → Type 0
@@ -65,10 +57,7 @@ no_quote b u (inl e) = u.0 e
 no_quote b u (inr e) = u.1 e
 
 first_quote : (b : ℕ) (bs es : List ℕ) → Unclosed (b ∷ bs) es → IsQuote b
-first_quote b bs es (q, bytes, cs, vs, e, h, k, u) = subst IsQuote same h
-  where
-    same : q ≡ b
-    same = cc
+first_quote b bs es (q, bytes, cs, vs, e, h, k, u) = let same : q ≡ b = cc in subst IsQuote same h
 
 marked : (b : ℕ) (bs : List ℕ) → Unquoted b → Cut (b ∷ bs) → Lead (b ∷ bs)
 marked b bs u c = by (lead c)
@@ -78,7 +67,7 @@ marked b bs u c = by (lead c)
     by (inr m) = m
 
 no_lead : (b : ℕ) (bs : List ℕ) → Unquoted b → is_lead b ≡ false → Cut (b ∷ bs) → ⊥
-no_lead b bs u e c = both (is_lead b) (marked b bs u c).0 e
+no_lead b bs u e c = both_ways (is_lead b) e (marked b bs u c).0
 
 no_more : (b c : ℕ) (cs : List ℕ) → Unquoted b → Cut (b ∷ c ∷ cs) → ⊥
 no_more b c cs u k = let e : c ∷ cs ≡ [] = (marked b (c ∷ cs) u k).1 in cc
@@ -88,10 +77,7 @@ no_front b bs front u (rest, e, a, n) = by front a e
   where
     not_first : (front es : List ℕ) → Unclosed front es → b ∷ bs ≡ front ++ rest → ⊥
     not_first [] es (q, bytes, cs, vs, i, h, k, o) e = cc
-    not_first (c ∷ cs) es o e = no_quote b u (subst IsQuote same (first_quote c cs es o))
-      where
-        same : c ≡ b
-        same = cc
+    not_first (c ∷ cs) es o e = let same : c ≡ b = cc in no_quote b u (subst IsQuote same (first_quote c cs es o))
 
     by : (front : List ℕ) → Awaits front → b ∷ bs ≡ front ++ rest → (front ≡ []) × NoCharacter (b ∷ bs)
     by front refusals.nothing e = (refl, subst NoCharacter (sym e) n)
@@ -107,6 +93,12 @@ none_valid b bs e = by (to_seam (b ∷ bs) (λ i. absurd (omega (arith, e, i))))
     by (c ∷ cs, rest, i, v, n, m) = absurd (omega (arith, e, m))
 
 -- faults
+abbrev Refused : List ℕ → ℕ → Fault → Read → Type 0
+Refused text line f r = r ≡ Err f → Fails text line f
+
+never : {A : Type 0} (x : Token × Place) (f : Fault) → ◌≡◌ {A = Read} (Ok x) (Err f) → A
+never x f e = cc
+
 err_same : (f g : Fault) → ◌≡◌ {A = Read} (Err f) (Err g) → f ≡ g
 err_same f g e = cc
 
@@ -123,97 +115,54 @@ a_pair : (b c d : ℕ) (bs : List ℕ) (at line : ℕ) (t : Token) (f : Fault) �
 a_pair b c d [] at line t f q k n l e h =
     let same : c ≡ b = sym (eqb-true b c e) in
     short (b ∷ []) line f (subst (λ c. Cut (c ∷ [])) same k) (subst (λ c. lines (c ∷ []) ≡ 0) same n) h
-a_pair b c d (y ∷ ys) at line t f q k n l e h = by (eqb y d) h
-  where
-    by : (s : Bool) → cond {A = Read} s (Ok (t, after (on (b ∷ y ∷ ys) at line) 2)) (Err (BadToken line)) ≡ Err f → Fails (b ∷ y ∷ ys) line f
-    by true g = cc
-    by false g = bad b (y ∷ ys) line f q (no_more b y ys q) (omega (arith, l, eqb-true b c e)) g
+a_pair b c d (y ∷ ys) at line t f q k n l e h =
+    cond_both (eqb y d) _ _ (Refused (b ∷ y ∷ ys) line f) (λ _. never _ f) (λ _. bad b (y ∷ ys) line f q (no_more b y ys q) (omega (arith, l, eqb-true b c e))) h
 
 a_stop : (b : ℕ) (bs : List ℕ) (at line : ℕ) (f : Fault) → Unquoted b → eqb b 46 ≡ true → stop_at (on (b ∷ bs) at line) ≡ Err f → Fails (b ∷ bs) line f
-a_stop b bs at line f q e = by (ends bs)
+a_stop b bs at line f q e = cond_both (ends bs) _ _ (Refused (b ∷ bs) line f) (λ _. never _ f) (λ _. bad b bs line f q (no_lead b bs q (other b e)) (omega (arith, eqb-true b 46 e)))
   where
     other : (b : ℕ) → eqb b 46 ≡ true → is_lead b ≡ false
     other b e = grind (arith, nat_tests)
 
-    by : (t : Bool) → cond {A = Read} t (Ok (named.full_stop, after (on (b ∷ bs) at line) 1)) (Err (BadToken line)) ≡ Err f → Fails (b ∷ bs) line f
-    by true g = cc
-    by false g = bad b bs line f q (no_lead b bs q (other b e)) (omega (arith, eqb-true b 46 e)) g
-
 no_number : {A : Type 0} (p : Place) (m k : ℕ) (f : Fault) → number_by p m k ≡ Err f → A
-no_number {A = A} p m k f = by (eqb k 0) _ _
-  where
-    by : (t : Bool) (x y : Token × Place) → cond {A = Read} t (Ok x) (Ok y) ≡ Err f → A
-    by true x y e = cc
-    by false x y e = cc
+no_number {A = A} p m k f = cond_both (eqb k 0) _ _ (λ r. r ≡ Err f → A) (λ _. never _ f) (λ _. never _ f)
 
 a_minus : (b : ℕ) (bs : List ℕ) (at line : ℕ) (f : Fault) → Unquoted b → eqb b 45 ≡ true → number_at (on (b ∷ bs) at line) 1 ≡ Err f → Fails (b ∷ bs) line f
 a_minus b [] at line f q e h =
     let same : 45 ≡ b = sym (eqb-true b 45 e) in
     short (b ∷ []) line f (subst (λ c. Cut (c ∷ [])) same minus) (subst (λ c. lines (c ∷ []) ≡ 0) same refl) h
-a_minus b (y ∷ ys) at line f q e h = by (eqb (prefix_len is_digit (y ∷ ys)) 0) (eqb (length (b ∷ y ∷ ys)) 1) refl h
-  where
-    p : Place
-    p = on (b ∷ y ∷ ys) at line
-
-    n : ℕ
-    n = prefix_len is_digit (y ∷ ys)
-
-    by : (t u : Bool) → eqb (length (b ∷ y ∷ ys)) 1 ≡ u → cond t (cond {A = Read} u (Err (Truncated line)) (Err (BadToken line))) (number_by p (1 + n) (fraction_len (drop (1 + n) p.rest))) ≡ Err f → Fails (b ∷ y ∷ ys) line f
-    by true true i g = absurd (omega (arith, eqb-true (length (b ∷ y ∷ ys)) 1 i))
-    by true false i g = bad b (y ∷ ys) line f q (no_more b y ys q) (omega (arith, eqb-true b 45 e)) g
-    by false u i g = no_number p (1 + n) (fraction_len (drop (1 + n) p.rest)) f g
+a_minus b (y ∷ ys) at line f q e h =
+    let n = prefix_len is_digit (y ∷ ys) in
+    let p = on (b ∷ y ∷ ys) at line in
+    cond_both (eqb n 0) _ _ (Refused (b ∷ y ∷ ys) line f)
+    (λ _. cond_both (eqb (length (b ∷ y ∷ ys)) 1) _ _ (Refused (b ∷ y ∷ ys) line f) (λ i. absurd (omega (arith, eqb-true (length (b ∷ y ∷ ys)) 1 i))) (λ _. bad b (y ∷ ys) line f q (no_more b y ys q) (omega (arith, eqb-true b 45 e))))
+    (λ _. no_number p (1 + n) (fraction_len (drop (1 + n) p.rest)) f) h
 
 a_digit : (b : ℕ) (bs : List ℕ) (at line : ℕ) (f : Fault) → is_digit b ≡ true → number_at (on (b ∷ bs) at line) 0 ≡ Err f → Fails (b ∷ bs) line f
-a_digit b bs at line f e h = by (eqb n 0) refl h
-  where
-    p : Place
-    p = on (b ∷ bs) at line
-
-    n : ℕ
-    n = prefix_len is_digit (b ∷ bs)
-
-    some : n ≡ 1 + prefix_len is_digit bs
-    some = ap (λ (t : Bool). cond t (1 + prefix_len is_digit bs) 0) e
-
-    by : (t : Bool) → eqb n 0 ≡ t → cond t (cond {A = Read} (eqb (length (b ∷ bs)) 0) (Err (Truncated line)) (Err (BadToken line))) (number_by p (0 + n) (fraction_len (drop (0 + n) p.rest))) ≡ Err f → Fails (b ∷ bs) line f
-    by true i g = absurd (omega (arith, some, eqb-true n 0 i))
-    by false i g = no_number p (0 + n) (fraction_len (drop (0 + n) p.rest)) f g
+a_digit b bs at line f e h =
+    let n = prefix_len is_digit (b ∷ bs) in
+    let p = on (b ∷ bs) at line in
+    cond_both (eqb n 0) _ _ (Refused (b ∷ bs) line f) (λ i. absurd (omega (arith, cond-true (is_digit b) (1 + prefix_len is_digit bs) 0 e, eqb-true n 0 i)))
+    (λ _. no_number p (0 + n) (fraction_len (drop (0 + n) p.rest)) f) h
 
 -- bytes beyond ASCII
 high_lead : (b : ℕ) → 128 ≤ b → is_lead b ≡ false
 high_lead b l = grind (arith, nat_tests)
 
 a_foreign : (b : ℕ) (bs : List ℕ) (at line : ℕ) (f : Fault) → Unquoted b → 128 ≤ b → foreign_at (on (b ∷ bs) at line) ≡ Err f → Fails (b ∷ bs) line f
-a_foreign b bs at line f q l = by (eqb (utf8_valid_len (b ∷ bs)) 0) refl
-  where
-    by : (t : Bool) → eqb (utf8_valid_len (b ∷ bs)) 0 ≡ t → cond {A = Read} t (Err (NotUtf8 line)) (Err (BadToken line)) ≡ Err f → Fails (b ∷ bs) line f
-    by true e g =
-        subst (Fails (b ∷ bs) line) (ap (λ n. NotUtf8 n) here ∙ err_same (NotUtf8 line) f g)
-        (not_utf8 (b ∷ bs, refl, refusals.nothing, none_valid b bs (eqb-true (utf8_valid_len (b ∷ bs)) 0 e)))
-      where
-        here : line + 0 ≡ line
-        here = omega arith
-    by false e g =
-        subst (Fails (b ∷ bs) line) (err_same (BadToken line) f g)
-        (bad_token (no_lead b bs q (high_lead b l)) (λ front k. eqb-false (utf8_valid_len (b ∷ bs)) 0 e (utf8_valid_len-IsValidUpTo (b ∷ bs) 0 (no_front b bs front q k).1)))
+a_foreign b bs at line f q l =
+    cond_both (eqb (utf8_valid_len (b ∷ bs)) 0) _ _ (Refused (b ∷ bs) line f)
+    (λ e g. let here : line + 0 ≡ line = omega arith in
+    subst (Fails (b ∷ bs) line) (ap (λ n. NotUtf8 n) here ∙ err_same (NotUtf8 line) f g) (not_utf8 (b ∷ bs, refl, refusals.nothing, none_valid b bs (eqb-true (utf8_valid_len (b ∷ bs)) 0 e))))
+    (λ e g. subst (Fails (b ∷ bs) line) (err_same (BadToken line) f g)
+    (bad_token (no_lead b bs q (high_lead b l)) (λ front k. eqb-false (utf8_valid_len (b ∷ bs)) 0 e (utf8_valid_len-IsValidUpTo (b ∷ bs) 0 (no_front b bs front q k).1))))
 
 an_accent : (b : ℕ) (bs : List ℕ) (at line : ℕ) (f : Fault) → Unquoted b → eqb b 195 ≡ true → accent_at (on (b ∷ bs) at line) ≡ Err f → Fails (b ∷ bs) line f
-an_accent b bs at line f q e = by (begins is_accented_lower bs)
-  where
-    p : Place
-    p = on (b ∷ bs) at line
-
-    by : (t : Bool) → cond t (word_at p) (foreign_at p) ≡ Err f → Fails (b ∷ bs) line f
-    by true g = cc
-    by false g = a_foreign b bs at line f q (omega (arith, eqb-true b 195 e)) g
+an_accent b bs at line f q e = cond_both (begins is_accented_lower bs) _ _ (Refused (b ∷ bs) line f) (λ _. never _ f) (λ _. a_foreign b bs at line f q (omega (arith, eqb-true b 195 e)))
 
 -- by the first byte
 pick : {R : Type 0} (p : Place) (f : Fault) (t : Bool) (k l : named.Beginning) → (t ≡ true → token_by k p ≡ Err f → R) → (t ≡ false → token_by l p ≡ Err f → R) → token_by (cond t k l) p ≡ Err f → R
-pick p f true k l g h = g refl
-pick p f false k l g h = h refl
-
-never : {A : Type 0} (x : Token × Place) (f : Fault) → ◌≡◌ {A = Read} (Ok x) (Err f) → A
-never x f e = cc
+pick {R = R} p f t k l g h = cond_both t k l (λ k. token_by k p ≡ Err f → R) g h
 
 not_lead : (b : ℕ) → eqb b 45 ≡ false → eqb b 35 ≡ false → eqb b 60 ≡ false → eqb b 61 ≡ false → eqb b 62 ≡ false → is_lead b ≡ false
 not_lead b s t u v w = rw (s, t, u, v, w) refl
@@ -239,27 +188,18 @@ by_punctuation b bs at line f q l =
     pick p f (eqb b 61) _ _ (a_pair b 61 62 bs at line _ f q equals refl (omega arith)) (λ u.
     pick p f (eqb b 62) _ _ (a_pair b 62 62 bs at line _ f q greater refl (omega arith)) (λ v h. bad b bs line f q (no_lead b bs q (not_lead b m s t u v)) l h)))))))))))))))))
 
-reached : (b : ℕ) → leb 128 b ≡ true → 128 ≤ b
-reached b e = grind (arith, nat_tests)
-
-under : (b : ℕ) → leb 128 b ≡ false → b < 128
-under b e = grind (arith, nat_tests)
-
 by_byte : (b : ℕ) (bs : List ℕ) (at line : ℕ) (f : Fault) → Unquoted b → token_by (kind_of b) (on (b ∷ bs) at line) ≡ Err f → Fails (b ∷ bs) line f
 by_byte b bs at line f q =
     let p : Place = on (b ∷ bs) at line in
     pick p f (is_lower b) _ _ (λ _. never _ f) (λ _.
     pick p f (is_digit b) _ _ (a_digit b bs at line f) (λ _.
     pick p f (eqb b 195) _ _ (an_accent b bs at line f q) (λ _.
-    pick p f (leb 128 b) _ _ (λ e. a_foreign b bs at line f q (reached b e)) (λ e. by_punctuation b bs at line f q (under b e)))))
+    pick p f (leb 128 b) _ _ (λ e. a_foreign b bs at line f q (leb-true 128 b e)) (λ e. by_punctuation b bs at line f q (leb-false 128 b e)))))
 
 -- where a quote comes first
 pub err_from : {A B : Type 0} (r : Result A Fault) (g : A → B) (f : Fault) → (r >>= λ x. Ok (g x)) ≡ Err f → r ≡ Err f
 err_from (Ok x) g f h = cc
-err_from (Err e) g f h = ap (λ e. Err e) same
-  where
-    same : e ≡ f
-    same = cc
+err_from (Err e) g f h = let same : e ≡ f = cc in ap (λ e. Err e) same
 
 to_quoted : (q : ℕ) (bs : List ℕ) (at line : ℕ) (f : Fault) → IsQuote q → token_at (on (q ∷ bs) at line) ≡ Err f → quoted_at q (on (q ∷ bs) at line) ≡ Err f
 to_quoted q bs at line f (inl e) = subst (λ q. token_at (on (q ∷ bs) at line) ≡ Err f → quoted_at q (on (q ∷ bs) at line) ≡ Err f) (sym e) (err_from (quoted_at 39 (on (39 ∷ bs) at line)) (λ x. (token.atom x.0, x.1)) f)
@@ -281,7 +221,7 @@ quote_cut q bs at line h c = by (lead c)
 
         rest : bytes ≡ bs
         rest = cc
-    by (inr m) = both (is_lead q) m.0 (quote_lead q h)
+    by (inr m) = absurd (both_ways (is_lead q) (quote_lead q h) m.0)
 
 quote_break : (q : ℕ) (bs front : List ℕ) (at line : ℕ) → IsQuote q → Breaks (q ∷ bs) front → quoted_at q (on (q ∷ bs) at line) ≡ Err (NotUtf8 (line + lines front))
 quote_break q bs front at line h (rest, e, a, n) = by front a e
@@ -325,12 +265,7 @@ quote_fails q bs at line f h g = by (says q bs at line f h g)
 
 -- any text
 quote_or : (b : ℕ) → IsQuote b ⊎ Unquoted b
-quote_or b = by (eqb b 39) (eqb b 34) refl refl
-  where
-    by : (t u : Bool) → eqb b 39 ≡ t → eqb b 34 ≡ u → IsQuote b ⊎ Unquoted b
-    by true u e f = inl (inl (eqb-true b 39 e))
-    by false true e f = inl (inr (eqb-true b 34 f))
-    by false false e f = inr (eqb-false b 39 e, eqb-false b 34 f)
+quote_or b = elim (cases_eq b 39) [ inl e ↦ inl (inl e) | inr n ↦ elim (cases_eq b 34) [ inl e ↦ inl (inr e) | inr m ↦ inr (n, m) ] ]
 
 fails : (p : Place) (f : Fault) → token_at p ≡ Err f → Fails p.rest p.line f
 fails p f = by_list p.rest p.at p.line
@@ -376,7 +311,6 @@ one_line (b ∷ bs) front others k l = by (quote_or b)
     by (inr u) = ap lines ((no_front b bs front u k).0 ∙ sym (no_front b bs others u l).0)
 
 same : {text : List ℕ} {line : ℕ} {f g : Fault} → Fails text line f → Fails text line g → f ≡ g
-same (truncated c) (truncated d) = refl
 same (truncated {text = text} c) (not_utf8 {front = front} k) = absurd (cut_or_broken text front c k)
 same (truncated c) (bad_token d k) = absurd (d c)
 same (not_utf8 {text = text} {front = front} k) (truncated c) = absurd (cut_or_broken text front c k)
@@ -384,7 +318,7 @@ same (not_utf8 {text = text} {front = front} {line = line} k) (not_utf8 {front =
 same (not_utf8 {front = front} k) (bad_token d l) = absurd (l front k)
 same (bad_token d k) (truncated c) = absurd (d c)
 same (bad_token d k) (not_utf8 {front = front} l) = absurd (k front l)
-same (bad_token d k) (bad_token e l) = refl
+same s t = refl
 
 refused : (p : Place) (f : Fault) → NoToken p.rest → Fails p.rest p.line f → token_at p ≡ Err f
 refused p f n k = by ((no_token_is_refused p).1 n)

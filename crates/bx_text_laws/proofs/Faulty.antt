@@ -3,7 +3,8 @@ use Rattle.std.proofs.Common.{◌≡◌, ℕ, ◌+◌, ◌<◌, Bool, true, fals
 use Rattle.std.specs.List.{fold, list_all, prefix_len}
 use Rattle.std.specs.Char.{encode_utf8}
 use Rattle.std.specs.Str.Lossy.{utf8_valid_len}
-use Rattle.std.proofs.lemmas.Bool.{eqb-true, eqb-false, and_parts, and_from}
+use Rattle.std.proofs.lemmas.Bool.{eqb-true, eqb-false, eq-eqb, and_parts, cond_both}
+use Rattle.std.proofs.lemmas.List.Folds.{list_all-append}
 use Rattle.std.proofs.lemmas.Bool.Decides.{nat_tests}
 use Rattle.std.proofs.lemmas.Str.{utf8_valid_len-IsUtf8, chars-encodes, encodes-append}
 use Rattle.bx_terms.specs.declared.faults.Fault.{Fault}
@@ -24,7 +25,7 @@ use Rattle.bx_text_laws.specs.Refusals.{Unclosed, Cut, Awaits, NoCharacter, Brea
 use Rattle.bx_text_laws.proofs.Frame.{on}
 use Rattle.bx_text_laws.proofs.Runs.{run_split}
 use Rattle.bx_text_laws.proofs.Free.{free, shape, Shape, free_text, body_split, Split, Ended}
-use Rattle.bx_text_laws.proofs.Quotes.{valid_is, feeds_lines, quote_line, quote_low, plain_quoted, plain_chars, stop_at, same_test}
+use Rattle.bx_text_laws.proofs.Quotes.{valid_is, feeds_lines, quote_line, quote_low, plain_quoted, plain_chars, stop_at}
 use Rattle.bx_text_laws.proofs.Seams.{Seam, to_seam, AsciiNext, more_bytes}
 use Rattle.bx_text_laws.proofs.Unclosed.{then_letter, inside, Left, Parts, parts}
 use Rattle.bx_text_laws.proofs.Leftover.{leaves, Slash, left_slash}
@@ -75,7 +76,7 @@ pub at_slash : (q z : ℕ) (body zs : List ℕ) (n at line : ℕ) → eqb z 92 �
 at_slash q z body zs n at line e = ap (λ (t : Bool). cond t (escaped_at (on (q ∷ body) at line) body (body_len q body)) (Ok (token.plain (take n body), behind (on (q ∷ body) at line) body n))) e
 
 pub valid_test : (raw : List ℕ) → IsUtf8 raw → eqb (utf8_valid_len raw) (length raw) ≡ true
-valid_test raw v = same_test (utf8_valid_len raw) (length raw) (utf8_valid_len-IsUtf8 raw v)
+valid_test raw v = eq-eqb (utf8_valid_len raw) (length raw) (utf8_valid_len-IsUtf8 raw v)
 
 -- lines
 pub open_lines : (q : ℕ) (bytes : List ℕ) → IsQuote q → lines (q ∷ bytes) ≡ feeds bytes
@@ -135,7 +136,9 @@ says_broken q line body bytes rest xs es vs f h e k u s n g =
 
 -- with escapes
 by_escapes : (q : ℕ) (body : List ℕ) (at line : ℕ) (f : Fault) → IsQuote q → Split q (free q) body (body_len q body) → escaped_at (on (q ∷ body) at line) body (body_len q body) ≡ Err f → Says q body line f
-by_escapes q body at line f h (raw, zs, e, l, d) g = by (eqb (utf8_valid_len raw) (length raw)) refl (sym (at_escapes q body raw zs at line e l) ∙ g)
+by_escapes q body at line f h (raw, zs, e, l, d) g =
+    cond_both (eqb (utf8_valid_len raw) (length raw)) _ _ (λ (r : Parsed). r ≡ Err f → Says q body line f) (λ i g. at_quote zs d e (valid_is raw (eqb-true (utf8_valid_len raw) (length raw) i)) g)
+    (λ i g. at_seam (to_seam raw (eqb-false (utf8_valid_len raw) (length raw) i)) g) (sym (at_escapes q body raw zs at line e l) ∙ g)
   where
     p : Place
     p = on (q ∷ body) at line
@@ -149,30 +152,26 @@ by_escapes q body at line f h (raw, zs, e, l, d) g = by (eqb (utf8_valid_len raw
         first = cc
 
     at_end : body ≡ raw ++ [] → IsUtf8 raw → ◌≡◌ {A = Parsed} (Err (cut p body (open_in (take (length raw) body)))) (Err f) → Says q body line f
-    at_end e (cs, u) g = by_bad (is_bad (open_in raw)) refl (ap (λ us. Err (cut p body (open_in us))) (sym (ap (λ us. take (length raw) us) e ∙ take_at raw [] (length raw) refl)) ∙ g)
+    at_end e (cs, u) g = by_bad (ap (λ us. Err (cut p body (open_in us))) (sym (ap (λ us. take (length raw) us) e ∙ take_at raw [] (length raw) refl)) ∙ g)
       where
         all : body ≡ raw
         all = e ∙ append-nil raw
 
-        by_bad : (t : Bool) → is_bad (open_in raw) ≡ t → ◌≡◌ {A = Parsed} (Err (cond t (BadToken line) (Truncated (line + feeds body)))) (Err f) → Says q body line f
-        by_bad true i g = says_bad q line body f g
-        by_bad false i g =
-            says_cut q line body cs f h (subst (InUtf8 cs) (sym all) (u.0, u.1))
+        by_bad : ◌≡◌ {A = Parsed} (Err (cut p body (open_in raw))) (Err f) → Says q body line f
+        by_bad =
+            cond_both (is_bad (open_in raw)) _ _ (λ (x : Fault). ◌≡◌ {A = Parsed} (Err x) (Err f) → Says q body line f) (λ _ g. says_bad q line body f g)
+            (λ i g. says_cut q line body cs f h (subst (InUtf8 cs) (sym all) (u.0, u.1))
             (parts (λ s. not (is_bad s)) q h refl cs
             (sym (open_text q cs raw h (u.0, u.1)) ∙ inside q h raw [] (omega (arith, l, ap (body_len q) e)))
             (ap not (sym (opens is_bad cs raw (u.0, u.1)) ∙ i)))
-            g
+            g)
 
     at_quote : (zs : List ℕ) → Ended q (free q) raw zs → body ≡ raw ++ zs → IsUtf8 raw → ended_at p body (length raw) zs ≡ Err f → Says q body line f
     at_quote [] d e v g = at_end e v g
-    at_quote (z ∷ zs) d e v g = by_whole (is_whole (open_in (take (length raw) body))) g
-      where
-        by_whole : (t : Bool) → cond {A = Parsed} t (Ok (token.escaped (take (length raw) body), behind p body (length raw))) (Err (BadToken line)) ≡ Err f → Says q body line f
-        by_whole true g = cc
-        by_whole false g = says_bad q line body f g
+    at_quote (z ∷ zs) d e v g = cond_both (is_whole (open_in (take (length raw) body))) _ _ (λ (r : Parsed). r ≡ Err f → Says q body line f) (λ _ g. cc) (λ _ g. says_bad q line body f g) g
 
     at_seam : Seam raw → ◌≡◌ {A = Parsed} (Err (broken p (valid_front raw) (open_in (valid_front raw)))) (Err f) → Says q body line f
-    at_seam (bytes, ts, i, (cs, u), n, m) g = by_next (may_go_on (open_in bytes)) refl (ap (λ us. Err (broken p us (open_in us))) (sym front) ∙ g)
+    at_seam (bytes, ts, i, (cs, u), n, m) g = by_next (ap (λ us. Err (broken p us (open_in us))) (sym front) ∙ g)
       where
         front : valid_front raw ≡ bytes
         front = ap (λ n. take n raw) m ∙ ap (λ us. take (length bytes) us) i ∙ take_at bytes ts (length bytes) refl
@@ -189,23 +188,19 @@ by_escapes q body at line f h (raw, zs, e, l, d) g = by (eqb (utf8_valid_len raw
             (left_slash es left (sym ((leaves k es left).tests may_go_on (λ v. refl, λ v. refl)) ∙ ap (λ cs. may_go_on (fold step named.nothing cs)) (sym j) ∙ sym (opens may_go_on cs bytes utf8) ∙ o))
             (more_bytes ts zs n (next zs d)) g
 
-        by_next : (t : Bool) → may_go_on (open_in bytes) ≡ t → ◌≡◌ {A = Parsed} (Err (cond t (NotUtf8 (line + feeds bytes)) (BadToken line))) (Err f) → Says q body line f
-        by_next true o g =
-            by_parts o
+        by_next : ◌≡◌ {A = Parsed} (Err (broken p bytes (open_in bytes))) (Err f) → Says q body line f
+        by_next =
+            cond_both (may_go_on (open_in bytes)) _ _ (λ (x : Fault). ◌≡◌ {A = Parsed} (Err x) (Err f) → Says q body line f)
+            (λ o g. by_parts o
             (parts may_go_on q h refl cs
             (sym (open_text q cs bytes h utf8) ∙ inside q h bytes (ts ++ zs) (omega (arith, l, ap (body_len q) whole, ap length i, length-append bytes ts)))
             (sym (opens may_go_on cs bytes utf8) ∙ o))
-            g
-        by_next false o g = says_bad q line body f g
-
-    by : (t : Bool) → eqb (utf8_valid_len raw) (length raw) ≡ t → cond t (ended_at p body (length raw) zs) (Err (broken p (valid_front raw) (open_in (valid_front raw)))) ≡ Err f → Says q body line f
-    by true i g = at_quote zs d e (valid_is raw (eqb-true (utf8_valid_len raw) (length raw) i)) g
-    by false i g = at_seam (to_seam raw (eqb-false (utf8_valid_len raw) (length raw) i)) g
+            g)
+            (λ _ g. says_bad q line body f g)
 
 -- without
 all_front : (p : ℕ → Bool) (xs ys : List ℕ) → list_all p (xs ++ ys) ≡ true → list_all p xs ≡ true
-all_front p [] ys a = refl
-all_front p (x ∷ xs) ys a = let both = and_parts (p x) (list_all p (xs ++ ys)) a in and_from (p x) (list_all p xs) both.0 (all_front p xs ys both.1)
+all_front p xs ys a = (and_parts (list_all p xs) (list_all p ys) (sym (list_all-append p xs ys) ∙ a)).0
 
 pub says : (q : ℕ) (body : List ℕ) (at line : ℕ) (f : Fault) → IsQuote q → quoted_at q (on (q ∷ body) at line) ≡ Err f → Says q body line f
 says q body at line f h g = by_run (run_split (is_plain q) body)
@@ -236,15 +231,9 @@ says q body at line f h g = by_run (run_split (is_plain q) body)
       where
         by : ((cs : List ℕ) × InUtf8 cs raw × Quoted q cs cs) → Says q body line f
         by (cs, u, k) = says_cut q line body cs f h (subst (InUtf8 cs) (sym (r.0 ∙ append-nil raw)) u) (cs, [], cs, sym (append-nil cs), k, inl refl) g
-    at_stop raw (z ∷ zs) r v g = by (eqb z 92) refl g
-      where
-        by : (t : Bool) → eqb z 92 ≡ t → cond t (escaped_at p body (body_len q body)) (Ok (token.plain (take (length raw) body), behind p body (length raw))) ≡ Err f → Says q body line f
-        by true s g = by_escapes q body at line f h (body_split q body) g
-        by false s g = cc
+    at_stop raw (z ∷ zs) r v g = cond_both (eqb z 92) _ _ (λ (r : Parsed). r ≡ Err f → Says q body line f) (λ _ g. by_escapes q body at line f h (body_split q body) g) (λ _ g. cc) g
 
     by_run : ((raw zs : List ℕ) × (body ≡ raw ++ zs) × (list_all (is_plain q) raw ≡ true) × (prefix_len (is_plain q) body ≡ length raw)) → Says q body line f
-    by_run (raw, zs, e, a, n) = by (eqb (utf8_valid_len raw) (length raw)) refl (sym (at_run q body raw zs at line e n) ∙ g)
-      where
-        by : (t : Bool) → eqb (utf8_valid_len raw) (length raw) ≡ t → cond t (closing_at q p body (length raw) zs) (Err (NotUtf8 (line + feeds (valid_front raw)))) ≡ Err f → Says q body line f
-        by true i g = at_stop raw zs (e, a, n) (valid_is raw (eqb-true (utf8_valid_len raw) (length raw) i)) g
-        by false i g = at_seam raw zs (e, a, n) (to_seam raw (eqb-false (utf8_valid_len raw) (length raw) i)) g
+    by_run (raw, zs, e, a, n) =
+        cond_both (eqb (utf8_valid_len raw) (length raw)) _ _ (λ (r : Parsed). r ≡ Err f → Says q body line f) (λ i g. at_stop raw zs (e, a, n) (valid_is raw (eqb-true (utf8_valid_len raw) (length raw) i)) g)
+        (λ i g. at_seam raw zs (e, a, n) (to_seam raw (eqb-false (utf8_valid_len raw) (length raw) i)) g) (sym (at_run q body raw zs at line e n) ∙ g)

@@ -1,5 +1,6 @@
 -- The readers of terms go on where a token may stand, and refuse the first one that may not.
 use Rattle.std.proofs.Common.{◌≡◌, ℕ, zero, suc, ◌+◌, ◌<◌, Bool, true, false, cond, List, [], ◌∷◌, ◌++◌, length, Option, Some, None, Result, Ok, Err, refl, sym, ap, ◌∙◌, subst, arith, ◌⊎◌, inl, inr, ◌↔◌}
+use Rattle.std.proofs.lemmas.Bool.{cond_both}
 use Rattle.bx_terms.specs.Outcomes.{◌>>=◌}
 use Rattle.bx_terms.specs.declared.faults.Fault.{Fault}
 use Rattle.bx_terms.specs.declared.faults.Fault.TheVariants.{BadTerm}
@@ -13,7 +14,7 @@ use Rattle.bx_text.specs.Token as token
 use Rattle.bx_text.specs.Token.{Body, Token, Lexeme}
 use Rattle.bx_text.specs.Lexing.{token_at, lexeme_from, lexeme_at}
 use Rattle.bx_text.specs.Tree.{Tree, integer, tuple, list, other, nil, chain}
-use Rattle.bx_text.specs.Terms.{Reading, span, taken, is_quote, is_comma, is_bar, is_colon, is_slash, is_arrow, is_atom, is_integer, is_utf8_name, closes_tuple, closes_list, closes_binary, closed, want, letters_of, text_next, texts_on, texts, strings_at, string_at, Follow, next, end, behind_token, follow_at, element_at, go_on, many, elements_at, tuple_on, tuple_at, tail_of, tail_at, end_at, rest_on, rest_at, list_at, kept_at, passed, value_at, pair_at, go_through, parts_at, map_on, map_at, content_text, content_by, sized, encoded, segment_at, binary_on, binary_at, fun_at, bracket_by, atom_by, begin_by, begin, group_at, term_at}
+use Rattle.bx_text.specs.Terms.{Reading, span, taken, is_quote, is_comma, is_bar, is_colon, is_slash, is_arrow, is_atom, is_integer, is_utf8_name, closes_tuple, closes_list, closed, want, letters_of, text_next, texts_on, texts, strings_at, string_at, Follow, next, end, behind_token, follow_at, element_at, go_on, many, elements_at, tuple_on, tuple_at, tail_of, tail_at, end_at, rest_on, list_at, kept_at, value_at, pair_at, go_through, parts_at, map_on, map_at, content_text, content_by, sized, encoded, segment_at, binary_on, binary_at, fun_at, bracket_by, atom_by, begin_by, begin, group_at, term_at}
 use Rattle.bx_text.specs.Terms as reader
 use Rattle.bx_text.specs.Grammar.{NoString}
 use Rattle.bx_text.proofs.Outcomes.{ok_same}
@@ -29,7 +30,7 @@ use Rattle.bx_text_laws.proofs.Moving.{Stepped, stepped}
 use Rattle.bx_text_laws.proofs.Sentences.{step, plainly}
 use Rattle.bx_text_laws.proofs.Between.{Clean, clean_here, clean_on, clean_le, clean_token, token_less, kept_is}
 use Rattle.bx_text_laws.proofs.Goings.{Full, Going, goes, fails, Nothing, Here, Ends, Next, by_token, its_own, next_fault, both_ways, as_is, then, then_last, then_place, then_end, untrim, done, done_place, passed_goes, next_at, from_token, taking, again, misplaces, nests}
-use Rattle.bx_text_laws.proofs.Tells.{Seen, a_mark, seen, Any, Tells, closed_goes, want_goes, arrow_tells, colon_tells, slash_tells, list_close_tells, utf8_tells, name_tells, number_tells, closes, at_once, first_part, NotMore, close_tells, comma_does, bar_does, colon_does, no_colon_does, slash_does, no_slash_does, Mark, mark_does, IsHeld, not_held}
+use Rattle.bx_text_laws.proofs.Tells.{Seen, a_mark, seen, closed_goes, want_goes, arrow_tells, colon_tells, slash_tells, list_close_tells, utf8_tells, name_tells, number_tells, closes, at_once, first_part, NotMore, close_tells, comma_does, bar_does, colon_does, no_colon_does, slash_does, no_slash_does, Mark, mark_does, IsHeld, not_held}
 use Rattle.bx_text_laws.proofs.Tells as tells
 
 -- strings
@@ -74,8 +75,7 @@ text_fault p g h = by (skip p) refl
   where
     by_quote : (q : Place) (b : Bool) (r : Result Lexeme Fault) → lexeme_from q ≡ r → ◌≡◌ {A = Result (Option Lexeme) Fault} (cond b (r >>= λ l. Ok (Some l)) (Ok None)) (Err g) → lexeme_from q ≡ Err g
     by_quote q true (Err e) k h = let same : e ≡ g = cc in k ∙ ap (λ e. Err e) same
-    by_quote q true (Ok l) k h = cc
-    by_quote q false r k h = cc
+    by_quote q s t k h = cc
 
     by : (r : Result Place Fault) → skip p ≡ r → lexeme_at p ≡ Err g
     by (Err e) s =
@@ -136,14 +136,13 @@ FollowAt (next n) r = lexeme_at r ≡ Ok n
 FollowAt (end m) r = (lexeme_at r ≡ Ok m) × (is_comma m.token ≡ false)
 
 behind_goes : (k : Bracket) (d : ℕ) (p : Place) (m : Lexeme) → lexeme_at p ≡ Ok m → Going (FollowLeft k d) FollowAt (more_in k d ∷ []) p p (behind_token m)
-behind_goes k d p m n = by (is_comma m.token) refl
+behind_goes k d p m n =
+    cond_both (is_comma m.token) _ _ (Going (FollowLeft k d) FollowAt (more_in k d ∷ []) p p)
+    (λ e. from_token p m n (taking (more_in k d) (parts k d) [] p m n (comma_does k d m.token (seen p m n) e) (untrim further)))
+    (λ e. goes p (n, e) (clean_here p) (λ us full f. as_is))
   where
     further : Going (FollowLeft k d) FollowAt (parts k d) m.after m.after (lexeme_at m.after >>= λ l. Ok (next l))
     further = then (parts k d) (λ l. Ok (next l)) (next_at m.after) (λ l q e c. goes q e (clean_here q) (λ us full f. as_is))
-
-    by : (b : Bool) → is_comma m.token ≡ b → Going (FollowLeft k d) FollowAt (more_in k d ∷ []) p p (cond b (lexeme_at m.after >>= λ l. Ok (next l)) (Ok (end m)))
-    by true e = from_token p m n (taking (more_in k d) (parts k d) [] p m n (comma_does k d m.token (seen p m n) e) (untrim further))
-    by false e = goes p (n, e) (clean_here p) (λ us full f. as_is)
 
 follow_goes : (k : Bracket) (d : ℕ) (p : Place) → Going (FollowLeft k d) FollowAt (more_in k d ∷ []) p p (follow_at p)
 follow_goes k d p = then (more_in k d ∷ []) behind_token (next_at p) (λ m q n c. behind_goes k d q m n)
@@ -309,22 +308,18 @@ content_goes d p l n = by l.token refl
     by t e = neither t e (λ i. i)
 
 sized_goes : (p : Place) (m : Lexeme) → lexeme_at p ≡ Ok m → Going Nothing Next (a_size ∷ []) p p (sized m)
-sized_goes p m n = by (is_colon m.token) refl
-  where
-    by : (b : Bool) → is_colon m.token ≡ b → Going Nothing Next (a_size ∷ []) p p (cond b (want is_integer m.after >>= lexeme_at) (Ok m))
-    by true e =
-        from_token p m n (taking a_size (a_number ∷ []) [] p m n (colon_does m.token (seen p m n) e)
-        (then_place [] lexeme_at (want_goes a_number is_integer number_tells m.after) (λ q c. next_at q)))
-    by false e = again a_size [] [] p m n (no_colon_does m.token e) (goes p n (clean_here p) (λ us full f. as_is))
+sized_goes p m n =
+    cond_both (is_colon m.token) _ _ (Going Nothing Next (a_size ∷ []) p p)
+    (λ e. from_token p m n (taking a_size (a_number ∷ []) [] p m n (colon_does m.token (seen p m n) e)
+    (then_place [] lexeme_at (want_goes a_number is_integer number_tells m.after) (λ q c. next_at q))))
+    (λ e. again a_size [] [] p m n (no_colon_does m.token e) (goes p n (clean_here p) (λ us full f. as_is)))
 
 encoded_goes : (p : Place) (m : Lexeme) → lexeme_at p ≡ Ok m → Going Nothing Next (an_encoding ∷ []) p p (encoded m)
-encoded_goes p m n = by (is_slash m.token) refl
-  where
-    by : (b : Bool) → is_slash m.token ≡ b → Going Nothing Next (an_encoding ∷ []) p p (cond b (want is_utf8_name m.after >>= lexeme_at) (Ok m))
-    by true e =
-        from_token p m n (taking an_encoding _ [] p m n (slash_does m.token (seen p m n) e)
-        (then_place [] lexeme_at (want_goes _ is_utf8_name utf8_tells m.after) (λ q c. next_at q)))
-    by false e = again an_encoding [] [] p m n (no_slash_does m.token e) (goes p n (clean_here p) (λ us full f. as_is))
+encoded_goes p m n =
+    cond_both (is_slash m.token) _ _ (Going Nothing Next (an_encoding ∷ []) p p)
+    (λ e. from_token p m n (taking an_encoding _ [] p m n (slash_does m.token (seen p m n) e)
+    (then_place [] lexeme_at (want_goes _ is_utf8_name utf8_tells m.after) (λ q c. next_at q))))
+    (λ e. again an_encoding [] [] p m n (no_slash_does m.token e) (goes p n (clean_here p) (λ us full f. as_is)))
 
 segment_goes : (d : ℕ) → PartGoes a_binary d (segment_at d)
 segment_goes d p l n =

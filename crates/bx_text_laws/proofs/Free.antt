@@ -1,8 +1,8 @@
 -- Where no quote stands but behind a backslash: the bytes between quotes, and their characters.
-use Rattle.std.proofs.Common.{◌≡◌, ◌≢◌, ℕ, suc, ◌+◌, ◌/◌, ◌%◌, ◌≤◌, ◌<◌, Bool, true, false, cond, not, eqb, ltb, ◌&&◌, List, [], ◌∷◌, ◌++◌, length, refl, sym, ap, ◌∙◌, subst, arith, ◌⊎◌, inl, inr, encode_utf8_all}
+use Rattle.std.proofs.Common.{◌≡◌, ◌≢◌, ℕ, suc, ◌+◌, ◌/◌, ◌≤◌, ◌<◌, Bool, true, false, cond, not, eqb, ltb, ◌&&◌, List, [], ◌∷◌, ◌++◌, length, refl, sym, ap, ◌∙◌, subst, arith, ◌⊎◌, inl, inr, encode_utf8_all}
 use Rattle.std.specs.List.{AllByRecursion}
 use Rattle.std.specs.Char.{encode_utf8}
-use Rattle.std.proofs.lemmas.Bool.{eqb-true, and_parts}
+use Rattle.std.proofs.lemmas.Bool.{eqb-true, eq-eqb, ltb-true, ltb-false, not-true, and_parts, cond-true, cond-false, cond_both}
 use Rattle.std.proofs.lemmas.Bool.Decides.{nat_tests}
 use Rattle.bx_text.specs.Lexing.{body_len, escaped_len, control_len}
 
@@ -39,22 +39,14 @@ free_high q (b ∷ hs) bs l (a, h) = let plain = high_plain q b l a in past_plai
 abbrev pub Shape : ℕ → List ℕ → Type 0
 Shape c bytes = ((c < 128) × (bytes ≡ c ∷ [])) ⊎ ((128 ≤ c) × ((b : ℕ) × (hs : List ℕ) × (bytes ≡ b ∷ hs) × (128 ≤ b) × High hs))
 
-low_from : (a b : ℕ) → ltb a b ≡ true → a < b
-low_from a b e = grind (arith, nat_tests)
-
-high_from : (a b : ℕ) → ltb a b ≡ false → b ≤ a
-high_from a b e = grind (arith, nat_tests)
-
 pub shape : (c : ℕ) → Shape c (encode_utf8 c)
 unfolding encode_utf8
-shape c = by_size (ltb c 128) (ltb c 2048) (ltb c 65536) refl
-  where
-    by_size : (s t u : Bool) → ltb c 128 ≡ s
-        → Shape c (cond s (c ∷ []) (cond t ((192 + c / 64) ∷ (128 + c % 64) ∷ []) (cond u ((224 + c / 4096) ∷ (128 + (c / 64) % 64) ∷ (128 + c % 64) ∷ []) ((240 + c / 262144) ∷ (128 + (c / 4096) % 64) ∷ (128 + (c / 64) % 64) ∷ (128 + c % 64) ∷ []))))
-    by_size true t u e = inl (low_from c 128 e, refl)
-    by_size false true u e = inr (high_from c 128 e, (192 + c / 64, _, refl, omega arith, (omega arith, tt)))
-    by_size false false true e = inr (high_from c 128 e, (224 + c / 4096, _, refl, omega arith, (omega arith, (omega arith, tt))))
-    by_size false false false e = inr (high_from c 128 e, (240 + c / 262144, _, refl, omega arith, (omega arith, (omega arith, (omega arith, tt)))))
+shape c =
+    cond_both (ltb c 128) _ _ (Shape c) (λ e. inl (ltb-true c 128 e, refl))
+    (λ e. let high : 128 ≤ c = ltb-false c 128 e in
+    cond_both (ltb c 2048) _ _ (Shape c) (λ _. inr (high, (192 + c / 64, _, refl, omega arith, (omega arith, tt))))
+    (λ _. cond_both (ltb c 65536) _ _ (Shape c) (λ _. inr (high, (224 + c / 4096, _, refl, omega arith, (omega arith, (omega arith, tt)))))
+    (λ _. inr (high, (240 + c / 262144, _, refl, omega arith, (omega arith, (omega arith, (omega arith, tt))))))))
 
 free_step : (q c : ℕ) (bs cs : List ℕ) → free q bs ≡ free q cs → freed q bs ≡ freed q cs → free q (c ∷ bs) ≡ free q (c ∷ cs)
 free_step q c bs cs e f = ap (λ (t : Bool). cond (eqb c 92) t (not (eqb c q) && free q bs)) f ∙ ap (λ (t : Bool). cond (eqb c 92) (freed q cs) (not (eqb c q) && t)) e
@@ -100,46 +92,32 @@ free_text q cs l = (free_bytes q l cs).0
 pub len_cond : (q b : ℕ) (bs : List ℕ) (t u : Bool) → eqb b q ≡ t → eqb b 92 ≡ u → body_len q (b ∷ bs) ≡ cond t 0 (cond u (1 + escaped_len q bs) (1 + body_len q bs))
 len_cond q b bs t u e f = ap (λ (t : Bool). cond t 0 (cond (eqb b 92) (1 + escaped_len q bs) (1 + body_len q bs))) e ∙ ap (λ (u : Bool). cond t 0 (cond u (1 + escaped_len q bs) (1 + body_len q bs))) f
 
-same : (q : ℕ) → eqb q q ≡ true
-same q = grind (arith, nat_tests)
-
 -- free bytes go on to the quote
 quote_len : (q : ℕ) (zs : List ℕ) → body_len q (q ∷ zs) ≡ 0
-quote_len q zs = ap (λ (t : Bool). cond t 0 (cond (eqb q 92) (1 + escaped_len q zs) (1 + body_len q zs))) (same q)
+quote_len q zs = ap (λ (t : Bool). cond t 0 (cond (eqb q 92) (1 + escaped_len q zs) (1 + body_len q zs))) (eq-eqb q q refl)
 
 pub slash_quote : (q b : ℕ) → q ≢ 92 → eqb b 92 ≡ true → eqb b q ≡ false
 slash_quote q b n e = grind (arith, nat_tests)
 
-pub not_one : (t : Bool) → not t ≡ true → t ≡ false
-not_one true e = cc
-not_one false e = refl
-
 mutual
   pub body_of : (q : ℕ) → q ≢ 92 → (bytes zs : List ℕ) → free q bytes ≡ true → body_len q (bytes ++ q ∷ zs) ≡ length bytes
   body_of q n [] zs f = quote_len q zs
-  body_of q n (b ∷ bs) zs f = by (eqb b 92) refl f (body_of q n bs zs) (escaped_of q n bs zs)
-    where
-      by : (t : Bool) → eqb b 92 ≡ t → cond t (freed q bs) (not (eqb b q) && free q bs) ≡ true → (free q bs ≡ true → body_len q (bs ++ q ∷ zs) ≡ length bs)
-          → (freed q bs ≡ true → escaped_len q (bs ++ q ∷ zs) ≡ length bs) → body_len q (b ∷ (bs ++ q ∷ zs)) ≡ suc (length bs)
-      by true e f plain escaped = len_cond q b (bs ++ q ∷ zs) false true (slash_quote q b n e) e ∙ omega (arith, escaped f)
-      by false e f plain escaped =
-          let both = and_parts (not (eqb b q)) (free q bs) f in
-          len_cond q b (bs ++ q ∷ zs) false false (not_one (eqb b q) both.0) e ∙ omega (arith, plain both.1)
+  body_of q n (b ∷ bs) zs f =
+      cond_both (eqb b 92) _ _ (λ t. t ≡ true → body_len q (b ∷ (bs ++ q ∷ zs)) ≡ suc (length bs))
+      (λ e g. len_cond q b (bs ++ q ∷ zs) false true (slash_quote q b n e) e ∙ omega (arith, escaped_of q n bs zs g))
+      (λ e g. let both = and_parts (not (eqb b q)) (free q bs) g in len_cond q b (bs ++ q ∷ zs) false false (not-true (eqb b q) both.0) e ∙ omega (arith, body_of q n bs zs both.1)) f
 
   escaped_of : (q : ℕ) → q ≢ 92 → (bytes zs : List ℕ) → freed q bytes ≡ true → escaped_len q (bytes ++ q ∷ zs) ≡ length bytes
   escaped_of q n [] zs f = cc
-  escaped_of q n (b ∷ bs) zs f = by (eqb b 94) f (body_of q n bs zs) (control_of q n bs zs)
-    where
-      by : (t : Bool) → cond t (capped q bs) (free q bs) ≡ true → (free q bs ≡ true → body_len q (bs ++ q ∷ zs) ≡ length bs)
-          → (capped q bs ≡ true → control_len q (bs ++ q ∷ zs) ≡ length bs) → cond t (1 + control_len q (bs ++ q ∷ zs)) (1 + body_len q (bs ++ q ∷ zs)) ≡ suc (length bs)
-      by true f plain control = omega (arith, control f)
-      by false f plain control = omega (arith, plain f)
+  escaped_of q n (b ∷ bs) zs f =
+      cond_both (eqb b 94) _ _ (λ m. m ≡ suc (length bs)) (λ e. omega (arith, control_of q n bs zs (sym (cond-true (eqb b 94) _ _ e) ∙ f)))
+      (λ e. omega (arith, body_of q n bs zs (sym (cond-false (eqb b 94) _ _ e) ∙ f)))
 
   control_of : (q : ℕ) → q ≢ 92 → (bytes zs : List ℕ) → capped q bytes ≡ true → control_len q (bytes ++ q ∷ zs) ≡ length bytes
-  control_of q n [] zs f = ap (λ (t : Bool). cond t 0 (1 + body_len q zs)) (same q)
+  control_of q n [] zs f = cond-true (eqb q q) 0 (1 + body_len q zs) (eq-eqb q q refl)
   control_of q n (b ∷ bs) zs f =
       let both = and_parts (not (eqb b q)) (free q bs) f in
-      ap (λ (t : Bool). cond t 0 (1 + body_len q (bs ++ q ∷ zs))) (not_one (eqb b q) both.0) ∙ omega (arith, body_of q n bs zs both.1)
+      cond-false (eqb b q) 0 (1 + body_len q (bs ++ q ∷ zs)) (not-true (eqb b q) both.0) ∙ omega (arith, body_of q n bs zs both.1)
 
 -- the bytes before the first quote that is not escaped, or all
 abbrev pub Ended : ℕ → (List ℕ → Bool) → List ℕ → List ℕ → Type 0
@@ -164,27 +142,19 @@ free_plain q b raw e g f = past_plain q b raw e g ∙ f
 mutual
   pub body_split : (q : ℕ) (bs : List ℕ) → Split q (free q) bs (body_len q bs)
   body_split q [] = ([], [], refl, refl, inl refl)
-  body_split q (b ∷ bs) = by (eqb b q) (eqb b 92) refl refl (body_split q bs) (escaped_split q bs)
-    where
-      by : (t u : Bool) → eqb b q ≡ t → eqb b 92 ≡ u → Split q (free q) bs (body_len q bs) → Split q (freed q) bs (escaped_len q bs)
-          → Split q (free q) (b ∷ bs) (cond t 0 (cond u (1 + escaped_len q bs) (1 + body_len q bs)))
-      by true u e f plain escaped = ([], b ∷ bs, refl, refl, inr (refl, (bs, ap (λ c. c ∷ bs) (eqb-true b q e))))
-      by false true e f plain escaped = split_more q b (escaped_len q bs) (freed q) (free q) bs (λ raw g. free_slash q b raw f g) escaped
-      by false false e f plain escaped = split_more q b (body_len q bs) (free q) (free q) bs (λ raw g. free_plain q b raw f e g) plain
+  body_split q (b ∷ bs) =
+      cond_both (eqb b q) _ _ (Split q (free q) (b ∷ bs)) (λ e. ([], b ∷ bs, refl, refl, inr (refl, (bs, ap (λ c. c ∷ bs) (eqb-true b q e)))))
+      (λ e. cond_both (eqb b 92) _ _ (Split q (free q) (b ∷ bs)) (λ f. split_more q b (escaped_len q bs) (freed q) (free q) bs (λ raw g. free_slash q b raw f g) (escaped_split q bs))
+      (λ f. split_more q b (body_len q bs) (free q) (free q) bs (λ raw g. free_plain q b raw f e g) (body_split q bs)))
 
   escaped_split : (q : ℕ) (bs : List ℕ) → Split q (freed q) bs (escaped_len q bs)
   escaped_split q [] = ([], [], refl, refl, inl refl)
-  escaped_split q (b ∷ bs) = by (eqb b 94) refl (body_split q bs) (control_split q bs)
-    where
-      by : (t : Bool) → eqb b 94 ≡ t → Split q (free q) bs (body_len q bs) → Split q (capped q) bs (control_len q bs)
-          → Split q (freed q) (b ∷ bs) (cond t (1 + control_len q bs) (1 + body_len q bs))
-      by true e plain control = split_more q b (control_len q bs) (capped q) (freed q) bs (λ raw g. ap (λ (t : Bool). cond t (capped q raw) (free q raw)) e ∙ g) control
-      by false e plain control = split_more q b (body_len q bs) (free q) (freed q) bs (λ raw g. past_cap q b raw e ∙ g) plain
+  escaped_split q (b ∷ bs) =
+      cond_both (eqb b 94) _ _ (Split q (freed q) (b ∷ bs)) (λ e. split_more q b (control_len q bs) (capped q) (freed q) bs (λ raw g. cond-true (eqb b 94) _ _ e ∙ g) (control_split q bs))
+      (λ e. split_more q b (body_len q bs) (free q) (freed q) bs (λ raw g. past_cap q b raw e ∙ g) (body_split q bs))
 
   control_split : (q : ℕ) (bs : List ℕ) → Split q (capped q) bs (control_len q bs)
   control_split q [] = ([], [], refl, refl, inl refl)
-  control_split q (b ∷ bs) = by (eqb b q) refl (body_split q bs)
-    where
-      by : (t : Bool) → eqb b q ≡ t → Split q (free q) bs (body_len q bs) → Split q (capped q) (b ∷ bs) (cond t 0 (1 + body_len q bs))
-      by true e plain = ([], b ∷ bs, refl, refl, inr (refl, (bs, ap (λ c. c ∷ bs) (eqb-true b q e))))
-      by false e plain = split_more q b (body_len q bs) (free q) (capped q) bs (λ raw g. past_capped q b raw e ∙ g) plain
+  control_split q (b ∷ bs) =
+      cond_both (eqb b q) _ _ (Split q (capped q) (b ∷ bs)) (λ e. ([], b ∷ bs, refl, refl, inr (refl, (bs, ap (λ c. c ∷ bs) (eqb-true b q e)))))
+      (λ e. split_more q b (body_len q bs) (free q) (capped q) bs (λ raw g. past_capped q b raw e ∙ g) (body_split q bs))

@@ -1,5 +1,5 @@
 -- Reading, and the first fault where something is wanted.
-use Rattle.std.proofs.Common.{◌≡◌, List, [], ◌∷◌, ◌++◌, Result, Ok, Err, refl, sym, ap, ◌∙◌, subst, append_assoc, append-nil, inl, inr, ◌↔◌}
+use Rattle.std.proofs.Common.{arith, ◌≡◌, List, [], ◌∷◌, ◌++◌, Result, Ok, Err, refl, sym, ap, ◌∙◌, subst, append_assoc, append-nil, inl, inr, ◌↔◌}
 use Rattle.bx_terms.specs.Outcomes.{◌>>=◌}
 use Rattle.bx_terms.specs.declared.faults.Fault.{Fault}
 use Rattle.bx_terms.specs.declared.faults.Fault.TheVariants.{BadTerm, TooDeep}
@@ -13,7 +13,7 @@ use Rattle.bx_text.proofs.Outcomes.{ok_same}
 use Rattle.bx_text_laws.specs.Tokens.{meant}
 use Rattle.bx_text_laws.specs.Terms.{Stood}
 use Rattle.bx_text_laws.specs.Faults as faults
-use Rattle.bx_text_laws.specs.Faults.{Bracket, a_tuple, a_list, a_map, a_binary, opening, closing, Wanted, Move, misplaced, too_deep, taken, instead, Meets, otherwise, Does, Refused}
+use Rattle.bx_text_laws.specs.Faults.{Bracket, a_tuple, a_list, a_map, a_binary, opening, closing, Wanted, Move, misplaced, too_deep, taken, instead, Meets, Does, Refused}
 use Rattle.bx_text_laws.proofs.NextFailing.{next_fails}
 use Rattle.bx_text_laws.proofs.Sentences.{plainly, step, back}
 use Rattle.bx_text_laws.proofs.Between.{Clean, clean_here, clean_on, clean_token}
@@ -34,10 +34,7 @@ Opens token.open_binary = Unit {0}
 Opens t = ⊥
 
 pub opens : (k : Bracket) → Opens (opening k)
-opens a_tuple = tt
-opens a_list = tt
-opens a_map = tt
-opens a_binary = tt
+opens s = grind arith
 
 no_comma : (k : Bracket) → named.comma ≡ closing k → ⊥
 no_comma a_tuple e = cc

@@ -20,20 +20,13 @@ TakenAs (other s k w) l q = w ≡ taken l q
 TakenAs t l q = Unit {0}
 
 term_taken : {d : ℕ} {l : Lexeme} {t : Tree} {q : Place} → Term d l t q → TakenAs t l q
-term_taken (terms.an_integer t) = tt
-term_taken (terms.an_atom t) = tt
-term_taken (terms.texts t s) = tt
-term_taken (terms.empty_tuple t a z) = tt
-term_taken (terms.a_tuple t a w z) = tt
-term_taken (terms.empty_list t a z) = tt
-term_taken (terms.a_list t a w z) = tt
-term_taken (terms.a_list_with_tail t a w b c u y z) = tt
 term_taken (terms.a_float t w) = refl
 term_taken (terms.an_empty_map t a z w) = refl
 term_taken (terms.a_map t a r z w) = refl
 term_taken (terms.an_empty_binary t a z w) = refl
 term_taken (terms.a_binary t a r z w) = refl
 term_taken (terms.a_fun t a x b y c z e o h j r) = refl
+term_taken s = tt
 
 -- the place of the first token itself
 beginning : (p : Place) (l : Lexeme) → Stood p l → (q : Place) × Stood q l × (l.begin ≡ q.rest) × (l.from ≡ q.at)

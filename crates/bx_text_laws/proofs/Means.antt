@@ -8,7 +8,7 @@ use Rattle.bx_text.specs.Escapes.{digit, is_octal, is_hex, is_control, is_scalar
 use Rattle.bx_text.specs.Escapes as escapes
 use Rattle.bx_text_laws.specs.Characters.{IsControl}
 use Rattle.bx_text_laws.specs.Quoted as quoted
-use Rattle.bx_text_laws.specs.Quoted.{Quoted, Named, IsOctal, IsNamed, IsOther, NoOctal, backspace, delete, escape, form_feed, line_feed, carriage_return, space, tab, vertical_tab}
+use Rattle.bx_text_laws.specs.Quoted.{Quoted, Named, IsOctal, IsOther, NoOctal, backspace, delete, escape, form_feed, line_feed, carriage_return, space, tab, vertical_tab}
 use Rattle.bx_text_laws.proofs.Escapes.{run, whole, Turn, ends, one, then, over_itself, over_slash, first_octal, second_octal, third_octal, no_octal, octal_ends, octal_one, octal_two, first_hex, second_hex, first_braced, close_braced, over_braced, over_control, over_named, with_digit, Value, numeral_value, counts, below, saturated, same_fold, same_scalar, is_scalar_from, coded_is}
 
 pub small_scalar : (v : ℕ) → v < 0xd800 → is_scalar v ≡ true

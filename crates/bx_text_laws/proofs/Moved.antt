@@ -1,7 +1,8 @@
 -- A term put where other bytes follow it.
-use Rattle.std.proofs.Common.{◌≡◌, ◌≢◌, ℕ, ℤ, suc, ◌+◌, ◌≤◌, List, [], ◌∷◌, ◌++◌, length, refl, sym, ap, ◌∙◌, subst, arith, codes, append_assoc, length-append, inl, IsUtf8, encode_utf8_all, ◌<◌}
+use Rattle.std.proofs.Common.{◌≡◌, ◌≢◌, ℕ, suc, Bool, true, false, ◌||◌, ◌+◌, ◌≤◌, List, [], ◌∷◌, ◌++◌, length, refl, sym, ap, ◌∙◌, subst, arith, codes, append_assoc, length-append, inl, IsUtf8, encode_utf8_all, ◌<◌}
 use Rattle.std.specs.List.{AllByRecursion}
 use Rattle.bx_text_laws.specs.Characters.{IsSmall, IsNameCharacter}
+use Rattle.std.proofs.lemmas.Bool.{both_ways, or_right}
 use Rattle.std.proofs.lemmas.Str.{encodes-append}
 use Rattle.bx_text.specs.declared.node.Span.{Span}
 use Rattle.bx_text.specs.declared.node.Sort.{Sort}
@@ -10,7 +11,7 @@ use Rattle.bx_text.specs.Place.{Place}
 use Rattle.bx_text.specs.Named as named
 use Rattle.bx_text.specs.Token as token
 use Rattle.bx_text.specs.Token.{Token, Lexeme}
-use Rattle.bx_text.specs.Terms.{span, letters, tail_of, taken, is_colon, is_slash}
+use Rattle.bx_text.specs.Terms.{span, letters, tail_of, taken, is_comma, is_bar, is_arrow, is_colon, is_slash, is_stop, closes_tuple, closes_list, closes_binary}
 use Rattle.bx_text.specs.Tree.{Tree, integer, atom, tuple, list, other, nil, chain}
 use Rattle.bx_text_laws.specs.Blanks.{Blank, nothing, space, comment}
 use Rattle.bx_text_laws.specs.Spelling.{Spelling, Begins, InUtf8}
@@ -22,67 +23,46 @@ use Rattle.bx_text_laws.proofs.Printing.{Delimits, Exactly, ascii_utf8, scalars_
 use Rattle.bx_text_laws.proofs.Exact.{Solid, solid_exact, exact}
 use Rattle.bx_text_laws.proofs.Moving.{Run, stay, under, doing, then, Stepped, stepped, Copied, token_run, some_bytes, Closer, Closes, low_delimits, taken_is, Any, Shut, shut_token, shut_more, before_shut, solid_before, before_text, shutting, anywhere}
 
--- marks that end what stands before them
-solid_mark : (t : Token) → ((n : ℤ) → t ≢ token.integer n) → t ≢ token.float → ((b : token.Body) → t ≢ token.atom b) → t ≢ named.the_word_fun → t ≢ named.full_stop → Solid t
-solid_mark t a b c d e = record { integer = a; float = b; atom = c; word = d; stop = e }
+-- marks that end what stands before them, and tokens that nothing goes on in
+abbrev shuts : Token → Bool
+shuts t = is_comma t || (closes_tuple t || (closes_list t || (closes_binary t || (is_bar t || (is_arrow t || (is_colon t || is_slash t))))))
 
-comma_closes : Closer named.comma
-comma_closes = record { solid = solid_mark named.comma (λ n e. cc) (λ e. cc) (λ b e. cc) (λ e. cc) (λ e. cc); text = λ b e. cc; tuple = λ e. cc; list = λ e. cc; map = λ e. cc; binary = λ e. cc; parenthesis = λ e. cc }
+abbrev opens : Token → Bool
+opens (token.text b) = true
+opens token.open_tuple = true
+opens token.open_list = true
+opens token.open_map = true
+opens token.open_binary = true
+opens t = false
 
-tuple_closes : Closer named.close_tuple
-tuple_closes = record { solid = solid_mark named.close_tuple (λ n e. cc) (λ e. cc) (λ b e. cc) (λ e. cc) (λ e. cc); text = λ b e. cc; tuple = λ e. cc; list = λ e. cc; map = λ e. cc; binary = λ e. cc; parenthesis = λ e. cc }
+abbrev ends : Token → Bool
+ends t = opens t || shuts t
 
-list_closes : Closer named.close_list
-list_closes = record { solid = solid_mark named.close_list (λ n e. cc) (λ e. cc) (λ b e. cc) (λ e. cc) (λ e. cc); text = λ b e. cc; tuple = λ e. cc; list = λ e. cc; map = λ e. cc; binary = λ e. cc; parenthesis = λ e. cc }
+unlike : (test : Token → Bool) (t v : Token) → test t ≡ true → test v ≡ false → t ≢ v
+unlike test t v y n e = both_ways (test v) n (ap test (sym e) ∙ y)
 
-binary_closes : Closer named.close_binary
-binary_closes = record { solid = solid_mark named.close_binary (λ n e. cc) (λ e. cc) (λ b e. cc) (λ e. cc) (λ e. cc); text = λ b e. cc; tuple = λ e. cc; list = λ e. cc; map = λ e. cc; binary = λ e. cc; parenthesis = λ e. cc }
+solid : (t : Token) → ends t ≡ true → Solid t
+solid t y = record {
+  integer = λ n. unlike ends t (token.integer n) y refl;
+  float = unlike ends t token.float y refl;
+  atom = λ b. unlike ends t (token.atom b) y refl;
+  word = unlike ends t named.the_word_fun y refl;
+  stop = unlike ends t named.full_stop y refl;
+}
 
-bar_closes : Closer named.bar
-bar_closes = record { solid = solid_mark named.bar (λ n e. cc) (λ e. cc) (λ b e. cc) (λ e. cc) (λ e. cc); text = λ b e. cc; tuple = λ e. cc; list = λ e. cc; map = λ e. cc; binary = λ e. cc; parenthesis = λ e. cc }
+closer : (t : Token) → shuts t ≡ true → Closer t
+closer t y = record {
+  solid = solid t (or_right (opens t) (shuts t) y);
+  text = λ b. unlike shuts t (token.text b) y refl;
+  tuple = unlike shuts t token.open_tuple y refl;
+  list = unlike shuts t token.open_list y refl;
+  map = unlike shuts t token.open_map y refl;
+  binary = unlike shuts t token.open_binary y refl;
+  parenthesis = unlike shuts t named.parenthesis y refl;
+}
 
-arrow_closes : Closer named.arrow
-arrow_closes = record { solid = solid_mark named.arrow (λ n e. cc) (λ e. cc) (λ b e. cc) (λ e. cc) (λ e. cc); text = λ b e. cc; tuple = λ e. cc; list = λ e. cc; map = λ e. cc; binary = λ e. cc; parenthesis = λ e. cc }
-
-colon_closes : Closer named.colon
-colon_closes = record { solid = solid_mark named.colon (λ n e. cc) (λ e. cc) (λ b e. cc) (λ e. cc) (λ e. cc); text = λ b e. cc; tuple = λ e. cc; list = λ e. cc; map = λ e. cc; binary = λ e. cc; parenthesis = λ e. cc }
-
-slash_closes : Closer named.slash
-slash_closes = record { solid = solid_mark named.slash (λ n e. cc) (λ e. cc) (λ b e. cc) (λ e. cc) (λ e. cc); text = λ b e. cc; tuple = λ e. cc; list = λ e. cc; map = λ e. cc; binary = λ e. cc; parenthesis = λ e. cc }
-
-closer_is : (t v : Token) → t ≡ v → Closer v → Closer t
-closer_is t v e c = subst Closer (sym e) c
-
--- tokens that nothing goes on in
-solid_is : (t v : Token) → t ≡ v → Solid v → Solid t
-solid_is t v e s = subst Solid (sym e) s
-
-text_solid : (b : token.Body) → Solid (token.text b)
-text_solid b = solid_mark (token.text b) (λ n e. cc) (λ e. cc) (λ c e. cc) (λ e. cc) (λ e. cc)
-
-open_tuple_solid : Solid token.open_tuple
-open_tuple_solid = solid_mark token.open_tuple (λ n e. cc) (λ e. cc) (λ b e. cc) (λ e. cc) (λ e. cc)
-
-open_list_solid : Solid token.open_list
-open_list_solid = solid_mark token.open_list (λ n e. cc) (λ e. cc) (λ b e. cc) (λ e. cc) (λ e. cc)
-
-open_map_solid : Solid token.open_map
-open_map_solid = solid_mark token.open_map (λ n e. cc) (λ e. cc) (λ b e. cc) (λ e. cc) (λ e. cc)
-
-open_binary_solid : Solid token.open_binary
-open_binary_solid = solid_mark token.open_binary (λ n e. cc) (λ e. cc) (λ b e. cc) (λ e. cc) (λ e. cc)
-
-integer_goes : (t : Token) (n : ℤ) → t ≡ token.integer n → t ≢ named.full_stop
-integer_goes t n e h = cc
-
-float_goes : (t : Token) → t ≡ token.float → t ≢ named.full_stop
-float_goes t e h = cc
-
-atom_goes : (t : Token) (b : token.Body) → t ≡ token.atom b → t ≢ named.full_stop
-atom_goes t b e h = cc
-
-fun_goes : (t : Token) → t ≡ named.the_word_fun → t ≢ named.full_stop
-fun_goes t e h = cc
+no_stop : (t : Token) {v : Token} → t ≡ v → is_stop v ≡ false → t ≢ named.full_stop
+no_stop t e n h = both_ways (is_stop t) (ap is_stop e ∙ n) (ap is_stop h)
 
 from_there : (q r : Place) (m : Lexeme) → q ≡ r → Stood r m → Stood q m
 from_there q r m e st = subst (λ q. Stood q m) (sym e) st
@@ -100,8 +80,8 @@ encoded_run (terms.unencoded {m = m} t) p st c =
     by p2 q2 (k, stk, tk, ak, bk, sk) = (k, k, stk, tk, terms.unencoded (ap is_slash tk ∙ t), tk, ak)
 encoded_run (terms.in_utf8 {m = m} {n = n} {k = k} t a i b) p st c =
     let last = shut_token {May = Any} n.after k b c in
-    let name = before_shut m.after n a (atom_goes n.token _ i) last in
-    let s = shut_more p m st (closer_is m.token named.slash t slash_closes) name in
+    let name = before_shut m.after n a (no_stop n.token i refl) last in
+    let s = shut_more p m st (closer m.token (ap shuts t)) name in
     shutting by s
   where
     by : (p2 r2 : Place) → ((q2 : Place) × Copied m (stepped p m st).bytes p2 q2 × ((q3 : Place) × Copied n (stepped m.after n a).bytes q2 q3 × Copied k (stepped n.after k b).bytes q3 r2)) → EncodedFrom m k p2 r2
@@ -118,8 +98,8 @@ sized_run {e = e} (terms.unsized {m = m} t) k p st c = let s = encoded_run k p s
     by p2 r2 (b, f, stb, tb, x, tf, af) = (b, b, f, stb, tb, terms.unsized (ap is_colon tb ∙ t), x, tf, af)
 sized_run {e = e} (terms.a_size {m = m} {n = n} {k = k} {i = i} t a j b) x p st c =
     let last = encoded_run x n.after b c in
-    let number = before_shut m.after n a (integer_goes n.token i j) last in
-    let s = shut_more p m st (closer_is m.token named.colon t colon_closes) number in
+    let number = before_shut m.after n a (no_stop n.token j refl) last in
+    let s = shut_more p m st (closer m.token (ap shuts t)) number in
     shutting by s
   where
     by : (p2 r2 : Place) → ((q2 : Place) × Copied m (stepped p m st).bytes p2 q2 × ((q3 : Place) × Copied n (stepped m.after n a).bytes q2 q3 × EncodedFrom k e q3 r2)) → SizedFrom m e p2 r2
@@ -135,7 +115,7 @@ TextsFrom p2 q2 = (ts : List Tree) × Texts p2 ts q2
 
 texts_run : {p q : Place} {ts : List Tree} → Texts p ts q → Run p q NoTextAt TextsFrom
 texts_run (terms.no_text {p = p} n) = record { text = []; rest = refl; size = omega arith; again = λ Y g p2 e. (p2, ([], terms.no_text (g p2 e)), e, omega arith) }
-texts_run (terms.a_text {p = p} {q = q} {l = l} {w = w} {ts = ts} st t s) = doing by (solid_before p l st (solid_is l.token _ t (text_solid _)) (texts_run s))
+texts_run (terms.a_text {p = p} {q = q} {l = l} {w = w} {ts = ts} st t s) = doing by (solid_before p l st (solid l.token (ap ends t)) (texts_run s))
   where
     by : (p2 r2 : Place) → ((q2 : Place) × Copied l (stepped p l st).bytes p2 q2 × TextsFrom q2 r2) → TextsFrom p2 r2
     by p2 r2 (q2, (m, stm, tm, am, bm, sm), (us, x)) = (letters (span m m.after) w ++ us, terms.a_text stm (tm ∙ t) (subst (λ r. Texts r us r2) (sym am) x))
@@ -144,12 +124,12 @@ abbrev HeldFrom : ℕ → (Place → Place → Type 0) → Place → Place → T
 HeldFrom d E p2 r2 = (k : Lexeme) × (q2 : Place) × Stood p2 k × Held d k q2 × E q2 r2
 
 held_run : {d : ℕ} {l : Lexeme} {q r : Place} {E : Place → Place → Type 0} → Held d l q → (p : Place) → Stood p l → Shut q r Any E → Run p r Any (HeldFrom d E)
-held_run {E = E} (terms.a_number {d = d} {l = l} {n = n} t) p st two = doing by (before_shut p l st (integer_goes l.token n t) two)
+held_run {E = E} (terms.a_number {d = d} {l = l} {n = n} t) p st two = doing by (before_shut p l st (no_stop l.token t refl) two)
   where
     by : (p2 r2 : Place) → ((q2 : Place) × Copied l (stepped p l st).bytes p2 q2 × E q2 r2) → HeldFrom d E p2 r2
     by p2 r2 (q2, (k, stk, tk, ak, bk, sk), x) = (k, q2, stk, subst (λ q. Held d k q) ak (terms.a_number (tk ∙ t)), x)
 held_run {E = E} (terms.some_texts {d = d} {l = l} {w = w} {ts = ts} {q = q} t s) p st two =
-    doing by (solid_before p l st (solid_is l.token _ t (text_solid _)) (then (texts_run s) two.run (λ Y a. (two.shut Y a).text)))
+    doing by (solid_before p l st (solid l.token (ap ends t)) (then (texts_run s) two.run (λ Y a. (two.shut Y a).text)))
   where
     by : (p2 r2 : Place) → ((q2 : Place) × Copied l (stepped p l st).bytes p2 q2 × ((q3 : Place) × TextsFrom q2 q3 × E q3 r2)) → HeldFrom (suc d) E p2 r2
     by p2 r2 (q2, (k, stk, tk, ak, bk, sk), (q3, (us, x), y)) = (k, q3, stk, terms.some_texts (tk ∙ t) (subst (λ r. Texts r us q3) (sym ak) x), y)
@@ -172,35 +152,15 @@ parts_run (terms.one_part {d = d} {l = l} {m = m} x) p st c = doing by (part_run
     by : (p2 r2 : Place) → PartFrom d m p2 r2 → PartsFrom d m p2 r2
     by p2 r2 (k, f, stk, part, tf, af) = (k, f, stk, terms.one_part part, tf, af)
 parts_run (terms.more_parts {d = d} {l = l} {comma = comma} {next = next} {m = m} x t a r) p st c =
-    doing by (then (part_run x p st (closer_is comma.token named.comma t comma_closes)) (parts_run r comma.after a c) (λ Y u. tt))
+    doing by (then (part_run x p st (closer comma.token (ap shuts t))) (parts_run r comma.after a c) (λ Y u. tt))
   where
     by : (p2 r2 : Place) → ((q2 : Place) × PartFrom d comma p2 q2 × PartsFrom d m q2 r2) → PartsFrom d m p2 r2
     by p2 r2 (q2, (k, f, stk, part, tf, af), (k2, g, stk2, parts, tg, ag)) = (k, g, stk, terms.more_parts part (tf ∙ t) (from_there f.after q2 k2 af stk2) parts, tg, ag)
 
 -- the word `fun` before its module
 fun_bytes : {bytes : List ℕ} {t : Token} → Spelling bytes t → t ≡ named.the_word_fun → bytes ≡ codes "fun"
-fun_bytes spelling.open_tuple e = cc
-fun_bytes spelling.close_tuple e = cc
-fun_bytes spelling.open_list e = cc
-fun_bytes spelling.close_list e = cc
-fun_bytes spelling.open_map e = cc
-fun_bytes spelling.open_binary e = cc
-fun_bytes spelling.close_binary e = cc
-fun_bytes spelling.comma e = cc
-fun_bytes spelling.bar e = cc
-fun_bytes spelling.arrow e = cc
-fun_bytes spelling.colon e = cc
-fun_bytes spelling.slash e = cc
-fun_bytes spelling.open_parenthesis e = cc
-fun_bytes spelling.close_parenthesis e = cc
-fun_bytes spelling.full_stop e = cc
 fun_bytes spelling.the_word_fun e = refl
-fun_bytes (spelling.integer k) e = cc
-fun_bytes (spelling.negative k) e = cc
-fun_bytes (spelling.float mi a b ex) e = cc
-fun_bytes (spelling.bare_atom c cs small a u o) e = cc
-fun_bytes (spelling.quoted_atom q u) e = cc
-fun_bytes (spelling.string q u) e = cc
+fun_bytes s e = cc
 
 -- a name that followed it at once would go on in it
 longer_name : (text rest : List ℕ) (c : ℕ) (cs bytes : List ℕ) → text ≡ codes "fun" ++ (bytes ++ rest) → IsSmall c → AllByRecursion IsNameCharacter cs → InUtf8 (c ∷ cs) bytes → 0 < length bytes
@@ -218,30 +178,11 @@ longer_name text rest c cs bytes e small a (s, u) l = (e, spelling.bare_atom 102
 
 name_delimits : {bytes : List ℕ} {t : Token} → Spelling bytes t → (v : List ℕ) → t ≡ token.atom (token.plain v) → (text rest Z : List ℕ) → text ≡ codes "fun" ++ (bytes ++ rest)
     → ((others : List ℕ) (u : Token) (r : List ℕ) → Begins text others u r → length others ≤ 3) → Delimits (bytes ++ Z)
-name_delimits spelling.open_tuple v e text rest Z is more = cc
-name_delimits spelling.close_tuple v e text rest Z is more = cc
-name_delimits spelling.open_list v e text rest Z is more = cc
-name_delimits spelling.close_list v e text rest Z is more = cc
-name_delimits spelling.open_map v e text rest Z is more = cc
-name_delimits spelling.open_binary v e text rest Z is more = cc
-name_delimits spelling.close_binary v e text rest Z is more = cc
-name_delimits spelling.comma v e text rest Z is more = cc
-name_delimits spelling.bar v e text rest Z is more = cc
-name_delimits spelling.arrow v e text rest Z is more = cc
-name_delimits spelling.colon v e text rest Z is more = cc
-name_delimits spelling.slash v e text rest Z is more = cc
-name_delimits spelling.open_parenthesis v e text rest Z is more = cc
-name_delimits spelling.close_parenthesis v e text rest Z is more = cc
-name_delimits spelling.full_stop v e text rest Z is more = cc
-name_delimits spelling.the_word_fun v e text rest Z is more = cc
-name_delimits (spelling.integer k) v e text rest Z is more = cc
-name_delimits (spelling.negative k) v e text rest Z is more = cc
-name_delimits (spelling.float mi a b ex) v e text rest Z is more = cc
 name_delimits (spelling.bare_atom c cs {bytes = bytes} small a u o) v e text rest Z is more =
     let some : 0 < length bytes = some_bytes (spelling.bare_atom c cs small a u o) in
     absurd (omega (arith, some, more (codes "fun" ++ bytes) (token.atom (token.plain (codes "fun" ++ bytes))) rest (longer_name text rest c cs bytes is small a u some)))
 name_delimits (spelling.quoted_atom q u) v e text rest Z is more = record { digits = refl; fraction = refl; name = refl }
-name_delimits (spelling.string q u) v e text rest Z is more = cc
+name_delimits s v e text rest Z is more = cc
 
 fun_blank : {blank behind : List ℕ} → Blank blank behind → (bytes Z text rest : List ℕ) {t : Token} → Spelling bytes t → (v : List ℕ) → t ≡ token.atom (token.plain v) → text ≡ codes "fun" ++ (blank ++ (bytes ++ rest))
     → ((others : List ℕ) (u : Token) (r : List ℕ) → Begins text others u r → length others ≤ 3) → Delimits (blank ++ (bytes ++ Z))
@@ -312,37 +253,37 @@ PairsFrom d m p2 r2 = (k : Lexeme) × (f : Lexeme) × Stood p2 k × Pairs d k f 
 mutual
   pub term_run : {d : ℕ} {l : Lexeme} {t : Tree} {q : Place} → Term d l t q → (p : Place) → Stood p l → Run p q Closes (TermFrom d t)
   term_run (terms.an_integer {d = d} {l = l} {n = n} t) p st =
-      whole (integer (span l l.after) n) p l st (stay l.after Closes) (λ Y c. exact (stepped p l st).spells (integer_goes l.token n t) Y c.delimits)
+      whole (integer (span l l.after) n) p l st (stay l.after Closes) (λ Y c. exact (stepped p l st).spells (no_stop l.token t refl) Y c.delimits)
       (λ k q2 tk e same. (integer (span k k.after) n, ends_at k.after q2 e (terms.an_integer (tk ∙ t)), tt))
   term_run (terms.an_atom {d = d} {l = l} {w = w} t) p st =
-      whole (atom (span l l.after) w) p l st (stay l.after Closes) (λ Y c. exact (stepped p l st).spells (atom_goes l.token _ t) Y c.delimits)
+      whole (atom (span l l.after) w) p l st (stay l.after Closes) (λ Y c. exact (stepped p l st).spells (no_stop l.token t refl) Y c.delimits)
       (λ k q2 tk e same. (atom (span k k.after) w, ends_at k.after q2 e (terms.an_atom (tk ∙ t)), tt))
   term_run (terms.texts {d = d} {l = l} {w = w} {ts = ts} {q = q} t s) p st =
       let inner : Run l.after q Closes TextsFrom = under (λ Y c. c.text) (texts_run s) in
-      whole (list (span l q) (chain (letters (span l l.after) w ++ ts) nil)) p l st inner (λ Y c. solid_exact (stepped p l st).spells (solid_is l.token _ t (text_solid _)) (inner.text ++ Y))
+      whole (list (span l q) (chain (letters (span l l.after) w ++ ts) nil)) p l st inner (λ Y c. solid_exact (stepped p l st).spells (solid l.token (ap ends t)) (inner.text ++ Y))
       (λ k q2 tk x same. (list (span k q2) (chain (letters (span k k.after) w ++ x.0) nil), terms.texts (tk ∙ t) x.1, tt))
   term_run (terms.empty_tuple {d = d} {l = l} {m = m} t a z) p st =
-      let inner = anywhere (shut_token {May = Any} l.after m a (closer_is m.token named.close_tuple z tuple_closes)).run in
-      whole (tuple (span l m.after) nil) p l st inner (λ Y c. solid_exact (stepped p l st).spells (solid_is l.token _ t open_tuple_solid) (inner.text ++ Y))
+      let inner = anywhere (shut_token {May = Any} l.after m a (closer m.token (ap shuts z))).run in
+      whole (tuple (span l m.after) nil) p l st inner (λ Y c. solid_exact (stepped p l st).spells (solid l.token (ap ends t)) (inner.text ++ Y))
       (λ k q2 tk x same. (tuple (span k x.0.after) nil, ends_at x.0.after q2 x.3 (terms.empty_tuple (tk ∙ t) x.1 (x.2 ∙ z)), tt))
   term_run (terms.a_tuple {d = d} {l = l} {first = first} {m = m} {ts = ts} t a w z) p st =
-      let inner = anywhere (elements_run w l.after a (closer_is m.token named.close_tuple z tuple_closes)) in
-      whole (tuple (span l m.after) (chain ts nil)) p l st inner (λ Y c. solid_exact (stepped p l st).spells (solid_is l.token _ t open_tuple_solid) (inner.text ++ Y))
+      let inner = anywhere (elements_run w l.after a (closer m.token (ap shuts z))) in
+      whole (tuple (span l m.after) (chain ts nil)) p l st inner (λ Y c. solid_exact (stepped p l st).spells (solid l.token (ap ends t)) (inner.text ++ Y))
       (λ k q2 tk x same. (tuple (span k x.2.after) (chain x.1 nil), ends_at x.2.after q2 x.6 (terms.a_tuple (tk ∙ t) x.3 x.4 (x.5 ∙ z)), tt))
   term_run (terms.empty_list {d = d} {l = l} {m = m} t a z) p st =
-      let inner = anywhere (shut_token {May = Any} l.after m a (closer_is m.token named.close_list z list_closes)).run in
-      whole (list (span l m.after) nil) p l st inner (λ Y c. solid_exact (stepped p l st).spells (solid_is l.token _ t open_list_solid) (inner.text ++ Y))
+      let inner = anywhere (shut_token {May = Any} l.after m a (closer m.token (ap shuts z))).run in
+      whole (list (span l m.after) nil) p l st inner (λ Y c. solid_exact (stepped p l st).spells (solid l.token (ap ends t)) (inner.text ++ Y))
       (λ k q2 tk x same. (list (span k x.0.after) nil, ends_at x.0.after q2 x.3 (terms.empty_list (tk ∙ t) x.1 (x.2 ∙ z)), tt))
   term_run (terms.a_list {d = d} {l = l} {first = first} {m = m} {ts = ts} t a w z) p st =
-      let inner = anywhere (elements_run w l.after a (closer_is m.token named.close_list z list_closes)) in
-      whole (list (span l m.after) (chain ts nil)) p l st inner (λ Y c. solid_exact (stepped p l st).spells (solid_is l.token _ t open_list_solid) (inner.text ++ Y))
+      let inner = anywhere (elements_run w l.after a (closer m.token (ap shuts z))) in
+      whole (list (span l m.after) (chain ts nil)) p l st inner (λ Y c. solid_exact (stepped p l st).spells (solid l.token (ap ends t)) (inner.text ++ Y))
       (λ k q2 tk x same. (list (span k x.2.after) (chain x.1 nil), ends_at x.2.after q2 x.6 (terms.a_list (tk ∙ t) x.3 x.4 (x.5 ∙ z)), tt))
   term_run (terms.a_list_with_tail {d = d} {l = l} {first = first} {bar = bar} {start = start} {m = m} {ts = ts} {t = tail} {r = r} t a w b c u y z) p st =
-      let row = elements_run w l.after a (closer_is bar.token named.bar b bar_closes) in
-      let last = shut_token {May = Any} r m y (closer_is m.token named.close_list z list_closes) in
+      let row = elements_run w l.after a (closer bar.token (ap shuts b)) in
+      let last = shut_token {May = Any} r m y (closer m.token (ap shuts z)) in
       let behind = then (term_run u bar.after c) last.run last.shut in
       let inner = anywhere (then row behind (λ Y x. tt)) in
-      whole (list (span l m.after) (chain ts (tail_of tail))) p l st inner (λ Y x. solid_exact (stepped p l st).spells (solid_is l.token _ t open_list_solid) (inner.text ++ Y)) by
+      whole (list (span l m.after) (chain ts (tail_of tail))) p l st inner (λ Y x. solid_exact (stepped p l st).spells (solid l.token (ap ends t)) (inner.text ++ Y)) by
     where
       by : (k : Lexeme) (q2 : Place) → k.token ≡ l.token
           → ((q3 : Place) × ElementsFrom d bar k.after q3 × ((q4 : Place) × TermFrom d tail q3 q4 × Copied m (stepped r m y).bytes q4 q2)) → taken k q2 ≡ taken l m.after
@@ -350,36 +291,36 @@ mutual
       by k q2 tk (q3, (k2, us, f, stk2, row, tf, af), (q4, (k3, v, stk3, term, same), (m2, stm, tm, am, bm, sm))) g =
           (list (span k m2.after) (chain us (tail_of v)), ends_at m2.after q2 am (terms.a_list_with_tail (tk ∙ t) stk2 row (tf ∙ b) (from_there f.after q3 k3 af stk3) term stm (tm ∙ z)), tt)
   term_run (terms.a_float {d = d} {l = l} t w) p st =
-      whole (other (span l l.after) sort.Float (taken l l.after)) p l st (stay l.after Closes) (λ Y c. exact (stepped p l st).spells (float_goes l.token t) Y c.delimits)
+      whole (other (span l l.after) sort.Float (taken l l.after)) p l st (stay l.after Closes) (λ Y c. exact (stepped p l st).spells (no_stop l.token t refl) Y c.delimits)
       (λ k q2 tk e same. kept_built d l l.after sort.Float k k.after q2 e same w (λ v. terms.a_float (tk ∙ t) v))
   term_run (terms.an_empty_map {d = d} {l = l} {m = m} t a z w) p st =
-      let inner = anywhere (shut_token {May = Any} l.after m a (closer_is m.token named.close_tuple z tuple_closes)).run in
-      whole (other (span l m.after) sort.Map (taken l m.after)) p l st inner (λ Y c. solid_exact (stepped p l st).spells (solid_is l.token _ t open_map_solid) (inner.text ++ Y))
+      let inner = anywhere (shut_token {May = Any} l.after m a (closer m.token (ap shuts z))).run in
+      whole (other (span l m.after) sort.Map (taken l m.after)) p l st inner (λ Y c. solid_exact (stepped p l st).spells (solid l.token (ap ends t)) (inner.text ++ Y))
       (λ k q2 tk x same. kept_built (suc d) l m.after sort.Map k x.0.after q2 x.3 same w (λ v. terms.an_empty_map (tk ∙ t) x.1 (x.2 ∙ z) v))
   term_run (terms.a_map {d = d} {l = l} {first = first} {m = m} t a r z w) p st =
-      let inner = anywhere (pairs_run r l.after a (closer_is m.token named.close_tuple z tuple_closes)) in
-      whole (other (span l m.after) sort.Map (taken l m.after)) p l st inner (λ Y c. solid_exact (stepped p l st).spells (solid_is l.token _ t open_map_solid) (inner.text ++ Y))
+      let inner = anywhere (pairs_run r l.after a (closer m.token (ap shuts z))) in
+      whole (other (span l m.after) sort.Map (taken l m.after)) p l st inner (λ Y c. solid_exact (stepped p l st).spells (solid l.token (ap ends t)) (inner.text ++ Y))
       (λ k q2 tk x same. kept_built (suc d) l m.after sort.Map k x.1.after q2 x.5 same w (λ v. terms.a_map (tk ∙ t) x.2 x.3 (x.4 ∙ z) v))
   term_run (terms.an_empty_binary {d = d} {l = l} {m = m} t a z w) p st =
-      let inner = anywhere (shut_token {May = Any} l.after m a (closer_is m.token named.close_binary z binary_closes)).run in
-      whole (other (span l m.after) sort.Binary (taken l m.after)) p l st inner (λ Y c. solid_exact (stepped p l st).spells (solid_is l.token _ t open_binary_solid) (inner.text ++ Y))
+      let inner = anywhere (shut_token {May = Any} l.after m a (closer m.token (ap shuts z))).run in
+      whole (other (span l m.after) sort.Binary (taken l m.after)) p l st inner (λ Y c. solid_exact (stepped p l st).spells (solid l.token (ap ends t)) (inner.text ++ Y))
       (λ k q2 tk x same. kept_built (suc d) l m.after sort.Binary k x.0.after q2 x.3 same w (λ v. terms.an_empty_binary (tk ∙ t) x.1 (x.2 ∙ z) v))
   term_run (terms.a_binary {d = d} {l = l} {first = first} {m = m} t a r z w) p st =
-      let inner = anywhere (parts_run r l.after a (closer_is m.token named.close_binary z binary_closes)) in
-      whole (other (span l m.after) sort.Binary (taken l m.after)) p l st inner (λ Y c. solid_exact (stepped p l st).spells (solid_is l.token _ t open_binary_solid) (inner.text ++ Y))
+      let inner = anywhere (parts_run r l.after a (closer m.token (ap shuts z))) in
+      whole (other (span l m.after) sort.Binary (taken l m.after)) p l st inner (λ Y c. solid_exact (stepped p l st).spells (solid l.token (ap ends t)) (inner.text ++ Y))
       (λ k q2 tk x same. kept_built (suc d) l m.after sort.Binary k x.1.after q2 x.5 same w (λ v. terms.a_binary (tk ∙ t) x.2 x.3 (x.4 ∙ z) v))
   term_run (terms.a_fun {d = d} {l = l} {f = f} {colon = colon} {g = g} {slash = slash} {n = n} {v = v} {w = w} {i = i} t a x b y c z e o h j r) p st =
-      let arity = under (λ Y s. exact (stepped slash.after n h).spells (integer_goes n.token i j) Y s.delimits) (token_run slash.after n (stepped slash.after n h)) in
-      let slashed = shut_more {May = Closes} g.after slash e (closer_is slash.token named.slash o slash_closes) arity in
-      let called = before_shut colon.after g c (atom_goes g.token _ z) slashed in
-      let coloned = shut_more {May = Closes} f.after colon b (closer_is colon.token named.colon y colon_closes) called in
-      let inner = before_shut l.after f a (atom_goes f.token _ x) coloned in
+      let arity = under (λ Y s. exact (stepped slash.after n h).spells (no_stop n.token j refl) Y s.delimits) (token_run slash.after n (stepped slash.after n h)) in
+      let slashed = shut_more {May = Closes} g.after slash e (closer slash.token (ap shuts o)) arity in
+      let called = before_shut colon.after g c (no_stop g.token z refl) slashed in
+      let coloned = shut_more {May = Closes} f.after colon b (closer colon.token (ap shuts y)) called in
+      let inner = before_shut l.after f a (no_stop f.token x refl) coloned in
       let sf = stepped l.after f a in
       let same : (Y : List ℕ) → inner.text ++ Y ≡ (sf.blank ++ sf.bytes) ++ (coloned.run.text ++ Y) =
-      λ Y. ap (λ ws. ws ++ Y) (before_text l.after f a (atom_goes f.token _ x) coloned) ∙ append_assoc (sf.blank ++ sf.bytes) coloned.run.text Y in
+      λ Y. ap (λ ws. ws ++ Y) (before_text l.after f a (no_stop f.token x refl) coloned) ∙ append_assoc (sf.blank ++ sf.bytes) coloned.run.text Y in
       let follows : (Y : List ℕ) → Delimits (inner.text ++ Y) = λ Y. subst Delimits (sym (same Y)) (fun_delimits p l f (stepped p l st) sf t v x (coloned.run.text ++ Y)) in
       whole (other (span l n.after) sort.Fun (taken l n.after)) p l st inner
-      (λ Y s. exact (stepped p l st).spells (fun_goes l.token t) (inner.text ++ Y) (follows Y)) by
+      (λ Y s. exact (stepped p l st).spells (no_stop l.token t refl) (inner.text ++ Y) (follows Y)) by
     where
       by : (k : Lexeme) (q2 : Place) → k.token ≡ l.token
           → ((q3 : Place) × Copied f (stepped l.after f a).bytes k.after q3 × ((q4 : Place) × Copied colon (stepped f.after colon b).bytes q3 q4
@@ -397,7 +338,7 @@ mutual
       by : (p2 r2 : Place) → ((q2 : Place) × TermFrom d t p2 q2 × Copied m (stepped r m y).bytes q2 r2) → ElementsFrom d m p2 r2
       by p2 r2 (q2, (k, u, stk, term, same), (m2, stm, tm, am, bm, sm)) = (k, u ∷ [], m2, stk, terms.one term stm, tm, am)
   elements_run (terms.more {d = d} {l = l} {comma = comma} {next = next} {m = m} {t = t} {ts = ts} {r = r} x y k n w) p st c =
-      let behind = shut_more {May = Any} r comma y (closer_is comma.token named.comma k comma_closes) (elements_run w comma.after n c) in
+      let behind = shut_more {May = Any} r comma y (closer comma.token (ap shuts k)) (elements_run w comma.after n c) in
       doing by (then (term_run x p st) behind.run behind.shut)
     where
       by : (p2 r2 : Place) → ((q2 : Place) × TermFrom d t p2 q2 × ((q3 : Place) × Copied comma (stepped r comma y).bytes q2 q3 × ElementsFrom d m q3 r2)) → ElementsFrom d m p2 r2
@@ -407,15 +348,15 @@ mutual
   pairs_run : {d : ℕ} {l m : Lexeme} → Pairs d l m → (p : Place) → Stood p l → Closer m.token → Run p m.after Any (PairsFrom d m)
   pairs_run (terms.one_pair {d = d} {l = l} {arrow = arrow} {v = v} {m = m} {t = t} {u = u} {r = r} {q = q} x a k b y z) p st c =
       let last = shut_token {May = Any} q m z c in
-      let behind = shut_more {May = Any} r arrow a (closer_is arrow.token named.arrow k arrow_closes) (then (term_run y arrow.after b) last.run last.shut) in
+      let behind = shut_more {May = Any} r arrow a (closer arrow.token (ap shuts k)) (then (term_run y arrow.after b) last.run last.shut) in
       doing by (then (term_run x p st) behind.run behind.shut)
     where
       by : (p2 r2 : Place) → ((q2 : Place) × TermFrom d t p2 q2 × ((q3 : Place) × Copied arrow (stepped r arrow a).bytes q2 q3 × ((q4 : Place) × TermFrom d u q3 q4 × Copied m (stepped q m z).bytes q4 r2))) → PairsFrom d m p2 r2
       by p2 r2 (q2, (k1, u1, st1, term1, same1), (q3, (ar, sta, ta, aa, ba, sa), (q4, (k2, u2, st2, term2, same2), (m2, stm, tm, am, bm, sm)))) =
           (k1, m2, st1, terms.one_pair term1 sta (ta ∙ k) (from_there ar.after q3 k2 aa st2) term2 stm, tm, am)
   pairs_run (terms.more_pairs {d = d} {l = l} {arrow = arrow} {v = v} {comma = comma} {next = next} {m = m} {t = t} {u = u} {r = r} {q = q} x a k b y z j e w) p st c =
-      let rest = shut_more {May = Any} q comma z (closer_is comma.token named.comma j comma_closes) (pairs_run w comma.after e c) in
-      let behind = shut_more {May = Any} r arrow a (closer_is arrow.token named.arrow k arrow_closes) (then (term_run y arrow.after b) rest.run rest.shut) in
+      let rest = shut_more {May = Any} q comma z (closer comma.token (ap shuts j)) (pairs_run w comma.after e c) in
+      let behind = shut_more {May = Any} r arrow a (closer arrow.token (ap shuts k)) (then (term_run y arrow.after b) rest.run rest.shut) in
       doing by (then (term_run x p st) behind.run behind.shut)
     where
       by : (p2 r2 : Place)

@@ -12,7 +12,7 @@ use Rattle.bx_text.specs.Lexing.{token_at, point_len, name_len, accent_len}
 use Rattle.bx_text.specs.Terms.{taken}
 use Rattle.bx_text_laws.specs.Blanks.{Blank, nothing, space, comment, NoBlank, LineEnds, Passes}
 use Rattle.bx_text_laws.specs.Characters.{IsSpace}
-use Rattle.bx_text_laws.specs.Spelling.{Spelling, open_tuple, close_tuple, open_list, close_list, open_map, open_binary, close_binary, comma, bar, arrow, colon, slash, open_parenthesis, close_parenthesis, full_stop, the_word_fun, integer, negative, float, bare_atom, quoted_atom, string}
+use Rattle.bx_text_laws.specs.Spelling.{Spelling, open_tuple, close_tuple, open_list, close_list, open_map, open_binary, close_binary, comma, bar, arrow, colon, slash, full_stop, the_word_fun, integer, negative, float, bare_atom, quoted_atom, string}
 use Rattle.bx_text_laws.specs.Tokens.{lines, meant, NoLonger, Longest}
 use Rattle.bx_text_laws.specs.Terms.{Stood, NoQuote, NoText}
 use Rattle.bx_text_laws.proofs.Runs.{digits_of}
@@ -91,29 +91,11 @@ shape_some c bytes (inl (low, e)) = omega (arith, ap length e)
 shape_some c bytes (inr (high, (b, hs, e, first, rest))) = omega (arith, ap length e)
 
 pub some_bytes : {bytes : List ℕ} {t : Token} → Spelling bytes t → 0 < length bytes
-some_bytes open_tuple = omega arith
-some_bytes close_tuple = omega arith
-some_bytes open_list = omega arith
-some_bytes close_list = omega arith
-some_bytes open_map = omega arith
-some_bytes open_binary = omega arith
-some_bytes close_binary = omega arith
-some_bytes comma = omega arith
-some_bytes bar = omega arith
-some_bytes arrow = omega arith
-some_bytes colon = omega arith
-some_bytes slash = omega arith
-some_bytes open_parenthesis = omega arith
-some_bytes close_parenthesis = omega arith
-some_bytes full_stop = omega arith
-some_bytes the_word_fun = omega arith
 some_bytes (integer k) = (digits_of k refl).2
-some_bytes (negative k) = omega arith
 some_bytes (float {m = m} {ds = ds} {fs = fs} {es = es} mi a b ex) = omega (arith, length-append m (ds ++ (46 ∷ (fs ++ es))), length-append ds (46 ∷ (fs ++ es)))
 some_bytes (bare_atom c cs {bytes = bytes} small a (s, e) other) =
     omega (arith, ap length e, length-append (encode_utf8 c) (encode_utf8_all cs), shape_some c (encode_utf8 c) (shape c))
-some_bytes (quoted_atom q u) = omega arith
-some_bytes (string q u) = omega arith
+some_bytes s = omega arith
 
 -- blanks before other bytes with the same first one
 blank_moves : {blank rest : List ℕ} → Blank blank rest → (b : ℕ) (R S : List ℕ) → rest ≡ b ∷ R → Blank blank (b ∷ S)
@@ -192,8 +174,6 @@ closer_plain bar c Y = mark_plain 124 Y (record { digits = refl; fraction = refl
 closer_plain arrow c Y = mark_plain 61 (62 ∷ Y) (record { digits = refl; fraction = refl; name = refl }) (λ e. omega arith)
 closer_plain colon c Y = mark_plain 58 Y (record { digits = refl; fraction = refl; name = refl }) (λ e. omega arith)
 closer_plain slash c Y = mark_plain 47 Y (record { digits = refl; fraction = refl; name = refl }) (λ e. omega arith)
-closer_plain open_parenthesis c Y = absurd (c.parenthesis refl)
-closer_plain close_parenthesis c Y = absurd (c.parenthesis refl)
 closer_plain full_stop c Y = absurd (c.solid.stop refl)
 closer_plain the_word_fun c Y = absurd (c.solid.word refl)
 closer_plain (integer k) c Y = absurd (c.solid.integer _ refl)
@@ -202,6 +182,7 @@ closer_plain (float mi a b ex) c Y = absurd (c.solid.float refl)
 closer_plain (bare_atom x cs small a utf8 other) c Y = absurd (c.solid.atom _ refl)
 closer_plain (quoted_atom q utf8) c Y = absurd (c.solid.atom _ refl)
 closer_plain (string q utf8) c Y = absurd (c.text _ refl)
+closer_plain s c Y = absurd (c.parenthesis refl)
 
 -- a space delimits
 low_digit : (b : ℕ) → b ≤ 32 → is_digit b ≡ false

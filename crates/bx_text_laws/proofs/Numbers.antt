@@ -109,8 +109,7 @@ integer_is no_minus (d ∷ ds) a l =
 integer_is a_minus (d ∷ ds) a l = negative (numeral_is d ds a)
 
 minus_lines : {front : List ℕ} → Minus front → lines front ≡ 0
-minus_lines no_minus = refl
-minus_lines a_minus = refl
+minus_lines s = grind arith
 
 float_of : (p : Place) (m f : ℕ) (x : Token × Place) → 0 < f → number_by p m f ≡ Ok x → ◌≡◌ {A = Result (Token × Place) Fault} (Ok (token.float, after p (m + f + exponent_len (drop (m + f) p.rest)))) (Ok x)
 float_of p m f x some h = subst (λ t. cond {A = Result (Token × Place) Fault} t (Ok (token.integer (number (take m p.rest)), after p m)) (Ok (token.float, after p (m + f + exponent_len (drop (m + f) p.rest)))) ≡ Ok x) (nonzero f some) h
@@ -182,8 +181,7 @@ by_digits : (front ds Y : List ℕ) (at line : ℕ) (x : Token × Place) → Min
 by_digits front [] Y at line x mi a h = none (eqb (length (front ++ Y)) (length front)) h
   where
     none : (t : Bool) → cond {A = Result (Token × Place) Fault} t (Err (Truncated line)) (Err (BadToken line)) ≡ Ok x → Spelled (on (front ++ Y) at line) x
-    none true h = cc
-    none false h = cc
+    none s h = grind arith
 by_digits front (d ∷ ds) Y at line x mi a h =
     let some : 0 < length (d ∷ ds) = omega arith in
     let text : (front ++ d ∷ ds) ++ Y ≡ front ++ (d ∷ ds ++ Y) = append_assoc front (d ∷ ds) Y in

@@ -5,20 +5,20 @@ use Rattle.std.specs.List.{list_all, prefix_len, flat_map, AllByRecursion}
 use Rattle.std.specs.Char.{encode_utf8}
 use Rattle.std.specs.Fmt.{digits, digits_onto, digit_glyph}
 use Rattle.std.specs.Str.{all_scalars}
-use Rattle.std.proofs.lemmas.Bool.{eqb-true, eqb-false, and_parts, and_from}
+use Rattle.std.proofs.lemmas.Bool.{eqb-true, eqb-false, and_parts, and_from, false_from_ne_true, cond_both}
 use Rattle.std.proofs.lemmas.Bool.Decides.{nat_tests}
 use Rattle.std.proofs.lemmas.Slice.Eq.{bytes_eq-Decides}
 use Rattle.std.proofs.lemmas.Str.{encode_ascii, encodes-append, encodes-chars, scalars-chars}
 use Rattle.std.proofs.Math.Utf8.{low_scalar}
 use Rattle.bx_terms.specs.Outcomes.{◌>>=◌}
-use Rattle.bx_terms.specs.AtomText.{is_name_byte, begins_lower, is_reserved, reserved_words, is_bare, by_code, printed_atom}
+use Rattle.bx_terms.specs.AtomText.{is_name_byte, is_reserved, is_bare, by_code, printed_atom}
 use Rattle.bx_terms.specs.AtomText as atoms
 use Rattle.bx_text.specs.Bytes.{is_digit, is_space}
 use Rattle.bx_text.specs.Number.{number}
 use Rattle.bx_text.specs.Place.{Place, after}
 use Rattle.bx_text.specs.Named as named
 use Rattle.bx_text.specs.Token as token
-use Rattle.bx_text.specs.Token.{Token, Body, spelled}
+use Rattle.bx_text.specs.Token.{Token}
 use Rattle.bx_text.specs.Lexing.{token_at, number_by, fraction_len, name_len, word, behind}
 use Rattle.bx_text.specs.Printed.{digits_within, whole_decimal, integer_text}
 use Rattle.bx_text_laws.specs.Characters.{IsSmall, IsNameCharacter}
@@ -127,7 +127,7 @@ word_exact c cs bytes rest small a (s, e) other d at line = (
   begun,
   ap (λ n. drop n text) count ∙ drop_at bytes rest (length bytes) refl,
   ap (λ n. meant (word (take n text))) count ∙ ap (λ w. meant (word w)) (take_at bytes rest (length bytes) refl)
-      ∙ ap (λ t. meant (cond t named.the_word_fun (token.atom (token.plain bytes)))) (not_fun (bytes_eq bytes (codes "fun")) refl),
+      ∙ ap (λ t. meant (cond t named.the_word_fun (token.atom (token.plain bytes)))) not_fun,
 )
   where
     text : List ℕ
@@ -147,9 +147,8 @@ word_exact c cs bytes rest small a (s, e) other d at line = (
         subst (λ ws. token_at (on (ws ++ rest) at line) ≡ Ok (word (take (name_len (ws ++ rest)) (ws ++ rest)), after (on (ws ++ rest) at line) (name_len (ws ++ rest)))) e
         (subst (λ ws. token_at (on ws at line) ≡ Ok (word (take (name_len ws) ws), after (on ws at line) (name_len ws))) (sym (append_assoc (encode_utf8 c) (encode_utf8_all cs) rest)) (first_small c (encode_utf8_all cs ++ rest) at line small))
 
-    not_fun : (t : Bool) → bytes_eq bytes (codes "fun") ≡ t → t ≡ false
-    not_fun true e = absurd (other ((bytes_eq-Decides bytes (codes "fun")).0 e))
-    not_fun false e = refl
+    not_fun : bytes_eq bytes (codes "fun") ≡ false
+    not_fun = false_from_ne_true (bytes_eq bytes (codes "fun")) (λ e. other ((bytes_eq-Decides bytes (codes "fun")).0 e))
 
 bare_character : (b : ℕ) → is_name_byte b ≡ true → IsNameCharacter b
 bare_character b e = grind (arith, nat_tests)
@@ -281,20 +280,16 @@ control_code : (c : ℕ) → (nat_lt c 32 || eqb c 127) ≡ true → c < 128
 control_code c e = grind (arith, nat_tests)
 
 written : (c : ℕ) → all_scalars (c ∷ []) ≡ true → Written c (atoms.escaped c)
-written c s = by (eqb c 39) (eqb c 92) (eqb c 10) (eqb c 13) (eqb c 9) (nat_lt c 32 || eqb c 127) refl refl refl refl refl refl
+written c s =
+    cond_both (eqb c 39) _ _ (Written c) (λ e. at 39 _ e (other_written 39 (omega arith) quote_other))
+    (λ a. cond_both (eqb c 92) _ _ (Written c) (λ e. at 92 _ e (other_written 92 (omega arith) slash_other))
+    (λ b. cond_both (eqb c 10) _ _ (Written c) (λ e. at 10 _ e (named_written 10 110 (omega arith) line_feed))
+    (λ _. cond_both (eqb c 13) _ _ (Written c) (λ e. at 13 _ e (named_written 13 114 (omega arith) carriage_return))
+    (λ _. cond_both (eqb c 9) _ _ (Written c) (λ e. at 9 _ e (named_written 9 116 (omega arith) tab))
+    (λ _. cond_both (nat_lt c 32 || eqb c 127) _ _ (Written c) (λ e. braced_written c (control_code c e)) (λ _. plain_written c s a b))))))
   where
     at : (d : ℕ) (bytes : List ℕ) → eqb c d ≡ true → Written d bytes → Written c bytes
     at d bytes e w = subst (λ c. Written c bytes) (sym (eqb-true c d e)) w
-
-    by : (t u v w x y : Bool) → eqb c 39 ≡ t → eqb c 92 ≡ u → eqb c 10 ≡ v → eqb c 13 ≡ w → eqb c 9 ≡ x → (nat_lt c 32 || eqb c 127) ≡ y
-        → Written c (cond t (codes "\\'") (cond u (codes "\\\\") (cond v (codes "\\n") (cond w (codes "\\r") (cond x (codes "\\t") (cond y (by_code c) (encode_utf8 c)))))))
-    by true u v w x y a b d e f g = at 39 (codes "\\'") a (other_written 39 (omega arith) quote_other)
-    by false true v w x y a b d e f g = at 92 (codes "\\\\") b (other_written 92 (omega arith) slash_other)
-    by false false true w x y a b d e f g = at 10 (codes "\\n") d (named_written 10 110 (omega arith) line_feed)
-    by false false false true x y a b d e f g = at 13 (codes "\\r") e (named_written 13 114 (omega arith) carriage_return)
-    by false false false false true y a b d e f g = at 9 (codes "\\t") f (named_written 9 116 (omega arith) tab)
-    by false false false false false true a b d e f g = braced_written c (control_code c g)
-    by false false false false false false a b d e f g = plain_written c s a b
 
 abbrev AllWritten : List ℕ → List ℕ → Type 0
 AllWritten cs bytes = (src : List ℕ) × InUtf8 src bytes × Quoted 39 src cs × (free 39 src ≡ true)
@@ -332,11 +327,7 @@ quoted_exact w rest utf8 at line = by_written (all_written (chars w) (scalars-ch
         (by_gives (gives 39 src (chars w) F rest at line (inl refl) (ap (free 39) (sym u.1) ∙ free_text 39 src (omega arith) ∙ f) k u))
 
 pub atom_exact : (w rest : List ℕ) → IsUtf8 w → Delimits rest → Exactly (printed_atom w) (token.atom (token.plain w)) rest
-atom_exact w rest utf8 d = by (is_bare w) refl
-  where
-    by : (t : Bool) → is_bare w ≡ t → Exactly (cond t w (atoms.quoted w)) (token.atom (token.plain w)) rest
-    by true e = bare_exact w rest e d
-    by false e = quoted_exact w rest utf8
+atom_exact w rest utf8 d = cond_both (is_bare w) w (atoms.quoted w) (λ bytes. Exactly bytes (token.atom (token.plain w)) rest) (λ e. bare_exact w rest e d) (λ _. quoted_exact w rest utf8)
 
 -- neither begins with a space or a comment
 pub record Starts (bytes : List ℕ) : Type 0 where
@@ -364,7 +355,8 @@ integer_starts (pos n) = let k = digits_of (decimal_is (suc n) n (omega arith)) 
 integer_starts (negsuc n) = record { first = 45; more = digits_within (suc (suc n)) (suc n); is = refl; space = refl; percent = refl }
 
 pub atom_starts : (w : List ℕ) → Starts (printed_atom w)
-atom_starts w = by (is_bare w) refl
+atom_starts w =
+    cond_both (is_bare w) w (atoms.quoted w) Starts (bare w) (λ _. record { first = 39; more = flat_map atoms.escaped (chars w) ++ 39 ∷ []; is = refl; space = refl; percent = refl })
   where
     no_space : (d : ℕ) → atoms.is_lower d ≡ true → is_space d ≡ false
     no_space d e = grind (arith, nat_tests)
@@ -377,7 +369,3 @@ atom_starts w = by (is_bare w) refl
     bare (b ∷ bs) e =
         let lower = (and_parts (atoms.is_lower b) (list_all is_name_byte (b ∷ bs)) (and_parts (atoms.is_lower b && list_all is_name_byte (b ∷ bs)) (not (is_reserved (b ∷ bs))) e).0).0 in
         record { first = b; more = bs; is = refl; space = no_space b lower; percent = no_percent b lower }
-
-    by : (t : Bool) → is_bare w ≡ t → Starts (cond t w (atoms.quoted w))
-    by true e = bare w e
-    by false e = record { first = 39; more = flat_map atoms.escaped (chars w) ++ 39 ∷ []; is = refl; space = refl; percent = refl }

@@ -1,14 +1,13 @@
 -- Quoted atoms and strings.
-use Rattle.std.proofs.Common.{◌≡◌, ◌≢◌, ℕ, zero, suc, ◌+◌, ◌≤◌, ◌<◌, Bool, true, false, cond, not, eqb, ◌&&◌, List, [], ◌∷◌, ◌++◌, take, drop, get_or, length, Result, Ok, Err, refl, sym, ap, ◌∙◌, subst, arith, append_assoc, drop_at, take_at, take_all, length-append, append-nil, encode_utf8_all, chars, IsUtf8, le_refl, ◌⊎◌, inl, inr}
+use Rattle.std.proofs.Common.{◌≡◌, ◌≢◌, ℕ, ◌+◌, ◌≤◌, ◌<◌, Bool, true, false, cond, not, eqb, ◌&&◌, List, [], ◌∷◌, ◌++◌, take, drop, get_or, length, Result, Ok, Err, refl, sym, ap, ◌∙◌, subst, arith, append_assoc, drop_at, take_at, take_all, length-append, append-nil, encode_utf8_all, chars, IsUtf8, le_refl, ◌⊎◌, inl, inr}
 use Rattle.std.specs.List.{list_all, prefix_len}
 use Rattle.std.specs.Char.{encode_utf8}
-use Rattle.std.specs.Str.{is_utf8}
-use Rattle.std.specs.Str.Lossy.{utf8_valid_len, valid_len_up_to}
-use Rattle.std.proofs.lemmas.Bool.{eqb-true, and_parts, and_from}
+use Rattle.std.specs.Str.Lossy.{utf8_valid_len}
+use Rattle.std.proofs.lemmas.Bool.{eq-eqb, eqb-true, and_parts, and_from}
 use Rattle.std.proofs.lemmas.Bool.Decides.{nat_tests}
 use Rattle.std.proofs.lemmas.List.{get_or_at}
 use Rattle.std.proofs.lemmas.List.Recursion.{is_count_by}
-use Rattle.std.proofs.lemmas.Str.{IsUtf8-nil, IsUtf8-from_is_utf8, IsUtf8-take, IsCharBoundary-before_ascii, utf8_valid_len-IsUtf8, chars-encodes}
+use Rattle.std.proofs.lemmas.Str.{IsUtf8-take, IsCharBoundary-before_ascii, utf8_valid_len-IsUtf8, chars-encodes}
 use Rattle.bx_terms.specs.Outcomes.{◌>>=◌}
 use Rattle.bx_terms.specs.declared.faults.Fault.{Fault}
 use Rattle.bx_terms.specs.declared.faults.Fault.TheVariants.{BadToken, NotUtf8}
@@ -18,7 +17,8 @@ use Rattle.bx_text.specs.Place.{Place, feeds}
 use Rattle.bx_text.specs.Named as named
 use Rattle.bx_text.specs.Token as token
 use Rattle.bx_text.specs.Token.{Token, Body, spelled}
-use Rattle.bx_text.specs.Lexing.{token_at, quoted_at, body_at, closing_at, escaped_at, ended_at, behind, body_len, valid_front, broken}
+use Rattle.bx_text.specs.Lexing as lexing
+use Rattle.bx_text.specs.Lexing.{token_at, quoted_at, body_at, closing_at, escaped_at, ended_at, behind, body_len, broken}
 use Rattle.bx_text.proofs.Outcomes.{ok_same, bind_ok}
 use Rattle.bx_text_laws.specs.Quoted as quoted
 use Rattle.bx_text_laws.specs.Quoted.{IsQuote, Quoted}
@@ -29,31 +29,12 @@ use Rattle.bx_text_laws.proofs.Runs.{run_split, run_append}
 use Rattle.bx_text_laws.proofs.Free.{free, freed, shape, Shape, free_text, body_of, body_split, Split}
 use Rattle.bx_text_laws.proofs.Escapes.{run, whole, over_itself}
 use Rattle.bx_text_laws.proofs.Means.{means}
+use Rattle.bx_text_laws.proofs.Seams.{valid_front}
 use Rattle.bx_text_laws.proofs.Readings.{Read, reads, quoted_free}
 
 -- UTF-8
-valid_le : (bs : List ℕ) (n : ℕ) → valid_len_up_to bs n ≤ n
-valid_le bs zero = omega arith
-valid_le bs (suc n) = by (is_utf8 (take (suc n) bs)) (valid_len_up_to bs n) (valid_le bs n)
-  where
-    by : (t : Bool) (m : ℕ) → m ≤ n → cond t (suc n) m ≤ suc n
-    by true m h = omega arith
-    by false m h = omega arith
-
-valid_take : (bs : List ℕ) (n : ℕ) → valid_len_up_to bs n ≡ n → IsUtf8 (take n bs)
-valid_take bs zero e = IsUtf8-nil
-valid_take bs (suc n) e = by (is_utf8 (take (suc n) bs)) refl e
-  where
-    by : (t : Bool) → is_utf8 (take (suc n) bs) ≡ t → cond t (suc n) (valid_len_up_to bs n) ≡ suc n → IsUtf8 (take (suc n) bs)
-    by true is e = IsUtf8-from_is_utf8 (take (suc n) bs) is
-    by false is e = absurd (omega (arith, e, valid_le bs n))
-
 pub valid_is : (bs : List ℕ) → utf8_valid_len bs ≡ length bs → IsUtf8 bs
-unfolding utf8_valid_len
-valid_is bs e = subst IsUtf8 (take_all (length bs) bs (le_refl (length bs))) (valid_take bs (length bs) e)
-
-tested : (n : ℕ) → eqb n n ≡ true
-tested n = grind (arith, nat_tests)
+valid_is bs e = subst IsUtf8 (ap (λ n. take n bs) e ∙ take_all (length bs) bs (le_refl (length bs))) (valid_front bs)
 
 -- the place behind a quoted token
 pub feeds_lines : (bs : List ℕ) → lines bs ≡ feeds bs
@@ -170,7 +151,7 @@ by_escapes q body at line y h (raw, zs, e, l, d) g =
     let p : Place = on (q ∷ body) at line in
     let front : take n body ≡ raw = ap (λ us. take n us) e ∙ take_at raw zs n (sym l) in
     let back : drop n body ≡ zs = ap (λ us. drop n us) e ∙ drop_at raw zs n (sym l) in
-    let valid = good (eqb (utf8_valid_len (take n body)) n) (ended_at p body n (drop n body)) (broken p (valid_front (take n body)) (open_in (valid_front (take n body)))) y g in
+    let valid = good (eqb (utf8_valid_len (take n body)) n) (ended_at p body n (drop n body)) (broken p (lexing.valid_front (take n body)) (open_in (lexing.valid_front (take n body)))) y g in
     let size : utf8_valid_len raw ≡ length raw = ap utf8_valid_len (sym front) ∙ eqb-true (utf8_valid_len (take n body)) n valid.0 ∙ l in
     by_end zs d e l front size (subst (λ us. ended_at p body n us ≡ Ok y) back valid.1)
   where
@@ -225,7 +206,7 @@ taken q body at line y h g = by_run (run_split (is_plain q) body)
         let p : Place = on (q ∷ body) at line in
         let front : take m body ≡ raw = ap (λ us. take m us) e ∙ take_at raw zs m (sym n) in
         let back : drop m body ≡ zs = ap (λ us. drop m us) e ∙ drop_at raw zs m (sym n) in
-        let valid = good (eqb (utf8_valid_len (take m body)) m) (closing_at q p body m (drop m body)) (NotUtf8 (line + feeds (valid_front (take m body)))) y g in
+        let valid = good (eqb (utf8_valid_len (take m body)) m) (closing_at q p body m (drop m body)) (NotUtf8 (line + feeds (lexing.valid_front (take m body)))) y g in
         let size : utf8_valid_len raw ≡ length raw = ap utf8_valid_len (sym front) ∙ eqb-true (utf8_valid_len (take m body)) m valid.0 ∙ n in
         by_stop raw zs e a n front size (subst (λ us. closing_at q p body m us ≡ Ok y) back valid.1)
 
@@ -292,9 +273,6 @@ Gives q bytes rest at line vs =
 valid_text : (cs bytes : List ℕ) → InUtf8 cs bytes → utf8_valid_len bytes ≡ length bytes
 valid_text cs bytes (s, t) = utf8_valid_len-IsUtf8 bytes (cs, (s, t))
 
-pub same_test : (m n : ℕ) → m ≡ n → eqb m n ≡ true
-same_test m n e = grind (arith, nat_tests)
-
 quote_not_plain : (q : ℕ) → is_plain q q ≡ false
 quote_not_plain q = grind (arith, nat_tests)
 
@@ -327,12 +305,12 @@ plain_found q cs vs bytes rest at line h r u a =
     front = take_at bytes (q ∷ rest) (length bytes) refl
 
     valid : eqb (utf8_valid_len (take (length bytes) B)) (length bytes) ≡ true
-    valid = same_test (utf8_valid_len (take (length bytes) B)) (length bytes) (ap utf8_valid_len front ∙ valid_text cs bytes u)
+    valid = eq-eqb (utf8_valid_len (take (length bytes) B)) (length bytes) (ap utf8_valid_len front ∙ valid_text cs bytes u)
 
     here : quoted_at q p ≡ Ok (token.plain bytes, behind p B (length bytes))
     here =
         ap (λ n. body_at q p B n) count
-        ∙ ap (λ (t : Bool). cond t (closing_at q p B (length bytes) (drop (length bytes) B)) (Err (NotUtf8 (line + feeds (valid_front (take (length bytes) B)))))) valid
+        ∙ ap (λ (t : Bool). cond t (closing_at q p B (length bytes) (drop (length bytes) B)) (Err (NotUtf8 (line + feeds (lexing.valid_front (take (length bytes) B)))))) valid
         ∙ ap (λ us. closing_at q p B (length bytes) us) (drop_at bytes (q ∷ rest) (length bytes) refl)
         ∙ ap (λ (t : Bool). cond t (escaped_at p B (body_len q B)) (Ok (token.plain (take (length bytes) B), behind p B (length bytes)))) (quote_slash_test q h)
         ∙ ap (λ us. Ok (token.plain us, behind p B (length bytes))) front
@@ -341,7 +319,7 @@ escapes_found : (q : ℕ) (cs vs bytes rest : List ℕ) (at line : ℕ) → IsQu
     → escaped_at (on (q ∷ (bytes ++ q ∷ rest)) at line) (bytes ++ q ∷ rest) (body_len q (bytes ++ q ∷ rest)) ≡ Ok (token.escaped bytes, behind (on (q ∷ (bytes ++ q ∷ rest)) at line) (bytes ++ q ∷ rest) (length bytes))
 escapes_found q cs vs bytes rest at line h is_free r u =
     ap (λ n. escaped_at p B n) count
-    ∙ ap (λ (t : Bool). cond t (ended_at p B (length bytes) (drop (length bytes) B)) (Err (broken p (valid_front (take (length bytes) B)) (open_in (valid_front (take (length bytes) B)))))) valid
+    ∙ ap (λ (t : Bool). cond t (ended_at p B (length bytes) (drop (length bytes) B)) (Err (broken p (lexing.valid_front (take (length bytes) B)) (open_in (lexing.valid_front (take (length bytes) B)))))) valid
     ∙ ap (λ us. ended_at p B (length bytes) us) (drop_at bytes (q ∷ rest) (length bytes) refl)
     ∙ ap (λ (t : Bool). cond t (Ok (token.escaped (take (length bytes) B), behind p B (length bytes))) (Err (BadToken line))) closed
     ∙ ap (λ us. Ok (token.escaped us, behind p B (length bytes))) front
@@ -359,7 +337,7 @@ escapes_found q cs vs bytes rest at line h is_free r u =
     front = take_at bytes (q ∷ rest) (length bytes) refl
 
     valid : eqb (utf8_valid_len (take (length bytes) B)) (length bytes) ≡ true
-    valid = same_test (utf8_valid_len (take (length bytes) B)) (length bytes) (ap utf8_valid_len front ∙ valid_text cs bytes u)
+    valid = eq-eqb (utf8_valid_len (take (length bytes) B)) (length bytes) (ap utf8_valid_len front ∙ valid_text cs bytes u)
 
     closed : is_whole (open_in (take (length bytes) B)) ≡ true
     closed = ap (λ us. is_whole (open_in us)) front ∙ opens cs bytes u ∙ (means r).1
@@ -425,12 +403,12 @@ slashed_found q cs vs raw zs rest z at line h is_free r u a n =
     text = subst IsUtf8 inner (IsUtf8-take bytes (length raw) (cs, (u.0, u.1)) (IsCharBoundary-before_ascii bytes (length raw) (omega (arith, length-append raw (z ∷ zs))) low))
 
     valid : eqb (utf8_valid_len (take (length raw) B)) (length raw) ≡ true
-    valid = same_test (utf8_valid_len (take (length raw) B)) (length raw) (ap utf8_valid_len front ∙ utf8_valid_len-IsUtf8 raw text)
+    valid = eq-eqb (utf8_valid_len (take (length raw) B)) (length raw) (ap utf8_valid_len front ∙ utf8_valid_len-IsUtf8 raw text)
 
     here : quoted_at q p ≡ Ok (token.escaped bytes, behind p B (length bytes))
     here =
         ap (λ n. body_at q p B n) count
-        ∙ ap (λ (t : Bool). cond t (closing_at q p B (length raw) (drop (length raw) B)) (Err (NotUtf8 (line + feeds (valid_front (take (length raw) B)))))) valid
+        ∙ ap (λ (t : Bool). cond t (closing_at q p B (length raw) (drop (length raw) B)) (Err (NotUtf8 (line + feeds (lexing.valid_front (take (length raw) B)))))) valid
         ∙ ap (λ us. closing_at q p B (length raw) us) (ap (λ us. drop (length raw) us) parted ∙ drop_at raw (z ∷ (zs ++ q ∷ rest)) (length raw) refl)
         ∙ ap (λ (t : Bool). cond t (escaped_at p B (body_len q B)) (Ok (token.plain (take (length raw) B), behind p B (length raw)))) slash
         ∙ escapes_found q cs vs bytes rest at line h is_free r u

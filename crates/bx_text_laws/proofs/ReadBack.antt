@@ -1,5 +1,5 @@
 -- What is printed is read as the same term.
-use Rattle.std.proofs.Common.{◌≡◌, ◌<◌, arith, ℕ, zero, suc, ◌+◌, false, eqb, ℤ, List, [], ◌∷◌, ◌++◌, Ok, refl, sym, ap, ◌∙◌, subst, codes, append_assoc, ◌⊎◌, inl, inr, IsUtf8}
+use Rattle.std.proofs.Common.{◌≡◌, ◌<◌, arith, ℕ, suc, ◌+◌, false, eqb, ℤ, List, [], ◌∷◌, ◌++◌, Ok, refl, sym, ap, ◌∙◌, subst, codes, append_assoc, ◌⊎◌, inl, inr, IsUtf8}
 use Rattle.bx_terms.specs.Outcomes.{◌>>=◌}
 use Rattle.bx_terms.specs.AtomText.{printed_atom}
 use Rattle.bx_text.specs.declared.node.Span.{Span}
@@ -7,7 +7,7 @@ use Rattle.bx_text.specs.Bytes.{is_space}
 use Rattle.bx_text.specs.Place.{Place, place_in}
 use Rattle.bx_text.specs.Named as named
 use Rattle.bx_text.specs.Token as token
-use Rattle.bx_text.specs.Token.{Token, Body, Lexeme, spelled}
+use Rattle.bx_text.specs.Token.{Token, Lexeme, spelled}
 use Rattle.bx_text.specs.Lexing.{token_at, lexeme_from, lexeme_at}
 use Rattle.bx_text.specs.Terms.{span, tail_of}
 use Rattle.bx_text.specs.Grammar.{Spells, an_integer, an_atom, empty_tuple, a_tuple, empty_list, a_list, a_list_with_tail, Row, one, more, a_form}
@@ -53,14 +53,7 @@ pub record Read (d : ℕ) (p : Place) (rest : List ℕ) (t : Tree) : Type 0 wher
 
 integer_meant : (u : Token) (n : ℤ) → meant u ≡ token.integer n → u ≡ token.integer n
 integer_meant (token.integer m) n e = e
-integer_meant token.float n e = cc
-integer_meant (token.atom b) n e = cc
-integer_meant (token.text b) n e = cc
-integer_meant token.open_tuple n e = cc
-integer_meant token.open_list n e = cc
-integer_meant token.open_map n e = cc
-integer_meant token.open_binary n e = cc
-integer_meant (token.mark m) n e = cc
+integer_meant s n e = cc
 
 -- from each place
 abbrev pub Reads : ℕ → List ℕ → List ℕ → Tree → Type 0
@@ -105,13 +98,9 @@ comma_at : (X : List ℕ) → Closes (44 ∷ X)
 comma_at X = mark_closes 44 X (record { digits = refl; fraction = refl; name = refl }) (omega arith)
 
 delimits : (u : Tree) (X : List ℕ) → Closes X → Closes (rest_text u ++ X)
-delimits (integer s n) X d = bar_at _
-delimits (atom s w) X d = bar_at _
-delimits (tuple s t) X d = bar_at _
-delimits (list s t) X d = bar_at _
-delimits (other s k w) X d = bar_at _
 delimits nil X d = d
 delimits (cons t u) X d = comma_at _
+delimits s X d = bar_at _
 
 -- at the place where a term ended
 pub ended : {d : ℕ} {p : Place} {rest : List ℕ} {t : Tree} → (r : Read d p rest t) → Spells d r.first r.tree (on rest r.end.at r.end.line)
@@ -258,22 +247,14 @@ IsTail (cons t u) = ⊥
 IsTail t = Unit {0}
 
 no_list : (s : Span) (t u : Tree) → IsTail u → list s t ≡ unplaced u → ⊥
-no_list s t (integer x n) k e = cc
-no_list s t (atom x w) k e = cc
-no_list s t (tuple x v) k e = cc
 no_list s t (list x v) k e = k
-no_list s t (other x y w) k e = cc
 no_list s t nil k e = k
 no_list s t (cons v w) k e = k
+no_list s t u k e = cc
 
 untailed : (v u : Tree) → IsTail u → unplaced v ≡ unplaced u → tail_of v ≡ v
-untailed (integer s n) u k e = refl
-untailed (atom s w) u k e = refl
-untailed (tuple s t) u k e = refl
 untailed (list s t) u k e = absurd (no_list nowhere (unplaced t) u k e)
-untailed (other s j w) u k e = refl
-untailed nil u k e = refl
-untailed (cons t w) u k e = refl
+untailed s u k e = refl
 
 listed_tail : (d : ℕ) (rest : List ℕ) (u : Tree) → IsTail u → rest_text u ≡ 124 ∷ node_text u → Reads d (node_text u) (93 ∷ rest) u → Tails d rest u
 listed_tail d rest u k text reads at line =
@@ -351,100 +332,52 @@ list_read d s t rest e bracketed at line =
     subst (λ us. Read (suc d) (on us at line) rest s) (sym (opened 91 93 (row_text t) rest))
     (record { first = standing p (token.open_list, q); tree = w.tree; end = w.end; next = next_by 91 (row_text t ++ 93 ∷ rest) at line token.open_list q refl refl refl; spells = w.spells; left = w.left; same = w.same ∙ sym e })
 
--- all of it, by the term
-record Facts (t : Tree) : Type 0 where
-  node : (d : ℕ) (rest : List ℕ) → Shown d t → Closes rest → Reads d (node_text t) rest t
-  inside : (d : ℕ) (rest : List ℕ) → ShownRow d t → Tupled d rest t
-  ends : (d : ℕ) (rest : List ℕ) → ShownRow d t → Ends d rest t
-  listed : (d : ℕ) (rest : List ℕ) → ShownList d t → Bracketed d rest t
-  tails : (d : ℕ) (rest : List ℕ) → ShownRest d t → Tails d rest t
-
 tuple_end : (X : List ℕ) → Closes (125 ∷ X)
 tuple_end X = mark_closes 125 X (record { digits = refl; fraction = refl; name = refl }) (omega arith)
 
 list_end : (X : List ℕ) → Closes (93 ∷ X)
 list_end X = mark_closes 93 X (record { digits = refl; fraction = refl; name = refl }) (omega arith)
 
-tuple_node : (s : Span) (t : Tree) → Facts t → (d : ℕ) (rest : List ℕ) → Shown d (tuple s t) → Reads d (node_text (tuple s t)) rest (tuple s t)
-tuple_node s t f zero rest h = absurd h
-tuple_node s t f (suc d) rest h = tuple_read d (tuple s t) t rest refl (f.inside d rest h)
+-- all of it, by the term: what is printed is read, where a delimiter follows
+mutual
+  pub printed_read : (t : Tree) (d : ℕ) (rest : List ℕ) → Shown d t → Closes rest → Reads d (node_text t) rest t
+  printed_read (integer s n) d rest h k = integer_read d n (integer s n) rest refl k
+  printed_read (atom s w) d rest h k = atom_read d w (atom s w) rest refl h k
+  printed_read (other s k w) d rest h c = other_read d k w (other s k w) rest refl h c
+  printed_read (tuple s t) (suc d) rest h k = tuple_read d (tuple s t) t rest refl (inside t d rest h)
+  printed_read (list s t) (suc d) rest h k = list_read d (list s t) t rest refl (listed t d rest h)
+  printed_read t d rest h k = absurd h
 
-list_node : (s : Span) (t : Tree) → Facts t → (d : ℕ) (rest : List ℕ) → Shown d (list s t) → Reads d (node_text (list s t)) rest (list s t)
-list_node s t f zero rest h = absurd h
-list_node s t f (suc d) rest h = list_read d (list s t) t rest refl (f.listed d rest h)
+  inside : (t : Tree) (d : ℕ) (rest : List ℕ) → ShownRow d t → Tupled d rest t
+  inside nil d rest h = tupled_none d rest
+  inside (cons a u) d rest h = tupled_some d rest a u (printed_read a d (rest_text u ++ 125 ∷ rest) h.0 (delimits u (125 ∷ rest) (tuple_end rest))) (ends u d rest h.1)
+  inside t d rest h = absurd h
 
-tuple_tail : (s : Span) (t : Tree) → Facts t → (d : ℕ) (rest : List ℕ) → ShownRest d (tuple s t) → Tails d rest (tuple s t)
-tuple_tail s t f zero rest h = absurd h
-tuple_tail s t f (suc d) rest h = listed_tail (suc d) rest (tuple s t) tt refl (tuple_node s t f (suc d) (93 ∷ rest) h)
+  ends : (t : Tree) (d : ℕ) (rest : List ℕ) → ShownRow d t → Ends d rest t
+  ends nil d rest h = closed_end d rest
+  ends (cons a u) d rest h = closed_more d rest a u (printed_read a d (rest_text u ++ 125 ∷ rest) h.0 (delimits u (125 ∷ rest) (tuple_end rest))) (ends u d rest h.1)
+  ends t d rest h = absurd h
 
-facts : (t : Tree) → Facts t
-facts (integer s n) = record {
-  node = λ d rest h k. integer_read d n (integer s n) rest refl k;
-  inside = λ d rest h. absurd h;
-  ends = λ d rest h. absurd h;
-  listed = λ d rest h. absurd h;
-  tails = λ d rest h. listed_tail d rest (integer s n) tt refl (integer_read d n (integer s n) (93 ∷ rest) refl (list_end rest));
-}
-facts (atom s w) = record {
-  node = λ d rest h k. atom_read d w (atom s w) rest refl h k;
-  inside = λ d rest h. absurd h;
-  ends = λ d rest h. absurd h;
-  listed = λ d rest h. absurd h;
-  tails = λ d rest h. listed_tail d rest (atom s w) tt refl (atom_read d w (atom s w) (93 ∷ rest) refl h (list_end rest));
-}
-facts (tuple s t) =
-    let f = facts t in
-    record {
-      node = λ d rest h k. tuple_node s t f d rest h;
-      inside = λ d rest h. absurd h;
-      ends = λ d rest h. absurd h;
-      listed = λ d rest h. absurd h;
-      tails = λ d rest h. tuple_tail s t f d rest h;
-    }
-facts (list s t) =
-    let f = facts t in
-    record {
-      node = λ d rest h k. list_node s t f d rest h;
-      inside = λ d rest h. absurd h;
-      ends = λ d rest h. absurd h;
-      listed = λ d rest h. absurd h;
-      tails = λ d rest h. absurd h;
-    }
-facts (other s k w) = record {
-  node = λ d rest h c. other_read d k w (other s k w) rest refl h c;
-  inside = λ d rest h. absurd h;
-  ends = λ d rest h. absurd h;
-  listed = λ d rest h. absurd h;
-  tails = λ d rest h. listed_tail d rest (other s k w) tt refl (other_read d k w (other s k w) (93 ∷ rest) refl h (list_end rest));
-}
-facts nil = record {
-  node = λ d rest h k. absurd h;
-  inside = λ d rest h. tupled_none d rest;
-  ends = λ d rest h. closed_end d rest;
-  listed = λ d rest h. bracketed_none d rest;
-  tails = λ d rest h. listed_end d rest;
-}
-facts (cons a u) =
-    let f = facts a in
-    let g = facts u in
-    record {
-      node = λ d rest h k. absurd h;
-      inside = λ d rest h. tupled_some d rest a u (f.node d (rest_text u ++ 125 ∷ rest) h.0 (delimits u (125 ∷ rest) (tuple_end rest))) (g.ends d rest h.1);
-      ends = λ d rest h. closed_more d rest a u (f.node d (rest_text u ++ 125 ∷ rest) h.0 (delimits u (125 ∷ rest) (tuple_end rest))) (g.ends d rest h.1);
-      listed = λ d rest h. bracketed_some d rest a u (f.node d (rest_text u ++ 93 ∷ rest) h.0 (delimits u (93 ∷ rest) (list_end rest))) (g.tails d rest h.1);
-      tails = λ d rest h. listed_more d rest a u (f.node d (rest_text u ++ 93 ∷ rest) h.0 (delimits u (93 ∷ rest) (list_end rest))) (g.tails d rest h.1);
-    }
+  listed : (t : Tree) (d : ℕ) (rest : List ℕ) → ShownList d t → Bracketed d rest t
+  listed nil d rest h = bracketed_none d rest
+  listed (cons a u) d rest h = bracketed_some d rest a u (printed_read a d (rest_text u ++ 93 ∷ rest) h.0 (delimits u (93 ∷ rest) (list_end rest))) (tails u d rest h.1)
+  listed t d rest h = absurd h
 
--- what is printed is read, where a delimiter follows
-pub printed_read : (t : Tree) (d : ℕ) (rest : List ℕ) → Shown d t → Closes rest → Reads d (node_text t) rest t
-printed_read t = (facts t).node
+  tails : (t : Tree) (d : ℕ) (rest : List ℕ) → ShownRest d t → Tails d rest t
+  tails nil d rest h = listed_end d rest
+  tails (cons a u) d rest h = listed_more d rest a u (printed_read a d (rest_text u ++ 93 ∷ rest) h.0 (delimits u (93 ∷ rest) (list_end rest))) (tails u d rest h.1)
+  tails (integer s n) d rest h = listed_tail d rest (integer s n) tt refl (integer_read d n (integer s n) (93 ∷ rest) refl (list_end rest))
+  tails (atom s w) d rest h = listed_tail d rest (atom s w) tt refl (atom_read d w (atom s w) (93 ∷ rest) refl h (list_end rest))
+  tails (other s k w) d rest h = listed_tail d rest (other s k w) tt refl (other_read d k w (other s k w) (93 ∷ rest) refl h (list_end rest))
+  tails (tuple s t) (suc d) rest h = listed_tail (suc d) rest (tuple s t) tt refl (tuple_read d (tuple s t) t (93 ∷ rest) refl (inside t d (93 ∷ rest) h))
+  tails t d rest h = absurd h
 
 -- a full stop that ends its line
 pub stop_at : (X : List ℕ) → Closes (46 ∷ 10 ∷ X)
 stop_at X = mark_closes 46 (10 ∷ X) (record { digits = refl; fraction = refl; name = refl }) (omega arith)
 
 pub read_back : (t : Tree) → Shown 256 t → IsReadBack t
-read_back t h = by_read ((facts t).node 256 (46 ∷ []) h (mark_closes 46 [] (record { digits = refl; fraction = refl; name = refl }) (omega arith)) 0 1)
+read_back t h = by_read (printed_read t 256 (46 ∷ []) h (mark_closes 46 [] (record { digits = refl; fraction = refl; name = refl }) (omega arith)) 0 1)
   where
     by_read : Read 256 (on (node_text t ++ 46 ∷ []) 0 1) (46 ∷ []) t → IsReadBack t
     by_read r =

@@ -1,16 +1,16 @@
 -- What the reader makes of characters with escapes is quoted so.
 use Rattle.std.proofs.Common.{◌≡◌, ◌≢◌, ℕ, zero, suc, ◌+◌, ◌≤◌, ◌<◌, Bool, true, false, cond, not, eqb, ◌&&◌, List, [], ◌∷◌, ◌++◌, length, refl, sym, ap, ◌∙◌, subst, arith, ◌⊎◌, inl, inr, append_assoc, append-nil, length-append}
 use Rattle.std.specs.List.{fold, list_all, prefix_len}
-use Rattle.std.proofs.lemmas.Bool.{eqb-true, eqb-false, and_parts, and_from, cases_eq}
+use Rattle.std.proofs.lemmas.Bool.{and_from, and_parts, both_ways, cases_Bool, cases_eq, cond-false, cond-true, eqb-false, eqb-true, false_from_ne_true, not-true}
 use Rattle.std.proofs.lemmas.Bool.Decides.{nat_tests}
 use Rattle.bx_text.specs.Named as named
 use Rattle.bx_text.specs.Escapes.{digit, is_octal, is_hex, is_control, is_scalar, step}
 use Rattle.bx_text.specs.Escapes as escapes
 use Rattle.bx_text_laws.specs.Characters.{IsControl}
-use Rattle.bx_text_laws.specs.Numerals.{Digit, Numeral, one_digit}
+use Rattle.bx_text_laws.specs.Numerals.{Digit}
 use Rattle.bx_text_laws.specs.Quoted as quoted
-use Rattle.bx_text_laws.specs.Quoted.{IsQuote, Quoted, Named, IsOctal, IsNamed, IsOther, NoOctal, backspace, delete, escape, form_feed, line_feed, carriage_return, space, tab, vertical_tab}
-use Rattle.bx_text_laws.proofs.Free.{free, freed, capped, free_plain, past_cap, not_one}
+use Rattle.bx_text_laws.specs.Quoted.{IsQuote, Quoted, Named, IsOctal, IsNamed, NoOctal, backspace, delete, escape, form_feed, line_feed, carriage_return, space, tab, vertical_tab}
+use Rattle.bx_text_laws.proofs.Free.{free, freed, capped, free_plain, past_cap}
 use Rattle.bx_text_laws.proofs.Runs.{run_split, run_append}
 use Rattle.bx_text_laws.proofs.Escapes.{run, whole, Turn, ends, over_itself, no_octal, first_hex, first_braced, over_braced, is_base, with_digit, value_from, numeral_value, saturated, same_fold, scalar_same, scalar_from}
 use Rattle.bx_text_laws.proofs.Means.{one_turn, two_turn, three_turn, hex_two, braced_by, control_turn, named_turn, names_itself}
@@ -42,11 +42,7 @@ pub octal_hex : (c : ℕ) → is_octal c ≡ true → is_hex c ≡ true
 octal_hex c e = grind (arith, nat_tests)
 
 free_past : (q c : ℕ) (cs : List ℕ) → eqb c 92 ≡ false → free q (c ∷ cs) ≡ true → free q cs ≡ true
-free_past q c cs e f = (and_parts (not (eqb c q)) (free q cs) (by (eqb c 92) (freed q cs) (not (eqb c q) && free q cs) e f)).1
-  where
-    by : (t a b : Bool) → t ≡ false → cond t a b ≡ true → b ≡ true
-    by true a b e f = cc
-    by false a b e f = f
+free_past q c cs e f = (and_parts (not (eqb c q)) (free q cs) (sym (cond-false (eqb c 92) (freed q cs) _ e) ∙ f)).1
 
 free_hex : (q : ℕ) (ds cs : List ℕ) → IsQuote q → list_all is_hex ds ≡ true → free q (ds ++ cs) ≡ true → free q cs ≡ true
 free_hex q [] cs h a f = f
@@ -54,16 +50,12 @@ free_hex q (d ∷ ds) cs h a f =
     let all = and_parts (is_hex d) (list_all is_hex ds) a in
     free_hex q ds cs h all.1 (free_past q d (ds ++ cs) (hex_plain q d h all.0).0 f)
 
+octal_is : (c x : ℕ) → Digit 8 c x → is_octal c ≡ true
+octal_is c x h = grind (arith, nat_tests)
+
 octal_none : (cs : List ℕ) → no_octal cs ≡ true → NoOctal cs
 octal_none [] e = tt
-octal_none (c ∷ cs) e = λ x. both (is_octal c) e (octal_is c x.0 x.1.0 x.1.1)
-  where
-    octal_is : (c x : ℕ) → x < 8 → Rattle.bx_text_laws.specs.Numerals.Counts c x → is_octal c ≡ true
-    octal_is c x l h = grind (arith, nat_tests)
-
-    both : (t : Bool) → not t ≡ true → t ≡ true → ⊥
-    both true e f = cc
-    both false e f = cc
+octal_none (c ∷ cs) e = λ x. both_ways (is_octal c) (not-true (is_octal c) e) (octal_is c x.0 x.1)
 
 -- octal digits: one, two or three
 abbrev Goes : ℕ → ℕ → List ℕ → List ℕ → Type 0
@@ -112,22 +104,14 @@ bad_stays [] = refl
 bad_stays (c ∷ cs) = bad_stays cs
 
 never : {A : Type 0} (b : Bool) → b ≡ false → b ≡ true → A
-never true e f = cc
-never false e f = cc
+never b e f = absurd (both_ways b e f)
 
 -- behind `x{`
 brace_bad : (y w : ℕ) → is_hex y ≡ false → (eqb y 125 && is_scalar w) ≡ false → step (named.braced w) y ≡ named.bad
 brace_bad y w e f = ap (λ (t : Bool). cond t (named.braced (escapes.braced w (digit y))) (cond (eqb y 125 && is_scalar w) named.nothing named.bad)) e ∙ ap (λ (t : Bool). cond t named.nothing named.bad) f
 
 stops : (hs : List ℕ) (y : ℕ) (ys : List ℕ) → list_all is_hex hs ≡ true → prefix_len is_hex (hs ++ y ∷ ys) ≡ length hs → is_hex y ≡ false
-stops hs y ys a n = by (is_hex y) refl
-  where
-    none : prefix_len is_hex (y ∷ ys) ≡ 0
-    none = omega (arith, n, run_append is_hex hs (y ∷ ys) a)
-
-    by : (t : Bool) → is_hex y ≡ t → t ≡ false
-    by true e = absurd (omega (arith, none, ap (λ (t : Bool). cond t (1 + prefix_len is_hex ys) 0) e))
-    by false e = refl
+stops hs y ys a n = false_from_ne_true (is_hex y) (λ e. omega (arith, n, run_append is_hex hs (y ∷ ys) a, cond-true (is_hex y) (1 + prefix_len is_hex ys) 0 e))
 
 whole_braced : (g : ℕ) (hs zs : List ℕ) → is_hex g ≡ true → list_all is_hex hs ≡ true → whole named.nothing (92 ∷ 120 ∷ 123 ∷ g ∷ (hs ++ zs)) ≡ whole (named.braced (fold saturated (digit g) hs)) zs
 whole_braced g hs zs i a = ends (first_braced g (hs ++ zs) i) ∙ ends (over_braced hs (digit g) zs a)
@@ -147,35 +131,34 @@ in_brace : (q k g : ℕ) (gs : List ℕ) → IsQuote q → Next q k → length g
     → Read q (92 ∷ 120 ∷ 123 ∷ g ∷ gs)
 in_brace q k g gs h next l i f w = by_run (run_split is_hex gs)
   where
-    shut : (hs ys : List ℕ) (y : ℕ) (t u : Bool) → eqb y 125 ≡ t → is_scalar (fold saturated (digit g) hs) ≡ u → gs ≡ hs ++ y ∷ ys → list_all is_hex hs ≡ true → is_hex y ≡ false → Read q (92 ∷ 120 ∷ 123 ∷ g ∷ gs)
-    shut hs ys y true true e s is a n =
+    spoilt : (hs ys : List ℕ) (y : ℕ) → gs ≡ hs ++ y ∷ ys → list_all is_hex hs ≡ true → is_hex y ≡ false → (eqb y 125 && is_scalar (fold saturated (digit g) hs)) ≡ false → whole named.nothing (92 ∷ 120 ∷ 123 ∷ g ∷ gs) ≡ false
+    spoilt hs ys y is a n m = ap (λ us. whole named.nothing (92 ∷ 120 ∷ 123 ∷ g ∷ us)) is ∙ whole_braced g hs (y ∷ ys) i a ∙ ap (λ s. whole s ys) (brace_bad y (fold saturated (digit g) hs) n m) ∙ bad_stays ys
+
+    shut : (hs ys : List ℕ) (y : ℕ) → gs ≡ hs ++ y ∷ ys → list_all is_hex hs ≡ true → (eqb y 125 ≡ true) × (is_scalar (fold saturated (digit g) hs) ≡ true) → Read q (92 ∷ 120 ∷ 123 ∷ g ∷ gs)
+    shut hs ys y is a (e, s) =
         let text : gs ≡ hs ++ 125 ∷ ys = is ∙ ap (λ y. hs ++ y ∷ ys) (eqb-true y 125 e) in
         let short : length ys ≤ k = omega (arith, l, ap length text, length-append hs (125 ∷ ys)) in
         subst (λ us. Read q (92 ∷ 120 ∷ 123 ∷ g ∷ us)) (sym text)
         (closed_brace q k g hs ys h next i a s short (subst (λ us. free q (g ∷ us) ≡ true) text f) (subst (λ us. whole named.nothing (92 ∷ 120 ∷ 123 ∷ g ∷ us) ≡ true) text w))
-    shut hs ys y true false e s is a n = never _ (spoilt hs ys y is a n (ap (λ (t : Bool). t && is_scalar (fold saturated (digit g) hs)) e ∙ s)) w
-      where
-        spoilt : (hs ys : List ℕ) (y : ℕ) → gs ≡ hs ++ y ∷ ys → list_all is_hex hs ≡ true → is_hex y ≡ false → (eqb y 125 && is_scalar (fold saturated (digit g) hs)) ≡ false → whole named.nothing (92 ∷ 120 ∷ 123 ∷ g ∷ gs) ≡ false
-        spoilt hs ys y is a n m = ap (λ us. whole named.nothing (92 ∷ 120 ∷ 123 ∷ g ∷ us)) is ∙ whole_braced g hs (y ∷ ys) i a ∙ ap (λ s. whole s ys) (brace_bad y (fold saturated (digit g) hs) n m) ∙ bad_stays ys
-    shut hs ys y false u e s is a n = never _ (spoilt hs ys y is a n (ap (λ (t : Bool). t && is_scalar (fold saturated (digit g) hs)) e)) w
-      where
-        spoilt : (hs ys : List ℕ) (y : ℕ) → gs ≡ hs ++ y ∷ ys → list_all is_hex hs ≡ true → is_hex y ≡ false → (eqb y 125 && is_scalar (fold saturated (digit g) hs)) ≡ false → whole named.nothing (92 ∷ 120 ∷ 123 ∷ g ∷ gs) ≡ false
-        spoilt hs ys y is a n m = ap (λ us. whole named.nothing (92 ∷ 120 ∷ 123 ∷ g ∷ us)) is ∙ whole_braced g hs (y ∷ ys) i a ∙ ap (λ s. whole s ys) (brace_bad y (fold saturated (digit g) hs) n m) ∙ bad_stays ys
 
     by_rest : (hs zs : List ℕ) → gs ≡ hs ++ zs → list_all is_hex hs ≡ true → prefix_len is_hex gs ≡ length hs → Read q (92 ∷ 120 ∷ 123 ∷ g ∷ gs)
     by_rest hs [] e a n = never _ (ap (λ us. whole named.nothing (92 ∷ 120 ∷ 123 ∷ g ∷ us)) e ∙ whole_braced g hs [] i a) w
-    by_rest hs (y ∷ ys) e a n = shut hs ys y (eqb y 125) (is_scalar (fold saturated (digit g) hs)) refl refl e a (stops hs y ys a (sym (ap (λ us. prefix_len is_hex us) e) ∙ n))
+    by_rest hs (y ∷ ys) e a n =
+        elim (cases_Bool (eqb y 125 && is_scalar (fold saturated (digit g) hs))) [
+          | inl m ↦ shut hs ys y e a (and_parts (eqb y 125) (is_scalar (fold saturated (digit g) hs)) m)
+          | inr m ↦ never _ (spoilt hs ys y e a (stops hs y ys a (sym (ap (λ us. prefix_len is_hex us) e) ∙ n)) m) w
+        ]
 
     by_run : ((hs zs : List ℕ) × (gs ≡ hs ++ zs) × (list_all is_hex hs ≡ true) × (prefix_len is_hex gs ≡ length hs)) → Read q (92 ∷ 120 ∷ 123 ∷ g ∷ gs)
     by_run (hs, zs, e, a, n) = by_rest hs zs e a n
 
 behind_brace : (q k : ℕ) (gs : List ℕ) → IsQuote q → Next q k → Goes q k (92 ∷ 120 ∷ 123 ∷ gs) gs
 behind_brace q k [] h next l f w = cc
-behind_brace q k (g ∷ gs) h next l f w = by (is_hex g) refl
-  where
-    by : (t : Bool) → is_hex g ≡ t → Read q (92 ∷ 120 ∷ 123 ∷ g ∷ gs)
-    by true e = in_brace q k g gs h next (omega arith) e f w
-    by false e = never (whole (step named.brace g) gs) (ap (λ s. whole s gs) (ap (λ (t : Bool). cond t (named.braced (digit g)) named.bad) e) ∙ bad_stays gs) w
+behind_brace q k (g ∷ gs) h next l f w =
+    elim (cases_Bool (is_hex g)) [
+      | inl e ↦ in_brace q k g gs h next (omega arith) e f w
+      | inr e ↦ never (whole (step named.brace g) gs) (ap (λ s. whole s gs) (cond-false (is_hex g) _ named.bad e) ∙ bad_stays gs) w
+    ]
 
 -- behind `x`
 behind_hex : (q k a : ℕ) (cs : List ℕ) → IsQuote q → Next q k → is_hex a ≡ true → Goes q k (92 ∷ 120 ∷ a ∷ cs) cs
@@ -208,11 +191,11 @@ control_from c e = grind (arith, nat_tests)
 
 behind_caret : (q k : ℕ) (cs : List ℕ) → IsQuote q → Next q k → length cs ≤ k → capped q cs ≡ true → whole named.nothing (92 ∷ 94 ∷ cs) ≡ true → Read q (92 ∷ 94 ∷ cs)
 behind_caret q k [] h next l f w = cc
-behind_caret q k (a ∷ cs) h next l f w = by (is_control a) refl
-  where
-    by : (t : Bool) → is_control a ≡ t → Read q (92 ∷ 94 ∷ a ∷ cs)
-    by true e = step_on (92 ∷ 94 ∷ a ∷ cs) cs next (omega arith) (and_parts (not (eqb a q)) (free q cs) f).1 (control_turn a cs e) (λ vs r. quoted.control (control_from a e) r) w
-    by false e = never (whole (step named.control a) cs) (ap (λ s. whole s cs) (ap (λ (t : Bool). cond t named.nothing named.bad) e) ∙ bad_stays cs) w
+behind_caret q k (a ∷ cs) h next l f w =
+    elim (cases_Bool (is_control a)) [
+      | inl e ↦ step_on (92 ∷ 94 ∷ a ∷ cs) cs next (omega arith) (and_parts (not (eqb a q)) (free q cs) f).1 (control_turn a cs e) (λ vs r. quoted.control (control_from a e) r) w
+      | inr e ↦ never (whole (step named.control a) cs) (ap (λ s. whole s cs) (cond-false (is_control a) _ named.bad e) ∙ bad_stays cs) w
+    ]
 
 -- behind a backslash any other character
 abbrev NameOr : ℕ → Type 0
@@ -272,14 +255,8 @@ name_or c =
           ]
     ]
 
-octal_is : (c x : ℕ) → Digit 8 c x → is_octal c ≡ true
-octal_is c x h = grind (arith, nat_tests)
-
 pub no_octal_is : (c : ℕ) → is_octal c ≡ false → IsOctal c → ⊥
 no_octal_is c e (x, d) = never (is_octal c) e (octal_is c x d)
-
-unlike : (c d : ℕ) → eqb c d ≡ false → c ≢ d
-unlike c d e = eqb-false c d e
 
 behind_other : (q k c : ℕ) (cs : List ℕ) → Next q k → is_octal c ≡ false → eqb c 120 ≡ false → eqb c 94 ≡ false → Goes q k (92 ∷ c ∷ cs) cs
 behind_other q k c cs next o x y l f w = by (name_or c)
@@ -288,7 +265,7 @@ behind_other q k c cs next o x y l f w = by (name_or c)
     by (inl n) = step_on (92 ∷ c ∷ cs) cs next l f (named_turn c cs o x y) (λ vs r. quoted.named n r) w
     by (inr (n, e)) =
         step_on (92 ∷ c ∷ cs) cs next l f (subst (λ v. Turn named.nothing (92 ∷ c ∷ cs) (v ∷ []) named.nothing cs) e (named_turn c cs o x y))
-        (λ vs r. quoted.other (n, no_octal_is c o, unlike c 120 x, unlike c 94 y) r) w
+        (λ vs r. quoted.other (n, no_octal_is c o, eqb-false c 120 x, eqb-false c 94 y) r) w
 
 behind_slash : (q k : ℕ) (cs : List ℕ) → IsQuote q → Next q k → length cs ≤ k → freed q cs ≡ true → whole named.nothing (92 ∷ cs) ≡ true → Read q (92 ∷ cs)
 behind_slash q k [] h next l f w = cc
@@ -309,9 +286,7 @@ behind_slash q k (d ∷ cs) h next l f w = by (is_octal d) (eqb d 120) (eqb d 94
 
 -- all characters, where k are enough
 within : (k q : ℕ) → IsQuote q → Next q k
-within zero q h [] l f w = ([], quoted.none, refl)
 within zero q h (x ∷ cs) l f w = absurd (omega arith)
-within (suc k) q h [] l f w = ([], quoted.none, refl)
 within (suc k) q h (x ∷ cs) l f w = by (eqb x 92) refl f (within k q h)
   where
     by : (t : Bool) → eqb x 92 ≡ t → cond t (freed q cs) (not (eqb x q) && free q cs) ≡ true → Next q k → Read q (x ∷ cs)
@@ -320,7 +295,8 @@ within (suc k) q h (x ∷ cs) l f w = by (eqb x 92) refl f (within k q h)
         subst (λ x. Read q (x ∷ cs)) (sym is) (behind_slash q k cs h next (omega (arith, l)) f (subst (λ x. whole named.nothing (x ∷ cs) ≡ true) is w))
     by false e f next =
         let both = and_parts (not (eqb x q)) (free q cs) f in
-        step_on (x ∷ cs) cs next (omega (arith, l)) both.1 (over_itself x cs e) (λ vs r. quoted.itself (unlike x q (not_one (eqb x q) both.0)) (unlike x 92 e) r) w
+        step_on (x ∷ cs) cs next (omega (arith, l)) both.1 (over_itself x cs e) (λ vs r. quoted.itself (eqb-false x q (not-true (eqb x q) both.0)) (eqb-false x 92 e) r) w
+within s q h t l f w = ([], quoted.none, refl)
 
 -- characters that are free, and whose escapes are whole, are quoted
 pub reads : (q : ℕ) (cs : List ℕ) → IsQuote q → free q cs ≡ true → whole named.nothing cs ≡ true → Read q cs
@@ -357,15 +333,7 @@ octals_free q (d ∷ ds) cs h a l f =
     past_cap q d (ds ++ cs) (hex_uncapped d all.0) ∙ hex_from q ds cs h all.1 f
 
 pub named_uncapped : {c v : ℕ} → Named c v → eqb c 94 ≡ false
-named_uncapped backspace = refl
-named_uncapped delete = refl
-named_uncapped escape = refl
-named_uncapped form_feed = refl
-named_uncapped line_feed = refl
-named_uncapped carriage_return = refl
-named_uncapped space = refl
-named_uncapped tab = refl
-named_uncapped vertical_tab = refl
+named_uncapped s = grind arith
 
 pub quoted_before : {q : ℕ} {cs vs : List ℕ} → Quoted q cs vs → IsQuote q → (ys : List ℕ) → free q ys ≡ true → free q (cs ++ ys) ≡ true
 quoted_before quoted.none h ys f = f

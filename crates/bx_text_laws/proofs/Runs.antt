@@ -3,6 +3,8 @@ use Rattle.std.proofs.Common.{◌≡◌, ℕ, suc, ◌+◌, ◌-◌, ◌*◌, �
 use Rattle.std.specs.List.{fold, list_all, prefix_len}
 use Rattle.std.proofs.lemmas.Bool.{and_parts, and_from}
 use Rattle.std.proofs.lemmas.Bool.Decides.{nat_tests}
+use Rattle.std.proofs.lemmas.List.{length-append}
+use Rattle.std.proofs.lemmas.List.Folds.{list_all-append}
 use Rattle.std.proofs.lemmas.List.Sums.{fold-append}
 use Rattle.bx_text.specs.Bytes.{is_digit}
 use Rattle.bx_text.specs.Number.{with_digit, decimal}
@@ -24,13 +26,7 @@ run_split p (x ∷ xs) = by_first (p x) refl (run_split p xs)
 
 pub run_append : (p : ℕ → Bool) (xs ys : List ℕ) → list_all p xs ≡ true → prefix_len p (xs ++ ys) ≡ length xs + prefix_len p ys
 run_append p [] ys a = omega arith
-run_append p (x ∷ xs) ys a =
-    let both = and_parts (p x) (list_all p xs) a in
-    passed (p x) (prefix_len p (xs ++ ys)) (length xs) (prefix_len p ys) both.0 (run_append p xs ys both.1)
-  where
-    passed : (t : Bool) (a b c : ℕ) → t ≡ true → a ≡ b + c → cond t (1 + a) 0 ≡ suc b + c
-    passed true a b c is e = omega arith
-    passed false a b c is e = cc
+run_append p (x ∷ xs) ys a = let both = and_parts (p x) (list_all p xs) a in rw both.0 (omega (arith, run_append p xs ys both.1))
 
 -- decimal digits and numerals
 digit_counts : (c : ℕ) → is_digit c ≡ true → Digit 10 c (c - 48)
@@ -55,13 +51,8 @@ numeral_is d ds a =
     let first : d - 48 ≡ with_digit 0 d = omega arith in
     numeral_more (d ∷ []) ds (with_digit 0 d) (subst (Numeral 10 (d ∷ [])) first (one_digit (digit_counts d both.0))) both.1
 
-all_append : (p : ℕ → Bool) (xs : List ℕ) (y : ℕ) → list_all p xs ≡ true → p y ≡ true → list_all p (xs ++ y ∷ []) ≡ true
-all_append p [] y a b = and_from (p y) true b refl
-all_append p (x ∷ xs) y a b = let both = and_parts (p x) (list_all p xs) a in and_from (p x) (list_all p (xs ++ y ∷ [])) both.0 (all_append p xs y both.1 b)
-
-longer : (xs : List ℕ) (y : ℕ) → 0 < length (xs ++ y ∷ [])
-longer [] y = omega arith
-longer (x ∷ xs) y = omega arith
+pub push_all : (p : ℕ → Bool) (xs : List ℕ) (y : ℕ) → list_all p xs ≡ true → p y ≡ true → list_all p (xs ++ y ∷ []) ≡ true
+push_all p xs y a b = list_all-append p xs (y ∷ []) ∙ and_from (list_all p xs) _ a (and_from (p y) true b refl)
 
 -- a numeral's digits, and their number
 pub digits_of : {b n : ℕ} {ds : List ℕ} → Numeral b ds n → b ≡ 10 → (list_all is_digit ds ≡ true) × (decimal ds ≡ n) × (0 < length ds)
@@ -73,7 +64,7 @@ digits_of (digit_more {base = b} {n = n} {c = c} {x = x} {cs = cs} k d) e =
     let front = digits_of k e in
     let value : decimal cs ≡ n = front.1 in
     let last : with_digit n c ≡ b * n + x = omega (arith, counts_value c x t, ap (λ b. b * n) e) in
-    (all_append is_digit cs c front.0 (counts_digit c x t), fold-append with_digit 0 cs (c ∷ []) ∙ ap (λ m. with_digit m c) value ∙ last, longer cs c)
+    (push_all is_digit cs c front.0 (counts_digit c x t), fold-append with_digit 0 cs (c ∷ []) ∙ ap (λ m. with_digit m c) value ∙ last, omega (arith, length-append cs (c ∷ [])))
 
 not_feed : (b : ℕ) → is_digit b ≡ true → eqb b 10 ≡ false
 not_feed b e = grind (arith, nat_tests)

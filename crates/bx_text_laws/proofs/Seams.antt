@@ -1,10 +1,10 @@
 -- Where bytes stop being UTF-8.
-use Rattle.std.proofs.Common.{◌≡◌, ◌≢◌, ℕ, zero, suc, ◌+◌, ◌-◌, ◌≤◌, ◌<◌, Bool, true, false, cond, leb, List, [], ◌∷◌, ◌++◌, take, drop, get_or, length, refl, sym, ap, ◌∙◌, subst, arith, drop_at, take_at, take_all, length-append, append-nil, le_refl, ◌⊎◌, inl, inr, IsUtf8}
+use Rattle.std.proofs.Common.{◌≡◌, ◌≢◌, ℕ, zero, suc, ◌+◌, ◌-◌, ◌≤◌, ◌<◌, List, [], ◌∷◌, ◌++◌, take, drop, get_or, length, refl, sym, ap, ◌∙◌, subst, arith, drop_at, take_at, take_all, length-append, append-nil, le_refl, ◌⊎◌, inl, inr, IsUtf8}
 use Rattle.std.specs.Char.{IsScalar, encode_utf8}
 use Rattle.std.specs.Str.{is_utf8}
 use Rattle.std.specs.Str.Lossy.{utf8_valid_len, valid_len_up_to}
 use Rattle.std.proofs.Math.Seq.{take-append-add}
-use Rattle.std.proofs.lemmas.Bool.Decides.{nat_tests}
+use Rattle.std.proofs.lemmas.Bool.{both_ways, cases_lt, cond_both}
 use Rattle.std.proofs.lemmas.List.{take-append-le, take-append-drop, length-take-le, get_or_at}
 use Rattle.std.proofs.lemmas.Str.{IsUtf8-nil, IsUtf8-append, IsUtf8-encode, IsUtf8-take, IsUtf8-drop, IsUtf8-from_is_utf8, is_utf8-from_IsUtf8, IsCharBoundary-before_ascii, IsCharBoundary-from_take, utf8_valid_len_le, utf8_valid_len-IsValidUpTo}
 use Rattle.bx_text_laws.specs.Refusals.{NoCharacter}
@@ -40,33 +40,17 @@ pub ascii : (b : ℕ) (bs : List ℕ) → b < 128 → NoCharacter (b ∷ bs) →
 ascii b bs l n = n.longest 1 (omega arith) (one_byte b l)
 
 -- the longest front that is UTF-8
-both : {A : Type 0} (b : Bool) → b ≡ true → b ≡ false → A
-both true e f = cc
-both false e f = cc
-
 at_least : (bs : List ℕ) (k n : ℕ) → IsUtf8 (take k bs) → k ≤ n → k ≤ valid_len_up_to bs n
 at_least bs k zero u l = omega (arith, l)
-at_least bs k (suc n) u l = by (is_utf8 (take (suc n) bs)) refl (at_least bs k n u)
-  where
-    by : (t : Bool) → is_utf8 (take (suc n) bs) ≡ t → (k ≤ n → k ≤ valid_len_up_to bs n) → k ≤ cond t (suc n) (valid_len_up_to bs n)
-    by true e more = l
-    by false e more = more (smaller (by_last e))
-      where
-        by_last : is_utf8 (take (suc n) bs) ≡ false → k ≢ suc n
-        by_last e is = both (is_utf8 (take (suc n) bs)) (is_utf8-from_IsUtf8 (take (suc n) bs) (subst (λ k. IsUtf8 (take k bs)) is u)) e
-
-        smaller : k ≢ suc n → k ≤ n
-        smaller d = omega (arith, l, d)
+at_least bs k (suc n) u l =
+    cond_both (is_utf8 (take (suc n) bs)) _ _ (λ m. k ≤ m) (λ _. l)
+    (λ e. let last : k ≢ suc n = λ is. both_ways (is_utf8 (take (suc n) bs)) e (is_utf8-from_IsUtf8 (take (suc n) bs) (subst (λ k. IsUtf8 (take k bs)) is u)) in at_least bs k n u (omega (arith, l, last)))
 
 front_up_to : (bs : List ℕ) (n : ℕ) → IsUtf8 (take (valid_len_up_to bs n) bs)
 front_up_to bs zero = IsUtf8-nil
-front_up_to bs (suc n) = by (is_utf8 (take (suc n) bs)) refl (front_up_to bs n)
-  where
-    by : (t : Bool) → is_utf8 (take (suc n) bs) ≡ t → IsUtf8 (take (valid_len_up_to bs n) bs) → IsUtf8 (take (cond t (suc n) (valid_len_up_to bs n)) bs)
-    by true e more = IsUtf8-from_is_utf8 (take (suc n) bs) e
-    by false e more = more
+front_up_to bs (suc n) = cond_both (is_utf8 (take (suc n) bs)) _ _ (λ m. IsUtf8 (take m bs)) (λ e. IsUtf8-from_is_utf8 (take (suc n) bs) e) (λ _. front_up_to bs n)
 
-valid_front : (bs : List ℕ) → IsUtf8 (take (utf8_valid_len bs) bs)
+pub valid_front : (bs : List ℕ) → IsUtf8 (take (utf8_valid_len bs) bs)
 unfolding utf8_valid_len
 valid_front bs = front_up_to bs (length bs)
 
@@ -74,25 +58,12 @@ valid_most : (bs : List ℕ) (k : ℕ) → IsUtf8 (take k bs) → k ≤ length b
 unfolding utf8_valid_len
 valid_most bs k u l = at_least bs k (length bs) u l
 
-valid_within : (bs : List ℕ) → utf8_valid_len bs ≤ length bs
-valid_within bs = utf8_valid_len_le bs
-
 -- bytes beyond which a text is UTF-8 no more
 abbrev pub Seam : List ℕ → Type 0
 Seam text = (bytes rest : List ℕ) × (text ≡ bytes ++ rest) × IsUtf8 bytes × NoCharacter rest × (utf8_valid_len text ≡ length bytes)
 
 pub least : (m n : ℕ) → (m ≤ n) ⊎ (n ≤ m)
-least m n = by (leb m n) refl
-  where
-    below : (m n : ℕ) → leb m n ≡ true → m ≤ n
-    below m n e = grind (arith, nat_tests)
-
-    above : (m n : ℕ) → leb m n ≡ false → n ≤ m
-    above m n e = grind (arith, nat_tests)
-
-    by : (t : Bool) → leb m n ≡ t → (m ≤ n) ⊎ (n ≤ m)
-    by true e = inl (below m n e)
-    by false e = inr (above m n e)
+least m n = elim (cases_lt n m) [ inl l ↦ inr (omega arith) | inr l ↦ inl l ]
 
 pub to_seam : (text : List ℕ) → utf8_valid_len text ≢ length text → Seam text
 to_seam text d = by_rest (drop n text) (sym (take-append-drop n text))
@@ -104,7 +75,7 @@ to_seam text d = by_rest (drop n text) (sym (take-append-drop n text))
     bytes = take n text
 
     size : length bytes ≡ n
-    size = length-take-le n text (valid_within text)
+    size = length-take-le n text (utf8_valid_len_le text)
 
     by_rest : (rest : List ℕ) → text ≡ bytes ++ rest → Seam text
     by_rest rest e = (bytes, rest, e, valid_front text, record { short = short; front = IsUtf8-nil; longest = longest }, sym size)
@@ -113,7 +84,7 @@ to_seam text d = by_rest (drop n text) (sym (take-append-drop n text))
         all = omega (arith, ap length e, length-append bytes rest, size)
 
         short : 0 < length rest
-        short = omega (arith, all, d, valid_within text)
+        short = omega (arith, all, d, utf8_valid_len_le text)
 
         joined : (k : ℕ) → take (n + k) text ≡ bytes ++ take k rest
         joined k = ap (λ us. take (n + k) us) e ∙ ap (λ m. take (m + k) (bytes ++ rest)) (sym size) ∙ take-append-add bytes rest k

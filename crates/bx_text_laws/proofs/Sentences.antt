@@ -1,7 +1,7 @@
 -- What is read as a term is one by its bytes.
-use Rattle.std.proofs.Common.{◌≡◌, ◌≢◌, ℕ, suc, true, false, ◌↔◌, List, [], ◌∷◌, ◌++◌, Some, None, Ok, arith, refl, sym, ap, ◌∙◌, subst, codes}
+use Rattle.std.proofs.Common.{◌≡◌, ℕ, suc, Bool, true, false, ◌↔◌, List, [], ◌∷◌, ◌++◌, Some, None, Ok, arith, refl, sym, ap, ◌∙◌, subst, codes}
 use Rattle.std.proofs.lemmas.Slice.Eq.{bytes_eq-Decides}
-use Rattle.std.proofs.lemmas.Bool.Decides.{nat_tests}
+use Rattle.std.proofs.lemmas.Bool.{eqb-false, ne_eqb}
 use Rattle.std.proofs.lemmas.Str.{utf8_valid_len-IsUtf8}
 use Rattle.bx_text.specs.Bytes.{begins}
 use Rattle.bx_text.specs.Place.{Place}
@@ -42,176 +42,95 @@ step p l n = by_parts (parts p l n)
         let found = (next_is_longest p q (meant l.token) l.after).0 (l, n, refl, refl, from_is, line_is, begin_is) in
         (q, found.0, found.1, from_is, line_is, begin_is)
 
-no_quote : (bs : List ℕ) → begins is_quote bs ≡ false → NoQuote bs
-no_quote [] e = tt
-no_quote (b ∷ bs) e = unlike b e
-  where
-    unlike : (b : ℕ) → is_quote b ≡ false → b ≢ 34
-    unlike b e i = grind (arith, nat_tests)
+no_quote : (bs : List ℕ) → (begins is_quote bs ≡ false) ↔ NoQuote bs
+no_quote [] = (λ e. tt, λ n. refl)
+no_quote (b ∷ bs) = (eqb-false b 34, ne_eqb b 34)
 
-no_text_is : (p : Place) → NoString p → NoText p
-no_text_is p (q, s, n) = (q, (skipped_is_blank p q).0 s, no_quote q.rest n)
+no_string : (p : Place) → NoString p ↔ NoText p
+no_string p = (λ (q, s, n). (q, (skipped_is_blank p q).0 s, (no_quote q.rest).0 n), λ (q, s, n). (q, (skipped_is_blank p q).1 s, (no_quote q.rest).1 n))
 
 texts_are : {p q : Place} {ts : List Tree} → Strings p ts q → Texts p ts q
-texts_are (grammar.no_string {p = p} n) = terms.no_text (no_text_is p n)
-texts_are (grammar.a_string {p = p} {l = l} n t s) =
-    let first = step p l n in
-    let more = texts_are s in
-    terms.a_text {l = plainly l} first (ap meant t) more
+texts_are (grammar.no_string {p = p} n) = terms.no_text ((no_string p).0 n)
+texts_are (grammar.a_string {p = p} {l = l} n t s) = terms.a_text {l = plainly l} (step p l n) (ap meant t) (texts_are s)
 
 kept_is : (l : Lexeme) (q : Place) → Kept l q → Written (plainly l) q
 kept_is l q k = valid_is (taken l q) k
 
 held_is : {d : ℕ} {l : Lexeme} {q : Place} → Content d l q → Held d (plainly l) q
 held_is (grammar.a_number {l = l} t) = terms.a_number {l = plainly l} (ap meant t)
-held_is (grammar.a_text {l = l} t s) = let more = texts_are s in terms.some_texts {l = plainly l} (ap meant t) more
+held_is (grammar.a_text {l = l} t s) = terms.some_texts {l = plainly l} (ap meant t) (texts_are s)
+
+same_test : (test : Token → Bool) → ((t : Token) → test (meant t) ≡ test t) → (l k : Lexeme) (b : Bool) → plainly l ≡ k → test k.token ≡ b → test l.token ≡ b
+same_test test same l k b e t = sym (same l.token) ∙ ap (λ (l : Lexeme). test l.token) e ∙ t
 
 same_colon : (t : Token) → is_colon (meant t) ≡ is_colon t
-same_colon (token.atom b) = refl
-same_colon (token.text b) = refl
-same_colon (token.integer n) = refl
-same_colon token.float = refl
-same_colon token.open_tuple = refl
-same_colon token.open_list = refl
-same_colon token.open_map = refl
-same_colon token.open_binary = refl
-same_colon (token.mark m) = refl
+same_colon t = grind arith
 
 same_slash : (t : Token) → is_slash (meant t) ≡ is_slash t
-same_slash (token.atom b) = refl
-same_slash (token.text b) = refl
-same_slash (token.integer n) = refl
-same_slash token.float = refl
-same_slash token.open_tuple = refl
-same_slash token.open_list = refl
-same_slash token.open_map = refl
-same_slash token.open_binary = refl
-same_slash (token.mark m) = refl
+same_slash t = grind arith
 
 pub utf8_named : (t : Token) → is_utf8_name t ≡ true → meant t ≡ token.atom (token.plain (codes "utf8"))
 utf8_named (token.atom b) e = ap (λ w. token.atom (token.plain w)) ((bytes_eq-Decides (spelled b) (codes "utf8")).0 e)
-utf8_named (token.text b) e = cc
-utf8_named (token.integer n) e = cc
-utf8_named token.float e = cc
-utf8_named token.open_tuple e = cc
-utf8_named token.open_list e = cc
-utf8_named token.open_map e = cc
-utf8_named token.open_binary e = cc
-utf8_named (token.mark m) e = cc
+utf8_named t e = cc
 
 sized_is : {m k : Lexeme} → Size m k → Sized (plainly m) (plainly k)
 sized_is (grammar.no_size {m = m} e) = terms.unsized {m = plainly m} (same_colon m.token ∙ e)
-sized_is (grammar.a_size {m = m} {n = n} {k = k} t a i b) =
-    let first = step m.after n a in
-    let second = step n.after k b in
-    terms.a_size {m = plainly m} {n = plainly n} {k = plainly k} (ap meant t) first (ap meant i) second
+sized_is (grammar.a_size {m = m} {n = n} {k = k} t a i b) = terms.a_size {m = plainly m} {n = plainly n} {k = plainly k} (ap meant t) (step m.after n a) (ap meant i) (step n.after k b)
 
 encoded_is : {m k : Lexeme} → Encoding m k → Encoded (plainly m) (plainly k)
 encoded_is (grammar.no_encoding {m = m} e) = terms.unencoded {m = plainly m} (same_slash m.token ∙ e)
 encoded_is (grammar.in_utf8 {m = m} {n = n} {k = k} t a i b) =
-    let first = step m.after n a in
-    let second = step n.after k b in
-    terms.in_utf8 {m = plainly m} {n = plainly n} {k = plainly k} (ap meant t) first (utf8_named n.token i) second
+    terms.in_utf8 {m = plainly m} {n = plainly n} {k = plainly k} (ap meant t) (step m.after n a) (utf8_named n.token i) (step n.after k b)
 
 part_is : {d : ℕ} {l e : Lexeme} → Segment d l e → Part d (plainly l) (plainly e)
-part_is (grammar.a_segment {l = l} {m = m} {n = n} {e = e} {q = q} h a s k) =
-    let held = held_is h in
-    let first = step q m a in
-    let sized = sized_is s in
-    let encoded = encoded_is k in
-    terms.a_part {l = plainly l} {m = plainly m} {n = plainly n} {e = plainly e} held first sized encoded
+part_is (grammar.a_segment {m = m} {n = n} {q = q} h a s k) = terms.a_part {m = plainly m} {n = plainly n} (held_is h) (step q m a) (sized_is s) (encoded_is k)
 
 parts_are : {d : ℕ} {l m : Lexeme} → Segments d l m → Parts d (plainly l) (plainly m)
-parts_are (grammar.one_segment s) = let part = part_is s in terms.one_part part
+parts_are (grammar.one_segment s) = terms.one_part (part_is s)
 parts_are (grammar.more_segments {comma = comma} {next = next} s t a r) =
-    let part = part_is s in
-    let first = step comma.after next a in
-    let more = parts_are r in
-    terms.more_parts {comma = plainly comma} {next = plainly next} part (ap meant t) first more
+    terms.more_parts {comma = plainly comma} {next = plainly next} (part_is s) (ap meant t) (step comma.after next a) (parts_are r)
 
 mutual
   pub term_is : {d : ℕ} {l : Lexeme} {t : Tree} {q : Place} → Spells d l t q → Term d (plainly l) t q
   term_is (grammar.an_integer {l = l} t) = terms.an_integer {l = plainly l} (ap meant t)
   term_is (grammar.an_atom {l = l} t) = terms.an_atom {l = plainly l} (ap meant t)
-  term_is (grammar.strings {l = l} t s) = let more = texts_are s in terms.texts {l = plainly l} (ap meant t) more
-  term_is (grammar.empty_tuple {l = l} {m = m} t a k) = let first = step l.after m a in terms.empty_tuple {l = plainly l} {m = plainly m} (ap meant t) first (ap meant k)
+  term_is (grammar.strings {l = l} t s) = terms.texts {l = plainly l} (ap meant t) (texts_are s)
+  term_is (grammar.empty_tuple {l = l} {m = m} t a k) = terms.empty_tuple {l = plainly l} {m = plainly m} (ap meant t) (step l.after m a) (ap meant k)
   term_is (grammar.a_tuple {l = l} {first = f} {m = m} t a r k) =
-      let first = step l.after f a in
-      let row = elements_are r in
-      terms.a_tuple {l = plainly l} {first = plainly f} {m = plainly m} (ap meant t) first row (ap meant k)
-  term_is (grammar.empty_list {l = l} {m = m} t a k) = let first = step l.after m a in terms.empty_list {l = plainly l} {m = plainly m} (ap meant t) first (ap meant k)
+      terms.a_tuple {l = plainly l} {first = plainly f} {m = plainly m} (ap meant t) (step l.after f a) (elements_are r) (ap meant k)
+  term_is (grammar.empty_list {l = l} {m = m} t a k) = terms.empty_list {l = plainly l} {m = plainly m} (ap meant t) (step l.after m a) (ap meant k)
   term_is (grammar.a_list {l = l} {first = f} {m = m} t a r k) =
-      let first = step l.after f a in
-      let row = elements_are r in
-      terms.a_list {l = plainly l} {first = plainly f} {m = plainly m} (ap meant t) first row (ap meant k)
+      terms.a_list {l = plainly l} {first = plainly f} {m = plainly m} (ap meant t) (step l.after f a) (elements_are r) (ap meant k)
   term_is (grammar.a_list_with_tail {l = l} {first = f} {bar = bar} {start = start} {m = m} {r = r} t a w b s u z k) =
-      let first = step l.after f a in
-      let row = elements_are w in
-      let begun = step bar.after start s in
-      let tail = term_is u in
-      let last = step r m z in
-      terms.a_list_with_tail {l = plainly l} {first = plainly f} {bar = plainly bar} {start = plainly start} {m = plainly m} (ap meant t) first row (ap meant b) begun tail last (ap meant k)
+      terms.a_list_with_tail {l = plainly l} {first = plainly f} {bar = plainly bar} {start = plainly start} {m = plainly m}
+      (ap meant t) (step l.after f a) (elements_are w) (ap meant b) (step bar.after start s) (term_is u) (step r m z) (ap meant k)
   term_is (grammar.a_float {l = l} t k) = terms.a_float {l = plainly l} (ap meant t) (kept_is l l.after k)
   term_is (grammar.an_empty_map {l = l} {m = m} t a k w) =
-      let first = step l.after m a in terms.an_empty_map {l = plainly l} {m = plainly m} (ap meant t) first (ap meant k) (kept_is l m.after w)
+      terms.an_empty_map {l = plainly l} {m = plainly m} (ap meant t) (step l.after m a) (ap meant k) (kept_is l m.after w)
   term_is (grammar.a_map {l = l} {first = f} {m = m} t a r k w) =
-      let first = step l.after f a in
-      let row = pairs_are r in
-      terms.a_map {l = plainly l} {first = plainly f} {m = plainly m} (ap meant t) first row (ap meant k) (kept_is l m.after w)
+      terms.a_map {l = plainly l} {first = plainly f} {m = plainly m} (ap meant t) (step l.after f a) (pairs_are r) (ap meant k) (kept_is l m.after w)
   term_is (grammar.an_empty_binary {l = l} {m = m} t a k w) =
-      let first = step l.after m a in terms.an_empty_binary {l = plainly l} {m = plainly m} (ap meant t) first (ap meant k) (kept_is l m.after w)
+      terms.an_empty_binary {l = plainly l} {m = plainly m} (ap meant t) (step l.after m a) (ap meant k) (kept_is l m.after w)
   term_is (grammar.a_binary {l = l} {first = f} {m = m} t a r k w) =
-      let first = step l.after f a in
-      let row = parts_are r in
-      terms.a_binary {l = plainly l} {first = plainly f} {m = plainly m} (ap meant t) first row (ap meant k) (kept_is l m.after w)
+      terms.a_binary {l = plainly l} {first = plainly f} {m = plainly m} (ap meant t) (step l.after f a) (parts_are r) (ap meant k) (kept_is l m.after w)
   term_is (grammar.a_fun {l = l} {f = f} {colon = colon} {g = g} {slash = slash} {n = n} t a x b y k z j u i v w) =
-      let first = step l.after f a in
-      let second = step f.after colon b in
-      let third = step colon.after g k in
-      let fourth = step g.after slash j in
-      let fifth = step slash.after n i in
       terms.a_fun {l = plainly l} {f = plainly f} {colon = plainly colon} {g = plainly g} {slash = plainly slash} {n = plainly n}
-      (ap meant t) first (ap meant x) second (ap meant y) third (ap meant z) fourth (ap meant u) fifth (ap meant v) (kept_is l n.after w)
+      (ap meant t) (step l.after f a) (ap meant x) (step f.after colon b) (ap meant y) (step colon.after g k) (ap meant z) (step g.after slash j) (ap meant u) (step slash.after n i) (ap meant v) (kept_is l n.after w)
 
   elements_are : {d : ℕ} {l m : Lexeme} {ts : List Tree} → Row d l ts m → Elements d (plainly l) ts (plainly m)
-  elements_are (grammar.one {m = m} {r = r} s a) =
-      let term = term_is s in
-      let last = step r m a in
-      terms.one {m = plainly m} term last
+  elements_are (grammar.one {m = m} {r = r} s a) = terms.one {m = plainly m} (term_is s) (step r m a)
   elements_are (grammar.more {comma = comma} {next = next} {r = r} s a k b w) =
-      let term = term_is s in
-      let first = step r comma a in
-      let second = step comma.after next b in
-      let rest = elements_are w in
-      terms.more {comma = plainly comma} {next = plainly next} term first (ap meant k) second rest
+      terms.more {comma = plainly comma} {next = plainly next} (term_is s) (step r comma a) (ap meant k) (step comma.after next b) (elements_are w)
 
   pairs_are : {d : ℕ} {l m : Lexeme} → grammar.Pairs d l m → Pairs d (plainly l) (plainly m)
   pairs_are (grammar.one_pair {arrow = arrow} {v = v} {m = m} {r = r} {q = q} s a k b u z) =
-      let key = term_is s in
-      let first = step r arrow a in
-      let second = step arrow.after v b in
-      let value = term_is u in
-      let last = step q m z in
-      terms.one_pair {arrow = plainly arrow} {v = plainly v} {m = plainly m} key first (ap meant k) second value last
+      terms.one_pair {arrow = plainly arrow} {v = plainly v} {m = plainly m} (term_is s) (step r arrow a) (ap meant k) (step arrow.after v b) (term_is u) (step q m z)
   pairs_are (grammar.more_pairs {arrow = arrow} {v = v} {comma = comma} {next = next} {r = r} {q = q} s a k b u z j e w) =
-      let key = term_is s in
-      let first = step r arrow a in
-      let second = step arrow.after v b in
-      let value = term_is u in
-      let third = step q comma z in
-      let fourth = step comma.after next e in
-      let rest = pairs_are w in
-      terms.more_pairs {arrow = plainly arrow} {v = plainly v} {comma = plainly comma} {next = plainly next} key first (ap meant k) second value third (ap meant j) fourth rest
+      terms.more_pairs {arrow = plainly arrow} {v = plainly v} {comma = plainly comma} {next = plainly next} (term_is s) (step r arrow a) (ap meant k) (step arrow.after v b) (term_is u)
+      (step q comma z) (ap meant j) (step comma.after next e) (pairs_are w)
 
 sentence_is : {d : ℕ} {p q : Place} {t : Tree} → Form d p t q → Sentence d p t q
-sentence_is (grammar.a_form {p = p} {r = r} {l = l} {m = m} n s a k) =
-    let first = step p l n in
-    let term = term_is s in
-    let last = step r m a in
-    terms.a_sentence {l = plainly l} {m = plainly m} first term last (ap meant k)
-
-pub read_is_sentence : (p : Place) (t : Tree) (q : Place) → form_at p ≡ Ok (Some (t, q)) → Sentence 256 p t q
-read_is_sentence p t q h = sentence_is ((forms_are p t q).0 h)
+sentence_is (grammar.a_form {p = p} {r = r} {l = l} {m = m} n s a k) = terms.a_sentence {l = plainly l} {m = plainly m} (step p l n) (term_is s) (step r m a) (ap meant k)
 
 -- what is one by its bytes is read
 abbrev pub IsBare : Token → Type 0
@@ -219,52 +138,14 @@ IsBare (token.atom b) = ⊥
 IsBare (token.text b) = ⊥
 IsBare t = Unit {0}
 
-atom_not : (b : Body) (v : Token) → IsBare v → token.atom b ≡ v → ⊥
-atom_not b (token.atom c) k e = k
-atom_not b (token.text c) k e = k
-atom_not b (token.integer n) k e = cc
-atom_not b token.float k e = cc
-atom_not b token.open_tuple k e = cc
-atom_not b token.open_list k e = cc
-atom_not b token.open_map k e = cc
-atom_not b token.open_binary k e = cc
-atom_not b (token.mark m) k e = cc
-
-text_not : (b : Body) (v : Token) → IsBare v → token.text b ≡ v → ⊥
-text_not b (token.atom c) k e = k
-text_not b (token.text c) k e = k
-text_not b (token.integer n) k e = cc
-text_not b token.float k e = cc
-text_not b token.open_tuple k e = cc
-text_not b token.open_list k e = cc
-text_not b token.open_map k e = cc
-text_not b token.open_binary k e = cc
-text_not b (token.mark m) k e = cc
-
 pub bare_is : (u v : Token) → IsBare v → meant u ≡ v → u ≡ v
-bare_is (token.atom b) v k e = absurd (atom_not (token.plain (spelled b)) v k e)
-bare_is (token.text b) v k e = absurd (text_not (token.plain (spelled b)) v k e)
-bare_is (token.integer n) v k e = e
-bare_is token.float v k e = e
-bare_is token.open_tuple v k e = e
-bare_is token.open_list v k e = e
-bare_is token.open_map v k e = e
-bare_is token.open_binary v k e = e
-bare_is (token.mark m) v k e = e
+bare_is (token.atom b) v k e = absurd (subst IsBare (sym e) k)
+bare_is (token.text b) v k e = absurd (subst IsBare (sym e) k)
+bare_is u v k e = e
 
 text_meant : (u : Token) (w : List ℕ) → meant u ≡ token.text (token.plain w) → (b : Body) × (u ≡ token.text b) × (spelled b ≡ w)
-text_meant (token.text b) w e = (b, refl, text)
-  where
-    text : spelled b ≡ w
-    text = cc
-text_meant (token.atom b) w e = cc
-text_meant (token.integer n) w e = cc
-text_meant token.float w e = cc
-text_meant token.open_tuple w e = cc
-text_meant token.open_list w e = cc
-text_meant token.open_map w e = cc
-text_meant token.open_binary w e = cc
-text_meant (token.mark m) w e = cc
+text_meant (token.text b) w e = (b, refl, (cc))
+text_meant u w e = cc
 
 -- the reader's lexeme behind one by bytes
 pub record Behind (p : Place) (l : Lexeme) : Type 0 where
@@ -293,24 +174,14 @@ token_back l k v e b t = bare_is l.token v b (ap (λ (l : Lexeme). l.token) e �
 both : {l k m n : Lexeme} (P : Lexeme → Lexeme → Type 0) → l ≡ k → m ≡ n → P l m → P k n
 both {k = k} {m = m} P e f x = subst (λ n. P k n) f (subst (λ k. P k m) e x)
 
-quote_not : (bs : List ℕ) → NoQuote bs → begins is_quote bs ≡ false
-quote_not [] n = refl
-quote_not (b ∷ bs) n = unlike b n
-  where
-    unlike : (b : ℕ) → b ≢ 34 → is_quote b ≡ false
-    unlike b n = grind (arith, nat_tests)
-
 texts_back : {p q : Place} {ts : List Tree} → Texts p ts q → Strings p ts q
-texts_back (terms.no_text {p = p} (q, s, n)) = grammar.no_string (q, (skipped_is_blank p q).1 s, quote_not q.rest n)
+texts_back (terms.no_text {p = p} n) = grammar.no_string ((no_string p).1 n)
 texts_back (terms.a_text {p = p} {q = q} {l = k} {w = w} {ts = ts} st t s) =
     let f = back p k st in
     let after_is : f.lexeme.after ≡ k.after = ap (λ (l : Lexeme). l.after) f.plain in
     let text = text_meant f.lexeme.token w (ap (λ (l : Lexeme). l.token) f.plain ∙ t) in
     let read : Strings p (letters (span f.lexeme f.lexeme.after) (spelled text.0) ++ ts) q = grammar.a_string f.next text.1 (subst (λ r. Strings r ts q) (sym after_is) (texts_back s)) in
     subst (λ l. Strings p (letters (span l l.after) w ++ ts) q) f.plain (subst (λ w. Strings p (letters (span f.lexeme f.lexeme.after) w ++ ts) q) text.2 read)
-
-kept_back : (l k : Lexeme) (q : Place) → plainly l ≡ k → Written k q → Kept l q
-kept_back l k q e w = utf8_valid_len-IsUtf8 (taken l q) (subst (λ l. Written l q) (sym e) w)
 
 -- the strings behind the first
 texts_on : (l k : Lexeme) {ts : List Tree} {q : Place} → plainly l ≡ k → Strings k.after ts q → Strings l.after ts q
@@ -331,28 +202,18 @@ record Onward (P : Lexeme → Type 0) (k : Lexeme) : Type 0 where
   leads : P lexeme
 
 sized_back : {m k : Lexeme} → Sized m k → (l : Lexeme) → plainly l ≡ m → Onward (Size l) k
-sized_back (terms.unsized {m = m} t) l e = record { lexeme = l; plain = e; leads = grammar.no_size (sym (same_colon l.token) ∙ ap (λ (l : Lexeme). is_colon l.token) e ∙ t) }
+sized_back (terms.unsized {m = m} t) l e = record { lexeme = l; plain = e; leads = grammar.no_size (same_test is_colon same_colon l m false e t) }
 sized_back (terms.a_size {m = m} {n = n} {k = k} {i = i} t a j b) l e =
     let first = back_on l m e n a in
     let second = back_on first.lexeme n first.plain k b in
     record { lexeme = second.lexeme; plain = second.plain; leads = grammar.a_size (token_back l m named.colon e tt t) first.next (token_back first.lexeme n (token.integer i) first.plain tt j) second.next }
 
 pub utf8_back : (t : Token) → meant t ≡ token.atom (token.plain (codes "utf8")) → is_utf8_name t ≡ true
-utf8_back (token.atom b) e = (bytes_eq-Decides (spelled b) (codes "utf8")).1 text
-  where
-    text : spelled b ≡ codes "utf8"
-    text = cc
-utf8_back (token.text b) e = cc
-utf8_back (token.integer n) e = cc
-utf8_back token.float e = cc
-utf8_back token.open_tuple e = cc
-utf8_back token.open_list e = cc
-utf8_back token.open_map e = cc
-utf8_back token.open_binary e = cc
-utf8_back (token.mark m) e = cc
+utf8_back (token.atom b) e = let text : spelled b ≡ codes "utf8" = cc in (bytes_eq-Decides (spelled b) (codes "utf8")).1 text
+utf8_back t e = cc
 
 encoded_back : {m k : Lexeme} → Encoded m k → (l : Lexeme) → plainly l ≡ m → Onward (Encoding l) k
-encoded_back (terms.unencoded {m = m} t) l e = record { lexeme = l; plain = e; leads = grammar.no_encoding (sym (same_slash l.token) ∙ ap (λ (l : Lexeme). is_slash l.token) e ∙ t) }
+encoded_back (terms.unencoded {m = m} t) l e = record { lexeme = l; plain = e; leads = grammar.no_encoding (same_test is_slash same_slash l m false e t) }
 encoded_back (terms.in_utf8 {m = m} {n = n} {k = k} t a j b) l e =
     let first = back_on l m e n a in
     let second = back_on first.lexeme n first.plain k b in
@@ -492,7 +353,7 @@ sentence_back (terms.a_sentence {d = d} {p = p} {r = r} {l = k} {m = m} {t = t} 
     subst (λ (m : Lexeme). Form d p t m.after) last.plain (grammar.a_form first.next term last.next (token_back last.lexeme m named.full_stop last.plain tt z))
 
 pub forms_are_sentences : (p : Place) (t : Tree) (q : Place) → (form_at p ≡ Ok (Some (t, q))) ↔ Sentence 256 p t q
-forms_are_sentences p t q = (read_is_sentence p t q, λ s. (forms_are p t q).1 (sentence_back s))
+forms_are_sentences p t q = (λ h. sentence_is ((forms_are p t q).0 h), λ s. (forms_are p t q).1 (sentence_back s))
 
 pub none_is_blank : (p : Place) → (form_at p ≡ Ok None) ↔ OnlyBlanks p
 none_is_blank p = (λ h. only ((none_are p).0 h), λ b. (none_are p).1 (blank b))

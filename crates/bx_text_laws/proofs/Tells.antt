@@ -1,6 +1,6 @@
 -- What the reader's tests of a token say of what the token does.
-use Rattle.std.proofs.Common.{◌≡◌, ℕ, ℤ, Bool, true, false, List, [], ◌∷◌, codes, Ok, Err, refl, sym, ap, ◌∙◌, subst, ◌⊎◌, inl, inr, cond}
-use Rattle.bx_terms.specs.declared.faults.Fault.TheVariants.{BadTerm}
+use Rattle.std.proofs.Common.{arith, ◌≡◌, ℕ, ℤ, Bool, true, false, List, [], ◌∷◌, codes, Ok, refl, sym, ap, ◌∙◌, subst, ◌⊎◌, inl, inr}
+use Rattle.std.proofs.lemmas.Bool.{both_ways, cond_both}
 use Rattle.bx_text.specs.Place.{Place}
 use Rattle.bx_text.specs.Named as named
 use Rattle.bx_text.specs.Token as token
@@ -11,7 +11,7 @@ use Rattle.bx_text_laws.specs.Tokens.{meant}
 use Rattle.bx_text_laws.specs.Spelling as spelling
 use Rattle.bx_text_laws.specs.Spelling.{Spelling}
 use Rattle.bx_text_laws.specs.Faults as faults
-use Rattle.bx_text_laws.specs.Faults.{Bracket, a_tuple, a_list, a_map, a_binary, opening, closing, Wanted, a_term, first_in, more_in, a_value, a_size, an_encoding, a_name, a_number, the, parts, Move, misplaced, taken, instead, Meets, Does, Refused}
+use Rattle.bx_text_laws.specs.Faults.{Bracket, a_list, a_binary, opening, closing, Wanted, a_term, first_in, more_in, a_value, a_size, an_encoding, a_name, a_number, the, parts, Move, misplaced, taken, instead, Meets, Does}
 use Rattle.bx_text_laws.proofs.Moving.{stepped}
 use Rattle.bx_text_laws.proofs.Sentences.{step, plainly, IsBare, bare_is, utf8_named, utf8_back}
 use Rattle.bx_text_laws.proofs.Goings.{Opens, opens, Going, Nothing, Here, taking, misplaces, then, next_at, from_token, done_place}
@@ -61,16 +61,7 @@ by_spelling spelling.open_parenthesis t e i = marked parenthesis e
 by_spelling spelling.close_parenthesis t e i = marked parenthesis e
 by_spelling spelling.full_stop t e i = marked full_stop e
 by_spelling spelling.the_word_fun t e i = subst Seen e the_word_fun
-by_spelling spelling.open_tuple t e i = absurd (subst IsMark (sym e) i)
-by_spelling spelling.open_list t e i = absurd (subst IsMark (sym e) i)
-by_spelling spelling.open_map t e i = absurd (subst IsMark (sym e) i)
-by_spelling spelling.open_binary t e i = absurd (subst IsMark (sym e) i)
-by_spelling (spelling.integer k) t e i = absurd (subst IsMark (sym e) i)
-by_spelling (spelling.negative k) t e i = absurd (subst IsMark (sym e) i)
-by_spelling (spelling.float m a b x) t e i = absurd (subst IsMark (sym e) i)
-by_spelling (spelling.bare_atom c cs h a u o) t e i = absurd (subst IsMark (sym e) i)
-by_spelling (spelling.quoted_atom r u) t e i = absurd (subst IsMark (sym e) i)
-by_spelling (spelling.string r u) t e i = absurd (subst IsMark (sym e) i)
+by_spelling s t e i = absurd (subst IsMark (sym e) i)
 
 pub seen : (p : Place) (l : Lexeme) → lexeme_at p ≡ Ok l → Seen l.token
 seen p l n = by l.token refl
@@ -132,11 +123,9 @@ abbrev pub Any : Token → Type 0
 Any t = Unit {0}
 
 pub closed_goes : {May : Token → Type 0} (w : Wanted) (test : Token → Bool) → Tells w test May → (p : Place) (l : Lexeme) → lexeme_at p ≡ Ok l → May l.token → Going Nothing Here (w ∷ []) p l.after (closed test l)
-closed_goes w test tells p l n may = by (test l.token) refl
-  where
-    by : (b : Bool) → test l.token ≡ b → Going Nothing Here (w ∷ []) p l.after (cond b (Ok l.after) (Err (BadTerm l.line)))
-    by true e = taking w [] [] p l n (tells.yes l.token (seen p l n) e) (done_place l.after)
-    by false e = misplaces w [] p l n (tells.other l.token (seen p l n) may e)
+closed_goes w test tells p l n may =
+    cond_both (test l.token) _ _ (Going Nothing Here (w ∷ []) p l.after) (λ e. taking w [] [] p l n (tells.yes l.token (seen p l n) e) (done_place l.after))
+    (λ e. misplaces w [] p l n (tells.other l.token (seen p l n) may e))
 
 pub want_goes : (w : Wanted) (test : Token → Bool) → Tells w test Any → (p : Place) → Going Nothing Here (w ∷ []) p p (want test p)
 want_goes w test tells p = then (w ∷ []) (closed test) (next_at p) (λ l q n c. from_token q l n (closed_goes w test tells q l n tt))
@@ -146,7 +135,7 @@ is_the : {v t : Token} {m : Move} → Meets (the v) t m → t ≡ v
 is_the (faults.it e) = e
 
 not_passed : (test : Token → Bool) (t v : Token) → test v ≡ true → test t ≡ false → t ≡ v → ⊥
-not_passed test t v y n e = let no : true ≡ false = sym y ∙ ap test (sym e) ∙ n in cc
+not_passed test t v y n e = both_ways (test v) (ap test (sym e) ∙ n) y
 
 bare_tells : (v : Token) (test : Token → Bool) → IsBare v → meant v ≡ v → test v ≡ true → ((t : Token) → Seen t → test t ≡ true → t ≡ v) → Tells (the v) test Any
 bare_tells v test bare plain y is = record {
@@ -172,11 +161,8 @@ list_close_tells = bare_tells named.close_list closes_list tt refl refl (λ t s 
 pub utf8_tells : Tells (the (token.atom (token.plain (codes "utf8")))) is_utf8_name Any
 utf8_tells = record {
   yes = λ t s e. inl (faults.it (utf8_named t e));
-  other = λ t s u e. inr (λ m k. unlike t e (is_the k), refl);
+  other = λ t s u e. inr (λ m k. both_ways (is_utf8_name t) e (utf8_back t (is_the k)), refl);
 }
-  where
-    unlike : (t : Token) → is_utf8_name t ≡ false → meant t ≡ token.atom (token.plain (codes "utf8")) → ⊥
-    unlike t e i = let no : true ≡ false = sym (utf8_back t i) ∙ e in cc
 
 -- a name and a number
 name_is : {t : Token} {m : Move} → Meets a_name t m → is_atom t ≡ true
@@ -195,18 +181,15 @@ integer_same (token.atom b) = refl
 integer_same (token.text b) = refl
 integer_same t = refl
 
-not_true : (b : Bool) → b ≡ false → b ≡ true → ⊥
-not_true b e f = let no : true ≡ false = sym f ∙ e in cc
-
 pub name_tells : Tells a_name is_atom Any
-name_tells = record { yes = yes; other = λ t s u e. inr (λ m k. not_true (is_atom (meant t)) (atom_same t ∙ e) (name_is k), refl) }
+name_tells = record { yes = yes; other = λ t s u e. inr (λ m k. both_ways (is_atom (meant t)) (atom_same t ∙ e) (name_is k), refl) }
   where
     yes : (t : Token) → Seen t → is_atom t ≡ true → Does a_name (meant t) (taken [])
     yes (token.atom b) s e = inl faults.its_name
     yes t s e = cc
 
 pub number_tells : Tells a_number is_integer Any
-number_tells = record { yes = yes; other = λ t s u e. inr (λ m k. not_true (is_integer (meant t)) (integer_same t ∙ e) (number_is k), refl) }
+number_tells = record { yes = yes; other = λ t s u e. inr (λ m k. both_ways (is_integer (meant t)) (integer_same t ∙ e) (number_is k), refl) }
   where
     yes : (t : Token) → Seen t → is_integer t ≡ true → Does a_number (meant t) (taken [])
     yes (token.integer n) s e = inl faults.its_number
@@ -214,34 +197,23 @@ number_tells = record { yes = yes; other = λ t s u e. inr (λ m k. not_true (is
 
 -- what closes a bracket
 abbrev pub closes : Bracket → Token → Bool
-closes a_tuple = closes_tuple
 closes a_list = closes_list
-closes a_map = closes_tuple
 closes a_binary = closes_binary
+closes s = closes_tuple
 
 close_is : (k : Bracket) {t : Token} → Seen t → closes k t ≡ true → t ≡ closing k
-close_is a_tuple s e = tuple_close_is s e
 close_is a_list s e = list_close_is s e
-close_is a_map s e = tuple_close_is s e
 close_is a_binary s e = binary_close_is s e
+close_is t s e = tuple_close_is s e
 
 bare_closing : (k : Bracket) → IsBare (closing k)
-bare_closing a_tuple = tt
-bare_closing a_list = tt
-bare_closing a_map = tt
-bare_closing a_binary = tt
+bare_closing s = grind arith
 
 plain_closing : (k : Bracket) → meant (closing k) ≡ closing k
-plain_closing a_tuple = refl
-plain_closing a_list = refl
-plain_closing a_map = refl
-plain_closing a_binary = refl
+plain_closing s = grind arith
 
 closing_closes : (k : Bracket) → closes k (closing k) ≡ true
-closing_closes a_tuple = refl
-closing_closes a_list = refl
-closing_closes a_map = refl
-closing_closes a_binary = refl
+closing_closes s = grind arith
 
 meant_closing : (k : Bracket) {t : Token} → Seen t → closes k t ≡ true → meant t ≡ closing k
 meant_closing k s e = ap meant (close_is k s e) ∙ plain_closing k
@@ -340,8 +312,7 @@ IsHeld (token.text b) = Unit {0}
 IsHeld t = ⊥
 
 is_held : {d : ℕ} {t : Token} {m : Move} → Meets (a_value d) t m → IsHeld t
-is_held faults.a_number_held = tt
-is_held faults.a_string_held = tt
+is_held s = grind arith
 
 pub not_held : (d : ℕ) (t : Token) → (IsHeld (meant t) → ⊥) → Does (a_value d) (meant t) misplaced
 not_held d t n = inr (λ m u. n (is_held u), refl)

@@ -13,7 +13,7 @@ use Rattle.bx_text.specs.Forms.{form_at}
 use Rattle.bx_text.specs.Terms.{span, letters, tail_of}
 use Rattle.bx_text.specs.Tree.{Tree, integer, atom, tuple, list, other, nil, cons, chain}
 use Rattle.bx_text_laws.specs.Quoted as quoted
-use Rattle.bx_text_laws.specs.Quoted.{Quoted, Named, backspace, delete, escape, form_feed, line_feed, carriage_return, space, tab, vertical_tab}
+use Rattle.bx_text_laws.specs.Quoted.{Quoted, Named}
 use Rattle.bx_text_laws.specs.Shown.{StandsAs, Shown, ShownRow, ShownList, ShownRest, IsReadBack}
 use Rattle.bx_text_laws.specs.Spelling as spelling
 use Rattle.bx_text_laws.specs.Spelling.{Spelling}
@@ -22,7 +22,7 @@ use Rattle.bx_text.specs.declared.node.Sort.{Sort}
 use Rattle.bx_text_laws.specs.Terms.{Stood, Texts, Held, Part, Parts, Term, Elements, Pairs, Sentence}
 use Rattle.bx_text_laws.proofs.Escapes.{is_base, Value, numeral_value, below}
 use Rattle.bx_text_laws.proofs.ReadBack.{read_back}
-use Rattle.bx_text_laws.proofs.Sentences.{read_is_sentence}
+use Rattle.bx_text_laws.proofs.Sentences.{forms_are_sentences}
 
 -- quoted characters are characters
 three_digits : (ds : List ℕ) (v : ℕ) → Value 8 ds v → length ds ≤ 3 → v < 55296
@@ -45,8 +45,8 @@ three_digits (x ∷ y ∷ z ∷ []) v (a, e, some) l =
 three_digits (x ∷ y ∷ z ∷ u ∷ ds) v (a, e, some) l = absurd (omega arith)
 
 two_digits : (ds : List ℕ) (v : ℕ) → Value 16 ds v → length ds ≡ 2 → v < 55296
-two_digits [] v (a, e, some) l = absurd (omega arith)
-two_digits (x ∷ []) v (a, e, some) l = absurd (omega arith)
+two_digits [] v a l = absurd (omega arith)
+two_digits (x ∷ []) v a l = absurd (omega arith)
 two_digits (x ∷ y ∷ []) v (a, e, some) l =
     let all = and_parts (is_base 16 x) (is_base 16 y && true) a in
     let one : digit x < 16 = below 16 x all.0 in
@@ -55,15 +55,7 @@ two_digits (x ∷ y ∷ []) v (a, e, some) l =
 two_digits (x ∷ y ∷ z ∷ ds) v (a, e, some) l = absurd (omega arith)
 
 named_low : {c v : ℕ} → Named c v → v < 55296
-named_low backspace = omega arith
-named_low delete = omega arith
-named_low escape = omega arith
-named_low form_feed = omega arith
-named_low line_feed = omega arith
-named_low carriage_return = omega arith
-named_low space = omega arith
-named_low tab = omega arith
-named_low vertical_tab = omega arith
+named_low s = grind arith
 
 scalars_past : (xs ys : List ℕ) → all_scalars (xs ++ ys) ≡ true → all_scalars ys ≡ true
 scalars_past [] ys a = a
@@ -87,28 +79,9 @@ quoted_scalars (quoted.other {c = c} {cs = cs} {vs = vs} h k) a =
 
 -- an atom's text is in UTF-8
 atom_utf8 : {bytes : List ℕ} {t : Token} → Spelling bytes t → (w : List ℕ) → t ≡ token.atom (token.plain w) → IsUtf8 w
-atom_utf8 spelling.open_tuple w e = cc
-atom_utf8 spelling.close_tuple w e = cc
-atom_utf8 spelling.open_list w e = cc
-atom_utf8 spelling.close_list w e = cc
-atom_utf8 spelling.open_map w e = cc
-atom_utf8 spelling.open_binary w e = cc
-atom_utf8 spelling.close_binary w e = cc
-atom_utf8 spelling.comma w e = cc
-atom_utf8 spelling.bar w e = cc
-atom_utf8 spelling.arrow w e = cc
-atom_utf8 spelling.colon w e = cc
-atom_utf8 spelling.slash w e = cc
-atom_utf8 spelling.open_parenthesis w e = cc
-atom_utf8 spelling.close_parenthesis w e = cc
-atom_utf8 spelling.full_stop w e = cc
-atom_utf8 spelling.the_word_fun w e = cc
-atom_utf8 (spelling.integer k) w e = cc
-atom_utf8 (spelling.negative k) w e = cc
-atom_utf8 (spelling.float m k n x) w e = cc
 atom_utf8 (spelling.bare_atom c cs {bytes = bytes} h a u o) w e = let is : bytes ≡ w = cc in subst IsUtf8 is (c ∷ cs, (u.0, u.1))
 atom_utf8 (spelling.quoted_atom {vs = vs} r u) w e = let is : encode_utf8_all vs ≡ w = cc in subst IsUtf8 is (vs, (quoted_scalars r u.0, refl))
-atom_utf8 (spelling.string r u) w e = cc
+atom_utf8 s w e = cc
 
 abbrev Somewhere : Lexeme → Type 0
 Somewhere l = (p : Place) × Stood p l
@@ -207,22 +180,15 @@ proper_of d (t ∷ ts) (h, a) = (h, rest_of d ts nil a tt)
 tail_list : (d : ℕ) (u : Tree) → ShownList d u → ShownRest (suc d) u
 tail_list d nil h = tt
 tail_list d (cons t v) (h, r) = ((up t).node d h, (up v).rest d r)
-tail_list d (integer s n) h = absurd h
-tail_list d (atom s w) h = absurd h
-tail_list d (tuple s t) h = absurd h
-tail_list d (list s t) h = absurd h
-tail_list d (other s k w) h = absurd h
+tail_list d s h = absurd h
 
 tail_shown : (d : ℕ) (t : Tree) → Shown d t → ShownRest d (tail_of t)
 tail_shown d (integer s n) h = tt
 tail_shown d (atom s w) h = h
-tail_shown zero (tuple s t) h = absurd h
 tail_shown (suc d) (tuple s t) h = h
-tail_shown zero (list s t) h = absurd h
 tail_shown (suc d) (list s t) h = tail_list d t h
 tail_shown d (other s k w) h = h
-tail_shown d nil h = absurd h
-tail_shown d (cons t u) h = absurd h
+tail_shown s t h = absurd h
 
 -- a string's characters are integers
 letters_shown : (d : ℕ) (s : Span) (cs : List ℕ) (ts : List Tree) → AllByRecursion (Shown d) ts → AllByRecursion (Shown d) (map (λ c. integer s (pos c)) cs ++ ts)
@@ -234,17 +200,13 @@ texts_shown (terms.no_text n) d = tt
 texts_shown (terms.a_text {l = l} {w = w} {ts = ts} st t s) d = letters_shown d (span l l.after) (chars w) ts (texts_shown s d)
 
 some_elements : {d : ℕ} {l m : Lexeme} {ts : List Tree} → Elements d l ts m → 0 < length ts
-some_elements (terms.one t st) = omega arith
-some_elements (terms.more t st k n r) = omega arith
+some_elements s = grind arith
 
 mutual
   term_shown : {d : ℕ} {l : Lexeme} {t : Tree} {q : Place} → Term d l t q → Somewhere l → Shown d t
-  term_shown (terms.an_integer t) s = tt
   term_shown (terms.an_atom {l = l} {w = w} t) s = atom_utf8 (spoken l s).1 w t
   term_shown (terms.texts {d = d} {l = l} {w = w} {ts = ts} t r) s = proper_of d (letters (span l l.after) w ++ ts) (letters_shown d (span l l.after) (chars w) ts (texts_shown r d))
-  term_shown (terms.empty_tuple t a z) s = tt
   term_shown (terms.a_tuple {d = d} {l = l} {first = f} {ts = ts} t a w z) s = row_of d ts (elements_shown w (l.after, a))
-  term_shown (terms.empty_list t a z) s = tt
   term_shown (terms.a_list {d = d} {l = l} {first = f} {ts = ts} t a w z) s = proper_of d ts (elements_shown w (l.after, a))
   term_shown (terms.a_list_with_tail {d = d} {l = l} {first = f} {bar = bar} {start = start} {ts = ts} {t = tail} t a w b c u y z) s =
       list_of d ts (tail_of tail) (some_elements w) (elements_shown w (l.after, a)) (tail_shown d tail (term_shown u (bar.after, c)))
@@ -254,6 +216,7 @@ mutual
   term_shown (terms.an_empty_binary {l = l} {m = m} t a z w) (p, st) = (p, l, span l m.after, m.after, st, terms.an_empty_binary t a z w)
   term_shown (terms.a_binary {l = l} {m = m} t a r z w) (p, st) = (p, l, span l m.after, m.after, st, terms.a_binary t a r z w)
   term_shown (terms.a_fun {l = l} {n = n} t a x b y c z e o h j r) (p, st) = (p, l, span l n.after, n.after, st, terms.a_fun t a x b y c z e o h j r)
+  term_shown t s = tt
 
   elements_shown : {d : ℕ} {l m : Lexeme} {ts : List Tree} → Elements d l ts m → Somewhere l → AllByRecursion (Shown d) ts
   elements_shown (terms.one t st) s = (term_shown t s, tt)
@@ -263,4 +226,4 @@ sentence_shown : {d : ℕ} {p q : Place} {t : Tree} → Sentence d p t q → Sho
 sentence_shown (terms.a_sentence {p = p} {l = l} st t a z) = term_shown t (p, st)
 
 pub read_and_back : (p : Place) (t : Tree) (q : Place) → form_at p ≡ Ok (Some (t, q)) → IsReadBack t
-read_and_back p t q h = read_back t (sentence_shown (read_is_sentence p t q h))
+read_and_back p t q h = read_back t (sentence_shown ((forms_are_sentences p t q).0 h))

@@ -9,9 +9,7 @@ pub loop-at-init : goal.loop-at-init
 loop-at-init c = record { is = refl; long = refl }
 
 pub settle-requires-clause-within : goal.settle-requires-clause-within
-settle-requires-clause-within c =
-    let long = c.loop-at.invariant.long in
-    omega arith
+settle-requires-clause-within c = omega (arith, c.loop-at.invariant.long)
 
 pub loop-at-preserved : goal.loop-at-preserved
 loop-at-preserved c =

@@ -1,10 +1,9 @@
 use Rattle.std.proofs.Common.{◌∙◌, ◌<◌, length, eq-eqb, sym, arith}
 use Rattle.std.specs.Prelude.{◌==◌, slice_index_or}
-use Rattle.std.proofs.lemmas.Bool.{eqb-true}
+use Rattle.std.proofs.lemmas.Bool.{eqb-true, false_from_ne_true}
 use Rattle.std.proofs.lemmas.List.{get_or_default}
 use Rattle.bx_world.specs.declared.choices.Choice.TheVariants.{Run}
 use Rattle.bx_world.specs.Enabled.{actor}
-use Rattle.bx_swaps.proofs.Coming.{never}
 use Rattle.bx_swaps.proofs.Gathering.{alike_found, alike_on}
 use Rattle.bx_swaps.proofs.tidying.next_alike.Goals as goal
 
@@ -26,5 +25,5 @@ loop-next-preserved c =
     let x = slice_index_or choices next (Run 0) in
     let within : next < length choices = omega arith in
     alike_on choices c.args.at next c.args.count p x (omega arith) (omega arith) within (get_or_default choices next (Run 0) x within)
-    (never (actor x == p) (λ e. c.if-actor.false (c.actor.ensures ∙ eqb-true (actor x) p e)))
+    (false_from_ne_true (actor x == p) (λ e. c.if-actor.false (c.actor.ensures ∙ eqb-true (actor x) p e)))
     ∙ c.loop-next.invariant

@@ -1,6 +1,5 @@
 use Rattle.std.proofs.Common.{◌≡◌, ◌∙◌, length, ap, sym, subst, arith}
 use Rattle.std.specs.Prelude.{List, Ok}
-use Rattle.bx_load.specs.Image.{export}
 use Rattle.bx_world.specs.declared.choices.Choice.{Choice}
 use Rattle.bx_world.specs.World.{started}
 use Rattle.bx_world.specs.Running.{Ended}
@@ -20,8 +19,7 @@ tidied-requires c =
     let len : c.len.result ≡ length trail.choices = c.len.ensures.count in
     let made : c.made.inside.applied ≡ (reached (length trail.choices) trail).applied =
     ap (λ (e : Ended). e.applied) (c.made.view_is ∙ c.in_ok-made.ensures) ∙ ap (λ n. (reached n trail).applied) len in
-    let few = bounded trail (length trail.choices) (omega arith) in
-    omega arith
+    omega (arith, bounded trail (length trail.choices) (omega arith))
 
 pub returns : goal.returns
 returns c =

@@ -11,9 +11,7 @@ pub bring_forward-requires-clause-order : goal.bring_forward-requires-clause-ord
 bring_forward-requires-clause-order c = let less = c.loop-at.invariant.less in omega arith
 
 pub bring_forward-requires-clause-within : goal.bring_forward-requires-clause-within
-bring_forward-requires-clause-within c =
-    let long = long_after c.args.count c.args.row.now c.loop-at.row c.loop-at.invariant.exchanged in
-    omega arith
+bring_forward-requires-clause-within c = omega (arith, long_after c.args.count c.args.row.now c.loop-at.row c.loop-at.invariant.exchanged)
 
 pub loop-at-preserved : goal.loop-at-preserved
 loop-at-preserved c =

@@ -25,8 +25,7 @@ undone-requires-clause-within c =
     let len : c.len-2.result ≡ length trail.choices = c.len-2.ensures.count in
     let made : c.made.inside.applied ≡ (reached (length trail.choices) trail).applied =
     ap (λ (e : Ended). e.applied) (c.made.view_is ∙ c.in_ok-made.ensures) ∙ ap (λ n. (reached n trail).applied) len in
-    let few = bounded trail (length trail.choices) (omega arith) in
-    omega arith
+    omega (arith, bounded trail (length trail.choices) (omega arith))
 
 pub undone-requires-clause-all : goal.undone-requires-clause-all
 undone-requires-clause-all c =

@@ -1,4 +1,4 @@
-use Rattle.std.proofs.Common.{◌≡◌, ◌∙◌, ◌-◌, ◌≤◌, length, Ok, sym, ap, subst, arith}
+use Rattle.std.proofs.Common.{◌≡◌, ◌∙◌, ◌≤◌, length, Ok, sym, ap, subst, arith}
 use Rattle.bx_replay.proofs.Bringing.{long_after}
 use Rattle.bx_debug.specs.Sessions.{History}
 use Rattle.bx_debug.specs.Tidying.{undo_of}
@@ -12,10 +12,7 @@ undone-requires-clause-all c = all_before c.self.inside.trail c.self.inside.at c
 pub end_at-requires : goal.end_at-requires
 end_at-requires c =
     let aside = c.in_ok-trail.ensures.aside in
-    let long = long_after c.self.inside.at c.self.inside.trail c.in_ok-trail.trail aside.exchanged in
-    let less = aside.within in
-    let within = c.self.invariant.within in
-    omega arith
+    omega (arith, long_after c.self.inside.at c.self.inside.trail c.in_ok-trail.trail aside.exchanged, aside.within, c.self.invariant.within)
 
 pub invariant_of-self : goal.invariant_of-self
 invariant_of-self c =

@@ -1,4 +1,4 @@
-use Rattle.std.proofs.Common.{◌≡◌, ◌<◌, ◌≤◌, length, string_bytes, take, subst, arith}
+use Rattle.std.proofs.Common.{◌<◌, ◌≤◌, length, string_bytes, subst, arith}
 use Rattle.std.specs.Prelude.{List}
 use Rattle.std.proofs.lemmas.List.{take_all}
 use Rattle.bx_load.specs.Image.{export}
