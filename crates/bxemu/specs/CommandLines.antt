@@ -103,6 +103,10 @@ abbrev pub form_by : Option Text → Form
 form_by None = Report
 form_by (Some value) = if bytes_eq value (codes "true") then Summary else Report
 
+-- the start and the listings are what the values of a subcommand say
+abbrev pub NamesListings : List Row → Text → List Text → Type 0
+NamesListings rows start files = (first_of (codes "start") rows ≡ Some start) × (all_of (codes "FILES") rows ≡ Some files)
+
 -- a run with these parts is what the subcommand's values say
 abbrev pub IsRun : Option (Text × List Row) → Text → Text → Form → List Text → Type 0
 IsRun None start plan form files = ⊥

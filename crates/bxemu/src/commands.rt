@@ -1,9 +1,9 @@
 //! What the words of a command line order.
-ghost use Rattle.std.specs.Prelude.{◌≡◌, ◌⊎◌, ℕ, [], IfErr, IfNone, IfOk, IfSome, codes, map, string_bytes};
+ghost use Rattle.std.specs.Prelude.{◌≡◌, ◌≢◌, ◌⊎◌, ℕ, [], Some, IfErr, IfNone, IfOk, IfSome, codes, map, string_bytes};
 ghost use Rattle.clap.specs.Words.{found_of, kind_of, rows_of, subcommand_of, subcommand_rows_of};
 ghost use Rattle.clap.specs.Faults.{fault_of};
-ghost use Rattle.clap.specs.Walk.{first_of};
-ghost use Rattle.bxemu.specs.CommandLines.{Lacks, Orders, OrdersNothing, Spells, form_by, program};
+ghost use Rattle.clap.specs.Walk.{Text, first_of};
+ghost use Rattle.bxemu.specs.CommandLines.{Lacks, NamesListings, Orders, OrdersNothing, Spells, form_by, program};
 
 use crate::syntax::program_command;
 use bx_engine::Form;
@@ -104,22 +104,49 @@ fn order_of<'a>(alloc: Global, matches: &ArgMatches<'a>) -> Result<Order<'a>, Er
     }
 }
 
-/// The order to run, by the values of `run`.
-fn run_order<'a>(alloc: Global, values: &ArgMatches<'a>) -> Result<Order<'a>, Error>
-    ensures ok { IfOk result (Orders (Some (codes "run", rows_of (found_of values.now)))) }
-    ensures err { IfErr result (Lacks (Some (codes "run", rows_of (found_of values.now)))) }
+/// What all orders over listings name.
+#[derive(Drop)]
+struct Listings<'a> {
+    /// The function to start with, as `M:F`.
+    start: &'a str,
+    /// The files of the listings, in order.
+    files: Vec<&'a str>,
+}
+
+/// The start and the listings, by the values of a subcommand.
+fn listings_of<'a>(alloc: Global, values: &ArgMatches<'a>) -> Result<Listings<'a>, Error>
+    ensures ok { IfOk result (λ it. NamesListings (rows_of (found_of values.now)) it.start.now (map (λ file. file.now) it.files.items)) }
+    ensures err { IfErr result (λ e. (name : Text) → name ≢ codes "dis" → Lacks (Some (name, rows_of (found_of values.now))) e) }
 {
     let Some(start) = values.get_str("start") else {
-        return Err(incomplete(alloc));
-    };
-    let Some(plan) = values.get_str("plan") else {
         return Err(incomplete(alloc));
     };
     let Some(files) = values.get_raw("FILES") else {
         return Err(incomplete(alloc));
     };
     let files = Vec::from_slice(alloc, files)?;
+    Ok(Listings { start, files })
+}
+
+/// The plan, by the values of a subcommand that takes one.
+fn plan_of<'a>(alloc: Global, values: &ArgMatches<'a>) -> Result<&'a str, Error>
+    ensures ok { IfOk result (λ plan. first_of (codes "plan") (rows_of (found_of values.now)) ≡ Some plan.now) }
+    ensures err { IfErr result (λ e. (name : Text) → name ≢ codes "dis" → name ≢ codes "debug" → Lacks (Some (name, rows_of (found_of values.now))) e) }
+{
+    match values.get_str("plan") {
+        Some(plan) => Ok(plan),
+        None => Err(incomplete(alloc)),
+    }
+}
+
+/// The order to run, by the values of `run`.
+fn run_order<'a>(alloc: Global, values: &ArgMatches<'a>) -> Result<Order<'a>, Error>
+    ensures ok { IfOk result (Orders (Some (codes "run", rows_of (found_of values.now)))) }
+    ensures err { IfErr result (Lacks (Some (codes "run", rows_of (found_of values.now)))) }
+{
+    let plan = plan_of(alloc, values)?;
     let form = form_of(values);
+    let Listings { start, files } = listings_of(alloc, values)?;
     Ok(Order::Run {
         start,
         plan,
@@ -133,23 +160,10 @@ fn campaign_order<'a>(alloc: Global, values: &ArgMatches<'a>) -> Result<Order<'a
     ensures ok { IfOk result (Orders (Some (codes "campaign", rows_of (found_of values.now)))) }
     ensures err { IfErr result (Lacks (Some (codes "campaign", rows_of (found_of values.now)))) }
 {
-    let Some(start) = values.get_str("start") else {
-        return Err(incomplete(alloc));
-    };
-    let Some(plan) = values.get_str("plan") else {
-        return Err(incomplete(alloc));
-    };
-    let Some(text) = values.get_str("workers") else {
-        return Err(incomplete(alloc));
-    };
-    let Some(workers) = workers_of(text) else {
-        return Err(incomplete(alloc));
-    };
-    let Some(files) = values.get_raw("FILES") else {
-        return Err(incomplete(alloc));
-    };
-    let files = Vec::from_slice(alloc, files)?;
+    let plan = plan_of(alloc, values)?;
+    let workers = workers_of(alloc, values)?;
     let form = form_of(values);
+    let Listings { start, files } = listings_of(alloc, values)?;
     Ok(Order::Campaign {
         start,
         plan,
@@ -169,8 +183,22 @@ fn form_of(values: &ArgMatches<'_>) -> Form
     }
 }
 
-/// The number of workers that a text spells.
-fn workers_of(text: &str) -> Option<u32>
+/// The number of workers, by the values of `campaign`.
+fn workers_of(alloc: Global, values: &ArgMatches<'_>) -> Result<u32, Error>
+    ensures ok { IfOk result (λ n. (text : Text) × (first_of (codes "workers") (rows_of (found_of values.now)) ≡ Some text) × Spells text n) }
+    ensures err { IfErr result (Lacks (Some (codes "campaign", rows_of (found_of values.now)))) }
+{
+    let Some(text) = values.get_str("workers") else {
+        return Err(incomplete(alloc));
+    };
+    match number_of(text) {
+        Some(workers) => Ok(workers),
+        None => Err(incomplete(alloc)),
+    }
+}
+
+/// The number of 32 bits that a text spells.
+fn number_of(text: &str) -> Option<u32>
     ensures some { IfSome result (Spells text.now) }
     ensures none { IfNone result ((n : ℕ) → Spells text.now n → ⊥) }
 {
@@ -188,16 +216,8 @@ fn tidy_order<'a>(alloc: Global, values: &ArgMatches<'a>) -> Result<Order<'a>, E
     ensures ok { IfOk result (Orders (Some (codes "tidy", rows_of (found_of values.now)))) }
     ensures err { IfErr result (Lacks (Some (codes "tidy", rows_of (found_of values.now)))) }
 {
-    let Some(start) = values.get_str("start") else {
-        return Err(incomplete(alloc));
-    };
-    let Some(plan) = values.get_str("plan") else {
-        return Err(incomplete(alloc));
-    };
-    let Some(files) = values.get_raw("FILES") else {
-        return Err(incomplete(alloc));
-    };
-    let files = Vec::from_slice(alloc, files)?;
+    let plan = plan_of(alloc, values)?;
+    let Listings { start, files } = listings_of(alloc, values)?;
     Ok(Order::Tidy { start, plan, files })
 }
 
@@ -206,17 +226,9 @@ fn chart_order<'a>(alloc: Global, values: &ArgMatches<'a>) -> Result<Order<'a>, 
     ensures ok { IfOk result (Orders (Some (codes "chart", rows_of (found_of values.now)))) }
     ensures err { IfErr result (Lacks (Some (codes "chart", rows_of (found_of values.now)))) }
 {
-    let Some(start) = values.get_str("start") else {
-        return Err(incomplete(alloc));
-    };
-    let Some(plan) = values.get_str("plan") else {
-        return Err(incomplete(alloc));
-    };
-    let Some(files) = values.get_raw("FILES") else {
-        return Err(incomplete(alloc));
-    };
-    let files = Vec::from_slice(alloc, files)?;
+    let plan = plan_of(alloc, values)?;
     let schedule = values.get_str("schedule");
+    let Listings { start, files } = listings_of(alloc, values)?;
     Ok(Order::Chart {
         start,
         plan,
@@ -230,13 +242,7 @@ fn debug_order<'a>(alloc: Global, values: &ArgMatches<'a>) -> Result<Order<'a>, 
     ensures ok { IfOk result (Orders (Some (codes "debug", rows_of (found_of values.now)))) }
     ensures err { IfErr result (Lacks (Some (codes "debug", rows_of (found_of values.now)))) }
 {
-    let Some(start) = values.get_str("start") else {
-        return Err(incomplete(alloc));
-    };
-    let Some(files) = values.get_raw("FILES") else {
-        return Err(incomplete(alloc));
-    };
-    let files = Vec::from_slice(alloc, files)?;
+    let Listings { start, files } = listings_of(alloc, values)?;
     Ok(Order::Debug { start, files })
 }
 

@@ -1,30 +1,14 @@
-use Rattle.std.proofs.Common.{◌∙◌, codes, refl, sym, ap, map, Some}
-use Rattle.clap.specs.Words.{found_of, rows_of}
-use Rattle.clap.proofs.WalkLemmas.{first_value-rows, raw_values-rows}
-use Rattle.bxemu.proofs.CommandLemmas.{lacking, tidy_lacks_files, tidy_lacks_plan, tidy_lacks_start}
+use Rattle.std.proofs.Common.{codes, refl}
+use Rattle.clap.proofs.TakesLemmas.{passed_up}
+use Rattle.bxemu.proofs.CommandLemmas.{differs}
 use Rattle.bxemu.proofs.commands.tidy_order.Goals as goal
 
-pub returns-in_default-clause-err : goal.returns-in_default-clause-err
-returns-in_default-clause-err c =
-    let found = found_of c.args.values.now in
-    lacking (Some (codes "tidy", rows_of found)) c.incomplete.result c.incomplete.ensures (tidy_lacks_start (rows_of found) (sym (first_value-rows found (codes "start")) ∙ sym c.in_default.ensures))
+pub returns-in_err-plan-clause-err : goal.returns-in_err-plan-clause-err
+returns-in_err-plan-clause-err c =
+    passed_up c.from_residual.result c.in_err-plan.field-0.0 _ c.from_residual.ensures.1
+    (c.in_err-plan.ensures.err (codes "tidy") (differs (codes "tidy") (codes "dis") refl) (differs (codes "tidy") (codes "debug") refl))
 
-pub returns-in_default-get_str-clause-err : goal.returns-in_default-get_str-clause-err
-returns-in_default-get_str-clause-err c =
-    let found = found_of c.args.values.now in
-    lacking (Some (codes "tidy", rows_of found)) c.incomplete-in_default-get_str.result c.incomplete-in_default-get_str.ensures (tidy_lacks_plan (rows_of found) (sym (first_value-rows found (codes "plan")) ∙ sym c.in_default-get_str.ensures))
-
-pub returns-in_default-get_raw-clause-err : goal.returns-in_default-get_raw-clause-err
-returns-in_default-get_raw-clause-err c =
-    let found = found_of c.args.values.now in
-    lacking (Some (codes "tidy", rows_of found)) c.incomplete-in_default-get_raw.result c.incomplete-in_default-get_raw.ensures (tidy_lacks_files (rows_of found) (sym (raw_values-rows found (codes "FILES")) ∙ sym c.in_default-get_raw.ensures))
-
-pub returns-clause-ok : goal.returns-clause-ok
-returns-clause-ok c =
-    let found = found_of c.args.values.now in (
-      refl,
-      sym (first_value-rows found (codes "start")) ∙ sym c.in-Some.ensures,
-      sym (first_value-rows found (codes "plan")) ∙ sym c.in-Some-get_str.ensures,
-      sym (raw_values-rows found (codes "FILES")) ∙ sym c.in-Some-get_raw.ensures
-          ∙ ap (λ texts. Some (map (λ file. file.now) texts)) (sym c.in_ok-files.ensures.items),
-    )
+pub returns-in_err-start-clause-err : goal.returns-in_err-start-clause-err
+returns-in_err-start-clause-err c =
+    passed_up c.from_residual-in_err-start.result c.in_err-start.field-0.0 _ c.from_residual-in_err-start.ensures.1
+    (c.in_err-start.ensures.err (codes "tidy") (differs (codes "tidy") (codes "dis") refl))
