@@ -1,12 +1,9 @@
 -- Exchanges of a session that are told by a test.
-use Rattle.std.proofs.Common.{◌≡◌, ℕ, ◌-◌, true, ◌&&◌}
-use Rattle.std.specs.Prelude.{nat_lt}
+use Rattle.bx_debug.proofs.Words.{◌≡◌, ℕ, ◌-◌, true, ◌&&◌, nat_lt, History, course_of, may_swap}
 use Rattle.std.proofs.lemmas.Bool.{and_from, and_parts, lt-ltb, ltb-true}
 use Rattle.bx_swaps.specs.Telling.{may_exchange}
 use Rattle.bx_swaps.proofs.Telling as telling
-use Rattle.bx_debug.specs.Sessions.{History}
-use Rattle.bx_debug.specs.Swapping.{course_of, MaySwap}
-use Rattle.bx_debug.specs.Exchanging.{may_swap}
+use Rattle.bx_debug.specs.Swapping.{MaySwap}
 
 pub may_so : (k : ℕ) (s : History) → may_swap k s ≡ true → MaySwap k s
 may_so k s e =

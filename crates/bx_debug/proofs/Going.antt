@@ -1,15 +1,8 @@
 -- Walks that go on, and walks that are over.
-use Rattle.std.proofs.Common.{◌≡◌, ℕ, ◌+◌, ◌≤◌, List, ◌++◌, length, take, drop, Option, None, refl, sym, ap, ◌∙◌, subst, arith}
+use Rattle.bx_debug.proofs.Words.{◌≡◌, ℕ, ◌+◌, ◌≤◌, List, ◌++◌, length, take, drop, Option, None, refl, sym, ap, ◌∙◌, subst, arith, Loaded, Choice, State, Ended, ran, Course, walked, come, Leads, Reaches, Walks}
+use Rattle.bx_debug.proofs.Words.{Went, PlaceSet, Stop}
 use Rattle.std.proofs.lemmas.List.{length-take, length-take-le, take-append-drop, take-take}
-use Rattle.bx_load.specs.Image.{Loaded}
-use Rattle.bx_world.specs.declared.choices.Choice.{Choice}
-use Rattle.bx_world.specs.World.{State}
-use Rattle.bx_world.specs.Running.{Ended, ran}
-use Rattle.bx_replay.specs.Courses.{Course}
-use Rattle.bx_debug.specs.Going.{walked}
-use Rattle.bx_debug.specs.Leading.{come, Begins, Leads, Reaches, Walks, Went}
-use Rattle.bx_debug.specs.Places.{PlaceSet}
-use Rattle.bx_debug.specs.declared.stops.Stop.{Stop}
+use Rattle.bx_debug.specs.Leading.{Begins}
 use Rattle.bx_debug.proofs.Leads.{ran_from}
 use Rattle.bx_debug.proofs.Stretches.{leads_joined, take_both}
 

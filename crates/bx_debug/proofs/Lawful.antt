@@ -1,35 +1,21 @@
 -- What is true of every session.
-use Rattle.std.proofs.Common.{◌≡◌, ℕ, ◌+◌, ◌-◌, ◌<◌, ◌≤◌, List, [], ◌∷◌, ◌++◌, length, replicate, take, Bool, true, false, Option, Some, None, Result, Ok, Err, refl, sym, ap, ◌∙◌, subst, arith, length-append}
-use Rattle.std.specs.Prelude.{◌==◌, ◌||◌, is_some, if◌then◌else◌, nat_lt}
+use Rattle.bx_debug.proofs.Words.{◌≡◌, ℕ, ◌+◌, ◌-◌, ◌<◌, ◌≤◌, List, [], ◌∷◌, ◌++◌, length, replicate, take, Bool, true, false, Option, Some, None, Ok, Err, refl, sym, ap, ◌∙◌, subst, arith, length-append, ◌==◌}
+use Rattle.bx_debug.proofs.Words.{◌||◌, is_some, if◌then◌else◌, nat_lt, Loaded, Choice, State, can, refusal, Ended, ran, unchosen, Course, reached, with_exchange, IsExchanged, ends_after, one_made, tidied_of}
+use Rattle.bx_debug.proofs.Words.{undone_of, exchanged_is, may_swap, walked, led, all_enabled, IsSession, runs_to, History, behind, world_of, with_made, or_refused, stepped, course_of, tidy_of, undone}
+use Rattle.std.proofs.Common.{Result}
 use Rattle.std.proofs.lemmas.List.{take_at, length-take-le}
 use Rattle.std.proofs.lemmas.Bool.{eqb-false, le-ltb, ltb-false, and_from}
 use Rattle.bx_terms.proofs.Outcomes.{ok_pair, bind_ok}
 use Rattle.bx_terms.specs.declared.atom_table.AtomId.{AtomId}
 use Rattle.bx_terms.specs.declared.faults.Fault.{Fault}
 use Rattle.bx_terms.specs.declared.faults.Fault.TheVariants as faults
-use Rattle.bx_load.specs.Image.{Loaded}
-use Rattle.bx_world.specs.declared.choices.Choice.{Choice}
 use Rattle.bx_world.specs.declared.choices.Choice.TheVariants as choices
-use Rattle.bx_world.specs.World.{State, started}
-use Rattle.bx_world.specs.Enabled.{can}
-use Rattle.bx_world.specs.Choosing.{refusal}
-use Rattle.bx_world.specs.Running.{Ended, ran, unchosen}
+use Rattle.bx_world.specs.World.{started}
 use Rattle.bx_debug.specs.Calls.{Call, Step, Back, Forward, Go, Run, Swap, Tidy, Undo, SetBreak, ClearBreak, kept_unless, called, after_calls}
-use Rattle.bx_replay.specs.Courses.{Course, reached}
-use Rattle.bx_replay.specs.Exchanges.{with_exchange}
-use Rattle.bx_replay.specs.Moving.{IsExchanged}
-use Rattle.bx_replay.proofs.Bringing.{ends_after, one_made}
-use Rattle.bx_swaps.specs.Tidying.{tidied_of, undone_of}
-use Rattle.bx_swaps.proofs.Ends.{exchanged_is}
 use Rattle.bx_swaps.proofs.Gathering.{tidied_so, undone_so}
-use Rattle.bx_debug.specs.Exchanging.{may_swap, swap_by}
-use Rattle.bx_debug.specs.Going.{walked}
-use Rattle.bx_debug.specs.Leading.{led, all_enabled, IsSession}
-use Rattle.bx_debug.specs.Pausing.{runs_to}
-use Rattle.bx_debug.specs.Sessions.{History, behind, world_of, begun, opened, with_made, or_refused, stepped, back, forward}
+use Rattle.bx_debug.specs.Exchanging.{swap_by}
+use Rattle.bx_debug.specs.Sessions.{begun, opened, back, forward}
 use Rattle.bx_debug.specs.Stopping.{IsRunOf}
-use Rattle.bx_debug.specs.Swapping.{course_of}
-use Rattle.bx_debug.specs.Tidying.{tidy_of, undone}
 use Rattle.bx_debug.proofs.Exchanging.{may_so}
 use Rattle.bx_debug.proofs.Swapping.{session_exchanged}
 use Rattle.bx_debug.proofs.Leads.{enabled_both, enabled_take, ran_all}

@@ -1,18 +1,12 @@
 -- Where lists of enabled choices lead.
-use Rattle.std.proofs.Common.{◌≡◌, ℕ, suc, ◌+◌, ◌≤◌, List, [], ◌∷◌, ◌++◌, length, take, drop, Bool, true, false, refl, sym, ap, ◌∙◌, subst, arith}
-use Rattle.std.specs.Prelude.{Option, Some, None, is_some, IsSome, Contains, if◌then◌else◌}
+use Rattle.bx_debug.proofs.Words.{◌≡◌, ℕ, suc, ◌+◌, ◌≤◌, List, [], ◌∷◌, ◌++◌, length, take, drop, Bool, true, false, refl, sym, ap, ◌∙◌, subst, arith, Option, Some, None, is_some, if◌then◌else◌, Trap, Loaded}
+use Rattle.bx_debug.proofs.Words.{Choice, State, can, chosen, Ended, advanced, ran, unchosen, led, all_enabled, come}
+use Rattle.std.specs.Prelude.{IsSome, Contains}
 use Rattle.std.proofs.lemmas.List.{take-append-drop}
 use Rattle.std.proofs.lemmas.Bool.{and_parts, and_from}
-use Rattle.bx_terms.specs.declared.kinds.Trap.{Trap}
-use Rattle.bx_load.specs.Image.{Loaded}
-use Rattle.bx_world.specs.declared.choices.Choice.{Choice}
-use Rattle.bx_world.specs.World.{State}
-use Rattle.bx_world.specs.Enabled.{can, enabled}
-use Rattle.bx_world.specs.Choosing.{chosen}
-use Rattle.bx_world.specs.Running.{Ended, advanced, ran, unchosen}
+use Rattle.bx_world.specs.Enabled.{enabled}
 use Rattle.bx_world.proofs.Lawful.{few_applied, nothing_enabled}
 use Rattle.bx_world.proofs.Members.{can_is_enabled}
-use Rattle.bx_debug.specs.Leading.{led, all_enabled, come}
 
 -- in a world that has trapped nothing is enabled
 none_among : (w : State) (choice : Choice) (trap : Option (Trap × ℕ)) → w.trap ≡ trap → can w choice ≡ true → is_some trap ≡ false

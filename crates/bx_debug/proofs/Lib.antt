@@ -1,3 +1,4 @@
+pub mod Words
 pub mod Leads
 pub mod Sets
 pub mod Sameness

@@ -1,17 +1,8 @@
 -- Sessions whose position moves, and to which choices are added.
-use Rattle.std.proofs.Common.{◌≡◌, ◌≢◌, ℕ, ◌+◌, ◌≤◌, List, [], ◌∷◌, ◌++◌, length, take, true, Option, None, refl, sym, ap, ◌∙◌, subst, arith, Some, Ok, length-append}
+use Rattle.bx_debug.proofs.Words.{◌≡◌, ◌≢◌, ℕ, ◌+◌, ◌≤◌, List, [], ◌∷◌, ◌++◌, length, take, true, Option, None, refl, sym, ap, ◌∙◌, subst, arith, Some, Ok, length-append, Loaded, Choice, State, refusal, Ended}
+use Rattle.bx_debug.proofs.Words.{ran, unchosen, Course, reached, led, all_enabled, come, IsSession, Went, PlaceSet, History, world_of, with_made, gone, or_refused, stepped, GoTakes, stop_at_once, walked, Stop}
 use Rattle.std.proofs.lemmas.List.{take_all, length-take-le}
-use Rattle.bx_load.specs.Image.{Loaded}
-use Rattle.bx_world.specs.declared.choices.Choice.{Choice}
-use Rattle.bx_world.specs.World.{State}
-use Rattle.bx_world.specs.Choosing.{refusal}
-use Rattle.bx_world.specs.Running.{Ended, ran, unchosen}
-use Rattle.bx_replay.specs.Courses.{Course, reached}
-use Rattle.bx_debug.specs.Leading.{led, all_enabled, come, IsSession, Went}
-use Rattle.bx_debug.specs.Places.{PlaceSet}
-use Rattle.bx_debug.specs.Sessions.{History, world_of, with_made, went, gone, or_refused, stepped, GoTakes}
-use Rattle.bx_debug.specs.Going.{stop_at_once, walked}
-use Rattle.bx_debug.specs.declared.stops.Stop.{Stop}
+use Rattle.bx_debug.specs.Sessions.{went}
 use Rattle.bx_debug.proofs.Walking.{one_applied, unrefused, walked_none, walked_some}
 use Rattle.bx_debug.proofs.Leads.{led-append, enabled_both, enabled_take, ran_all}
 

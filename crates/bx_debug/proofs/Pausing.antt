@@ -1,26 +1,15 @@
 -- How often a process runs, by what is so behind each run.
-use Rattle.std.proofs.Common.{◌≡◌, ◌⊎◌, inl, inr, ℕ, zero, suc, ◌+◌, ◌<◌, ◌≤◌, List, ◌∷◌, replicate, Bool, true, false, Option, Some, None, refl, sym, ap, ◌∙◌, subst, add-one, arith, option_map}
+use Rattle.bx_debug.proofs.Words.{◌≡◌, ◌⊎◌, inl, inr, ℕ, zero, suc, ◌+◌, ◌<◌, ◌≤◌, List, ◌∷◌, replicate, Bool, true, false, Option, Some, None, refl, sym, ap, ◌∙◌, subst, arith, ◌&&◌, is_some, if◌then◌else◌}
+use Rattle.bx_debug.proofs.Words.{Trap, Place, Loaded, Choice, Run, chosen, State, else_stop, halted, stop_before, stop_behind, after_runs, least, pause_at, pause_before, pause_of, run_of, PlaceSet, History}
+use Rattle.bx_debug.proofs.Words.{GoTakes, gone, world_of, Bound, Pause, Stop, NotEnabled}
+use Rattle.std.proofs.Common.{add-one, option_map}
 use Rattle.std.proofs.lemmas.Bool.{cases_lt}
-use Rattle.std.specs.Prelude.{◌&&◌, is_none, is_some, if◌then◌else◌}
-use Rattle.bx_terms.specs.declared.kinds.Trap.{Trap}
-use Rattle.bx_terms.specs.declared.places.Place.{Place}
-use Rattle.bx_load.specs.Image.{Loaded}
-use Rattle.bx_world.specs.declared.choices.Choice.{Choice}
-use Rattle.bx_world.specs.declared.choices.Choice.TheVariants.{Run}
-use Rattle.bx_world.specs.Choosing.{chosen}
+use Rattle.std.specs.Prelude.{is_none}
 use Rattle.bx_world.specs.Enabled.{able}
-use Rattle.bx_world.specs.World.{State}
-use Rattle.bx_debug.specs.Going.{else_stop, halted, stop_before, stop_behind}
 use Rattle.bx_debug.specs.Meeting.{meeting}
-use Rattle.bx_debug.specs.Pausing.{after_runs, else_pause, idle, least, or_done, pause_at, pause_before, pause_behind, pause_of, run_of, runs_to}
-use Rattle.bx_debug.specs.Places.{PlaceSet}
-use Rattle.bx_debug.specs.Sessions.{History, GoTakes, gone, world_of}
-use Rattle.bx_debug.specs.declared.pauses.Bound.{Bound}
+use Rattle.bx_debug.specs.Pausing.{else_pause, idle, or_done, pause_behind, runs_to}
 use Rattle.bx_debug.specs.declared.pauses.Bound.TheVariants.{Event, Meeting}
-use Rattle.bx_debug.specs.declared.pauses.Pause.{Pause}
 use Rattle.bx_debug.specs.declared.pauses.Pause.TheVariants.{Stopped, Idle}
-use Rattle.bx_debug.specs.declared.stops.Stop.{Stop}
-use Rattle.bx_debug.specs.declared.stops.Stop.TheVariants.{NotEnabled}
 use Rattle.bx_debug.proofs.Walking.{walked_some}
 
 -- the least number is the first for which there is a reason

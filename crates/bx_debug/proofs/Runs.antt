@@ -1,19 +1,7 @@
 -- All runs of a process that are made one after another.
-use Rattle.std.proofs.Common.{◌≡◌, ℕ, zero, suc, ◌<◌, ◌≤◌, List, [], ◌∷◌, replicate, true, Option, Some, None, refl, sym, ap, ◌∙◌, subst, arith}
-use Rattle.std.specs.Prelude.{is_some}
-use Rattle.bx_load.specs.Image.{Loaded}
-use Rattle.bx_world.specs.declared.choices.Choice.{Choice}
-use Rattle.bx_world.specs.declared.choices.Choice.TheVariants.{Run}
-use Rattle.bx_world.specs.Choosing.{chosen}
-use Rattle.bx_world.specs.World.{State}
-use Rattle.bx_debug.specs.Going.{behind_choice, stop_before, stop_behind, unless_stopped, walked}
-use Rattle.bx_debug.specs.Pausing.{after_runs, least, pause_at, run_of, runs_to}
-use Rattle.bx_debug.specs.Places.{PlaceSet}
-use Rattle.bx_debug.specs.Sessions.{History, with_made, world_of}
-use Rattle.bx_debug.specs.declared.pauses.Bound.{Bound}
-use Rattle.bx_debug.specs.declared.pauses.Pause.{Pause}
-use Rattle.bx_debug.specs.declared.stops.Stop.{Stop}
-use Rattle.bx_debug.specs.declared.stops.Stop.TheVariants.{Done}
+use Rattle.bx_debug.proofs.Words.{◌≡◌, ℕ, zero, suc, ◌<◌, ◌≤◌, List, [], ◌∷◌, replicate, true, Option, Some, None, refl, sym, ap, ◌∙◌, subst, arith, is_some, Loaded, Choice, Run, chosen, State, behind_choice}
+use Rattle.bx_debug.proofs.Words.{stop_before, stop_behind, unless_stopped, walked, after_runs, least, pause_at, run_of, PlaceSet, History, with_made, world_of, Bound, Pause, Stop, Done}
+use Rattle.bx_debug.specs.Pausing.{runs_to}
 use Rattle.bx_debug.proofs.Pausing.{goes_at_once, goes_on, least_before, least_there, least_within}
 use Rattle.bx_debug.proofs.Walking.{walked_on}
 

@@ -1,6 +1,7 @@
 -- Sets of breakpoints, kept as numbers in order.
-use Rattle.std.proofs.Common.{◌≡◌, ℕ, BTreeSet, List, [], ◌∷◌, length, Bool, true, false, cond, not, refl, sym, ap, subst, ◌∙◌}
-use Rattle.std.specs.Prelude.{◌||◌, ◌&&◌, IsTrue}
+use Rattle.bx_debug.proofs.Words.{◌≡◌, ℕ, List, [], ◌∷◌, length, Bool, true, false, refl, sym, ap, subst, ◌∙◌, ◌||◌, ◌&&◌, pair_cmp}
+use Rattle.std.proofs.Common.{BTreeSet, cond, not}
+use Rattle.std.specs.Prelude.{IsTrue}
 use Rattle.std.specs.BTreeSet.{IsSubset}
 use Rattle.std.specs.declared.cmp.Ordering.{Ordering}
 use Rattle.std.specs.declared.cmp.Ordering.TheVariants.{Less, Equal, Greater}
@@ -9,7 +10,6 @@ use Rattle.std.specs.Ordering.{nat_cmp, eq_by_cmp, is_eq, ordering_then, orderin
 use Rattle.std.specs.Cmp.{IsTotalOrder, tied_itself, nat_cmp_total, on_total, then_total}
 use Rattle.std.specs.FinSet as set
 use Rattle.std.specs.FinSet.{contains-from_list, contains-insert, contains-remove, same_set, IsAntisymmetric, nat_cmp-IsAntisymmetric}
-use Rattle.bx_debug.specs.Places.{pair_cmp}
 
 pub pair_cmp_total : IsTotalOrder pair_cmp
 pair_cmp_total = then_total (on_total (λ (r : ℕ × ℕ). r.0) nat_cmp_total) (on_total (λ (r : ℕ × ℕ). r.1) nat_cmp_total)

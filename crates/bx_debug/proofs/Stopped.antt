@@ -1,23 +1,10 @@
 -- Where choices are stopped, and why.
-use Rattle.std.proofs.Common.{◌≡◌, ◌≢◌, ℕ, ◌≤◌, List, [], ◌∷◌, ◌++◌, length, Bool, true, false, Option, Some, None, refl, sym, ap, subst, arith, length-append}
+use Rattle.bx_debug.proofs.Words.{◌≡◌, ◌≢◌, ℕ, ◌≤◌, List, [], ◌∷◌, ◌++◌, length, Bool, true, false, Option, Some, None, refl, sym, ap, subst, arith, length-append, if◌then◌else◌, Trap, Place, Loaded, Choice, Run}
+use Rattle.bx_debug.proofs.Words.{State, can, chosen, place_in, halted, else_stop, stop_before, break_at, break_behind, stop_behind, behind_choice, walked, led, all_enabled, PlaceSet, is_set, Stop, Done, Break}
+use Rattle.bx_debug.proofs.Words.{NotEnabled, Trapped}
 use Rattle.std.proofs.lemmas.Bool.{and_from}
 use Rattle.std.proofs.lemmas.List.{nil_from_length}
-use Rattle.std.specs.Prelude.{if◌then◌else◌}
-use Rattle.bx_terms.specs.declared.kinds.Trap.{Trap}
-use Rattle.bx_terms.specs.declared.places.Place.{Place}
-use Rattle.bx_load.specs.Image.{Loaded}
-use Rattle.bx_world.specs.declared.choices.Choice.{Choice}
-use Rattle.bx_world.specs.declared.choices.Choice.TheVariants.{Run}
-use Rattle.bx_world.specs.World.{State}
-use Rattle.bx_world.specs.Enabled.{can}
-use Rattle.bx_world.specs.Choosing.{chosen}
-use Rattle.bx_world.specs.Seen.{place_in}
-use Rattle.bx_debug.specs.Going.{halted, else_stop, stop_before, break_at, break_behind, stop_behind, behind_choice, walked}
-use Rattle.bx_debug.specs.Leading.{led, all_enabled}
-use Rattle.bx_debug.specs.Places.{PlaceSet, is_set}
 use Rattle.bx_debug.specs.Stopping.{IsWhy, TellsWhy}
-use Rattle.bx_debug.specs.declared.stops.Stop.{Stop}
-use Rattle.bx_debug.specs.declared.stops.Stop.TheVariants.{Done, Break, NotEnabled, Trapped}
 use Rattle.bx_debug.proofs.Walking.{enabled_unless, walked_before, walked_behind, walked_on}
 
 -- a walk of one choice and more: it is not applied, or it is applied and stops the walk, or the walk goes on behind it

@@ -1,15 +1,8 @@
 -- Choices that are walked part by part.
-use Rattle.std.proofs.Common.{◌≡◌, ℕ, zero, suc, ◌+◌, ◌-◌, ◌<◌, ◌≤◌, List, [], ◌++◌, length, take, drop, get_or, replicate, true, false, Option, Some, None, refl, sym, ap, ◌∙◌, subst, append_assoc, arith, length-append}
-use Rattle.std.specs.Prelude.{is_some}
+use Rattle.bx_debug.proofs.Words.{◌≡◌, ℕ, zero, suc, ◌+◌, ◌-◌, ◌<◌, ◌≤◌, List, [], ◌++◌, length, take, drop, get_or, replicate, true, false, Option, Some, None, refl, sym, ap, ◌∙◌, subst, append_assoc, arith}
+use Rattle.bx_debug.proofs.Words.{length-append, is_some, Loaded, Choice, State, resumed, unless_stopped, walked, led, all_enabled, Leads, Reaches, PlaceSet, Stop}
 use Rattle.std.proofs.lemmas.List.{drop-append-le, drop-drop, drop_at, length-drop, length-replicate}
-use Rattle.bx_load.specs.Image.{Loaded}
-use Rattle.bx_world.specs.declared.choices.Choice.{Choice}
-use Rattle.bx_world.specs.World.{State}
 use Rattle.bx_replay.proofs.Prefixes.{in_two}
-use Rattle.bx_debug.specs.Going.{resumed, unless_stopped, walked}
-use Rattle.bx_debug.specs.Leading.{led, all_enabled, Leads, Reaches}
-use Rattle.bx_debug.specs.Places.{PlaceSet}
-use Rattle.bx_debug.specs.declared.stops.Stop.{Stop}
 use Rattle.bx_debug.proofs.Leads.{led-append, enabled_both}
 use Rattle.bx_debug.proofs.Walking.{leads_none}
 

@@ -1,22 +1,12 @@
 -- Sessions of which choices are exchanged.
-use Rattle.std.proofs.Common.{◌≡◌, ℕ, ◌+◌, ◌-◌, ◌<◌, ◌≤◌, Bool, true, false, List, length, take, Ok, Err, refl, sym, ap, ◌∙◌, subst, arith}
-use Rattle.std.specs.Prelude.{◌==◌, ◌||◌, nat_lt, if◌then◌else◌}
+use Rattle.bx_debug.proofs.Words.{◌≡◌, ℕ, ◌+◌, ◌-◌, ◌<◌, ◌≤◌, Bool, true, false, List, length, take, Ok, Err, refl, sym, ap, ◌∙◌, subst, arith, ◌==◌, ◌||◌, nat_lt, if◌then◌else◌, Choice, State, Ended, ran}
+use Rattle.bx_debug.proofs.Words.{unchosen, Course, reached, with_exchange, IsExchanged, ends_after, long_after, one_made, tidied_of, undone_of, exchanged_is, led, all_enabled, come, IsSession, PlaceSet}
+use Rattle.bx_debug.proofs.Words.{course_of, History, tidy_of, undo_of, undone}
 use Rattle.std.proofs.lemmas.Bool.{eqb-true, le-ltb}
 use Rattle.bx_terms.specs.declared.faults.Fault.TheVariants.{NotIndependent}
-use Rattle.bx_world.specs.declared.choices.Choice.{Choice}
-use Rattle.bx_world.specs.World.{State}
-use Rattle.bx_world.specs.Running.{Ended, ran, unchosen}
-use Rattle.bx_replay.specs.Courses.{Course, reached}
-use Rattle.bx_replay.specs.Exchanges.{with_exchange, MayExchange}
-use Rattle.bx_replay.specs.Moving.{IsExchanged}
-use Rattle.bx_replay.proofs.Bringing.{ends_after, long_after, one_made}
-use Rattle.bx_swaps.specs.Tidying.{tidied_of, undone_of, IsTidied, IsUndone}
-use Rattle.bx_swaps.proofs.Ends.{exchanged_end, exchanged_is}
-use Rattle.bx_debug.specs.Leading.{led, all_enabled, come, IsSession}
-use Rattle.bx_debug.specs.Places.{PlaceSet}
-use Rattle.bx_debug.specs.Swapping.{course_of}
-use Rattle.bx_debug.specs.Sessions.{History}
-use Rattle.bx_debug.specs.Tidying.{tidy_of, undo_of, undone}
+use Rattle.bx_replay.specs.Exchanges.{MayExchange}
+use Rattle.bx_swaps.specs.Tidying.{IsTidied, IsUndone}
+use Rattle.bx_swaps.proofs.Ends.{exchanged_end}
 use Rattle.bx_debug.proofs.Leads.{all_applied, enabled_take, ran_all}
 use Rattle.bx_debug.proofs.Moving.{history, run_shown}
 

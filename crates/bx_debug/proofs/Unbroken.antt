@@ -1,21 +1,11 @@
 -- Choices given one after another to a run, where no breakpoint is set: none is looked behind, and why it went no further is known
 -- at the end.
-use Rattle.std.proofs.Common.{◌≡◌, ◌≢◌, ℕ, zero, suc, ◌+◌, ◌<◌, ◌≤◌, ◌⊎◌, inl, inr, List, [], ◌∷◌, ◌++◌, length, take, drop, get_or, Bool, true, false, Option, Some, None, refl, sym, ap, ◌∙◌, subst, arith, length-append}
-use Rattle.std.specs.Prelude.{◌||◌, if◌then◌else◌, is_some}
+use Rattle.bx_debug.proofs.Words.{◌≡◌, ◌≢◌, ℕ, zero, suc, ◌+◌, ◌<◌, ◌≤◌, ◌⊎◌, inl, inr, List, [], ◌∷◌, ◌++◌, length, take, drop, get_or, Bool, true, false, Option, Some, None, refl, sym, ap, ◌∙◌, subst, arith}
+use Rattle.bx_debug.proofs.Words.{length-append, ◌||◌, if◌then◌else◌, is_some, Trap, Loaded, Choice, Run, State, can, chosen, Ended, advanced, ran, break_behind, else_stop, halted, stop_before, Leads, Reaches}
+use Rattle.bx_debug.proofs.Words.{Stop, NotEnabled, Trapped}
 use Rattle.std.specs.FinSet as set
 use Rattle.std.proofs.lemmas.List.{drop_more, take_all, take-append-le, get_or_default}
-use Rattle.bx_terms.specs.declared.kinds.Trap.{Trap}
-use Rattle.bx_load.specs.Image.{Loaded}
-use Rattle.bx_world.specs.declared.choices.Choice.{Choice}
-use Rattle.bx_world.specs.declared.choices.Choice.TheVariants.{Run}
-use Rattle.bx_world.specs.World.{State}
-use Rattle.bx_world.specs.Enabled.{can}
-use Rattle.bx_world.specs.Choosing.{chosen}
-use Rattle.bx_world.specs.Running.{Ended, advanced, ran}
-use Rattle.bx_debug.specs.Going.{break_behind, ended_by, else_stop, halted, stop_before}
-use Rattle.bx_debug.specs.Leading.{Leads, Reaches}
-use Rattle.bx_debug.specs.declared.stops.Stop.{Stop}
-use Rattle.bx_debug.specs.declared.stops.Stop.TheVariants.{NotEnabled, Trapped}
+use Rattle.bx_debug.specs.Going.{ended_by}
 use Rattle.bx_debug.proofs.Walking.{breaks_none, leads_before, leads_behind, leads_none, leads_on}
 
 -- why it went no further

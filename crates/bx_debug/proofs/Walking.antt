@@ -1,23 +1,10 @@
 -- Walks, choice by choice.
-use Rattle.std.proofs.Common.{◌≡◌, ◌≢◌, ℕ, suc, ◌+◌, ◌<◌, List, [], ◌∷◌, ◌++◌, length, take, drop, get_or, Bool, true, false, Option, Some, None, refl, sym, ap, ◌∙◌, subst, append_assoc, arith}
-use Rattle.std.specs.Prelude.{◌&&◌, if◌then◌else◌, is_some}
+use Rattle.bx_debug.proofs.Words.{◌≡◌, ◌≢◌, ℕ, suc, ◌+◌, ◌<◌, List, [], ◌∷◌, ◌++◌, length, take, drop, get_or, Bool, true, false, Option, Some, None, refl, sym, ap, ◌∙◌, subst, append_assoc, arith, ◌&&◌}
+use Rattle.bx_debug.proofs.Words.{if◌then◌else◌, is_some, Trap, Loaded, Choice, State, can, chosen, refusal, Place, Run, place_in, PlaceSet, is_set, numbers, pair_cmp, break_at, break_behind, halted, else_stop}
+use Rattle.bx_debug.proofs.Words.{stop_at_once, stop_before, stop_behind, unless_stopped, resumed, behind_choice, walked, led, all_enabled, Chooses, Leads, Stop, Break, Done, NotEnabled}
 use Rattle.bx_terms.specs.declared.faults.Fault.TheVariants as faults
 use Rattle.std.proofs.lemmas.List.{append-nil, take_more, drop_more}
-use Rattle.bx_terms.specs.declared.kinds.Trap.{Trap}
-use Rattle.bx_load.specs.Image.{Loaded}
-use Rattle.bx_world.specs.declared.choices.Choice.{Choice}
-use Rattle.bx_world.specs.World.{State}
-use Rattle.bx_world.specs.Enabled.{can}
-use Rattle.bx_world.specs.Choosing.{chosen, refusal}
 use Rattle.std.specs.FinSet as set
-use Rattle.bx_terms.specs.declared.places.Place.{Place}
-use Rattle.bx_world.specs.declared.choices.Choice.TheVariants.{Run}
-use Rattle.bx_world.specs.Seen.{place_in}
-use Rattle.bx_debug.specs.Places.{PlaceSet, is_set, numbers, pair_cmp}
-use Rattle.bx_debug.specs.Going.{break_at, break_behind, halted, else_stop, stop_at_once, stop_before, stop_behind, unless_stopped, resumed, behind_choice, walked}
-use Rattle.bx_debug.specs.Leading.{led, all_enabled, Chooses, Leads}
-use Rattle.bx_debug.specs.declared.stops.Stop.{Stop}
-use Rattle.bx_debug.specs.declared.stops.Stop.TheVariants.{Break, Done, NotEnabled}
 use Rattle.bx_debug.proofs.Leads.{led-append, enabled_both}
 
 able_of : (choice : Choice) (trap : Option (Trap × ℕ)) (able : Bool) → else_stop (halted trap) (if able then None else Some (NotEnabled choice)) ≡ None → able ≡ true

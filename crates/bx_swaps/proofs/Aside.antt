@@ -1,16 +1,10 @@
 -- Choices that are set aside, behind those that come before them.
-use Rattle.std.proofs.Common.{◌≡◌, ◌∙◌, ℕ, ◌+◌, ◌-◌, ◌<◌, ◌≤◌, Bool, true, false, length, take, drop, refl, sym, ap, arith}
-use Rattle.std.specs.Prelude.{◌==◌, if◌then◌else◌, slice_get}
+use Rattle.bx_swaps.proofs.Words.{◌≡◌, ◌∙◌, ℕ, ◌+◌, ◌-◌, ◌<◌, ◌≤◌, Bool, true, false, length, take, drop, refl, sym, ap, arith, ◌==◌, if◌then◌else◌, slice_get, Run, Ended, Course, reached, brought, Brings}
+use Rattle.bx_swaps.proofs.Words.{IsExchanged, among_more, ends_after, further, long_after, bounded, few_applied, behind_came, set_aside, IsSetAside, IsUndone}
 use Rattle.std.proofs.lemmas.Bool.{eqb-true, eqb-false}
 use Rattle.std.proofs.lemmas.List.{length-drop, length-take-le}
-use Rattle.bx_world.specs.declared.choices.Choice.TheVariants.{Run}
-use Rattle.bx_world.specs.Running.{Ended}
-use Rattle.bx_replay.specs.Courses.{Course, reached}
-use Rattle.bx_replay.specs.Moving.{brought, Brings, IsExchanged}
-use Rattle.bx_replay.proofs.Bringing.{among_more, brought_before, brought_next, ends_after, further, long_after}
-use Rattle.bx_replay.proofs.Prefixes.{bounded, onward}
-use Rattle.bx_world.proofs.Lawful.{few_applied}
-use Rattle.bx_swaps.specs.Tidying.{behind_came, set_aside, IsSetAside, IsUndone}
+use Rattle.bx_replay.proofs.Bringing.{brought_before, brought_next}
+use Rattle.bx_replay.proofs.Prefixes.{onward}
 use Rattle.bx_swaps.proofs.Coming.{brings_so}
 use Rattle.bx_swaps.proofs.Gathering.{aside_on, behind_bounds}
 

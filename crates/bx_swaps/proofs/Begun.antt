@@ -1,21 +1,17 @@
 -- Trails of a schedule from the start on, and what comes of them.
-use Rattle.std.proofs.Common.{◌≡◌, ◌∙◌, ℕ, zero, suc, ◌+◌, ◌≤◌, Bool, true, false, List, [], ◌∷◌, length, take, Result, Ok, Err, Some, None, Option, refl, sym, ap, subst, arith}
-use Rattle.std.specs.Prelude.{IfOk, IsSome, is_some, not, ◌||◌}
+use Rattle.bx_swaps.proofs.Words.{◌≡◌, ◌∙◌, ℕ, zero, suc, ◌+◌, ◌≤◌, Bool, true, false, List, [], ◌∷◌, length, take, Result, Ok, Err, Some, None, Option, refl, sym, ap, subst, arith, not, Fault, Loaded, Choice}
+use Rattle.bx_swaps.proofs.Words.{can, State, Ended, ran, few_applied, Course, reached, from_start, IsTidied, IsTidy, IsUndo, IsUndone}
+use Rattle.std.specs.Prelude.{IfOk, IsSome, is_some, ◌||◌}
 use Rattle.std.proofs.lemmas.List.{take_all}
-use Rattle.bx_terms.specs.declared.faults.Fault.{Fault}
 use Rattle.bx_terms.specs.declared.faults.Fault.TheVariants.{NotIndependent}
 use Rattle.bx_terms.specs.declared.places.Place.{Place}
-use Rattle.bx_load.specs.Image.{Loaded}
-use Rattle.bx_world.specs.declared.choices.Choice.{Choice}
-use Rattle.bx_world.specs.Enabled.{can}
-use Rattle.bx_world.specs.World.{State, begun, begun_at}
-use Rattle.bx_world.specs.Running.{Ended, advanced, ran, unchosen}
-use Rattle.bx_world.proofs.Lawful.{after_refusal, few_applied, ran_stays}
-use Rattle.bx_replay.specs.Courses.{Course, reached}
+use Rattle.bx_world.specs.World.{begun, begun_at}
+use Rattle.bx_world.specs.Running.{advanced, unchosen}
+use Rattle.bx_world.proofs.Lawful.{after_refusal, ran_stays}
 use Rattle.bx_replay.proofs.Prefixes.{next_is}
-use Rattle.bx_swaps.specs.Exchanges.{from_start, BeginsAt}
+use Rattle.bx_swaps.specs.Exchanges.{BeginsAt}
 use Rattle.bx_swaps.proofs.Ends.{exchanged_is}
-use Rattle.bx_swaps.specs.Tidying.{applied_of, IsTidied, IsTidy, IsUndo, IsUndone}
+use Rattle.bx_swaps.specs.Tidying.{applied_of}
 
 -- a trail that is made begins at a start
 pub record Begun (image : Loaded) (found : Result State Fault) (choices : List Choice) (course : Course) : Type 0 where

@@ -1,15 +1,9 @@
 -- A choice that comes forward, one exchange after another.
-use Rattle.std.proofs.Common.{◌≡◌, ◌∙◌, ℕ, zero, suc, ◌+◌, ◌-◌, ◌<◌, ◌≤◌, Bool, true, false, List, length, inl, inr, refl, sym, ap, subst, arith}
+use Rattle.bx_swaps.proofs.Words.{◌≡◌, ◌∙◌, ℕ, zero, suc, ◌+◌, ◌-◌, ◌<◌, ◌≤◌, Bool, true, false, List, length, inl, refl, sym, ap, subst, arith, if◌then◌else◌, Choice, Run, Course, with_exchange, MayExchange}
+use Rattle.bx_swaps.proofs.Words.{brought, Brings, IsExchanged, among_more, further, none_made, may_exchange, forward}
+use Rattle.std.proofs.Common.{inr}
 use Rattle.std.proofs.lemmas.Bool.{false_from_ne_true, cases_lt}
-use Rattle.std.specs.Prelude.{if◌then◌else◌}
-use Rattle.bx_world.specs.declared.choices.Choice.{Choice}
-use Rattle.bx_world.specs.declared.choices.Choice.TheVariants.{Run}
-use Rattle.bx_replay.specs.Courses.{Course}
-use Rattle.bx_replay.specs.Exchanges.{with_exchange, MayExchange}
-use Rattle.bx_replay.specs.Moving.{brought, Brings, IsExchanged}
-use Rattle.bx_replay.proofs.Bringing.{among_more, brought_here, brought_on, further, none_made, one_made}
-use Rattle.bx_swaps.specs.Telling.{may_exchange}
-use Rattle.bx_swaps.specs.Tidying.{forward}
+use Rattle.bx_replay.proofs.Bringing.{brought_here, brought_on, one_made}
 use Rattle.bx_swaps.proofs.Ends.{exchanged_is}
 use Rattle.bx_swaps.proofs.Telling.{may_so, so_may}
 

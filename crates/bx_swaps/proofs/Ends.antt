@@ -1,16 +1,8 @@
 -- Exchanges leave where a schedule ends as it was.
-use Rattle.std.proofs.Common.{◌≡◌, ℕ, List, [], ◌∷◌, Result, Ok, Err, None, refl, sym, ap, subst, ◌∙◌}
-use Rattle.bx_terms.specs.declared.faults.Fault.{Fault}
-use Rattle.bx_terms.specs.declared.faults.Fault.TheVariants.{Memory}
-use Rattle.bx_load.specs.Image.{Loaded}
-use Rattle.bx_world.specs.declared.choices.Choice.{Choice}
-use Rattle.bx_world.specs.World.{State}
-use Rattle.bx_world.specs.Running.{ran}
-use Rattle.bx_replay.specs.Courses.{Course}
-use Rattle.bx_replay.specs.Exchanges.{with_exchange}
+use Rattle.bx_swaps.proofs.Words.{◌≡◌, ℕ, List, [], ◌∷◌, Result, Ok, Err, None, refl, sym, ap, subst, ◌∙◌, Fault, Memory, Loaded, Choice, State, ran, Course, with_exchange, IsExchanged, AtFaultAtOnce}
 use Rattle.bx_replay.proofs.Turning.{around, whole}
-use Rattle.bx_replay.specs.Moving.{exchanged, AllMay, IsExchanged}
-use Rattle.bx_swaps.specs.Exchanges.{AtFaultAtOnce, IsAnswer, IsAnswerFrom, Takes}
+use Rattle.bx_replay.specs.Moving.{exchanged, AllMay}
+use Rattle.bx_swaps.specs.Exchanges.{IsAnswer, IsAnswerFrom, Takes}
 
 -- each exchange in turn
 pub same_ends : (positions : List ℕ) (course : Course) → AllMay positions course

@@ -1,14 +1,11 @@
 -- What choices that are put together are, and those that are set aside: exchanges that may be made.
-use Rattle.std.proofs.Common.{◌≡◌, ◌∙◌, ℕ, zero, suc, ◌+◌, ◌-◌, ◌<◌, ◌≤◌, Bool, true, false, List, [], ◌∷◌, length, take, drop, refl, sym, ap, subst, arith}
-use Rattle.std.specs.Prelude.{◌==◌, if◌then◌else◌, nat_lt, Option, Some, None, option_map, IfSome, slice_get, slice_index_or}
+use Rattle.bx_swaps.proofs.Words.{◌≡◌, ◌∙◌, ℕ, zero, suc, ◌+◌, ◌-◌, ◌<◌, ◌≤◌, Bool, true, false, List, [], ◌∷◌, length, take, drop, refl, sym, ap, subst, arith, ◌==◌, if◌then◌else◌, Option, Some, None}
+use Rattle.bx_swaps.proofs.Words.{option_map, IfSome, slice_get, slice_index_or, Choice, actor, Course, IsExchanged, among_more, further, none_made, behind_came, forward, gathered, next_alike, set_aside, settled}
+use Rattle.bx_swaps.proofs.Words.{switches, IsTidied}
+use Rattle.std.specs.Prelude.{nat_lt}
 use Rattle.std.proofs.lemmas.Bool.{le-ltb, lt-ltb, ltb-false}
 use Rattle.std.proofs.lemmas.List.{drop_more}
-use Rattle.bx_world.specs.declared.choices.Choice.{Choice}
-use Rattle.bx_world.specs.Enabled.{actor}
-use Rattle.bx_replay.specs.Courses.{Course}
-use Rattle.bx_replay.specs.Moving.{IsExchanged}
-use Rattle.bx_replay.proofs.Bringing.{among_more, further, none_made}
-use Rattle.bx_swaps.specs.Tidying.{before_alike, before_first, behind_came, forward, gathered, joined, next_alike, set_aside, settled, switches, tidied_of, undone_of, IsTidied}
+use Rattle.bx_swaps.specs.Tidying.{before_alike, before_first, joined, tidied_of, undone_of}
 use Rattle.bx_swaps.proofs.Coming.{comes}
 
 -- ---- together

@@ -1,8 +1,6 @@
 -- Switches, counted from left to right.
-use Rattle.std.proofs.Common.{◌≡◌, ℕ, ◌-◌, ◌≤◌, List, [], ◌∷◌, length, drop, refl, arith}
+use Rattle.bx_swaps.proofs.Words.{◌≡◌, ℕ, ◌-◌, ◌≤◌, List, [], ◌∷◌, length, drop, refl, arith, Choice, switches}
 use Rattle.std.proofs.lemmas.List.{length-drop}
-use Rattle.bx_world.specs.declared.choices.Choice.{Choice}
-use Rattle.bx_swaps.specs.Tidying.{switches}
 
 -- one choice or none
 few : (cs : List Choice) → length cs ≤ 1 → switches cs ≡ 0

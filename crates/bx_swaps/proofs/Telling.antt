@@ -1,19 +1,15 @@
 -- Exchanges that are told by tests.
-use Rattle.std.proofs.Common.{◌≡◌, ◌≢◌, ◌∙◌, ℕ, Bool, true, false, ◌&&◌, ◌==◌, not, List, [], ◌∷◌, Option, Some, None, drop, eq-eqb, refl, sym, ap, subst}
+use Rattle.bx_swaps.proofs.Words.{◌≡◌, ◌∙◌, ℕ, Bool, true, false, ◌==◌, not, List, [], ◌∷◌, Option, Some, None, drop, eq-eqb, refl, sym, ap, subst, Loaded, Choice, actor, can, Ended, State, Course, reached}
+use Rattle.bx_swaps.proofs.Words.{MayExchange, may_exchange}
+use Rattle.std.proofs.Common.{◌≢◌, ◌&&◌}
 use Rattle.std.specs.Prelude.{is_none}
 use Rattle.std.proofs.lemmas.Bool.{and_from, and_parts, eqb-true}
 use base.Stored.{Gv, gnil, gnum, gcons}
-use Rattle.bx_load.specs.Image.{Loaded}
-use Rattle.bx_world.specs.declared.choices.Choice.{Choice}
-use Rattle.bx_world.specs.Enabled.{actor, can}
 use Rattle.bx_world.specs.Independent.{AreIndependent, one_is_local}
 use Rattle.bx_world.specs.Choosing.{chosen}
 use Rattle.bx_world.specs.Posting.{all_behind}
-use Rattle.bx_world.specs.Running.{Ended}
-use Rattle.bx_world.specs.World.{State}
-use Rattle.bx_replay.specs.Courses.{Course, reached}
-use Rattle.bx_replay.specs.Exchanges.{MayExchange, NextIndependent}
-use Rattle.bx_swaps.specs.Telling.{are_independent, both_run, code_eq, may_exchange, may_go_first, next_independent, world_code, world_eq}
+use Rattle.bx_replay.specs.Exchanges.{NextIndependent}
+use Rattle.bx_swaps.specs.Telling.{are_independent, both_run, code_eq, may_go_first, next_independent, world_code, world_eq}
 
 same_code : (a b : Gv) → code_eq a b ≡ true → a ≡ b
 same_code gnil gnil e = refl

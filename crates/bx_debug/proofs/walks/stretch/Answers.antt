@@ -1,4 +1,4 @@
-use Rattle.std.proofs.Common.{replicate, sym, ◌∙◌, arith}
+use Rattle.bx_debug.proofs.Words.{replicate, sym, ◌∙◌, arith}
 use Rattle.bx_debug.proofs.Stretches.{far_none, far_on, far_short, far_stopped, far_whole}
 use Rattle.bx_debug.proofs.walks.stretch.Goals as goal
 

@@ -1,4 +1,4 @@
-use Rattle.std.proofs.Common.{length}
+use Rattle.bx_debug.proofs.Words.{length}
 use Rattle.bx_debug.proofs.Stretches.{Far}
 use Rattle.bx_debug.proofs.walks.stretch.Given as goal
 

@@ -1,6 +1,5 @@
-use Rattle.std.proofs.Common.{◌≡◌, ℕ, ◌<◌, ◌++◌, replicate, None, Some, sym, subst, ◌∙◌, arith}
+use Rattle.bx_debug.proofs.Words.{◌≡◌, ℕ, ◌<◌, ◌++◌, replicate, None, Some, sym, subst, ◌∙◌, arith, Chooses, Leads}
 use Rattle.std.proofs.lemmas.List.{length-replicate}
-use Rattle.bx_debug.specs.Leading.{Chooses, Leads}
 use Rattle.bx_debug.proofs.Stretches.{run_at, run_short}
 use Rattle.bx_debug.proofs.Walking.{applied_here, leads_before, leads_behind, leads_none, leads_on, stopped_as_found}
 use Rattle.bx_debug.proofs.walks.stretch_run.Goals as goal

@@ -1,6 +1,4 @@
-use Rattle.std.proofs.Common.{List, ◌++◌, replicate, None}
-use Rattle.bx_world.specs.declared.choices.Choice.{Choice}
-use Rattle.bx_debug.specs.Leading.{Leads}
+use Rattle.bx_debug.proofs.Words.{List, ◌++◌, replicate, None, Choice, Leads}
 use Rattle.bx_debug.proofs.walks.stretch_run.Given as goal
 
 -- so often it was applied so far

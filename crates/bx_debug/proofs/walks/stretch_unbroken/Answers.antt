@@ -1,10 +1,5 @@
-use Rattle.std.proofs.Common.{◌≡◌, ℕ, Option, sym, ap, ◌∙◌, subst}
+use Rattle.bx_debug.proofs.Words.{◌≡◌, ℕ, Option, sym, ap, ◌∙◌, subst, State, Ended, halted, Reaches, Stop}
 use Rattle.std.specs.FinSet as set
-use Rattle.bx_world.specs.World.{State}
-use Rattle.bx_world.specs.Running.{Ended}
-use Rattle.bx_debug.specs.Going.{halted}
-use Rattle.bx_debug.specs.Leading.{Reaches}
-use Rattle.bx_debug.specs.declared.stops.Stop.{Stop}
 use Rattle.bx_debug.proofs.Unbroken.{all_unbroken, reaches_nowhere, why}
 use Rattle.bx_debug.proofs.walks.stretch_unbroken.Goals as goal
 

@@ -1,4 +1,5 @@
-use Rattle.bx_replay.proofs.Bringing.{behind_after, ends_after, long_after}
+use Rattle.bx_swaps.proofs.Words.{ends_after, long_after}
+use Rattle.bx_replay.proofs.Bringing.{behind_after}
 use Rattle.bx_swaps.proofs.laws.exchanges_among_the_first_lead_where_they_led.Goals as goal
 
 pub returns : goal.returns

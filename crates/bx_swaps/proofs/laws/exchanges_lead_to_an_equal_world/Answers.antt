@@ -1,4 +1,4 @@
-use Rattle.bx_swaps.specs.Exchanges.{from_start}
+use Rattle.bx_swaps.proofs.Words.{from_start}
 use Rattle.bx_swaps.proofs.Ends.{same_ends}
 use Rattle.bx_swaps.proofs.laws.exchanges_lead_to_an_equal_world.Goals as goal
 

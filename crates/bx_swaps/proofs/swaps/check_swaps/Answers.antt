@@ -1,7 +1,5 @@
-use Rattle.std.proofs.Common.{◌≡◌, Err, None, rules}
-use Rattle.bx_terms.specs.declared.faults.Fault.TheVariants.{Memory}
-use Rattle.bx_world.specs.World.{started}
-use Rattle.bx_swaps.specs.Exchanges.{AtFaultAtOnce}
+use Rattle.bx_swaps.proofs.Words.{◌≡◌, Err, None, Memory, started, AtFaultAtOnce}
+use Rattle.std.proofs.Common.{rules}
 use Rattle.bx_swaps.proofs.Begun.{begun_of}
 use Rattle.bx_swaps.proofs.Ends.{wanting}
 use Rattle.bx_swaps.proofs.swaps.check_swaps.Goals as goal

@@ -1,8 +1,7 @@
-use Rattle.std.proofs.Common.{ℕ, List, false, Bool, inl, refl, sym, subst, arith}
-use Rattle.std.specs.Prelude.{Some, None, slice_index_or}
+use Rattle.bx_swaps.proofs.Words.{ℕ, List, false, Bool, inl, refl, sym, subst, arith, Some, None, slice_index_or, ExchangesAll}
 use Rattle.std.proofs.lemmas.List.{drop_more, drop_all}
 use Rattle.bx_replay.specs.Exchanges.{Exchanges}
-use Rattle.bx_swaps.specs.Exchanges.{ExchangesAll, IsFirstAtFault}
+use Rattle.bx_swaps.specs.Exchanges.{IsFirstAtFault}
 use Rattle.bx_swaps.proofs.swaps.exchange_all.Goals as goal
 
 pub returns-then-not-branch : goal.returns-then-not-branch

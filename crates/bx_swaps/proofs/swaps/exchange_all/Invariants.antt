@@ -1,6 +1,4 @@
-use Rattle.std.proofs.Common.{ℕ, drop, Option}
-use Rattle.bx_replay.specs.Courses.{Course}
-use Rattle.bx_swaps.specs.Exchanges.{ExchangesAll}
+use Rattle.bx_swaps.proofs.Words.{ℕ, drop, Option, Course, ExchangesAll}
 use Rattle.bx_swaps.proofs.swaps.exchange_all.Given as goal
 
 -- what is left to do tells of all

@@ -1,7 +1,4 @@
-use Rattle.std.proofs.Common.{◌∙◌, ◌+◌, ◌-◌, length, ap, refl, sym, arith}
-use Rattle.bx_replay.specs.Courses.{Course}
-use Rattle.bx_replay.proofs.Bringing.{long_after}
-use Rattle.bx_swaps.specs.Tidying.{settled}
+use Rattle.bx_swaps.proofs.Words.{◌∙◌, ◌+◌, ◌-◌, length, ap, refl, sym, arith, Course, long_after, settled}
 use Rattle.bx_swaps.proofs.Gathering.{gathered_all, gathered_on, settled_so}
 use Rattle.bx_swaps.proofs.tidying.gather.Goals as goal
 

@@ -1,5 +1,4 @@
-use Rattle.std.proofs.Common.{◌≡◌, ◌-◌, length}
-use Rattle.bx_swaps.specs.Tidying.{gathered}
+use Rattle.bx_swaps.proofs.Words.{◌≡◌, ◌-◌, length, gathered}
 use Rattle.bx_swaps.proofs.tidying.gather.Given as goal
 
 -- what is left makes of the row what all make of the first

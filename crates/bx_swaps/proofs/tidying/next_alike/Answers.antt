@@ -1,9 +1,6 @@
-use Rattle.std.proofs.Common.{◌∙◌, ◌<◌, length, eq-eqb, sym, arith}
-use Rattle.std.specs.Prelude.{◌==◌, slice_index_or}
+use Rattle.bx_swaps.proofs.Words.{◌∙◌, ◌<◌, length, eq-eqb, sym, arith, ◌==◌, slice_index_or, Run, actor}
 use Rattle.std.proofs.lemmas.Bool.{eqb-true, false_from_ne_true}
 use Rattle.std.proofs.lemmas.List.{get_or_default}
-use Rattle.bx_world.specs.declared.choices.Choice.TheVariants.{Run}
-use Rattle.bx_world.specs.Enabled.{actor}
 use Rattle.bx_swaps.proofs.Gathering.{alike_found, alike_on}
 use Rattle.bx_swaps.proofs.tidying.next_alike.Goals as goal
 

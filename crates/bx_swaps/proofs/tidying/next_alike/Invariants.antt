@@ -1,5 +1,4 @@
-use Rattle.std.proofs.Common.{◌≡◌, ◌-◌}
-use Rattle.bx_swaps.specs.Tidying.{next_alike}
+use Rattle.bx_swaps.proofs.Words.{◌≡◌, ◌-◌, next_alike}
 use Rattle.bx_swaps.proofs.Gathering.{found}
 use Rattle.bx_swaps.proofs.tidying.next_alike.Given as goal
 

@@ -1,6 +1,4 @@
-use Rattle.std.proofs.Common.{◌≡◌, ◌+◌, ◌-◌, ◌<◌, ◌≤◌, ◌∙◌, sym, ap, subst, arith}
-use Rattle.std.specs.Prelude.{option_map, IfSome}
-use Rattle.bx_swaps.specs.Tidying.{next_alike}
+use Rattle.bx_swaps.proofs.Words.{◌≡◌, ◌+◌, ◌-◌, ◌<◌, ◌≤◌, ◌∙◌, sym, ap, subst, arith, option_map, IfSome, next_alike}
 use Rattle.bx_swaps.proofs.Coming.{brings_so}
 use Rattle.bx_swaps.proofs.Gathering.{comes_so, stays_so}
 use Rattle.bx_swaps.proofs.tidying.settle.Goals as goal

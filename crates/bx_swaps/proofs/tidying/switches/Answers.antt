@@ -1,4 +1,4 @@
-use Rattle.std.proofs.Common.{arith}
+use Rattle.bx_swaps.proofs.Words.{arith}
 use Rattle.bx_swaps.proofs.Switching.{none_left}
 use Rattle.bx_swaps.proofs.tidying.switches.Goals as goal
 

@@ -1,5 +1,4 @@
-use Rattle.std.proofs.Common.{◌≡◌, ◌+◌, ◌-◌, ◌<◌, drop}
-use Rattle.bx_swaps.specs.Tidying.{switches}
+use Rattle.bx_swaps.proofs.Words.{◌≡◌, ◌+◌, ◌-◌, ◌<◌, drop, switches}
 use Rattle.bx_swaps.proofs.tidying.switches.Given as goal
 
 -- those so far, and those that are left

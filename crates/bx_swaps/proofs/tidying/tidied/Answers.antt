@@ -1,6 +1,4 @@
-use Rattle.std.proofs.Common.{◌≡◌, ◌∙◌, ◌-◌, ◌<◌, ◌≤◌, refl, ap, subst, arith}
-use Rattle.bx_replay.specs.Courses.{Course}
-use Rattle.bx_swaps.specs.Tidying.{gathered, switches, IsTidied}
+use Rattle.bx_swaps.proofs.Words.{◌≡◌, ◌∙◌, ◌-◌, ◌<◌, ◌≤◌, refl, ap, subst, arith, Course, gathered, switches, IsTidied}
 use Rattle.bx_swaps.proofs.Begun.{same_then}
 use Rattle.bx_swaps.proofs.Gathering.{gathered_tidy, given_so, tidied_so}
 use Rattle.bx_swaps.proofs.tidying.tidied.Goals as goal

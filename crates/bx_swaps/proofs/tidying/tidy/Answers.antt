@@ -1,11 +1,4 @@
-use Rattle.std.proofs.Common.{◌≡◌, ◌∙◌, length, ap, sym, subst, arith}
-use Rattle.std.specs.Prelude.{List, Ok}
-use Rattle.bx_world.specs.declared.choices.Choice.{Choice}
-use Rattle.bx_world.specs.World.{started}
-use Rattle.bx_world.specs.Running.{Ended}
-use Rattle.bx_replay.specs.Courses.{reached}
-use Rattle.bx_replay.proofs.Prefixes.{bounded}
-use Rattle.bx_swaps.specs.Tidying.{IsTidy}
+use Rattle.bx_swaps.proofs.Words.{◌≡◌, ◌∙◌, length, ap, sym, subst, arith, List, Ok, Choice, started, Ended, reached, bounded, IsTidy}
 use Rattle.bx_swaps.proofs.Begun.{none_before, tidy_done}
 use Rattle.bx_swaps.proofs.tidying.tidy.Goals as goal
 

@@ -1,6 +1,4 @@
-use Rattle.std.proofs.Common.{◌≡◌, ◌∙◌, ◌-◌, ap, refl, sym, arith}
-use Rattle.bx_replay.proofs.Bringing.{long_after, none_made}
-use Rattle.bx_swaps.specs.Tidying.{set_aside}
+use Rattle.bx_swaps.proofs.Words.{◌≡◌, ◌∙◌, ◌-◌, ap, refl, sym, arith, long_after, none_made, set_aside}
 use Rattle.bx_swaps.proofs.Aside.{aside_more}
 use Rattle.bx_swaps.proofs.undoing.set_aside.Goals as goal
 

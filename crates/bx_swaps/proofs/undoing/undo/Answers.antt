@@ -1,12 +1,5 @@
-use Rattle.std.proofs.Common.{◌≡◌, ◌∙◌, length, ap, sym, subst, arith}
-use Rattle.std.specs.Prelude.{List, Ok}
+use Rattle.bx_swaps.proofs.Words.{◌≡◌, ◌∙◌, length, ap, sym, subst, arith, List, Ok, Choice, started, Ended, reached, bounded, IsUndo}
 use Rattle.bx_load.specs.Image.{export}
-use Rattle.bx_world.specs.declared.choices.Choice.{Choice}
-use Rattle.bx_world.specs.World.{started}
-use Rattle.bx_world.specs.Running.{Ended}
-use Rattle.bx_replay.specs.Courses.{reached}
-use Rattle.bx_replay.proofs.Prefixes.{bounded}
-use Rattle.bx_swaps.specs.Tidying.{IsUndo}
 use Rattle.bx_swaps.proofs.Begun.{applied_first, export_there, none_before, undo_done, undo_past}
 use Rattle.bx_swaps.proofs.undoing.undo.Goals as goal
 

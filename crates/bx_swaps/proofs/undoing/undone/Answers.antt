@@ -1,6 +1,4 @@
-use Rattle.std.proofs.Common.{sym, subst}
-use Rattle.bx_replay.specs.Courses.{Course}
-use Rattle.bx_swaps.specs.Tidying.{IsSetAside}
+use Rattle.bx_swaps.proofs.Words.{sym, subst, Course, IsSetAside}
 use Rattle.bx_swaps.proofs.Aside.{undone_leads}
 use Rattle.bx_swaps.proofs.undoing.undone.Goals as goal
 

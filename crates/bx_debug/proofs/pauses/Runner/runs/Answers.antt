@@ -1,4 +1,4 @@
-use Rattle.std.proofs.Common.{◌≡◌, ℕ, subst, arith}
+use Rattle.bx_debug.proofs.Words.{◌≡◌, ℕ, subst, arith}
 use Rattle.bx_debug.proofs.Pausing.{Ran, pause_found, pause_most, ran_none, ran_on, times_found, times_most}
 use Rattle.bx_debug.proofs.pauses.Runner.runs.Goals as goal
 

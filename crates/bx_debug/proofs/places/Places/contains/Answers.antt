@@ -1,6 +1,5 @@
-use Rattle.std.proofs.Common.{sym, ap, ◌∙◌}
+use Rattle.bx_debug.proofs.Words.{sym, ap, ◌∙◌, numbers}
 use Rattle.std.specs.FinSet as set
-use Rattle.bx_debug.specs.Places.{numbers}
 use Rattle.bx_debug.proofs.Sets.{held}
 use Rattle.bx_debug.proofs.places.Places.contains.Goals as goal
 

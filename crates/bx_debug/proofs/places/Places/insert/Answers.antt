@@ -1,7 +1,6 @@
-use Rattle.std.proofs.Common.{sym, ap, ◌∙◌}
+use Rattle.bx_debug.proofs.Words.{sym, ap, ◌∙◌, numbers}
 use Rattle.std.specs.FinSet as set
 use Rattle.bx_world.proofs.Changing.{on_err}
-use Rattle.bx_debug.specs.Places.{numbers}
 use Rattle.bx_debug.proofs.Sets.{held, held_more}
 use Rattle.bx_debug.proofs.places.Places.insert.Goals as goal
 

@@ -1,6 +1,5 @@
-use Rattle.std.proofs.Common.{◌≡◌, ℕ, List, [], ◌∷◌, length, refl, sym, arith, ◌∙◌}
+use Rattle.bx_debug.proofs.Words.{◌≡◌, ℕ, List, [], ◌∷◌, length, refl, sym, arith, ◌∙◌, pair_cmp}
 use Rattle.std.specs.FinSet as set
-use Rattle.bx_debug.specs.Places.{pair_cmp}
 use Rattle.bx_debug.proofs.Sets.{no_place}
 use Rattle.bx_debug.proofs.places.Places.is_empty.Goals as goal
 

@@ -1,6 +1,5 @@
-use Rattle.std.proofs.Common.{ap, ◌∙◌}
+use Rattle.bx_debug.proofs.Words.{ap, ◌∙◌, numbers}
 use Rattle.std.specs.FinSet as set
-use Rattle.bx_debug.specs.Places.{numbers}
 use Rattle.bx_debug.proofs.Sets.{held_less}
 use Rattle.bx_debug.proofs.places.Places.remove.Goals as goal
 

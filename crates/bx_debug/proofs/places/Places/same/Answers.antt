@@ -1,4 +1,4 @@
-use Rattle.std.proofs.Common.{◌≡◌, ◌∙◌, false, sym, true}
+use Rattle.bx_debug.proofs.Words.{◌≡◌, ◌∙◌, false, sym, true}
 use Rattle.bx_debug.proofs.Sets.{each_holds, holds_each}
 use Rattle.bx_debug.proofs.places.Places.same.Goals as goal
 

@@ -1,5 +1,4 @@
-use Rattle.std.proofs.Common.{◌≡◌, Ok, ap, rules}
-use Rattle.bx_debug.specs.Sessions.{GoTakes, world_of}
+use Rattle.bx_debug.proofs.Words.{◌≡◌, Ok, ap, rules, GoTakes, world_of}
 use Rattle.bx_debug.proofs.Moving.{gone_nowhere, goes_on, shown_there}
 use Rattle.bx_debug.proofs.sessions.Session.go.Goals as goal
 

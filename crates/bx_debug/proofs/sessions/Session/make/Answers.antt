@@ -1,6 +1,4 @@
-use Rattle.std.proofs.Common.{sym, subst}
-use Rattle.bx_world.specs.World.{State}
-use Rattle.bx_debug.specs.Leading.{IsSession}
+use Rattle.bx_debug.proofs.Words.{sym, subst, State, IsSession}
 use Rattle.bx_debug.proofs.Going.{begins_here, told_from, went_from}
 use Rattle.bx_debug.proofs.Moving.{begins_there, session_gone, session_made}
 use Rattle.bx_debug.proofs.sessions.Session.make.Goals as goal

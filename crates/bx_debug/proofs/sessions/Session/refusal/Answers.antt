@@ -1,5 +1,4 @@
-use Rattle.std.proofs.Common.{ap, ◌∙◌}
-use Rattle.bx_world.specs.Choosing.{refusal}
+use Rattle.bx_debug.proofs.Words.{ap, ◌∙◌, refusal}
 use Rattle.bx_debug.proofs.Moving.{shown_there}
 use Rattle.bx_debug.proofs.sessions.Session.refusal.Goals as goal
 

@@ -1,8 +1,5 @@
-use Rattle.std.proofs.Common.{◌≡◌, List, ◌++◌, Ok, replicate, rules, sym, ap, subst, ◌∙◌}
-use Rattle.bx_world.specs.declared.choices.Choice.{Choice}
-use Rattle.bx_world.specs.declared.choices.Choice.TheVariants.{Run}
-use Rattle.bx_debug.specs.Pausing.{RunTakes, pause_before, pause_of, runs_to}
-use Rattle.bx_debug.specs.Sessions.{GoTakes, world_of}
+use Rattle.bx_debug.proofs.Words.{◌≡◌, List, ◌++◌, Ok, replicate, rules, sym, ap, subst, ◌∙◌, Choice, Run, pause_before, pause_of, runs_to, GoTakes, world_of}
+use Rattle.bx_debug.specs.Pausing.{RunTakes}
 use Rattle.bx_debug.proofs.Moving.{seen_there}
 use Rattle.bx_debug.proofs.Pausing.{goes_at_once, ran_nowhere, ran_so, run_takes}
 use Rattle.bx_debug.proofs.sessions.Session.run.Goals as goal

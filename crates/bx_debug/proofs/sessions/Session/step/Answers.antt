@@ -1,6 +1,4 @@
-use Rattle.std.proofs.Common.{◌≡◌, List, [], ◌∷◌, ◌++◌, replicate, sym, ap, subst, ◌∙◌}
-use Rattle.bx_world.specs.declared.choices.Choice.{Choice}
-use Rattle.bx_debug.specs.Sessions.{gone, GoTakes}
+use Rattle.bx_debug.proofs.Words.{◌≡◌, List, [], ◌∷◌, ◌++◌, replicate, sym, ap, subst, ◌∙◌, Choice, gone, GoTakes}
 use Rattle.bx_debug.proofs.Moving.{step_takes, stepped_is}
 use Rattle.bx_debug.proofs.sessions.Session.step.Goals as goal
 

@@ -1,5 +1,4 @@
-use Rattle.std.proofs.Common.{◌+◌, ◌-◌, ◌<◌, true, subst, arith}
-use Rattle.std.specs.Prelude.{Bool}
+use Rattle.bx_debug.proofs.Words.{◌+◌, ◌-◌, ◌<◌, true, subst, arith, Bool}
 use Rattle.bx_replay.specs.Exchanges.{Exchanges}
 use Rattle.bx_debug.proofs.Swapping.{session_swapped}
 use Rattle.bx_debug.proofs.sessions.Session.swap.Goals as goal

@@ -1,6 +1,4 @@
-use Rattle.std.proofs.Common.{◌∙◌, Ok, sym, ap}
-use Rattle.bx_debug.specs.Sessions.{History}
-use Rattle.bx_debug.specs.Tidying.{tidy_of}
+use Rattle.bx_debug.proofs.Words.{◌∙◌, Ok, sym, ap, History, tidy_of}
 use Rattle.bx_debug.proofs.Swapping.{session_exchanged, session_tidied}
 use Rattle.bx_debug.proofs.sessions.Session.tidy.Goals as goal
 

@@ -1,7 +1,4 @@
-use Rattle.std.proofs.Common.{◌≡◌, ◌∙◌, ◌≤◌, length, Ok, sym, ap, subst, arith}
-use Rattle.bx_replay.proofs.Bringing.{long_after}
-use Rattle.bx_debug.specs.Sessions.{History}
-use Rattle.bx_debug.specs.Tidying.{undo_of}
+use Rattle.bx_debug.proofs.Words.{◌≡◌, ◌∙◌, ◌≤◌, length, Ok, sym, ap, subst, arith, long_after, History, undo_of}
 use Rattle.bx_debug.proofs.Moving.{history, led_to, session_moved}
 use Rattle.bx_debug.proofs.Swapping.{all_before, session_exchanged, session_undone, undo_there}
 use Rattle.bx_debug.proofs.sessions.Session.undo.Goals as goal

@@ -1,6 +1,4 @@
-use Rattle.std.proofs.Common.{◌≡◌, None, subst}
-use Rattle.bx_world.specs.Running.{ran, unchosen}
-use Rattle.bx_debug.specs.Sessions.{History, behind}
+use Rattle.bx_debug.proofs.Words.{◌≡◌, None, subst, ran, unchosen, History, behind}
 use Rattle.bx_debug.proofs.Moving.{run_shown, shown_there}
 use Rattle.bx_debug.proofs.sessions.Session.world.Goals as goal
 

@@ -1,6 +1,4 @@
-use Rattle.std.proofs.Common.{◌≤◌, length, take, sym, ap, ◌∙◌, subst}
-use Rattle.bx_debug.specs.Leading.{led}
-use Rattle.bx_debug.specs.Sessions.{History}
+use Rattle.bx_debug.proofs.Words.{◌≤◌, length, take, sym, ap, ◌∙◌, subst, led, History}
 use Rattle.bx_debug.proofs.Moving.{led_to}
 use Rattle.bx_debug.proofs.sessions.Session.world_at.Goals as goal
 

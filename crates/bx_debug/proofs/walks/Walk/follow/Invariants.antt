@@ -1,5 +1,4 @@
-use Rattle.std.proofs.Common.{◌≡◌, ◌-◌, length, None}
-use Rattle.bx_debug.specs.Leading.{Walks}
+use Rattle.bx_debug.proofs.Words.{◌≡◌, ◌-◌, length, None, Walks}
 use Rattle.bx_debug.proofs.walks.Walk.follow.Given as goal
 
 -- all choices so far were applied, and the walk goes on with those that are left

@@ -1,10 +1,4 @@
-use Rattle.std.proofs.Common.{◌≡◌, ℕ, ◌+◌, ◌-◌, List, ◌++◌, length, take, drop, sym, ap, subst, ◌∙◌, arith}
-use Rattle.bx_load.specs.Image.{Loaded}
-use Rattle.bx_world.specs.declared.choices.Choice.{Choice}
-use Rattle.bx_world.specs.World.{State}
-use Rattle.bx_world.specs.Running.{Ended, ran}
-use Rattle.bx_replay.specs.Courses.{Course}
-use Rattle.bx_debug.specs.Leading.{come, Reaches, Walks}
+use Rattle.bx_debug.proofs.Words.{◌≡◌, ℕ, ◌+◌, ◌-◌, List, ◌++◌, length, take, drop, sym, ap, subst, ◌∙◌, arith, Loaded, Choice, State, Ended, ran, Course, come, Reaches, Walks}
 use Rattle.bx_debug.proofs.Going.{counted, ended, few_made, goes_on}
 use Rattle.bx_debug.proofs.walks.Walk.turn.Goals as goal
 
