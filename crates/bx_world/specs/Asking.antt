@@ -1,7 +1,8 @@
 -- What an instruction that has a part in others makes of its process and of the lanes, all of it or nothing.
 -- Source: module `erlang` of the ERTS Reference Manual; Erlang Reference Manual, "Processes".
-use Rattle.std.specs.Prelude.{ℕ, Bool, true, false, Option, IsSome}
+use Rattle.std.specs.Prelude.{ℕ, Bool, true, false, Option, IsSome, Result, Ok, Err}
 use Rattle.bx_terms.specs.Tree.{Tree}
+use Rattle.bx_terms.specs.declared.faults.Fault.{Fault}
 use Rattle.bx_load.specs.Image.{Loaded}
 use Rattle.bx_signals.specs.declared.signal.Signal.{Signal}
 use Rattle.bx_proc.specs.Process.{Process}
@@ -27,6 +28,12 @@ whole before (after, Ran) = (after, Ran)
 whole before (after, Ended reason) = (after, Ended reason)
 whole before (after, Trapped kind) = (before, Trapped kind)
 whole before (after, Spawns spawn) = (after, Spawns spawn)
+
+-- nothing was done
+abbrev pub is_undone : Result Turn Fault → Bool
+is_undone (Ok (Trapped kind)) = true
+is_undone (Ok turn) = false
+is_undone (Err fault) = true
 
 -- a deed done beside the lanes
 abbrev pub done : Choice → Lanes → Deed → Done

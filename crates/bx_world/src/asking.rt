@@ -17,7 +17,7 @@ ghost use Rattle.bx_world.specs.Asking.{whole, closing, sending, exiting_oneself
 use crate::actors::Actor;
 use crate::lanes::Lanes;
 use crate::requests::Request;
-use crate::turns::Turn;
+use crate::turns::{Turn, is_undone};
 use bx_bifs::is_the_atom;
 use bx_proc::{Answer, Proc, Stop, Why};
 use bx_signals::Signal;
@@ -101,7 +101,7 @@ impl Actor<'_> {
     fn finish(self, process: &mut Proc, lanes: &mut Lanes, stop: Stop) -> Result<Turn, Fault>
         ensures { (old : Process) (said : Process × Effect) → Settles (Unit {0}) old process.old
             (Err stop) said → Does (Unit {0}) (old, lanes.old) (process.new, lanes.new) result
-            (Ok (closing self.entry.pid lanes.old said)) }
+            (Ok (whole (old, lanes.old) (closing self.entry.pid lanes.old said))) }
     {
         match stop.why() {
             Why::Ends => match process.take_reason() {
@@ -114,7 +114,7 @@ impl Actor<'_> {
     }
 
     /// Gives a process its answer: it goes on, or it ends and tells its links.
-    #[tactic(auto, using(crate::proofs::Undoing::whole_alone, crate::proofs::Halting::went_on, crate::proofs::Halting::any_takes))]
+    #[tactic(auto, using(crate::proofs::Halting::any_takes))]
     pub(crate) fn close(
         self,
         process: &mut Proc,
@@ -132,7 +132,7 @@ impl Actor<'_> {
     }
 
     /// Gives a process its answer, and a message to itself.
-    #[tactic(auto, using(crate::proofs::Undoing::whole_alone_with, crate::proofs::Halting::went_on, crate::proofs::Halting::any_takes))]
+    #[tactic(auto, using(crate::proofs::Halting::any_takes))]
     fn note(
         self,
         process: &mut Proc,
@@ -151,7 +151,7 @@ impl Actor<'_> {
     }
 
     /// Puts a signal to another process, and gives the sender its answer.
-    #[tactic(auto, using(crate::proofs::Undoing::back_trapped, crate::proofs::Undoing::rewhole, crate::proofs::Undoing::untold))]
+    #[tactic(auto, using(crate::proofs::Undoing::stood, crate::proofs::Undoing::undone, bx_signals::proofs::Maps::taken_back_put))]
     fn tell(
         self,
         process: &mut Proc,
@@ -167,17 +167,11 @@ impl Actor<'_> {
         if let Err(_signal) = lanes.channels.put(self.alloc, self.pid, to, signal) {
             return Err(Fault::Memory);
         }
-        let turn = match self.close(process, lanes, answer) {
-            Ok(turn) => turn,
-            Err(refused) => {
-                lanes.channels.take_back(self.pid, to);
-                return Err(refused);
-            }
-        };
-        if let Turn::Trapped(_) = &turn {
+        let turned = self.close(process, lanes, answer);
+        if is_undone(&turned) {
             lanes.channels.take_back(self.pid, to);
         }
-        Ok(turn)
+        turned
     }
 
     fn send(
@@ -231,7 +225,7 @@ impl Actor<'_> {
         self.note(process, lanes, &yes(), message)
     }
 
-    #[tactic(auto, using(crate::proofs::Undoing::back_trapped, crate::proofs::Undoing::rewhole, crate::proofs::Undoing::untold))]
+    #[tactic(auto, using(crate::proofs::Undoing::stood, crate::proofs::Undoing::undone, bx_signals::proofs::Maps::taken_back_put))]
     fn link(self, process: &mut Proc, lanes: &mut Lanes, to: u32) -> Result<Turn, Fault>
         ensures { Does (Unit {0}) (process.old, lanes.old) (process.new, lanes.new) result
             (Ok (whole (process.old, lanes.old) (linking self.entry.image.now self.entry.pid to process.old lanes.old))) }
@@ -242,20 +236,14 @@ impl Actor<'_> {
         if let Err(_signal) = lanes.channels.put(self.alloc, self.pid, to, Signal::Link) {
             return Err(Fault::Memory);
         }
-        let turn = match self.close_linked(process, lanes, to, &yes()) {
-            Ok(turn) => turn,
-            Err(refused) => {
-                lanes.channels.take_back(self.pid, to);
-                return Err(refused);
-            }
-        };
-        if let Turn::Trapped(_) = &turn {
+        let turned = self.close_linked(process, lanes, to, &yes());
+        if is_undone(&turned) {
             lanes.channels.take_back(self.pid, to);
         }
-        Ok(turn)
+        turned
     }
 
-    #[tactic(auto, using(crate::proofs::Undoing::back_trapped, crate::proofs::Undoing::rewhole, crate::proofs::Undoing::untold))]
+    #[tactic(auto, using(crate::proofs::Undoing::stood, crate::proofs::Undoing::undone, bx_signals::proofs::Maps::taken_back_put))]
     fn unlink(self, process: &mut Proc, lanes: &mut Lanes, to: u32) -> Result<Turn, Fault>
         ensures { Does (Unit {0}) (process.old, lanes.old) (process.new, lanes.new) result
             (Ok (whole (process.old, lanes.old) (unlinking self.entry.image.now self.entry.pid to process.old lanes.old))) }
@@ -266,17 +254,11 @@ impl Actor<'_> {
         if let Err(_signal) = lanes.channels.put(self.alloc, self.pid, to, Signal::Unlink) {
             return Err(Fault::Memory);
         }
-        let turn = match self.close_without(process, lanes, to) {
-            Ok(turn) => turn,
-            Err(refused) => {
-                lanes.channels.take_back(self.pid, to);
-                return Err(refused);
-            }
-        };
-        if let Turn::Trapped(_) = &turn {
+        let turned = self.close_without(process, lanes, to);
+        if is_undone(&turned) {
             lanes.channels.take_back(self.pid, to);
         }
-        Ok(turn)
+        turned
     }
 
     /// Gives a process its answer, and takes a link of it away: where it ends, that one does not hear of it.
@@ -337,7 +319,7 @@ impl Actor<'_> {
         Ok(Turn::Ended(reason))
     }
 
-    #[tactic(auto, using(crate::proofs::Undoing::shown_trapped, crate::proofs::Undoing::shown_stood, crate::proofs::Undoing::unshown))]
+    #[tactic(auto, using(crate::proofs::Undoing::stood, crate::proofs::Undoing::undone, crate::proofs::Undoing::front_last, crate::proofs::Undoing::shown_first))]
     fn display(self, process: &mut Proc, lanes: &mut Lanes, term: Term) -> Result<Turn, Fault>
         ensures { Does (Unit {0}) (process.old, lanes.old) (process.new, lanes.new) result
             (Ok (done_by self.entry.image.now self.entry.pid (requests.Display term) process.old lanes.old)) }
@@ -345,21 +327,15 @@ impl Actor<'_> {
         if let Err(_term) = lanes.output.push(self.pid, term) {
             return Err(Fault::Memory);
         }
-        let turn = match self.close(process, lanes, &yes()) {
-            Ok(turn) => turn,
-            Err(refused) => {
-                lanes.output.take_back();
-                return Err(refused);
-            }
-        };
-        if let Turn::Trapped(_) = &turn {
+        let turned = self.close(process, lanes, &yes());
+        if is_undone(&turned) {
             lanes.output.take_back();
         }
-        Ok(turn)
+        turned
     }
 
     /// A process enters another into its set, and gets its answer.
-    #[tactic(auto, using(crate::proofs::Undoing::link_trapped, crate::proofs::Undoing::rewhole, crate::proofs::Undoing::unlinked_back, bx_proc::proofs::Linking::linked_there))]
+    #[tactic(auto, using(crate::proofs::Undoing::stood, crate::proofs::Undoing::undone, bx_proc::proofs::Linking::link_undone, bx_proc::proofs::Linking::linked_there))]
     pub(crate) fn close_linked(
         self,
         process: &mut Proc,
@@ -375,16 +351,10 @@ impl Actor<'_> {
             return self.close(process, lanes, answer);
         }
         process.add_link(child)?;
-        let turn = match self.close(process, lanes, answer) {
-            Ok(turn) => turn,
-            Err(refused) => {
-                process.drop_link(child);
-                return Err(refused);
-            }
-        };
-        if let Turn::Trapped(_) = &turn {
+        let turned = self.close(process, lanes, answer);
+        if is_undone(&turned) {
             process.drop_link(child);
         }
-        Ok(turn)
+        turned
     }
 }

@@ -90,7 +90,7 @@ pub fn advance_many<P: Hold<Proc>, C: Hold<Lanes>>(
     choice: Choice,
     times: u64,
 ) -> Result<(), Fault>
-    requires { end.old.applied + times < u64.MAX }
+    requires { end.old.applied + times ≤ u64.MAX }
     ensures { DoesMany image.now choice times end.old end.new result }
 {
     let mut left = times;

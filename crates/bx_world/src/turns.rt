@@ -1,6 +1,7 @@
 //! What a choice was at one process, and what came of it.
 
 ghost use Rattle.std.specs.Prelude.{◌≡◌, Some};
+ghost use Rattle.bx_world.specs.Asking.{is_undone};
 ghost use Rattle.bx_world.specs.Batches.{tried_of, sent_so, answer_of};
 
 use crate::requests::SpawnRequest;
@@ -17,6 +18,17 @@ pub enum Turn {
     Trapped(Trap),
     /// The process asks for another one: nothing has changed yet.
     Spawns(SpawnRequest),
+}
+
+/// Whether nothing was done: it was refused, or it had no meaning. What was put for it is then taken back.
+#[inline(always)]
+pub(crate) fn is_undone(turned: &Result<Turn, Fault>) -> bool
+    ensures { result ≡ is_undone turned.now }
+{
+    match turned {
+        Ok(Turn::Trapped(_)) | Err(_) => true,
+        Ok(_) => false,
+    }
 }
 
 /// What came of a choice that was tried, in few enough bytes to lie in a register.
