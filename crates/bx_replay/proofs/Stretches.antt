@@ -1,21 +1,13 @@
 -- Equal choices in a row, made in one call.
-use Rattle.std.proofs.Common.{◌≡◌, ℕ, zero, suc, ◌+◌, ◌-◌, ◌<◌, List, [], ◌∷◌, ◌++◌, length, take, replicate, append_assoc, refl, sym, ap, ◌∙◌, arith}
+use Rattle.std.proofs.Common.{◌≡◌, ℕ, zero, suc, ◌+◌, ◌<◌, List, [], ◌∷◌, ◌++◌, length, take, replicate, append_assoc, refl, sym, ap, ◌∙◌, arith}
 use Rattle.std.specs.Prelude.{slice_get, OnErr, Result, Ok, Err, Some}
 use Rattle.std.proofs.Math.Seq.{take-append-add}
 use Rattle.bx_load.specs.Image.{Loaded}
 use Rattle.bx_world.specs.declared.choices.Choice.{Choice}
-use Rattle.bx_world.specs.Running.{Ended, advanced, ran, Lacks}
+use Rattle.bx_world.specs.Running.{Ended, ran, Lacks}
 use Rattle.bx_world.proofs.Lawful.{ran_on}
-use Rattle.bx_world.proofs.Many.{split}
 use Rattle.bx_replay.specs.Lacking.{LacksAmong}
 use Rattle.bx_replay.proofs.Bringing.{get_behind}
-
--- the last one behind the others
-pub last_made : (image : Loaded) (choice : Choice) (times : ℕ) (old mid new : Ended) → 0 < times → mid ≡ ran image (replicate (times - 1) choice) old → new ≡ advanced image choice mid
-    → new ≡ ran image (replicate times choice) old
-last_made image choice times old mid new some made step =
-    let count : times - 1 + 1 ≡ times = omega arith in
-    step ∙ ap (advanced image choice) made ∙ sym (split image choice (times - 1) 1 old) ∙ ap (λ n. ran image (replicate n choice) old) count
 
 -- the first of some choices are made, and so many are left
 pub record Front (image : Loaded) (whole left : List Choice) (old new : Ended) : Type 0 where

@@ -8,7 +8,7 @@ use bx_load::Image;
 use bx_plan::Part;
 use bx_proc::Proc;
 use bx_share::RcHold;
-use bx_world::{Choice, Lanes, RcWorld, RunEnd, advance, advance_many};
+use bx_world::{Choice, Lanes, RcWorld, RunEnd, advance_many};
 use std::alloc::{AllocError, Global};
 
 /// Where choices have led in a world that stays in one thread.
@@ -116,7 +116,7 @@ pub(crate) fn advance_each(
     Ok(())
 }
 
-/// So many equal choices more, one at least.
+/// So many equal choices more. It can only run out of memory.
 pub(crate) fn advance_run(
     alloc: Global,
     end: &mut RcEnd,
@@ -124,16 +124,11 @@ pub(crate) fn advance_run(
     choice: Choice,
     times: u64,
 ) -> Result<(), AllocError>
-    requires some { 0 < times }
     requires few { end.old.applied + times < 2 ^ 64 }
     ensures ok { OnOk result (end.new ≡ ran image.now (replicate times choice) end.old) }
     ensures err { OnErr result (Lacks image.now choice times end.old end.new) }
 {
-    // `advance_many` counts to one less than a number can
-    if let Err(_) = advance_many(alloc, end, image, choice, times - 1) {
-        return Err(AllocError);
-    }
-    if let Err(_) = advance(alloc, end, image, choice) {
+    if let Err(_) = advance_many(alloc, end, image, choice, times) {
         return Err(AllocError);
     }
     Ok(())
