@@ -13,6 +13,7 @@ use Rattle.bx_world.specs.declared.turns.Turn.TheVariants as turns
 use Rattle.bx_world.specs.Delivering.{exited_heard, lost}
 use Rattle.bx_world.specs.declared.acts.Act.TheVariants as acts
 use Rattle.bx_world.specs.declared.acts.Act.TheVariants.{Hear, Unspawned}
+use Rattle.bx_world.specs.Asking.{is_undone}
 use Rattle.bx_world.specs.Lifetimes.{lost_if}
 use Rattle.bx_world.specs.Batches.{trap_in, pinned}
 use Rattle.bx_world.specs.Choosing.{trap_of, world_of}
@@ -243,10 +244,7 @@ KeptIf of before (Ok (after, turn)) = of turn ≡ true → after ≡ before
 KeptIf of before (Err fault) = Unit {0}
 
 abbrev pub is_trap : Turn → Bool
-is_trap turns.Ran = false
-is_trap (turns.Ended reason) = false
-is_trap (turns.Trapped kind) = true
-is_trap (turns.Spawns spawn) = false
+is_trap turn = is_undone (Ok turn)
 
 abbrev is_spawn : Turn → Bool
 is_spawn turns.Ran = false

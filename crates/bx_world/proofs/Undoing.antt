@@ -21,10 +21,10 @@ all_told p (q ∷ qs) reason m = all_told p qs reason (put (p, q) (signals.LinkE
 abbrev DoesAll : Process × Lanes → Process × Lanes → Result Turn Fault → Done → Type 0
 DoesAll old new r d = Does (Unit {0}) old new r (Ok (whole old d))
 
-module _ (old mid after : Process × Lanes) where
-  same_end : (t u : Turn) → t ≡ u → is_undone (Ok t) ≡ is_undone (Ok u)
-  same_end t u is = ap (λ (v : Turn). is_undone (Ok v)) is
+pub same_end : (t u : Turn) → t ≡ u → is_undone (Ok t) ≡ is_undone (Ok u)
+same_end t u is = ap (λ (v : Turn). is_undone (Ok v)) is
 
+module _ (old mid after : Process × Lanes) where
   -- what was done is done whatever there was before
   pub stood : (d : Done) (r : Result Turn Fault) (b : Bool) → b ≡ is_undone r → b ≡ false → DoesAll mid after r d → DoesAll old after r d
   stood (w, turns.Trapped kind) (Ok turn) b is at h = let end = same_end (turns.Trapped kind) turn (ok_pair _ _ _ _ h).1 in absurd (cc)
