@@ -124,7 +124,7 @@ pub(crate) fn advance_run(
     choice: Choice,
     times: u64,
 ) -> Result<(), AllocError>
-    requires few { end.old.applied + times < 2 ^ 64 }
+    requires { end.old.applied + times < 2 ^ 64 }
     ensures ok { OnOk result (end.new ≡ ran image.now (replicate times choice) end.old) }
     ensures err { OnErr result (Lacks image.now choice times end.old end.new) }
 {

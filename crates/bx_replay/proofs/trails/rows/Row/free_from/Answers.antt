@@ -17,8 +17,8 @@ may_pass-requires c =
     let at = ap (λ (e : Ended). e.applied) (c.loop-at.invariant.here ∙ sym (ap (reached c.loop-at.at) c.self.view_is)) in
     omega (arith, bounded old c.loop-at.at (omega arith), c.self.invariant.few)
 
-pub advance_run-requires-clause-few : goal.advance_run-requires-clause-few
-advance_run-requires-clause-few c =
+pub advance_run-requires : goal.advance_run-requires
+advance_run-requires c =
     let old : Course = course c.self.inside.image.now c.self.inside.start.end c.self.inside.choices.items in
     let long = ap (λ (s : Course). length s.choices) c.self.view_is in
     let at = ap (λ (e : Ended). e.applied) (c.loop-at.invariant.here ∙ sym (ap (reached c.loop-at.at) c.self.view_is)) in
