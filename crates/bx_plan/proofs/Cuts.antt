@@ -1,53 +1,40 @@
 -- A text cut at a mark, by the place of the mark, and the parts that come of it.
-use Rattle.std.proofs.Common.{◌≡◌, ℕ, suc, ◌+◌, ◌-◌, Bool, true, false, cond, not, List, [], ◌∷◌, Option, Some, None, length, take, drop, refl, sym, ap, ◌∙◌, arith, one-add, add-one, option_map, length-drop}
-use Rattle.std.specs.Prelude.{nat_eq, nat_lt}
-use Rattle.std.specs.List.{position, prefix_len, onto_first}
-use Rattle.std.proofs.lemmas.Bool.{lt-ltb}
-use Rattle.std.proofs.lemmas.Bool.Decides.{nat_tests}
+use Rattle.std.proofs.Common.{◌≡◌, ℕ, zero, suc, ◌+◌, ◌-◌, ◌<◌, Bool, true, false, cond, List, [], ◌∷◌, Option, Some, None, length, take, drop, refl, sym, ap, ◌∙◌, arith, add-one, option_map, length-drop}
+use Rattle.std.specs.Prelude.{nat_eq, slice_index}
+use Rattle.std.specs.List.{onto_first}
+use Rattle.std.proofs.lemmas.Bool.{cond-false, cond-true, false_from_ne_true}
 use Rattle.std.proofs.Math.Seq.{take-length}
+use Rattle.memchr.specs.Find.{is_byte, IsFirstByte}
+use Rattle.bx_plan.specs.Parts.{IsPlace}
 use Rattle.bx_plan.specs.Reading.{cut, parts_of}
 
--- the cut at this place
-abbrev at_place : List ℕ → ℕ → List ℕ × List ℕ
-at_place text at = (take at text, drop (at + 1) text)
+-- a byte is the mark
+abbrev IsMark : ℕ → List ℕ → ℕ → Type 0
+IsMark mark text k = nat_eq (slice_index text k) mark ≡ true
 
--- the cut at the place, where it lies within
-abbrev by : List ℕ → ℕ → Bool → Option (List ℕ × List ℕ)
-by text place within = option_map (at_place text) (cond within (Some place) None)
+abbrev with_first : ℕ → Option (List ℕ × List ℕ) → Option (List ℕ × List ℕ)
+with_first b parts = option_map (λ parts. (b ∷ parts.0, parts.1)) parts
 
-next_test : (place count : ℕ) → nat_lt (1 + place) (suc count) ≡ nat_lt place count
-next_test place count = grind (arith, nat_tests)
+later : (mark b : ℕ) (bs : List ℕ) → (IsMark mark (b ∷ bs) 0 → ⊥) → cut mark (b ∷ bs) ≡ with_first b (cut mark bs)
+later mark b bs apart = cond-false (nat_eq b mark) (Some ([], bs)) (with_first b (cut mark bs)) (false_from_ne_true (nat_eq b mark) apart)
 
-first_test : (count : ℕ) → nat_lt 0 (suc count) ≡ true
-first_test count = lt-ltb 0 (suc count) (omega arith)
+no_mark : (mark : ℕ) (text : List ℕ) → ((k : ℕ) → k < length text → IsMark mark text k → ⊥) → cut mark text ≡ None
+no_mark mark [] none = refl
+no_mark mark (b ∷ bs) none = later mark b bs (none 0 (omega arith)) ∙ ap (with_first b) (no_mark mark bs (λ k h. none (suc k) (omega (arith, h))))
 
-next_cut : (b : ℕ) (bs : List ℕ) (place : ℕ) → at_place (b ∷ bs) (1 + place) ≡ (b ∷ (at_place bs place).0, (at_place bs place).1)
-next_cut b bs place = rw (one-add, add-one, add-one) refl
+at_mark : (mark : ℕ) (text : List ℕ) (at : ℕ) → at < length text → ((k : ℕ) → k < at → IsMark mark text k → ⊥) → IsMark mark text at → cut mark text ≡ Some (take at text, drop (suc at) text)
+at_mark mark [] at h none is = absurd (omega (arith, h))
+at_mark mark (b ∷ bs) zero h none is = cond-true (nat_eq b mark) (Some ([], bs)) (with_first b (cut mark bs)) is
+at_mark mark (b ∷ bs) (suc at) h none is =
+    later mark b bs (none 0 (omega arith)) ∙ ap (with_first b) (at_mark mark bs at (omega (arith, h)) (λ k l. none (suc k) (omega (arith, l))) is)
 
-later : (b : ℕ) (bs : List ℕ) (place : ℕ) (within : Bool) → by (b ∷ bs) (1 + place) within ≡ option_map (λ parts. (b ∷ parts.0, parts.1)) (by bs place within)
-later b bs place true = ap Some (next_cut b bs place)
-later b bs place false = refl
+pub placed : (mark : ℕ) (text : List ℕ) (place : Option ℕ) → IsFirstByte (is_byte mark) text place → IsPlace mark text place
+placed mark text None none = no_mark mark text (λ k h. none k (omega arith) h)
+placed mark text (Some at) is = (is.0.high, at_mark mark text at is.0.high (λ k h. is.0.before k (omega arith) h) is.1 ∙ ap (λ n. Some (take at text, drop n text)) (sym (add-one at)))
 
-by_place : (mark : ℕ) (text : List ℕ) → option_map (at_place text) (position (λ b. nat_eq b mark) text) ≡ cut mark text
-by_place mark [] = refl
-by_place mark (b ∷ bs) = one (nat_eq b mark) (by_place mark bs) where
-  one : (same : Bool) → option_map (at_place bs) (position (λ b. nat_eq b mark) bs) ≡ cut mark bs
-      → by (b ∷ bs) (cond (not same) (1 + prefix_len (λ x. not (nat_eq x mark)) bs) 0) (nat_lt (cond (not same) (1 + prefix_len (λ x. not (nat_eq x mark)) bs) 0) (suc (length bs)))
-      ≡ cond same (Some ([], bs)) (option_map (λ parts. (b ∷ parts.0, parts.1)) (cut mark bs))
-  one true h = ap (by (b ∷ bs) 0) (first_test (length bs)) ∙ ap Some (first_cut b bs) where
-    first_cut : (b : ℕ) (bs : List ℕ) → at_place (b ∷ bs) 0 ≡ ([], bs)
-    first_cut b bs = refl
-  one false h = ap (by (b ∷ bs) (1 + prefix_len (λ x. not (nat_eq x mark)) bs)) (next_test (prefix_len (λ x. not (nat_eq x mark)) bs) (length bs))
-      ∙ later b bs (prefix_len (λ x. not (nat_eq x mark)) bs) (nat_lt (prefix_len (λ x. not (nat_eq x mark)) bs) (length bs))
-      ∙ ap (option_map (λ parts. (b ∷ parts.0, parts.1))) h
-
-pub cut_some : (mark : ℕ) (text : List ℕ) (i : ℕ) → position (λ b. nat_eq b mark) text ≡ Some i → Some (take i text, take (length text - (i + 1)) (drop (i + 1) text)) ≡ cut mark text
+pub cut_some : (mark : ℕ) (text : List ℕ) (i : ℕ) → cut mark text ≡ Some (take i text, drop (i + 1) text) → Some (take i text, take (length text - (i + 1)) (drop (i + 1) text)) ≡ cut mark text
 cut_some mark text i h =
-    let all : take (length text - (i + 1)) (drop (i + 1) text) ≡ drop (i + 1) text = ap (λ n. take n (drop (i + 1) text)) (sym (length-drop (i + 1) text)) ∙ take-length (drop (i + 1) text) in
-    ap (λ behind. Some (take i text, behind)) all ∙ sym (ap (option_map (at_place text)) h) ∙ by_place mark text
-
-pub cut_none : (mark : ℕ) (text : List ℕ) → position (λ b. nat_eq b mark) text ≡ None → cut mark text ≡ None
-cut_none mark text h = sym (by_place mark text) ∙ ap (option_map (at_place text)) h
+    ap (λ n. Some (take i text, take n (drop (i + 1) text))) (sym (length-drop (i + 1) text)) ∙ ap (λ behind. Some (take i text, behind)) (take-length (drop (i + 1) text)) ∙ sym h
 
 -- the parts, by the first cut
 abbrev parts_by : List ℕ → ℕ → Option (List ℕ × List ℕ) → List (List ℕ)

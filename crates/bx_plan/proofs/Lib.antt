@@ -12,6 +12,7 @@ pub mod Accepting
 pub mod Looking
 pub mod Prefixes
 pub mod Stretching
+pub mod Runs
 pub mod Edits
 pub mod Commons
 pub mod Ordering

@@ -4,12 +4,13 @@ use Rattle.std.specs.declared.cmp.Ordering.{Ordering}
 use Rattle.std.specs.declared.cmp.Ordering.TheVariants.{Less, Equal, Greater}
 use Rattle.std.specs.Ordering.{nat_cmp, ordering_then, ordering_reverse, is_gt}
 use Rattle.std.specs.Cmp.{IsTotalOrder}
-use Rattle.std.proofs.lemmas.Cmp.{nat_cmp_total, on_total, then_total, tied_itself}
+use Rattle.std.proofs.lemmas.Bool.{cases_Bool, cases_lt}
+use Rattle.std.proofs.lemmas.Cmp.{lists_total, nat_cmp_total, on_total, then_total, tied_itself}
 use Rattle.std.proofs.lemmas.Map.Lookups.{exact_unsigned}
 use Rattle.bx_world.specs.declared.choices.Choice.{Choice}
 use Rattle.bx_world.specs.declared.choices.Choice.TheVariants.{Run, Deliver, Expire}
-use Rattle.bx_plan.specs.Gathered.{rank, choice_cmp, choices_cmp, next_cmp, common}
-use Rattle.bx_plan.proofs.Commons.{common_apart, common_here, same_or_not}
+use Rattle.bx_plan.specs.Gathered.{rank, choice_cmp, choices_cmp, common}
+use Rattle.bx_plan.proofs.Commons.{common_apart, common_here, common_least, common_turned, same_or_not}
 
 pub choice_total : IsTotalOrder choice_cmp
 choice_total = then_total (on_total (λ c. (rank c).0) nat_cmp_total) (then_total (on_total (λ c. (rank c).1) nat_cmp_total) (on_total (λ c. (rank c).2) nat_cmp_total))
@@ -55,6 +56,15 @@ level Equal Equal q r e h k = (refl, refl, h, k)
 level Equal Greater q r e h k = cc
 level Greater p q r e h k = cc
 
+-- of two, one does not stand behind the other
+turned : (o p : Ordering) → o ≡ ordering_reverse p → is_gt p ≡ true → is_gt o ≡ false
+turned o Less e h = cc
+turned o Equal e h = cc
+turned o Greater e h = ap is_gt e
+
+pub turned_back : (a b : List Choice) → is_gt (choices_cmp a b) ≡ true → is_gt (choices_cmp b a) ≡ false
+turned_back a b h = turned (choices_cmp b a) (choices_cmp a b) ((lists_total choice_total).antisymm b a) h
+
 pub between : (a b c : List Choice) → is_gt (choices_cmp a b) ≡ false → is_gt (choices_cmp b c) ≡ false → (common a c ≤ common a b) × (common a c ≤ common b c)
 between [] b c h k = (omega arith, omega arith)
 between (x ∷ xs) [] c h k = cc
@@ -71,27 +81,30 @@ between (x ∷ xs) (y ∷ ys) (z ∷ zs) h k = one (same_or_not x z) (between xs
       let rest = others flat.2 flat.3 in
       (omega (arith, common_here x z xs zs e, common_here x y xs ys first, rest.0), omega (arith, common_here x z xs zs e, common_here y z ys zs second, rest.1))
 
--- the order by where both part
-pub cmp_at : (a b : List Choice) → choices_cmp a b ≡ next_cmp (slice_get a (common a b)) (slice_get b (common a b))
-cmp_at [] [] = refl
-cmp_at [] (y ∷ ys) = refl
-cmp_at (x ∷ xs) [] = refl
-cmp_at (x ∷ xs) (y ∷ ys) = one (same_or_not x y) (cmp_at xs ys) where
+-- one that begins with more choices as a third before both stands first
+pub more_first : (a b c : List Choice) → is_gt (choices_cmp a b) ≡ false → is_gt (choices_cmp a c) ≡ false → common a c < common a b
+    → (is_gt (choices_cmp b c) ≡ false) × (common b c ≡ common a c)
+more_first a b c h k less = one (cases_Bool (is_gt (choices_cmp b c))) (cases_lt (common a c) (common b c)) where
+  one : (is_gt (choices_cmp b c) ≡ true) ⊎ (is_gt (choices_cmp b c) ≡ false) → (common a c < common b c) ⊎ (common b c ≤ common a c) → (is_gt (choices_cmp b c) ≡ false) × (common b c ≡ common a c)
+  one (inl t) either = absurd (omega (arith, less, (between a c b k (turned_back b c t)).0))
+  one (inr f) (inl m) = absurd (omega (arith, m, common_least a b c (suc (common a c)) (omega (arith, less)) (omega (arith, m))))
+  one (inr f) (inr l) = (f, omega (arith, l, common_least b a c (common a c) (omega (arith, less, common_turned a b)) (omega arith)))
+
+-- the order of two that begin alike or do not
+pub cmp_here : (x y : Choice) (xs ys : List Choice) → x ≡ y → choices_cmp (x ∷ xs) (y ∷ ys) ≡ choices_cmp xs ys
+cmp_here x y xs ys e = go_on (choice_cmp x y) (choices_cmp xs ys) (ap (choice_cmp x) (sym e) ∙ tied_itself choice_total x) where
   go_on : (o p : Ordering) → o ≡ Equal → ordering_then o p ≡ p
   go_on Less p e = cc
   go_on Equal p e = refl
   go_on Greater p e = cc
 
+pub cmp_apart : (x y : Choice) (xs ys : List Choice) → x ≢ y → choices_cmp (x ∷ xs) (y ∷ ys) ≡ choice_cmp x y
+cmp_apart x y xs ys n = decided (choice_cmp x y) (choices_cmp xs ys) (λ s. n (equal_choices x y s)) where
   decided : (o p : Ordering) → (o ≡ Equal → ⊥) → ordering_then o p ≡ o
   decided Less p n = refl
   decided Equal p n = absurd (n refl)
   decided Greater p n = refl
 
-  one : (x ≡ y) ⊎ (x ≢ y) → choices_cmp xs ys ≡ next_cmp (slice_get xs (common xs ys)) (slice_get ys (common xs ys))
-      → ordering_then (choice_cmp x y) (choices_cmp xs ys) ≡ next_cmp (slice_get (x ∷ xs) (common (x ∷ xs) (y ∷ ys))) (slice_get (y ∷ ys) (common (x ∷ xs) (y ∷ ys)))
-  one (inl e) rest =
-      go_on (choice_cmp x y) (choices_cmp xs ys) (ap (choice_cmp x) (sym e) ∙ tied_itself choice_total x) ∙ rest
-      ∙ ap (λ n. next_cmp (slice_get (x ∷ xs) n) (slice_get (y ∷ ys) n)) (sym (common_here x y xs ys e))
-  one (inr n) rest =
-      decided (choice_cmp x y) (choices_cmp xs ys) (λ s. n (equal_choices x y s))
-      ∙ ap (λ n. next_cmp (slice_get (x ∷ xs) n) (slice_get (y ∷ ys) n)) (sym (common_apart x y xs ys n))
+pub cmp_append : (front xs ys : List Choice) → choices_cmp (front ++ xs) (front ++ ys) ≡ choices_cmp xs ys
+cmp_append [] xs ys = refl
+cmp_append (c ∷ front) xs ys = cmp_here c c (front ++ xs) (front ++ ys) refl ∙ cmp_append front xs ys

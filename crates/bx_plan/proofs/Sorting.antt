@@ -1,99 +1,216 @@
--- The rows of schedules in order.
-use Rattle.std.proofs.Common.{◌≡◌, ℕ, zero, suc, ◌+◌, ◌-◌, ◌<◌, ◌≤◌, Bool, true, false, List, [], ◌∷◌, ◌++◌, length, get_or, map, refl, sym, ap, subst, ◌∙◌, arith}
+-- Rows in order, and how two of them are merged.
+use Rattle.std.proofs.Common.{◌≡◌, ◌⊎◌, inl, inr, ℕ, zero, suc, ◌+◌, ◌<◌, ◌≤◌, Bool, true, false, cond, List, [], ◌∷◌, ◌++◌, Option, None, Some, length, get_or, refl, sym, ap, subst, ◌∙◌, arith, add-one}
+use Rattle.std.specs.Prelude.{nat_eq}
+use Rattle.std.specs.List.{slice_get}
 use Rattle.std.specs.declared.cmp.Ordering.{Ordering}
 use Rattle.std.specs.declared.cmp.Ordering.TheVariants.{Less, Equal, Greater}
 use Rattle.std.specs.Ordering.{ordering_reverse, is_gt, is_lt}
 use Rattle.std.specs.Cmp.{IsStrictWeakOrder}
-use Rattle.std.specs.List.Sorted.{IsPermutation, IsSortedBy}
+use Rattle.std.specs.List.Sorted.{IsSortedBy}
+use Rattle.std.proofs.lemmas.Bool.{cases_Bool, cases_lt, eqb-true}
 use Rattle.std.proofs.lemmas.Cmp.{lists_total}
-use Rattle.std.proofs.lemmas.List.{get_or_default, get_or-map, length-map}
-use Rattle.std.proofs.lemmas.List.Sorted.{All-permutation, Contains-permutation, length_permutation, ranks_by, sorted_far}
+use Rattle.std.proofs.lemmas.List.{length-map}
+use Rattle.std.proofs.lemmas.List.Sorted.{ranks_by, sorted_far}
+use Rattle.std.proofs.lemmas.List.Sums.{sum_by-append, sum_by-cons}
 use Rattle.bx_world.specs.declared.choices.Choice.{Choice}
+use Rattle.bx_plan.specs.declared.plans.Line.{Line}
 use Rattle.bx_plan.specs.declared.plans.Row.{Row}
-use Rattle.bx_plan.specs.declared.plans.ordering.Numbered.{Numbered}
-use Rattle.bx_plan.specs.Gathered.{choice_cmp, choices_cmp, common, common_before, no_row, placed, row_at, AreRows}
-use Rattle.bx_plan.specs.Ordered.{common_with_last, line_at, listed, AreNumbered, IsNumbered, IsOrder}
-use Rattle.bx_plan.specs.Planned.{choices_at}
+use Rattle.bx_plan.specs.Gathered.{choices_cmp, common, common_before, no_row, placed, row_at, AreRows}
+use Rattle.bx_plan.specs.Ordered.{at_row, headed, rows_at, AreFrom, AreInOrder, AreMerged, GoOn, IsTaken, Stands, Takes, TakesFirst}
 use Rattle.bx_plan.specs.Plans.{Named, choices_of}
-use Rattle.bx_plan.proofs.Ordering.{between, choice_total}
+use Rattle.bx_plan.specs.View.{line_view, lines_view}
+use Rattle.bx_plan.proofs.Commons.{common_least, common_turned}
+use Rattle.bx_plan.proofs.Ordering.{between, choice_total, more_first}
 
-abbrev pub no_numbered : Numbered
-no_numbered = record { line = 0; schedule = record { ref_ptr = (0, 0); now = [] } }
+-- ---- rows without their first, and with another number at their first
 
-abbrev pub stands_first : Numbered → Numbered → Bool
-stands_first x y = is_lt (choices_cmp x.schedule.now y.schedule.now)
+pub headed_long : (n : ℕ) (rows : List Row) → length (headed n rows) ≡ length rows
+headed_long n [] = refl
+headed_long n (row ∷ rows) = refl
 
-pub ranked : IsStrictWeakOrder stands_first
-ranked = ranks_by (lists_total choice_total) (λ (one : Numbered). one.schedule.now)
+pub headed_lines : (n line : ℕ) (rows : List Row) → rows_at line (headed n rows) ≡ rows_at line rows
+headed_lines n line [] = refl
+headed_lines n line (row ∷ rows) = refl
 
-pub listed_is : (all : List Numbered) (k : ℕ) (d : Numbered) → k < length all → listed all k ≡ (get_or all k d).schedule.now
-listed_is all k d h = get_or-map (λ (one : Numbered). one.schedule.now) all k d [] h
+pub rows_push : (line : ℕ) (rows : List Row) (row : Row) → rows_at line (rows ++ row ∷ []) ≡ rows_at line rows + rows_at line (row ∷ [])
+rows_push line rows row = sum_by-append (λ (r : Row). cond (nat_eq r.line line) 1 0) rows (row ∷ [])
 
-pub line_is : (all : List Numbered) (k : ℕ) (d : Numbered) → k < length all → line_at all k ≡ (get_or all k d).line
-line_is all k d h = get_or-map (λ (one : Numbered). one.line) all k d 0 h
+pub lines_long : (lines : List Line) → length (choices_of (lines_view lines)) ≡ length lines
+lines_long lines = omega (arith, length-map (lines_view lines) (λ (s : Named). s.1), length-map lines line_view)
 
-turned : (o p : Ordering) → o ≡ ordering_reverse p → is_lt p ≡ false → is_gt o ≡ false
-turned o Less e h = cc
-turned o Equal e h = ap is_gt e
-turned o Greater e h = ap is_gt e
+module _ (schedules : List (List Choice)) where
+  pub first_stands : (last : List Choice) (rows : List Row) (row : Row) → AreFrom schedules last rows → slice_get rows 0 ≡ Some row → Stands schedules last row
+  first_stands last [] row are e = cc
+  first_stands last (r ∷ rows) row are e = let same : r ≡ row = cc in subst (Stands schedules last) same are.0
 
-pub ordered : (plan : List Named) (all sorted : List Numbered) → AreNumbered plan all → IsPermutation all sorted → IsSortedBy stands_first sorted → IsOrder plan sorted
-ordered plan all sorted are moved up = record {
-  numbered = record { each = All-permutation (IsNumbered plan) all sorted moved are.each; every = every };
-  gathered = λ i j k a b h. let low = between (listed sorted i) (listed sorted j) (listed sorted k) (in_order i j a (omega arith)) (in_order j k b h) in low;
-} where
-  every : (i : ℕ) → i < length plan → (k : ℕ) × (k < length sorted) × (line_at sorted k ≡ i)
-  every i h =
-      let at = are.every i h in
-      let x = get_or all at.0 no_numbered in
-      let found = Contains-permutation all sorted x moved (at.0, at.1, get_or_default all at.0 x no_numbered at.1) in
-      (found.0, found.1, line_is sorted found.0 x found.1 ∙ ap (λ (one : Numbered). one.line) found.2 ∙ sym (line_is all at.0 no_numbered at.1) ∙ at.2)
+  pub headed_from : (rows : List Row) → AreFrom schedules [] rows → AreFrom schedules [] (headed 0 rows)
+  headed_from [] are = tt
+  headed_from (row ∷ rows) are = (record { within = are.0.within; behind = are.0.behind; common = refl }, are.1)
 
-  in_order : (i j : ℕ) → i ≤ j → j < length sorted → is_gt (choices_cmp (listed sorted i) (listed sorted j)) ≡ false
-  in_order i j a h =
-      let far = sorted_far stands_first ranked sorted up i j no_numbered a h in
-      let same : choices_cmp (listed sorted i) (listed sorted j) ≡ choices_cmp (get_or sorted i no_numbered).schedule.now (get_or sorted j no_numbered).schedule.now =
-      ap (λ cs. choices_cmp cs (listed sorted j)) (listed_is sorted i no_numbered (omega arith)) ∙ ap (choices_cmp (get_or sorted i no_numbered).schedule.now) (listed_is sorted j no_numbered h) in
-      ap is_gt same ∙ turned (choices_cmp (get_or sorted i no_numbered).schedule.now (get_or sorted j no_numbered).schedule.now) (choices_cmp (get_or sorted j no_numbered).schedule.now (get_or sorted i no_numbered).schedule.now)
-      ((lists_total choice_total).antisymm (get_or sorted i no_numbered).schedule.now (get_or sorted j no_numbered).schedule.now) far
+  -- the last schedule of rows, or that one
+  abbrev pub last_of : List Choice → List Row → List Choice
+  last_of last [] = last
+  last_of last (row ∷ rows) = last_of (at_row schedules row) rows
 
-pub all_numbered : (plan : List Named) (all : List Numbered) → length all ≡ length plan → ((k : ℕ) (d : Numbered) → k < length all → IsNumbered plan (get_or all k d)) → ((k : ℕ) → k < length all → line_at all k ≡ k) → AreNumbered plan all
-all_numbered plan all long each places = record { each = each; every = λ i h. let within : i < length all = omega (arith, long, h) in (i, within, places i within) }
+  pub last_push : (last : List Choice) (rows : List Row) (row : Row) → last_of last (rows ++ row ∷ []) ≡ at_row schedules row
+  last_push last [] row = refl
+  last_push last (r ∷ rows) row = last_push (at_row schedules r) rows row
 
-abbrev pub row_of : List Numbered → ℕ → Row
-row_of all k = record { line = line_at all k; common = common_with_last all k }
+  pub from_push : (last : List Choice) (rows : List Row) (row : Row) → AreFrom schedules last rows → Stands schedules (last_of last rows) row → AreFrom schedules last (rows ++ row ∷ [])
+  from_push last [] row are next = (next, tt)
+  from_push last (r ∷ rows) row are next = (are.0, from_push (at_row schedules r) rows row are.1 next)
 
-module _ (plan : List Named) (all : List Numbered) (rows : List Row) (is : IsOrder plan all) (long : length rows ≡ length all) (each : (k : ℕ) → k < length all → row_at rows k ≡ row_of all k) where
-  placed_is : (k : ℕ) → k < length all → placed (choices_of plan) rows k ≡ listed all k
-  placed_is k h =
-      let same : (row_at rows k).line ≡ (get_or all k no_numbered).line = ap (λ (row : Row). row.line) (each k h) ∙ line_is all k no_numbered h in
-      let line = is.numbered.each k no_numbered h in
-      ap (λ i. get_or (choices_of plan) i []) same ∙ get_or-map (λ (s : Named). s.1) plan (get_or all k no_numbered).line ([], []) [] line.line ∙ sym line.schedule ∙ sym (listed_is all k no_numbered h)
+  -- ---- a row is taken
 
-  pub rows_are : AreRows (choices_of plan) rows
-  rows_are = record {
-    within = λ k h. let inside : k < length all = omega (arith, h, long) in omega (arith, length-map plan (λ (s : Named). s.1), ap (λ (row : Row). row.line) (each k inside), line_is all k no_numbered inside, (is.numbered.each k no_numbered inside).line);
-    all = λ i h. let at = is.numbered.every i (omega (arith, h, length-map plan (λ (s : Named). s.1))) in (at.0, omega (arith, at.1, long), ap (λ (row : Row). row.line) (each at.0 at.1) ∙ at.2);
-    gathered = λ i j k a b h.
-        let inside : k < length all = omega (arith, h, long) in
-        let low = is.gathered i j k a b inside in
-        let x = placed_is i (omega arith) in let y = placed_is j (omega arith) in let z = placed_is k inside in (
-          omega (arith, low.0, ap (λ cs. common cs (placed (choices_of plan) rows k)) x, ap (common (listed all i)) z, ap (λ cs. common cs (placed (choices_of plan) rows j)) x, ap (common (listed all i)) y),
-          omega (arith, low.1, ap (λ cs. common cs (placed (choices_of plan) rows k)) x, ap (common (listed all i)) z, ap (λ cs. common cs (placed (choices_of plan) rows k)) y, ap (common (listed all j)) z),
-        );
-    commons = commons;
-  } where
-    commons : (k : ℕ) → k < length rows → (row_at rows k).common ≡ common_before (choices_of plan) rows k
-    commons zero h = ap (λ (row : Row). row.common) (each 0 (omega (arith, h, long)))
-    commons (suc k) h =
-        let inside : suc k < length all = omega (arith, h, long) in
-        ap (λ (row : Row). row.common) (each (suc k) inside)
-        ∙ ap (λ cs. common cs (listed all (suc k))) (sym (placed_is k (omega arith))) ∙ ap (common (placed (choices_of plan) rows k)) (sym (placed_is (suc k) inside))
+  pub taken_turned : (xs ys xs_left ys_left : List Row) (o : Option Row) → Takes schedules xs ys xs_left ys_left o → Takes schedules ys xs ys_left xs_left o
+  taken_turned xs ys xs_left ys_left None is = (is.1, is.0)
+  taken_turned xs ys xs_left ys_left (Some row) is = record {
+    fewer = omega (arith, is.fewer);
+    lines = λ line. omega (arith, is.lines line);
+    order = λ last a b. let next = is.order last b a in (next.0, next.2, next.1);
+  }
 
--- the last one of a place
-pub with_last : (all : List Numbered) (place n : ℕ) (x y : Numbered) → 0 < place → place < length all → n ≡ common (get_or all (place - 1) x).schedule.now (get_or all place y).schedule.now → n ≡ common_with_last all place
-with_last all zero n x y some h is = absurd (omega (arith, some))
-with_last all (suc k) n x y some h is =
-    let back : suc k - 1 ≡ k = omega arith in
-    is ∙ ap (λ (cs : List Choice). common cs (get_or all (suc k) y).schedule.now) (ap (λ i. (get_or all i x).schedule.now) back ∙ sym (listed_is all k x (omega (arith, h))))
-    ∙ ap (common (listed all k)) (sym (listed_is all (suc k) y h))
+  line_first : (xs left : List Row) (row : Row) → xs ≡ row ∷ left → (line : ℕ) → rows_at line xs ≡ rows_at line (row ∷ []) + rows_at line left
+  line_first xs left row e line = ap (rows_at line) e ∙ sum_by-append (λ (r : Row). cond (nat_eq r.line line) 1 0) (row ∷ []) left
+
+  -- where there is no other
+  pub taken_alone : (xs ys left : List Row) (o : Option Row) → slice_get ys 0 ≡ None → TakesFirst xs left o → Takes schedules xs ys left ys o
+  taken_alone xs (y ∷ ys) left o none is = cc
+  taken_alone xs [] left None none is = (is.0, refl)
+  taken_alone xs [] left (Some row) none is = record {
+    fewer = omega (arith, ap length is);
+    lines = λ line. omega (arith, line_first xs left row is line);
+    order = λ last a b. let both = subst (AreFrom schedules last) is a in (both.0, both.1, tt);
+  }
+
+  -- it begins with more choices as the last one than the other does
+  pub taken_more : (xs ys left : List Row) (row y : Row) → xs ≡ row ∷ left → slice_get ys 0 ≡ Some y → y.common < row.common → IsTaken schedules xs ys left ys row
+  taken_more xs [] left row y is second less = cc
+  taken_more xs (z ∷ zs) left row y is second less =
+      let same : z ≡ y = cc in record {
+        fewer = omega (arith, ap length is);
+        lines = λ line. omega (arith, line_first xs left row is line);
+        order = λ last a b.
+            let both = subst (AreFrom schedules last) is a in
+            let more = more_first last (at_row schedules row) (at_row schedules z) both.0.behind b.0.behind (omega (arith, less, both.0.common, b.0.common, ap (λ (r : Row). r.common) same)) in
+            (both.0, both.1, (record { within = b.0.within; behind = more.0; common = b.0.common ∙ sym more.1 }, b.1));
+      }
+
+  -- the other one does not stand before it
+  pub taken_level : (xs ys left : List Row) (row y : Row) (n : ℕ) → xs ≡ row ∷ left → slice_get ys 0 ≡ Some y → is_gt (choices_cmp (at_row schedules row) (at_row schedules y)) ≡ false
+      → n ≡ common (at_row schedules row) (at_row schedules y) → IsTaken schedules xs ys left (headed n ys) row
+  taken_level xs [] left row y n is second behind e = cc
+  taken_level xs (z ∷ zs) left row y n is second behind e =
+      let same : z ≡ y = cc in record {
+        fewer = omega (arith, ap length is);
+        lines = λ line. omega (arith, line_first xs left row is line);
+        order = λ last a b.
+            let both = subst (AreFrom schedules last) is a in
+            let next : Stands schedules (at_row schedules row) (record { line = z.line; common = n }) = record {
+              within = b.0.within;
+              behind = ap (λ (r : Row). is_gt (choices_cmp (at_row schedules row) (at_row schedules r))) same ∙ behind;
+              common = e ∙ sym (ap (λ (r : Row). common (at_row schedules row) (at_row schedules r)) same);
+            } in
+            (both.0, both.1, (next, b.1));
+      }
+
+  -- ---- the same by what is taken off the first of both
+
+  opened : (xs left : List Row) (row : Row) (o : Option Row) → slice_get xs 0 ≡ Some row → TakesFirst xs left o → (o ≡ Some row) × (xs ≡ row ∷ left)
+  opened xs left row None e is = let none : slice_get xs 0 ≡ None = ap (λ (rows : List Row). slice_get rows 0) is.0 in absurd (cc)
+  opened xs left row (Some r) e is =
+      let some : slice_get xs 0 ≡ Some r = ap (λ (rows : List Row). slice_get rows 0) is in
+      let same : r ≡ row = cc in
+      (ap Some same, is ∙ ap (λ (r : Row). r ∷ left) same)
+
+  pub takes_more : (xs ys left : List Row) (row y : Row) (o : Option Row) → slice_get xs 0 ≡ Some row → slice_get ys 0 ≡ Some y → TakesFirst xs left o → y.common < row.common → Takes schedules xs ys left ys o
+  takes_more xs ys left row y o first second is less =
+      let both = opened xs left row o first is in
+      subst (Takes schedules xs ys left ys) (sym both.0) (taken_more xs ys left row y both.1 second less)
+
+  pub takes_level : (xs ys left ys_left : List Row) (row y : Row) (n : ℕ) (o : Option Row) → slice_get xs 0 ≡ Some row → slice_get ys 0 ≡ Some y → TakesFirst xs left o → ys_left ≡ headed n ys
+      → is_gt (choices_cmp (at_row schedules row) (at_row schedules y)) ≡ false → n ≡ common (at_row schedules row) (at_row schedules y) → Takes schedules xs ys left ys_left o
+  takes_level xs ys left ys_left row y n o first second is rest behind e =
+      let both = opened xs left row o first is in
+      subst (Takes schedules xs ys left ys_left) (sym both.0) (subst (λ (zs : List Row). IsTaken schedules xs ys left zs row) (sym rest) (taken_level xs ys left row y n both.1 second behind e))
+
+  pub first_within : (xs ys : List Row) (row : Row) → GoOn schedules xs ys → slice_get xs 0 ≡ Some row → row.line < length schedules
+  first_within xs ys row next e = (first_stands next.0 xs row next.1 e).within
+
+  pub second_within : (xs ys : List Row) (row : Row) → GoOn schedules xs ys → slice_get ys 0 ≡ Some row → row.line < length schedules
+  second_within xs ys row next e = (first_stands next.0 ys row next.2 e).within
+
+  pub level_alike : (xs ys : List Row) (row y : Row) → GoOn schedules xs ys → slice_get xs 0 ≡ Some row → slice_get ys 0 ≡ Some y → row.common ≡ y.common → row.common ≤ common (at_row schedules row) (at_row schedules y)
+  level_alike xs ys row y next first second level =
+      let one = (first_stands next.0 xs row next.1 first).common in
+      let other = (first_stands next.0 ys y next.2 second).common in
+      common_least (at_row schedules row) next.0 (at_row schedules y) row.common (omega (arith, one, common_turned next.0 (at_row schedules row))) (omega (arith, other, level))
+
+  -- ---- rows of all lines
+
+  -- the rows of two rows of lines
+  pub both_orders : (first middle past : ℕ) (xs ys rows : List Row) → AreInOrder schedules first middle xs → AreInOrder schedules middle past ys → AreMerged schedules xs ys rows → AreInOrder schedules first past rows
+  both_orders first middle past xs ys rows one other is = record { from = is.from; all = λ line h l. each line h l (cases_lt line middle) } where
+    each : (line : ℕ) → first ≤ line → line < past → (line < middle) ⊎ (middle ≤ line) → 0 < rows_at line rows
+    each line h l (inl low) = omega (arith, is.lines line, one.all line h low)
+    each line h l (inr high) = omega (arith, is.lines line, other.all line high l)
+
+  abbrev stands_first : Row → Row → Bool
+  stands_first x y = is_lt (choices_cmp (at_row schedules x) (at_row schedules y))
+
+  ranked : IsStrictWeakOrder stands_first
+  ranked = ranks_by (lists_total choice_total) (at_row schedules)
+
+  flipped : (o p : Ordering) → o ≡ ordering_reverse p → is_gt p ≡ false → is_lt o ≡ false
+  flipped o Less e h = ap is_lt e
+  flipped o Equal e h = ap is_lt e
+  flipped o Greater e h = cc
+
+  flipped_back : (o p : Ordering) → o ≡ ordering_reverse p → is_lt p ≡ false → is_gt o ≡ false
+  flipped_back o Less e h = cc
+  flipped_back o Equal e h = ap is_gt e
+  flipped_back o Greater e h = ap is_gt e
+
+  pub stands_at : (last : List Choice) (rows : List Row) → AreFrom schedules last rows → (k : ℕ) (d : Row) → k < length rows → (get_or rows k d).line < length schedules
+  stands_at last [] are k d h = absurd (omega (arith, h))
+  stands_at last (row ∷ rows) are zero d h = are.0.within
+  stands_at last (row ∷ rows) are (suc k) d h = stands_at (at_row schedules row) rows are.1 k d (omega (arith, h))
+
+  adjacent : (last : List Choice) (rows : List Row) → AreFrom schedules last rows → (k : ℕ) (d : Row) → suc k < length rows → Stands schedules (at_row schedules (get_or rows k d)) (get_or rows (suc k) d)
+  adjacent last [] are k d h = absurd (omega (arith, h))
+  adjacent last (row ∷ []) are k d h = absurd (omega (arith, h))
+  adjacent last (row ∷ next ∷ rows) are zero d h = are.1.0
+  adjacent last (row ∷ next ∷ rows) are (suc k) d h = adjacent (at_row schedules row) (next ∷ rows) are.1 k d (omega (arith, h))
+
+  found : (line : ℕ) (rows : List Row) → 0 < rows_at line rows → (k : ℕ) × (k < length rows) × ((row_at rows k).line ≡ line)
+  found line [] some = absurd (omega (arith, some))
+  found line (row ∷ rows) some = one (nat_eq row.line line) refl (omega (arith, some, sum_by-cons (λ (r : Row). cond (nat_eq r.line line) 1 0) row rows)) (found line rows) where
+    one : (b : Bool) → nat_eq row.line line ≡ b → 0 < cond b 1 0 + rows_at line rows → (0 < rows_at line rows → (k : ℕ) × (k < length rows) × ((row_at rows k).line ≡ line))
+        → (k : ℕ) × (k < suc (length rows)) × ((row_at (row ∷ rows) k).line ≡ line)
+    one true t some later = (0, omega arith, eqb-true row.line line t)
+    one false f some later = let rest = later (omega (arith, some)) in (suc rest.0, omega (arith, rest.1), rest.2)
+
+  module _ (rows : List Row) (is : AreInOrder schedules 0 (length schedules) rows) where
+    stands_next : (k : ℕ) (d : Row) → k + 1 < length rows → is_gt (choices_cmp (at_row schedules (get_or rows k d)) (at_row schedules (get_or rows (k + 1) d))) ≡ false
+    stands_next k d h = rw add-one (adjacent [] rows is.from k d (omega (arith, h))).behind
+
+    sorted : IsSortedBy stands_first rows
+    sorted = λ k d low h. flipped _ _ ((lists_total choice_total).antisymm (at_row schedules (get_or rows (k + 1) d)) (at_row schedules (get_or rows k d))) (stands_next k d h)
+
+    behind : (i j : ℕ) → i ≤ j → j < length rows → is_gt (choices_cmp (placed schedules rows i) (placed schedules rows j)) ≡ false
+    behind i j a h = flipped_back _ _ ((lists_total choice_total).antisymm (placed schedules rows i) (placed schedules rows j)) (sorted_far stands_first ranked rows sorted i j no_row a h)
+
+    commons : (k : ℕ) → k < length rows → (row_at rows k).common ≡ common_before schedules rows k
+    commons zero h = first rows is.from h where
+      first : (rows : List Row) → AreFrom schedules [] rows → 0 < length rows → (row_at rows 0).common ≡ 0
+      first [] are h = absurd (omega (arith, h))
+      first (row ∷ rows) are h = are.0.common
+    commons (suc k) h = (adjacent [] rows is.from k no_row h).common
+
+    pub rows_are : AreRows schedules rows
+    rows_are = record {
+      within = λ k h. stands_at [] rows is.from k no_row h;
+      all = λ i h. found i rows (is.all i (omega arith) h);
+      gathered = λ i j k a b h. between (placed schedules rows i) (placed schedules rows j) (placed schedules rows k) (behind i j a (omega arith)) (behind j k b h);
+      commons = commons;
+    }

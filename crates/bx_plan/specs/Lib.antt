@@ -15,6 +15,7 @@ pub mod Texts
 pub mod Nodes
 pub mod Gathered
 pub mod Ordered
+pub mod Forks
 pub mod Counting
 pub mod Chains
 pub mod Cuts

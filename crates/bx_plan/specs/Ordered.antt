@@ -1,33 +1,60 @@
--- Numbered schedules, and their order.
-use Rattle.std.specs.Prelude.{◌≡◌, ℕ, zero, suc, ◌<◌, ◌≤◌, List, [], length, map, slice_index_or}
+-- Rows in order: each schedule stands behind the one before it.
+use Rattle.std.specs.Prelude.{◌≡◌, ℕ, ◌+◌, ◌<◌, ◌≤◌, ◌==◌, false, List, [], ◌∷◌, Option, None, Some, count_by, length, slice_index_or}
+use Rattle.std.specs.Ordering.{is_gt}
 use Rattle.bx_world.specs.declared.choices.Choice.{Choice}
-use Rattle.bx_plan.specs.declared.plans.ordering.Numbered.{Numbered}
-use Rattle.bx_plan.specs.Gathered.{common}
-use Rattle.bx_plan.specs.Planned.{choices_at}
-use Rattle.bx_plan.specs.Plans.{Named}
+use Rattle.bx_plan.specs.declared.plans.Row.{Row}
+use Rattle.bx_plan.specs.Gathered.{choices_cmp, common}
 
-abbrev pub listed : List Numbered → ℕ → List Choice
-listed all k = slice_index_or (map (λ one. one.schedule.now) all) k []
+-- the schedule of a row
+abbrev pub at_row : List (List Choice) → Row → List Choice
+at_row schedules row = slice_index_or schedules row.line []
 
-abbrev pub line_at : List Numbered → ℕ → ℕ
-line_at all k = slice_index_or (map (λ one. one.line) all) k 0
+-- the first of them begins with so many choices as one before it
+abbrev pub headed : ℕ → List Row → List Row
+headed common [] = []
+headed common (row ∷ rows) = record { line = row.line; common = common } ∷ rows
 
--- the schedule of the line of that number
-pub record IsNumbered (plan : List Named) (one : Numbered) : Type 0 where
-  pub line : one.line < length plan
-  pub schedule : one.schedule.now ≡ choices_at plan one.line
+-- its schedule stands behind another one, or is that, and begins with so many choices as that one
+pub record Stands (schedules : List (List Choice)) (last : List Choice) (row : Row) : Type 0 where
+  pub within : row.line < length schedules
+  pub behind : is_gt (choices_cmp last (at_row schedules row)) ≡ false
+  pub common : row.common ≡ common last (at_row schedules row)
 
--- the schedules of all lines
-pub record AreNumbered (plan : List Named) (all : List Numbered) : Type 0 where
-  pub each : (k : ℕ) (d : Numbered) → k < length all → IsNumbered plan (slice_index_or all k d)
-  pub every : (i : ℕ) → i < length plan → (k : ℕ) × (k < length all) × (line_at all k ≡ i)
+-- each behind the one before it, and the first behind that one
+abbrev pub AreFrom : List (List Choice) → List Choice → List Row → Type 0
+AreFrom schedules last [] = Unit {0}
+AreFrom schedules last (row ∷ rows) = Stands schedules last row × AreFrom schedules (at_row schedules row) rows
 
-abbrev pub common_with_last : List Numbered → ℕ → ℕ
-common_with_last all zero = 0
-common_with_last all (suc k) = common (listed all k) (listed all (suc k))
+-- how many of them are of that line
+abbrev pub rows_at : ℕ → List Row → ℕ
+rows_at line rows = count_by (λ row. row.line == line) rows
 
--- what two of them begin with alike, all that stand between them begin with too
-pub record IsOrder (plan : List Named) (all : List Numbered) : Type 0 where
-  pub numbered : AreNumbered plan all
-  pub gathered : (i j k : ℕ) → i ≤ j → j ≤ k → k < length all
-      → (common (listed all i) (listed all k) ≤ common (listed all i) (listed all j)) × (common (listed all i) (listed all k) ≤ common (listed all j) (listed all k))
+-- the first one is taken, if there is one
+abbrev pub TakesFirst : List Row → List Row → Option Row → Type 0
+TakesFirst old new None = (old ≡ []) × (new ≡ [])
+TakesFirst old new (Some row) = old ≡ row ∷ new
+
+-- both go on from one schedule
+abbrev pub GoOn : List (List Choice) → List Row → List Row → Type 0
+GoOn schedules xs ys = (last : List Choice) × AreFrom schedules last xs × AreFrom schedules last ys
+
+-- a row of both was taken, and both go on from it
+pub record IsTaken (schedules : List (List Choice)) (xs ys xs_left ys_left : List Row) (row : Row) : Type 0 where
+  pub fewer : length xs_left + length ys_left + 1 ≡ length xs + length ys
+  pub lines : (line : ℕ) → rows_at line xs_left + rows_at line ys_left + rows_at line (row ∷ []) ≡ rows_at line xs + rows_at line ys
+  pub order : (last : List Choice) → AreFrom schedules last xs → AreFrom schedules last ys
+      → Stands schedules last row × AreFrom schedules (at_row schedules row) xs_left × AreFrom schedules (at_row schedules row) ys_left
+
+abbrev pub Takes : List (List Choice) → List Row → List Row → List Row → List Row → Option Row → Type 0
+Takes schedules xs ys xs_left ys_left None = (xs ≡ []) × (ys ≡ [])
+Takes schedules xs ys xs_left ys_left (Some row) = IsTaken schedules xs ys xs_left ys_left row
+
+-- the rows of both, in order
+pub record AreMerged (schedules : List (List Choice)) (xs ys rows : List Row) : Type 0 where
+  pub from : AreFrom schedules [] rows
+  pub lines : (line : ℕ) → rows_at line rows ≡ rows_at line xs + rows_at line ys
+
+-- the rows of the lines from one on up to the one before another, in order
+pub record AreInOrder (schedules : List (List Choice)) (first past : ℕ) (rows : List Row) : Type 0 where
+  pub from : AreFrom schedules [] rows
+  pub all : (line : ℕ) → first ≤ line → line < past → 0 < rows_at line rows

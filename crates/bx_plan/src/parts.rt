@@ -1,19 +1,21 @@
 //! Texts that are cut at a mark.
 
-ghost use Rattle.std.specs.Prelude.{◌≡◌, ◌==◌, ◌<◌, option_map, position, length, IfSome};
+ghost use Rattle.std.specs.Prelude.{◌≡◌, option_map};
 ghost use Rattle.bx_plan.specs.Reading.{cut, parts_of};
-ghost use Rattle.bx_plan.specs.Parts.{parts_left};
+ghost use Rattle.bx_plan.specs.Parts.{parts_left, IsPlace};
+
+use memchr::memchr;
 
 /// The place of the first `mark`.
+#[tactic(auto, using(crate::proofs::Cuts::placed))]
 fn place_of(text: &[u8], mark: u8) -> Option<usize>
-    ensures place { result ≡ position (λ b. b == mark) text.now }
-    ensures within { IfSome result (λ at. at < length text.now) }
+    ensures { IsPlace mark text.now result }
 {
-    text.iter().position(|byte| *byte == mark)
+    memchr(mark, text)
 }
 
 /// The text before the first `mark`, and the text behind it.
-#[tactic(auto, using(crate::proofs::Cuts::cut_none, crate::proofs::Cuts::cut_some))]
+#[tactic(auto, using(crate::proofs::Cuts::cut_some))]
 pub fn cut(text: &[u8], mark: u8) -> Option<(&[u8], &[u8])>
     ensures { option_map (λ p. (p.0.now, p.1.now)) result ≡ cut mark text.now }
 {

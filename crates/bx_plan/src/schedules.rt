@@ -89,6 +89,7 @@ impl Schedule {
     }
 
     /// Makes a choice so many times more, at the end. It takes memory where it is made at all.
+    #[inline(always)]
     pub fn push(&mut self, choice: Choice, times: usize) -> Result<(), AllocError>
         ensures ok { OnOk result (self.new ≡ self.old ++ replicate times choice) }
         ensures err { OnErr result ((self.new ≡ self.old) × (0 < times)) }

@@ -1,55 +1,158 @@
 //! Schedules in an order in which those stand together that begin alike.
 
-ghost use Rattle.std.specs.Prelude.{◌≡◌, ◌<◌, IfOk, OnErr, length};
+ghost use Rattle.std.specs.Prelude.{◌≡◌, ◌<◌, ◌≤◌, [], length, slice_get, Some, IfOk, OnErr};
 ghost use Rattle.bx_plan.specs.Gathered.{AreRows};
-ghost use Rattle.bx_plan.specs.Ordered.{common_with_last, AreNumbered, IsOrder};
+ghost use Rattle.bx_plan.specs.Ordered.{headed, AreFrom, AreInOrder, AreMerged, GoOn, Takes, TakesFirst};
 ghost use Rattle.bx_plan.specs.Plans.{choices_of};
 ghost use Rattle.bx_plan.specs.View.{lines_view};
 
 use super::{Line, Row};
-use crate::schedules::Schedule;
 use std::alloc::{AllocError, Global};
+use std::marker::Model;
 
-/// A schedule with its line's number.
-#[derive(Clone, Copy)]
-struct Numbered<'a> {
-    line: usize,
-    schedule: &'a Schedule,
+/// Rows in order that are left, and how many choices the first of them begins with as the row that was taken last.
+#[derive(Drop)]
+struct Left<'a> {
+    rows: &'a [Row],
+    common: usize,
 }
 
-/// The schedules, each with its line's number.
-fn number_all(alloc: Global, lines: &[Line]) -> Result<Vec<Numbered<'_>>, AllocError>
-    ensures { IfOk result (λ all. AreNumbered (lines_view lines.now) all.items) }
-{
-    let mut all = Vec::with_capacity(alloc, lines.len())?;
-    for line in 0..lines.len() {
-        all.push_reserved(Numbered {
-            line,
-            schedule: &lines[line].schedule,
-        });
+impl<'a> Model for Left<'a> {
+    ghost use Rattle.std.specs.Prelude.{List};
+    ghost use Rattle.bx_plan.specs.declared.plans.Row.{Row};
+    ghost use Rattle.bx_plan.specs.Ordered.{headed};
+
+    ghost Value = { List Row };
+
+    ghost view = { λ l. headed l.common l.rows.now };
+}
+
+impl<'a> Left<'a> {
+    /// All rows are left.
+    fn new(rows: &'a [Row]) -> Left<'a>
+        ensures { result ≡ headed 0 rows.entry.now }
+    {
+        Left { rows, common: 0 }
     }
-    Ok(all)
+
+    /// The first row.
+    fn first(&self) -> Option<Row>
+        ensures { result ≡ slice_get self.now 0 }
+    {
+        let [first, ..] = self.rows else {
+            return None;
+        };
+        Some(Row {
+            line: first.line,
+            common: self.common,
+        })
+    }
+
+    /// Takes the first row.
+    fn take(&mut self) -> Option<Row>
+        ensures { TakesFirst self.old self.new result }
+    {
+        let [first, rows @ ..] = self.rows else {
+            return None;
+        };
+        let row = Row {
+            line: first.line,
+            common: self.common,
+        };
+        self.rows = rows;
+        if let [next, ..] = rows {
+            self.common = next.common;
+        }
+        Some(row)
+    }
+
+    /// The first row begins with so many choices as the row that is taken next.
+    fn stand_behind(&mut self, common: usize)
+        ensures { self.new ≡ headed common self.old }
+    {
+        self.common = common;
+    }
 }
 
-/// The schedules in order.
-fn order_of(alloc: Global, lines: &[Line]) -> Result<Vec<Numbered<'_>>, AllocError>
-    ensures { IfOk result (λ all. IsOrder (lines_view lines.now) all.items) }
+/// Takes the row that stands first, where both begin with as many choices as the row that was taken last.
+fn take_level(
+    lines: &[Line],
+    one: &mut Left<'_>,
+    other: &mut Left<'_>,
+    first: Row,
+    second: Row,
+) -> Option<Row>
+    requires next { GoOn (choices_of (lines_view lines.now)) one.old other.old }
+    requires first { slice_get one.old 0 ≡ Some first }
+    requires second { slice_get other.old 0 ≡ Some second }
+    requires level { first.common ≡ second.common }
+    requires one { first.line < length lines.now }
+    requires other { second.line < length lines.now }
+    ensures { Takes (choices_of (lines_view lines.now)) one.old other.old one.new other.new result }
 {
-    let mut all = number_all(alloc, lines)?;
-    all.sort_by(|one, other| one.schedule.compare(other.schedule))?;
-    Ok(all)
-}
-
-/// How many choices the schedule at a place begins with as the one before it.
-fn common_before(all: &[Numbered<'_>], place: usize) -> usize
-    requires { place < length all.now }
-    ensures { result ≡ common_with_last all.now place }
-{
-    if place == 0 {
-        0
+    let schedule = &lines[first.line].schedule;
+    let (common, order) = schedule.compare(&lines[second.line].schedule, first.common);
+    if order.is_gt() {
+        one.stand_behind(common);
+        other.take()
     } else {
-        all[place - 1].schedule.common(all[place].schedule)
+        other.stand_behind(common);
+        one.take()
     }
+}
+
+/// Takes the row that stands first: the one that begins with more choices as the row that was taken last, where they differ in that.
+fn take_first(lines: &[Line], one: &mut Left<'_>, other: &mut Left<'_>) -> Option<Row>
+    requires { GoOn (choices_of (lines_view lines.now)) one.old other.old }
+    ensures { Takes (choices_of (lines_view lines.now)) one.old other.old one.new other.new result }
+{
+    let Some(first) = one.first() else {
+        return other.take();
+    };
+    let Some(second) = other.first() else {
+        return one.take();
+    };
+    if first.common > second.common {
+        one.take()
+    } else if first.common < second.common {
+        other.take()
+    } else {
+        take_level(lines, one, other, first, second)
+    }
+}
+
+/// The rows of both in order.
+fn merge(alloc: Global, lines: &[Line], one: &[Row], other: &[Row]) -> Result<Vec<Row>, AllocError>
+    requires one { AreFrom (choices_of (lines_view lines.now)) [] one.now }
+    requires other { AreFrom (choices_of (lines_view lines.now)) [] other.now }
+    ensures { IfOk result (λ rows. AreMerged (choices_of (lines_view lines.now)) one.now other.now rows.items) }
+{
+    let mut rows = Vec::with_capacity(alloc, one.len() + other.len())?;
+    let (mut left, mut right) = (Left::new(one), Left::new(other));
+    while let Some(row) = take_first(lines, &mut left, &mut right) {
+        rows.push_reserved(row);
+    }
+    Ok(rows)
+}
+
+/// The rows of the schedules from that line on up to the one before another, in order.
+fn in_order(alloc: Global, lines: &[Line], line: usize, past: usize) -> Result<Vec<Row>, AllocError>
+    requires order { line ≤ past }
+    requires within { past ≤ length lines.now }
+    ensures rows { IfOk result (λ rows. AreInOrder (choices_of (lines_view lines.now)) line past rows.items) }
+    ensures err { OnErr result (line < past) }
+{
+    if line == past {
+        return Ok(Vec::new(alloc));
+    }
+    if line + 1 == past {
+        return vec![in alloc; Row { line, common: 0 }; 1];
+    }
+    let middle = line + (past - line) / 2;
+    let one = in_order(alloc, lines, line, middle)?;
+    let other = in_order(alloc, lines, middle, past)?;
+    let rows = merge(alloc, lines, &one, &other)?;
+    Ok(rows)
 }
 
 /// The rows of schedules in order.
@@ -57,16 +160,6 @@ pub(super) fn rows_of(alloc: Global, lines: &[Line]) -> Result<Vec<Row>, AllocEr
     ensures rows { IfOk result (λ rows. AreRows (choices_of (lines_view lines.now)) rows.items) }
     ensures err { OnErr result (0 < length lines.now) }
 {
-    if lines.is_empty() {
-        return Ok(Vec::new(alloc));
-    }
-    let all = order_of(alloc, lines)?;
-    let mut rows = Vec::with_capacity(alloc, all.len())?;
-    for place in 0..all.len() {
-        rows.push_reserved(Row {
-            line: all[place].line,
-            common: common_before(&all, place),
-        });
-    }
+    let rows = in_order(alloc, lines, 0, lines.len())?;
     Ok(rows)
 }

@@ -1,6 +1,6 @@
 //! Some choices of a schedule in a row.
 
-ghost use Rattle.std.specs.Prelude.{◌≡◌, ◌↔◌, ◌-◌, [], length, slice_get, take, Some, IsTrue};
+ghost use Rattle.std.specs.Prelude.{◌≡◌, ◌≢◌, ◌↔◌, ◌-◌, ◌++◌, [], ℕ, length, replicate, slice_get, take, Some, IsTrue};
 ghost use Rattle.bx_plan.specs.Runs.{GoesOn, NextRun};
 ghost use Rattle.bx_plan.specs.Stretches.{choices_from, IsPart};
 
@@ -88,15 +88,27 @@ impl<'a> Part<'a> {
         self.stretches = behind(self.stretches, self.first);
     }
 
+    /// Takes all choices that stand first and are this one. Schedules that were read have them on one stretch, so this is seldom called.
+    #[cold]
+    #[inline(never)]
+    fn skip_all(&mut self, choice: Choice)
+        ensures { (times : ℕ) × (self.old ≡ replicate times choice ++ self.new) × (slice_get self.new 0 ≢ Some choice) }
+    {
+        while self.begins_with(choice) {
+            self.skip(choice);
+        }
+    }
+
     /// Takes the first choice, with all that equal it in a row behind it.
+    #[inline(always)]
     pub fn next_run(&mut self) -> Option<Run>
         ensures { NextRun self.old self.new result }
     {
         let count = self.len();
         let choice = self.first()?;
         self.skip(choice);
-        while self.begins_with(choice) {
-            self.skip(choice);
+        if self.begins_with(choice) {
+            self.skip_all(choice);
         }
         let times = count - self.len();
         Some(Run { choice, times })

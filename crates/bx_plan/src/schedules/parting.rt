@@ -1,11 +1,12 @@
 //! Where two schedules part, and which stands first.
 
 ghost use Rattle.std.specs.Prelude.{◌≡◌, ◌↔◌, ◌≤◌, length, take, IsTrue};
-ghost use Rattle.bx_plan.specs.Stretches.{choices_from, AreStretches, BeginAlike};
+ghost use Rattle.bx_plan.specs.Forks.{choice_first, IsFork, IsLeft};
 ghost use Rattle.bx_plan.specs.Gathered.{choices_cmp, common, next_cmp, rank};
+ghost use Rattle.bx_plan.specs.Stretches.{choices_from, AreStretches, BeginAlike};
 
 use super::Schedule;
-use super::stretches::{Stretch, behind, made};
+use super::stretches::{Stretch, behind, over_by};
 use bx_share::Same;
 use bx_world::Choice;
 use std::cmp::Ordering;
@@ -15,7 +16,7 @@ impl Schedule {
     pub(crate) fn common(&self, other: &Schedule) -> usize
         ensures { result ≡ common self.now other.now }
     {
-        common(&self.stretches, &other.stretches)
+        fork_of(&self.stretches, &other.stretches, 0).past
     }
 
     /// Whether its first so many choices are so many of the other.
@@ -27,44 +28,57 @@ impl Schedule {
         past == upto && past <= self.common(other)
     }
 
-    /// Which stands first: the one that ends where both part, or the one whose choice does.
-    pub(crate) fn compare(&self, other: &Schedule) -> Ordering
-        ensures { result ≡ choices_cmp self.now other.now }
+    /// How many choices both begin with alike, of which so many are known; and which stands first: the one that ends where both part,
+    /// or the one whose choice does.
+    pub(crate) fn compare(&self, other: &Schedule, known: usize) -> (usize, Ordering)
+        requires { known ≤ common self.now other.now }
+        ensures common { result.0 ≡ common self.now other.now }
+        ensures order { result.1 ≡ choices_cmp self.now other.now }
     {
-        let common = self.common(other);
-        next_cmp(self.get(common), other.get(common))
+        let fork = fork_of(&self.stretches, &other.stretches, known);
+        (
+            fork.past,
+            next_cmp(choice_at(fork.left), choice_at(fork.right)),
+        )
     }
 }
 
-/// How many stretches both begin with alike.
-fn alike(one: &[Stretch], other: &[Stretch]) -> usize
-    ensures within { result ≤ length one.now }
-    ensures inside { result ≤ length other.now }
-    ensures same { take result one.now ≡ take result other.now }
-{
-    let most = one.len().min(other.len());
-    let mut at = 0;
-    while at < most && one[at].same(&other[at]) {
-        at += 1;
-    }
-    at
+/// Where two rows of stretches part: behind so many choices they go on by these.
+#[derive(Drop)]
+struct Fork<'a> {
+    past: usize,
+    left: &'a [Stretch],
+    right: &'a [Stretch],
 }
 
-/// How many choices of both are alike.
-fn common(one: &[Stretch], other: &[Stretch]) -> usize
+/// Where they part, if so many choices are known to be alike.
+fn fork_of<'a>(one: &'a [Stretch], other: &'a [Stretch], known: usize) -> Fork<'a>
     requires one { AreStretches 0 one.now }
     requires other { AreStretches 0 other.now }
-    ensures { result ≡ common (choices_from 0 one.now) (choices_from 0 other.now) }
+    requires known { known ≤ common (choices_from 0 one.now) (choices_from 0 other.now) }
+    ensures { IsFork (choices_from 0 one.now) (choices_from 0 other.now) result }
 {
-    let at = alike(one, other);
-    let mut past = made(&one[..at]);
-    let (mut left, mut right) = (&one[at..], &other[at..]);
+    let mut past = known;
+    let mut left = left_at(one, known);
+    let mut right = left_at(other, known);
     while begin_alike(left, right) {
         past = left[0].past.min(right[0].past);
         left = behind(left, past);
         right = behind(right, past);
     }
-    past
+    Fork { past, left, right }
+}
+
+/// Those that are not over at a position.
+fn left_at(stretches: &[Stretch], position: usize) -> &[Stretch]
+    requires rising { AreStretches 0 stretches.now }
+    requires within { position ≤ length (choices_from 0 stretches.now) }
+    ensures { IsLeft (choices_from 0 stretches.now) position result.now }
+{
+    if position == 0 {
+        return stretches;
+    }
+    &stretches[over_by(stretches, position)..]
 }
 
 /// Whether both go on by the same choice.
@@ -75,6 +89,16 @@ fn begin_alike(one: &[Stretch], other: &[Stretch]) -> bool
         ([first, ..], [second, ..]) => first.choice.same(&second.choice),
         _ => false,
     }
+}
+
+/// The choice by which they go on.
+fn choice_at(stretches: &[Stretch]) -> Option<Choice>
+    ensures { result ≡ choice_first stretches.now }
+{
+    let [first, ..] = stretches else {
+        return None;
+    };
+    Some(first.choice)
 }
 
 /// A choice's kind and pids, by which choices are ordered.

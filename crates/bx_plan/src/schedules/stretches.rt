@@ -1,6 +1,6 @@
 //! Stretches of equal choices in a row.
 
-ghost use Rattle.std.specs.Prelude.{◌≡◌, ◌+◌, ◌-◌, ◌^◌, ◌<◌, ◌≤◌, ◌++◌, ℕ, length, replicate, slice_get, take, IfOk, OnOk, OnErr};
+ghost use Rattle.std.specs.Prelude.{◌≡◌, ◌+◌, ◌-◌, ◌^◌, ◌<◌, ◌≤◌, ◌++◌, ◌∷◌, [], ℕ, length, replicate, slice_get, take, IfOk, OnOk, OnErr};
 ghost use Rattle.std.specs.List.{swap};
 ghost use Rattle.std.specs.Vec.{vec_capacity};
 ghost use Rattle.bx_plan.specs.Stretches.{behind, choices_from, made_before, AreStretches, IsOverBy};
@@ -55,6 +55,7 @@ pub(super) fn behind(stretches: &[Stretch], position: usize) -> &[Stretch]
 }
 
 /// Adds a stretch: the last one is longer, where it is of the same choice.
+#[inline(always)]
 pub(super) fn join(stretches: &mut Vec<Stretch>, stretch: Stretch) -> Result<(), AllocError>
     requires rising { AreStretches 0 stretches.old.items }
     requires some { length (choices_from 0 stretches.old.items) < stretch.past }
@@ -68,6 +69,21 @@ pub(super) fn join(stretches: &mut Vec<Stretch>, stretch: Stretch) -> Result<(),
         stretches[count - 1] = stretch;
         return Ok(());
     }
+    if count < stretches.capacity() {
+        stretches.push_reserved(stretch);
+        return Ok(());
+    }
+    push_grown(stretches, stretch)?;
+    Ok(())
+}
+
+/// Adds a stretch where there is no room left. Apart, since `join` is called for each entry that is read.
+#[cold]
+#[inline(never)]
+fn push_grown(stretches: &mut Vec<Stretch>, stretch: Stretch) -> Result<(), AllocError>
+    ensures ok { OnOk result (stretches.new.items ≡ stretches.old.items ++ stretch ∷ []) }
+    ensures err { OnErr result (stretches.new.items ≡ stretches.old.items) }
+{
     stretches.push(stretch)?;
     Ok(())
 }

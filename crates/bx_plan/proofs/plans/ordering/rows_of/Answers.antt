@@ -1,9 +1,11 @@
-use Rattle.std.proofs.Common.{arith}
+use Rattle.std.proofs.Common.{ℕ, sym, subst}
+use Rattle.bx_plan.specs.Ordered.{AreInOrder}
+use Rattle.bx_plan.specs.Plans.{choices_of}
 use Rattle.bx_plan.specs.View.{lines_view}
-use Rattle.bx_plan.proofs.Sorting.{rows_are}
+use Rattle.bx_plan.proofs.Sorting.{lines_long, rows_are}
 use Rattle.bx_plan.proofs.plans.ordering.rows_of.Goals as goal
 
 pub returns-clause-rows : goal.returns-clause-rows
 returns-clause-rows c =
-    let is = c.loop-place.invariant in
-    rows_are (lines_view c.args.lines.now) c.in_ok-all.all.items c.loop-place.rows.items is.order (omega arith) (λ k h. is.each k (omega arith))
+    let schedules = choices_of (lines_view c.args.lines.now) in
+    rows_are schedules c.in_ok-rows.rows.items (subst (λ (n : ℕ). AreInOrder schedules 0 n c.in_ok-rows.rows.items) (sym (lines_long c.args.lines.now)) c.in_ok-rows.ensures.rows)

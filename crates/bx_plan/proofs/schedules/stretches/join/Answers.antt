@@ -15,8 +15,16 @@ returns-then-same c =
     let both = longer ss c.requires.rising c.args.stretch c.requires.some last place (ap (λ (s : Stretch). s.choice) (sym is) ∙ c.if-same.ensures.0 refl) in
     record { rising = both.0; longer = both.1; err = search rules }
 
+pub returns-then-count-capacity : goal.returns-then-count-capacity
+returns-then-count-capacity c =
+    let both = further c.args.stretches.now.items c.requires.rising c.args.stretch c.requires.some in record {
+      rising = subst (AreStretches 0) (sym c.push_reserved.ensures.items) both.0;
+      longer = λ times h. ap (choices_from 0) c.push_reserved.ensures.items ∙ both.1 times h;
+      err = search rules;
+    }
+
 pub returns-clause-rising : goal.returns-clause-rising
-returns-clause-rising c = subst (AreStretches 0) (sym c.in_ok-push.ensures.items) (further c.args.stretches.now.items c.requires.rising c.args.stretch c.requires.some).0
+returns-clause-rising c = subst (AreStretches 0) (sym c.in_ok-push_grown.ensures.ok) (further c.args.stretches.now.items c.requires.rising c.args.stretch c.requires.some).0
 
 pub returns-clause-longer : goal.returns-clause-longer
-returns-clause-longer c = λ times h. ap (choices_from 0) c.in_ok-push.ensures.items ∙ (further c.args.stretches.now.items c.requires.rising c.args.stretch c.requires.some).1 times h
+returns-clause-longer c = λ times h. ap (choices_from 0) c.in_ok-push_grown.ensures.ok ∙ (further c.args.stretches.now.items c.requires.rising c.args.stretch c.requires.some).1 times h

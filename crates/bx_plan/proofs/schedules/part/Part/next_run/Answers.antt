@@ -1,8 +1,10 @@
-use Rattle.std.proofs.Common.{◌≡◌, ◌+◌, ◌++◌, List, [], ◌∷◌, None, replicate, refl, sym, ap, subst, ◌∙◌, arith, append_assoc}
+use Rattle.std.proofs.Common.{◌≡◌, ◌+◌, ◌++◌, List, [], ◌∷◌, None, replicate, refl, sym, ap, subst, ◌∙◌, arith}
 use Rattle.std.specs.List.{slice_get}
-use Rattle.std.proofs.lemmas.List.{replicate-append-replicate}
+use Rattle.std.proofs.lemmas.Bool.{both_ways}
 use Rattle.bx_world.specs.declared.choices.Choice.{Choice}
 use Rattle.bx_plan.specs.Runs.{NextRun}
+use Rattle.bx_plan.proofs.Runs.{run_longer, run_taken}
+use Rattle.bx_plan.proofs.schedules.part.Part.next_run.Goals.{then-begins_with, else-begins_with}
 use Rattle.bx_plan.proofs.schedules.part.Part.next_run.Goals as goal
 
 none_left : (cs : List Choice) → slice_get cs 0 ≡ None → cs ≡ []
@@ -14,14 +16,20 @@ returns-in_err-choice c =
     let none = none_left c.args.self.now (sym c.first.ensures ∙ c.in_err-choice.was) in
     subst (NextRun c.args.self.now c.args.self.now) (sym c.from_residual.ensures) (none, none)
 
-pub loop-self-preserved : goal.loop-self-preserved
-loop-self-preserved c =
-    let so_far = c.loop-self.invariant in
-    let on = c.skip-in-loop-self.ensures in
+pub returns : goal.returns
+returns c =
     let choice = c.in_ok-choice.choice in
-    let left = c.skip-in-loop-self.new.self in (
-      so_far.0 + on.0,
-      omega (arith, on.1),
-      so_far.2 ∙ ap (λ (cs : List Choice). replicate so_far.0 choice ++ cs) on.2 ∙ sym (append_assoc (replicate so_far.0 choice) (replicate on.0 choice) left)
-          ∙ ap (λ (cs : List Choice). cs ++ left) (replicate-append-replicate so_far.0 on.0 choice),
-    )
+    let old = c.args.self.now in
+    let left = c.if-begins_with.self in
+    let on = c.skip.ensures in
+    elim c.if-begins_with.branch [
+      | then-begins_with w ↦
+          let more = w.skip_all.ensures in
+          let whole = run_longer choice on.0 more.0 old _ _ on.2 more.1 ∙ ap (λ (cs : List Choice). replicate (on.0 + more.0) choice ++ cs) (sym w.self-is) in
+          let both = run_taken choice old left (on.0 + more.0) c.len-count.result c.len.result (omega (arith, on.1)) whole c.len-count.ensures c.len.ensures in
+          (both.0, both.1, λ e. more.2 (sym (ap (λ (cs : List Choice). slice_get cs 0) w.self-is) ∙ e))
+      | else-begins_with w ↦
+          let whole = on.2 ∙ ap (λ (cs : List Choice). replicate on.0 choice ++ cs) (sym w.self-is) in
+          let both = run_taken choice old left on.0 c.len-count.result c.len.result on.1 whole c.len-count.ensures c.len.ensures in
+          (both.0, both.1, λ e. both_ways _ w.if-begins_with.false (c.begins_with.ensures.1 (sym (ap (λ (cs : List Choice). slice_get cs 0) w.self-is) ∙ e)))
+    ]

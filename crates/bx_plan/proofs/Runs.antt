@@ -1,0 +1,14 @@
+-- Choices that are taken in steps.
+use Rattle.std.proofs.Common.{◌≡◌, ℕ, ◌+◌, ◌-◌, ◌<◌, ◌++◌, List, length, replicate, sym, ap, ◌∙◌, arith, append_assoc, length-append}
+use Rattle.std.proofs.lemmas.List.{length-replicate, replicate-append-replicate}
+use Rattle.bx_world.specs.declared.choices.Choice.{Choice}
+
+pub run_longer : (c : Choice) (m n : ℕ) (old mid left : List Choice) → old ≡ replicate m c ++ mid → mid ≡ replicate n c ++ left → old ≡ replicate (m + n) c ++ left
+run_longer c m n old mid left e f = e ∙ ap (λ cs. replicate m c ++ cs) f ∙ sym (append_assoc (replicate m c) (replicate n c) left) ∙ ap (λ cs. cs ++ left) (replicate-append-replicate m n c)
+
+-- all that were taken, by how many are left
+pub run_taken : (c : Choice) (old left : List Choice) (n before after : ℕ) → 0 < n → old ≡ replicate n c ++ left → before ≡ length old → after ≡ length left
+    → (0 < before - after) × (old ≡ replicate (before - after) c ++ left)
+run_taken c old left n before after some e long rest =
+    let count : n ≡ before - after = omega (arith, ap length e, length-append (replicate n c) left, length-replicate n c, long, rest) in
+    (omega (arith, some, count), e ∙ ap (λ k. replicate k c ++ left) count)
