@@ -20,6 +20,7 @@ use Rattle.bx_plan.specs.Ordered.{at_row, headed, rows_at, AreFrom, AreInOrder, 
 use Rattle.bx_plan.specs.Plans.{Named, choices_of}
 use Rattle.bx_plan.specs.View.{line_view, lines_view}
 use Rattle.bx_plan.proofs.Commons.{common_least, common_turned}
+use Rattle.bx_plan.proofs.Counting.{line_choices}
 use Rattle.bx_plan.proofs.Ordering.{between, choice_total, more_first}
 
 -- ---- rows without their first, and with another number at their first
@@ -37,6 +38,15 @@ rows_push line rows row = sum_by-append (λ (r : Row). cond (nat_eq r.line line)
 
 pub lines_long : (lines : List Line) → length (choices_of (lines_view lines)) ≡ length lines
 lines_long lines = omega (arith, length-map (lines_view lines) (λ (s : Named). s.1), length-map lines line_view)
+
+-- what was said of two lines, of their rows
+pub compared : (lines : List Line) (x y : Row) (one other : Line) (n : ℕ) (o : Ordering) → x.line < length lines → y.line < length lines → n ≡ common (get_or lines x.line one).schedule (get_or lines y.line other).schedule
+    → o ≡ choices_cmp (get_or lines x.line one).schedule (get_or lines y.line other).schedule
+    → (n ≡ common (at_row (choices_of (lines_view lines)) x) (at_row (choices_of (lines_view lines)) y)) × (o ≡ choices_cmp (at_row (choices_of (lines_view lines)) x) (at_row (choices_of (lines_view lines)) y))
+compared lines x y one other n o h l alike order =
+    let first = line_choices lines x.line one (omega (arith, h, lines_long lines)) in
+    let second = line_choices lines y.line other (omega (arith, l, lines_long lines)) in
+    rw (first, second) (alike, order)
 
 module _ (schedules : List (List Choice)) where
   pub first_stands : (last : List Choice) (rows : List Row) (row : Row) → AreFrom schedules last rows → slice_get rows 0 ≡ Some row → Stands schedules last row

@@ -38,14 +38,7 @@ pub(crate) fn number_first(text: &[u8], most: u32) -> Option<(u32, &[u8])>
     if *first == b'0' {
         return Some((0, behind));
     }
-    let digit = u32::from(*first - b'0');
-    let [next, ..] = behind else {
-        return Some((digit, behind));
-    };
-    if !next.is_ascii_digit() {
-        return Some((digit, behind)); // so are most pids
-    }
-    digits_first(digit, behind, most)
+    digits_first(u32::from(*first - b'0'), behind, most)
 }
 
 /// The number that goes on by the digits at the head of a text, and what stands behind them.
