@@ -1,8 +1,8 @@
 -- One schedule more in a plan that is read.
-use Rattle.std.proofs.Common.{◌≡◌, ◌⊎◌, inl, inr, ℕ, zero, suc, ◌+◌, ◌-◌, ◌^◌, ◌<◌, ◌≤◌, min, Bool, true, false, cond, ◌||◌, List, [], ◌∷◌, ◌++◌, Option, None, Some, Result, Ok, Err, length, get_or, map, replicate, take, refl, sym, ap, subst, ◌∙◌, arith, length-append, Bor}
+use Rattle.std.proofs.Common.{◌≡◌, ◌⊎◌, inl, inr, ℕ, ◌+◌, ◌-◌, ◌^◌, ◌<◌, ◌≤◌, min, Bool, true, false, cond, ◌||◌, List, [], ◌∷◌, ◌++◌, Option, None, Some, Result, Ok, Err, length, get_or, replicate, take, refl, sym, ap, subst, ◌∙◌, arith, length-append, Bor}
 use Rattle.std.proofs.Math.ListN.{get_or-append}
 use Rattle.std.proofs.Math.Seq.{get_or-append_seam}
-use Rattle.std.proofs.lemmas.List.{length-map, length-replicate, length_push, map-append, take_all, take-append-le}
+use Rattle.std.proofs.lemmas.List.{length-map, length-replicate, map-append, take_all, take-append-le}
 use Rattle.std.proofs.lemmas.Bool.Decides.{same_from_decides}
 use Rattle.std.proofs.lemmas.List.Folds.{list_any-append}
 use Rattle.std.proofs.lemmas.Slice.Eq.{bytes_eq-Decides}
@@ -13,8 +13,7 @@ use Rattle.std.proofs.lemmas.Bool.{both_ways, cases_lt, lt-ltb, le-ltb, ltb-true
 use Rattle.std.proofs.lemmas.Map.Text.{is_eq-slice_cmp}
 use Rattle.bx_terms.specs.Outcomes.{◌>>=◌}
 use Rattle.bx_terms.specs.declared.faults.Fault.{Fault}
-use Rattle.bx_terms.specs.declared.faults.Fault.TheVariants.{BadLine, NameTwice, TooLong}
-use Rattle.bx_world.specs.declared.choices.Choice.{Choice}
+use Rattle.bx_terms.specs.declared.faults.Fault.TheVariants.{NameTwice, TooLong}
 use Rattle.bx_plan.specs.Building.{read_loose, text_cmp, with_loose, Overfull, Stands}
 use Rattle.bx_plan.specs.Entry.{Entry}
 use Rattle.bx_plan.specs.Reading.{count_of, spread}

@@ -1,6 +1,6 @@
 -- The chains of a plan. Chain 0 makes no choice. Each other chain leads on from the end of one before it to where next a schedule ends or
 -- schedules part.
-use Rattle.std.specs.Prelude.{◌≡◌, ◌≢◌, ◌⊎◌, ℕ, ◌+◌, ◌-◌, ◌<◌, ◌≤◌, ◌==◌, ◌&&◌, nat_lt, Bool, true, false, if◌then◌else◌, List, [], ◌∷◌, ◌++◌, count_by, length, slice_index_or, slice_set, take}
+use Rattle.std.specs.Prelude.{◌≡◌, ◌≢◌, ◌⊎◌, ℕ, ◌-◌, ◌<◌, ◌≤◌, ◌==◌, ◌&&◌, nat_lt, Bool, if◌then◌else◌, List, [], ◌∷◌, ◌++◌, count_by, length, slice_index_or, slice_set, take}
 use Rattle.bx_world.specs.declared.choices.Choice.{Choice}
 use Rattle.bx_plan.specs.declared.chains.Head.{Head}
 use Rattle.bx_plan.specs.Nodes.{EndsThere, IsPrefix}

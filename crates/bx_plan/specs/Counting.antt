@@ -1,5 +1,5 @@
 -- The distinct prefixes of some schedules of a row.
-use Rattle.std.specs.Prelude.{◌≡◌, ℕ, ◌<◌, nat_lt, List, [], map, length}
+use Rattle.std.specs.Prelude.{ℕ, nat_lt, List, [], map}
 use Rattle.std.specs.List.{filter}
 use Rattle.bx_world.specs.declared.choices.Choice.{Choice}
 use Rattle.bx_plan.specs.declared.plans.Row.{Row}

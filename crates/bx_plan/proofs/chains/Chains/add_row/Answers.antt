@@ -1,6 +1,6 @@
 use Rattle.std.proofs.Common.{◌≡◌, ◌+◌, ◌-◌, ◌<◌, ◌≤◌, zero, suc, ℕ, List, [], ◌∷◌, ◌++◌, length, reverse, refl, sym, ap, subst, ◌∙◌, arith}
 use Rattle.std.proofs.lemmas.List.{reverse-append, length-reverse}
-use Rattle.bx_plan.specs.Chains.{chain_path, Chained, IsCut}
+use Rattle.bx_plan.specs.Chains.{chain_path, IsCut}
 use Rattle.bx_plan.specs.Cuts.{AllCuts}
 use Rattle.bx_plan.specs.Gathered.{placed, row_at}
 use Rattle.bx_plan.specs.Growing.{Grown}

@@ -1,7 +1,7 @@
-use Rattle.std.proofs.Common.{◌≡◌, ◌+◌, ◌-◌, ◌≤◌, length, take, sym, ap, subst, ◌∙◌, inl, inr, refl, arith}
+use Rattle.std.proofs.Common.{◌≡◌, ◌+◌, ◌-◌, length, sym, subst, ◌∙◌, inl, arith}
 use Rattle.std.proofs.lemmas.List.{take_all}
-use Rattle.bx_plan.specs.Chains.{chain_path, Chained, IsCut}
-use Rattle.bx_plan.specs.Gathered.{common_before, placed, row_at}
+use Rattle.bx_plan.specs.Chains.{chain_path, IsCut}
+use Rattle.bx_plan.specs.Gathered.{common_before, placed}
 use Rattle.bx_plan.specs.Growing.{Grown}
 use Rattle.bx_plan.specs.Plans.{choices_of}
 use Rattle.bx_plan.specs.View.{lines_view}

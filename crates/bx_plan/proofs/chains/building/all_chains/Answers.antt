@@ -1,5 +1,4 @@
-use Rattle.std.proofs.Common.{◌≡◌, ◌-◌, ◌≤◌, ℕ, length, reverse, sym, subst, arith}
-use Rattle.bx_plan.specs.Cuts.{AllCuts}
+use Rattle.std.proofs.Common.{◌≡◌, length, sym, subst, arith}
 use Rattle.bx_plan.specs.Gathered.{common_before}
 use Rattle.bx_plan.specs.Growing.{Grown}
 use Rattle.bx_plan.specs.Plans.{choices_of}

@@ -1,4 +1,4 @@
-use Rattle.std.proofs.Common.{◌≡◌, ◌-◌, ◌<◌, suc, length, reverse, sym, ap, subst, ◌∙◌, arith}
+use Rattle.std.proofs.Common.{◌≡◌, ◌-◌, suc, length, reverse, subst, arith}
 use Rattle.bx_plan.specs.Cuts.{IsCutBy}
 use Rattle.bx_plan.specs.Gathered.{placed, row_at}
 use Rattle.bx_plan.specs.Plans.{choices_of}

@@ -1,4 +1,4 @@
-use Rattle.std.proofs.Common.{◌-◌, length, sym, ◌∙◌, arith}
+use Rattle.std.proofs.Common.{◌-◌, length, ◌∙◌, arith}
 use Rattle.bx_plan.proofs.Cutting.{deepest_last}
 use Rattle.bx_plan.proofs.chains.cuts.deepest.Goals as goal
 

@@ -1,6 +1,6 @@
-use Rattle.std.proofs.Common.{◌≡◌, ◌+◌, length, arith, ap, sym, subst, ◌∙◌}
+use Rattle.std.proofs.Common.{◌+◌, length, arith, ap, sym, subst, ◌∙◌}
 use Rattle.std.proofs.lemmas.Bool.{lt-ltb, ltb-true}
-use Rattle.bx_plan.specs.Gathered.{placed, row_at}
+use Rattle.bx_plan.specs.Gathered.{row_at}
 use Rattle.bx_plan.specs.Plans.{choices_of}
 use Rattle.bx_plan.specs.View.{lines_view}
 use Rattle.bx_plan.proofs.Counting.{counted_all, counted_next, counted_none, counted_over, line_choices, low_within, IsCounted}

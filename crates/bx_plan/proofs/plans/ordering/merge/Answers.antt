@@ -1,9 +1,9 @@
-use Rattle.std.proofs.Common.{◌≡◌, ◌+◌, ℕ, List, [], ◌∷◌, None, length, sym, ap, subst, ◌∙◌, arith, length-append}
+use Rattle.std.proofs.Common.{List, [], ◌∷◌, length, sym, ap, subst, ◌∙◌, arith, length-append}
 use Rattle.bx_world.specs.declared.choices.Choice.{Choice}
-use Rattle.bx_plan.specs.Ordered.{at_row, rows_at, AreFrom, Takes}
+use Rattle.bx_plan.specs.Ordered.{rows_at, AreFrom, Takes}
 use Rattle.bx_plan.specs.Plans.{choices_of}
 use Rattle.bx_plan.specs.View.{lines_view}
-use Rattle.bx_plan.proofs.Sorting.{from_push, headed_from, headed_lines, headed_long, last_of, last_push, rows_push}
+use Rattle.bx_plan.proofs.Sorting.{from_push, last_of, last_push, rows_push}
 use Rattle.bx_plan.proofs.plans.ordering.merge.Goals as goal
 
 pub loop-row-preserved : goal.loop-row-preserved

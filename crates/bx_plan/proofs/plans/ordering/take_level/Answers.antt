@@ -1,4 +1,4 @@
-use Rattle.std.proofs.Common.{◌≡◌, ◌<◌, List, length, refl, sym, ap, ◌∙◌, arith}
+use Rattle.std.proofs.Common.{refl, sym, ap, ◌∙◌, arith}
 use Rattle.std.specs.Ordering.{is_gt}
 use Rattle.bx_plan.specs.Ordered.{at_row}
 use Rattle.bx_plan.specs.Plans.{choices_of}

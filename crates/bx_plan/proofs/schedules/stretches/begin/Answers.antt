@@ -1,4 +1,4 @@
-use Rattle.std.proofs.Common.{◌≡◌, List, take, sym, subst, arith}
+use Rattle.std.proofs.Common.{List, take, sym, subst}
 use Rattle.bx_plan.specs.declared.schedules.stretches.Stretch.{Stretch}
 use Rattle.bx_plan.specs.Stretches.{AreStretches}
 use Rattle.bx_plan.proofs.Stretching.{sides}

@@ -1,8 +1,8 @@
-use Rattle.std.proofs.Common.{◌≡◌, ◌+◌, ◌++◌, List, length, get_or, map, take, sym, ap, ◌∙◌, arith}
+use Rattle.std.proofs.Common.{◌+◌, ◌++◌, List, map, ap, ◌∙◌, arith}
 use Rattle.std.proofs.lemmas.List.{take_all}
 use Rattle.bx_plan.specs.declared.schedules.stretches.Stretch.{Stretch}
 use Rattle.bx_plan.proofs.Edits.{chained, put_later}
-use Rattle.bx_plan.proofs.Stretching.{next, no_stretch, within}
+use Rattle.bx_plan.proofs.Stretching.{next, within}
 use Rattle.bx_plan.proofs.schedules.stretches.chain.Goals as goal
 
 pub overflow_add-count : goal.overflow_add-count

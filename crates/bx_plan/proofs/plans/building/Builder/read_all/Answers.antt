@@ -1,13 +1,12 @@
-use Rattle.std.proofs.Common.{◌≡◌, ◌⊎◌, inl, inr, ◌+◌, ◌<◌, List, [], ◌∷◌, ◌++◌, ℕ, Option, None, Some, Result, Ok, Err, length, refl, sym, ap, subst, ◌∙◌, arith}
+use Rattle.std.proofs.Common.{◌≡◌, ◌⊎◌, inl, inr, ◌+◌, ◌<◌, List, [], ◌∷◌, ◌++◌, ℕ, Option, Ok, length, sym, ap, subst, arith}
 use Rattle.std.specs.declared.alloc.AllocError.{AllocError}
-use Rattle.bx_terms.specs.declared.faults.Fault.{Fault}
 use Rattle.bx_plan.specs.declared.plans.building.Refusal.{Refusal}
-use Rattle.bx_plan.specs.Building.{fault_of, read_loose, so_far, Adds, IsBuilding, IsNoted, Stands}
+use Rattle.bx_plan.specs.Building.{read_loose, so_far, Adds, IsBuilding, IsNoted, Stands}
 use Rattle.bx_plan.specs.Entry.{Entry}
 use Rattle.bx_plan.specs.Parts.{parts_left}
 use Rattle.bx_plan.specs.Plans.{Named, plan_of, with_lines, TakesFirst, TakesMemory}
 use Rattle.bx_plan.specs.Reading.{line_of, parts_of}
-use Rattle.bx_plan.proofs.Adding.{stands_read, stands_refused, takes_added, takes_more}
+use Rattle.bx_plan.proofs.Adding.{stands_read, takes_added, takes_more}
 use Rattle.bx_plan.proofs.Running.{parts_few}
 use Rattle.bx_plan.proofs.plans.building.Builder.read_all.Goals as goal
 
