@@ -9,5 +9,6 @@ pub mod Forms
 pub mod Runs
 pub mod Listings
 pub mod Campaigns
+pub mod Joints
 pub mod PlanLines
 pub mod Tidying

@@ -1,9 +1,10 @@
 //! `campaign`: what `run` writes, by several workers.
 
-ghost use Rattle.std.specs.Prelude.{⊤, ◌≡◌, ◌⊎◌, List, ℕ, IfErr, Some, map, string_bytes};
+ghost use Rattle.std.specs.Prelude.{⊤, ◌≡◌, ◌⊎◌, List, ℕ, IfErr, IfSome, Ok, Some, map, string_bytes};
 ghost use Rattle.std.specs.Io.KnownBytes.{Keeps};
 ghost use Rattle.bx_terms.specs.Outcomes.{Gives};
 ghost use Rattle.bx_plan.specs.Planned.{schedules};
+ghost use Rattle.bx_plan.specs.Plans.{Named, plan_of};
 ghost use Rattle.bx_engine.specs.Loads.{ClearUpTo};
 ghost use Rattle.bx_engine.specs.Units.{FilesGive};
 ghost use Rattle.bx_engine.specs.Runs.{ClearStart, TakesMemory, Writes};
@@ -11,9 +12,11 @@ ghost use Rattle.bx_engine.specs.Campaigns.{campaign_as, campaign_behind, campai
 
 use crate::failures::Failure;
 use crate::forms::Form;
-use crate::loads::{image_of, plan_in};
+use crate::joints::{Task, joined};
+use crate::loads::{image_of, planned};
 use crate::runs::entry_in;
 use crate::starts::{Start, start_of};
+use crate::units::read_file;
 use bx_board::{FreeGate, Gate, campaign};
 use bx_load::Image;
 use bx_plan::Plan;
@@ -24,13 +27,14 @@ use std::sync::Wait;
 use std::thread::Threads;
 
 /// The workers of a campaign: how many they are, the form in which is written what comes of it, the runtime that their threads are of,
-/// and the gate that is called as they go on.
+/// the gate that is called as they go on, and whether each may take a part of the plan's text.
 #[derive(Drop)]
 pub struct Workers<'a, T, G> {
     rt: &'a T,
     pub count: u32,
     pub form: Form,
     gate: &'a G,
+    in_parts: bool,
 }
 
 impl<'a, T: Threads + Wait + Sync, G: Gate> Workers<'a, T, G> {
@@ -43,7 +47,36 @@ impl<'a, T: Threads + Wait + Sync, G: Gate> Workers<'a, T, G> {
             count,
             form,
             gate,
+            in_parts: false,
         }
+    }
+
+    /// These workers, of which several may also each take a part of the plan's text: of those parts the gate is told nothing.
+    pub fn in_parts(self) -> Workers<'a, T, G>
+        ensures count { result.count ≡ self.count }
+        ensures form { result.form ≡ self.form }
+    {
+        Workers {
+            rt: self.rt,
+            count: self.count,
+            form: self.form,
+            gate: self.gate,
+            in_parts: true,
+        }
+    }
+
+    /// The report by workers that each take a part of the plan's text; none where they may not, or where that is not the way.
+    fn joined(&self, alloc: Global, image: &Image, start: &Start, text: &[u8]) -> Option<String>
+        ensures { IfSome result (λ report. (plan : List Named) × (plan_of text.now ≡ Ok plan)
+            × (campaign_in self.now.form self.now.count image.now start.now plan ≡ Ok (string_bytes report))) }
+    {
+        let workers = self.count;
+        if !self.in_parts || self.form != Form::Report || workers > 64 {
+            return None;
+        }
+        let start = entry_in(image, start)?;
+        let task = Task { image, start, text };
+        joined(self.rt, alloc, &task, workers as usize)
     }
 
     /// The text of what comes of the plan's schedules.
@@ -86,7 +119,14 @@ impl<'a, T: Threads + Wait + Sync, G: Gate> Workers<'a, T, G> {
             Ok(image) => image,
             Err(failure) => return Err(failure),
         };
-        let plan = match plan_in(alloc, file, plan) {
+        let text = match read_file(alloc, file, plan) {
+            Ok(text) => text,
+            Err(failure) => return Err(failure),
+        };
+        if let Some(report) = self.joined(alloc, &image, start, &text) {
+            return Ok(report);
+        }
+        let plan = match planned(alloc, file, &text) {
             Ok(plan) => plan,
             Err(failure) => return Err(failure),
         };
@@ -148,6 +188,6 @@ pub fn campaign_text<T: Threads + Wait + Sync, R: Read, W: Write>(
     ensures unwritten { IfErr result (λ failure. (failure ≡ Failure.Write) ⊎ Keeps
         (W.contents writer.old) (W.contents writer.new)) }
 {
-    let workers = Workers::new(rt, workers, Form::Report, &FreeGate);
+    let workers = Workers::new(rt, workers, Form::Report, &FreeGate).in_parts();
     workers.campaign_text(alloc, listings, start, plan, writer)
 }

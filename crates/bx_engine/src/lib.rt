@@ -6,6 +6,7 @@ mod dis;
 mod failures;
 mod forms;
 mod inputs;
+mod joints;
 pub mod laws;
 mod loads;
 mod plan_lines;

@@ -3,8 +3,9 @@
 ghost use Rattle.std.specs.Prelude.{◌≡◌, List, ℕ, IfOk, IsTrue, Some, map};
 ghost use Rattle.bx_terms.specs.FixedAtoms.{fixed_atoms};
 ghost use Rattle.bx_plan.specs.Planned.{schedules};
+ghost use Rattle.bx_plan.specs.Plans.{plan_of};
 ghost use Rattle.bx_engine.specs.Sources.{sources_of};
-ghost use Rattle.bx_engine.specs.Units.{ClearBefore, FileGives, FilesGive};
+ghost use Rattle.bx_engine.specs.Units.{ClearBefore, FileGives, FilesGive, in_file};
 ghost use Rattle.bx_engine.specs.Loads.{image_of, plan_in};
 
 use crate::failures::Failure;
@@ -74,7 +75,14 @@ pub fn plan_in<R: Read>(alloc: Global, file: usize, reader: &mut R) -> Result<Pl
         Ok(text) => text,
         Err(failure) => return Err(failure),
     };
-    match read_plan(alloc, &text) {
+    planned(alloc, file, &text)
+}
+
+/// The plan that the text in the file of that number is.
+pub(crate) fn planned(alloc: Global, file: usize, text: &[u8]) -> Result<Plan, Failure>
+    ensures { FileGives (λ plan. schedules plan) file result (in_file file (plan_of text.now)) }
+{
+    match read_plan(alloc, text) {
         Ok(plan) => Ok(plan),
         Err(fault) => Err(Failure::in_file(fault, file)),
     }

@@ -1,0 +1,210 @@
+//! The report of a plan whose text is cut into parts, each read and run by a thread of its own.
+
+ghost use Rattle.std.specs.Prelude.{◌≡◌, ◌++◌, ◌≤◌, List, IfSome, IsOk, IsTrue, Ok, OnSome, length, string_bytes, take};
+ghost use Rattle.bx_plan.specs.Planned.{schedules};
+ghost use Rattle.bx_world.specs.World.{started};
+ghost use Rattle.bx_plan.specs.Plans.{Named};
+ghost use Rattle.bx_engine.specs.Joints.{AreApart, AreWhole, IsJoint, IsPart, IsReportOf, Knows, lines_from, place_count, prefix_count};
+
+use bx_board::{report_alone, report_text};
+use bx_load::Image;
+use bx_plan::{Chains, Plan, chains_of, cut, read_plan};
+use bx_terms::AtomId;
+use std::alloc::Global;
+use std::collections::BTreeSet;
+use std::thread;
+use std::thread::Threads;
+
+/// How many bytes of a plan pay for a thread: below two such parts a campaign leases chains.
+const PART: usize = 32_768;
+
+/// How many distinct prefixes a plan's schedules may have, the empty one aside.
+const MOST_PREFIXES: usize = 1_000_000;
+
+/// How many atoms, exports, functions, items, operands, imports, literals, and list cells and elements of these a worker's own
+/// code may hold.
+const MOST_COPIED: usize = 200_000;
+
+/// What is run, and the text of the plan that says how.
+#[derive(Drop)]
+pub(crate) struct Task<'a> {
+    pub(crate) image: &'a Image,
+    pub(crate) start: (AtomId, AtomId),
+    pub(crate) text: &'a [u8],
+}
+
+/// A part of a plan's text that is read as a plan of its own, and was run.
+#[derive(Drop)]
+struct Part {
+    /// Where it begins in the text.
+    first: usize,
+    /// Where what follows it begins.
+    past: usize,
+    plan: Plan,
+    /// At least as many as its schedules have distinct prefixes, with the empty one.
+    prefixes: usize,
+    report: String,
+}
+
+/// The parts so far as one plan, and their reports one behind another.
+#[derive(Drop)]
+struct Joint<'a> {
+    /// Where what follows the parts begins in the text.
+    past: usize,
+    names: BTreeSet<&'a str>,
+    /// At least as many as their schedules have distinct prefixes, with the empty one.
+    prefixes: usize,
+    report: String,
+}
+
+/// How many places there are on chains, with the one at the root; none where they are too many to count.
+fn places_on(chains: &Chains) -> Option<usize>
+    ensures { IfSome result (λ places. places ≡ place_count chains.now (length chains.now.heads)) }
+{
+    let mut places = 1usize;
+    for chain in 0..chains.len() {
+        let head = chains.head(chain);
+        places = places.checked_add(head.past.saturating_sub(head.first))?;
+    }
+    Some(places)
+}
+
+/// No fewer than a plan's schedules have distinct prefixes, with the empty one.
+#[tactic(auto, using(crate::proofs::PrefixCounts::count_chains))]
+fn prefixes_of(alloc: Global, plan: &Plan) -> Option<usize>
+    ensures { IfSome result (λ prefixes. prefix_count (schedules plan.now) ≤ prefixes) }
+{
+    let chains = chains_of(alloc, plan).ok()?;
+    places_on(&chains)
+}
+
+/// Adds the names of a plan's schedules, none of which may be known.
+fn add_names<'a>(names: &mut BTreeSet<&'a str>, plan: &'a Plan) -> Option<()>
+    ensures { IfSome result (λ _. (before : List Named) → Knows names.old before
+        → Knows names.new (before ++ schedules plan.now) × AreApart before (schedules plan.now)) }
+{
+    for number in 0..plan.len() {
+        let Some(name) = plan.label(number) else {
+            return None;
+        };
+        let Ok(is_new) = names.insert(name) else {
+            return None;
+        };
+        if !is_new {
+            return None;
+        }
+    }
+    Some(())
+}
+
+impl<'a> Task<'a> {
+    /// Where the part of that number begins, of so many: behind the line feed that comes next to an even share.
+    fn begin(&self, parts: usize, number: usize) -> usize {
+        let length = self.text.len();
+        let share = (length / parts.max(1)).saturating_mul(number).min(length);
+        if number == 0 {
+            return 0;
+        }
+        match cut(&self.text[share..], b'\n') {
+            Some((_, behind)) => length.saturating_sub(behind.len()),
+            None => length,
+        }
+    }
+
+    /// The report of a plan, run over code of this thread's own, so that it waits for no other thread's count of references.
+    fn report(&self, alloc: Global, plan: &Plan) -> Option<String>
+        ensures { IfSome result (λ report. lines_from self.now.image.now self.now.start (schedules plan.now) ≡ Ok (string_bytes report)) }
+    {
+        let own = self.image.deep_copy(alloc, MOST_COPIED).ok();
+        let code = own.as_ref().unwrap_or(self.image);
+        let (module, function) = self.start;
+        let rows = report_alone(alloc, code, module, function, plan).ok()?;
+        report_text(alloc, code.atoms(), &rows).ok()
+    }
+
+    /// Reads and runs the part of that number, of so many.
+    fn part(&self, alloc: Global, parts: usize, number: usize) -> Option<Part>
+        ensures { IfSome result (IsPart self.now) }
+    {
+        let first = self.begin(parts, number);
+        let past = self.begin(parts, number.saturating_add(1));
+        if first > past || past > self.text.len() {
+            return None;
+        }
+        let plan = read_plan(alloc, &self.text[first..past]).ok()?;
+        let prefixes = prefixes_of(alloc, &plan)?;
+        let report = self.report(alloc, &plan)?;
+        Some(Part {
+            first,
+            past,
+            plan,
+            prefixes,
+            report,
+        })
+    }
+
+    /// Whether what stands before that place is whole lines.
+    fn is_cut(&self, at: usize) -> bool
+        ensures { IsTrue result → AreWhole (take at self.now.text.now) }
+    {
+        at == 0 || self.text.get(at - 1) == Some(&b'\n')
+    }
+}
+
+impl<'a> Joint<'a> {
+    /// Adds a part, where it follows on whole lines, names no schedule again, and the prefixes are not too many.
+    fn add(&mut self, task: &Task<'_>, part: &'a Part) -> Option<()>
+        requires joint { IsJoint task.now self.old }
+        requires part { IsPart task.now part.now }
+        ensures joint { OnSome result (IsJoint task.now self.new) }
+        ensures started { OnSome result (IsOk (started task.now.image.now task.now.start.0 task.now.start.1)) }
+    {
+        if part.first != self.past || !task.is_cut(self.past) {
+            return None;
+        }
+        let prefixes = self.prefixes.saturating_add(part.prefixes);
+        if prefixes > MOST_PREFIXES {
+            return None;
+        }
+        let Some(()) = add_names(&mut self.names, &part.plan) else {
+            return None;
+        };
+        let Ok(()) = self.report.push_str(part.report.as_str()) else {
+            return None;
+        };
+        self.prefixes = prefixes;
+        self.past = part.past;
+        Some(())
+    }
+}
+
+/// The report of a plan's text by so many workers, each of which reads and runs a part of it. None where that is not the way: the text
+/// is short or no plan, the parts may have too many prefixes, or memory runs out.
+pub(crate) fn joined<R: Threads + Sync>(
+    rt: &R,
+    alloc: Global,
+    task: &Task<'_>,
+    workers: usize,
+) -> Option<String>
+    ensures { IfSome result (λ report. IsReportOf task.now (string_bytes report)) }
+{
+    let parts = workers.min(task.text.len() / PART);
+    if parts < 2 {
+        return None;
+    }
+    let made = thread::map_indices(rt, alloc, parts, &|number| task.part(alloc, parts, number)).ok()?;
+    let mut joint = Joint {
+        past: 0,
+        names: BTreeSet::new(alloc),
+        prefixes: 1,
+        report: String::new(alloc),
+    };
+    for part in &made {
+        joint.add(task, part.as_ref()?)?;
+    }
+    if joint.past != task.text.len() {
+        return None;
+    }
+    let Joint { report, .. } = joint;
+    Some(report)
+}
