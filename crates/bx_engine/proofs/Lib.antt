@@ -11,3 +11,6 @@ pub mod PlanAgain
 pub mod ReportRows
 pub mod TidyLaw
 pub mod TidyRows
+pub mod PartsRead
+pub mod PrefixCounts
+pub mod JointRows

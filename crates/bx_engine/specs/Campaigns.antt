@@ -1,9 +1,9 @@
 -- What `campaign` writes: what `run` writes, where there are 1 to 64 workers.
-use Rattle.std.specs.Prelude.{ℕ, ◌||◌, ◌==◌, nat_lt, if◌then◌else◌, List, length, Result, Err}
+use Rattle.std.specs.Prelude.{◌≡◌, ℕ, ◌||◌, ◌==◌, nat_lt, if◌then◌else◌, List, length, Result, Ok, Err}
 use Rattle.bx_terms.specs.declared.faults.Fault.{Fault}
 use Rattle.bx_terms.specs.declared.faults.Fault.TheVariants.{Workers}
 use Rattle.bx_load.specs.Image.{Loaded}
-use Rattle.bx_plan.specs.Plans.{Named}
+use Rattle.bx_plan.specs.Plans.{Named, plan_of}
 use Rattle.bx_engine.specs.Starts.{start_in}
 use Rattle.bx_engine.specs.Units.{◌>>=◌}
 use Rattle.bx_engine.specs.Loads.{image_of, of_no_file, plan_in}
@@ -14,6 +14,16 @@ use Rattle.bx_engine.specs.declared.forms.Form.TheVariants.{Report}
 
 abbrev pub campaign_in : Form → ℕ → Loaded → Names → List Named → Result (List ℕ) Fault
 campaign_in form workers image names plan = if (workers == 0) || nat_lt 64 workers then Err Workers else written_in form image names plan
+
+-- the text is a plan's, of which the campaign writes this
+pub record IsCampaignOf (form : Form) (workers : ℕ) (image : Loaded) (names : Names) (text report : List ℕ) : Type 0 where
+  pub plan : List Named
+  pub read : plan_of text ≡ Ok plan
+  pub lines : campaign_in form workers image names plan ≡ Ok report
+
+-- the plan in the file of that number, then how many workers there are, then what the start names
+abbrev pub told_of : Form → ℕ → ℕ → Loaded → Names → List ℕ → Result (List ℕ) Failure
+told_of form workers n image names planned = plan_in n planned >>= λ plan. of_no_file (campaign_in form workers image names plan)
 
 -- the listings, then the plan, then how many workers there are, then what the start names
 abbrev pub campaign_behind : Form → ℕ → Names → List (List ℕ) → List ℕ → Result (List ℕ) Failure

@@ -1,14 +1,13 @@
 //! `campaign`: what `run` writes, by several workers.
 
-ghost use Rattle.std.specs.Prelude.{⊤, ◌≡◌, ◌⊎◌, List, ℕ, IfErr, IfSome, Ok, Some, map, string_bytes};
+ghost use Rattle.std.specs.Prelude.{⊤, ◌≡◌, ◌⊎◌, List, ℕ, IfErr, IfSome, Some, map, string_bytes};
 ghost use Rattle.std.specs.Io.KnownBytes.{Keeps};
 ghost use Rattle.bx_terms.specs.Outcomes.{Gives};
 ghost use Rattle.bx_plan.specs.Planned.{schedules};
-ghost use Rattle.bx_plan.specs.Plans.{Named, plan_of};
 ghost use Rattle.bx_engine.specs.Loads.{ClearUpTo};
-ghost use Rattle.bx_engine.specs.Units.{FilesGive};
+ghost use Rattle.bx_engine.specs.Units.{FileGives, FilesGive};
 ghost use Rattle.bx_engine.specs.Runs.{ClearStart, TakesMemory, Writes};
-ghost use Rattle.bx_engine.specs.Campaigns.{campaign_as, campaign_behind, campaign_in, campaign_of};
+ghost use Rattle.bx_engine.specs.Campaigns.{IsCampaignOf, campaign_as, campaign_behind, campaign_in, campaign_of, told_of};
 
 use crate::failures::Failure;
 use crate::forms::Form;
@@ -67,14 +66,15 @@ impl<'a, T: Threads + Wait + Sync, G: Gate> Workers<'a, T, G> {
 
     /// The report by workers that each take a part of the plan's text; none where they may not, or where that is not the way.
     fn joined(&self, alloc: Global, image: &Image, start: &Start, text: &[u8]) -> Option<String>
-        ensures { IfSome result (λ report. (plan : List Named) × (plan_of text.now ≡ Ok plan)
-            × (campaign_in self.now.form self.now.count image.now start.now plan ≡ Ok (string_bytes report))) }
+        ensures { IfSome result (λ report. IsCampaignOf self.now.form self.now.count image.now start.now text.now (string_bytes report)) }
     {
         let workers = self.count;
-        if !self.in_parts || self.form != Form::Report || workers > 64 {
+        if !self.in_parts || self.form != Form::Report || workers < 2 || workers > 64 {
             return None;
         }
-        let start = entry_in(image, start)?;
+        let Some(start) = entry_in(image, start) else {
+            return None;
+        };
         let task = Task { image, start, text };
         joined(self.rt, alloc, &task, workers as usize)
     }
@@ -103,6 +103,35 @@ impl<'a, T: Threads + Wait + Sync, G: Gate> Workers<'a, T, G> {
         self.form.text(alloc, image.atoms(), &report)
     }
 
+    /// The text of what comes of the plan in the file of that number, or its first fault.
+    fn told<R: Read>(
+        &self,
+        alloc: Global,
+        file: usize,
+        image: &Image,
+        start: &Start,
+        plan: &mut R,
+    ) -> Result<String, Failure>
+        ensures { (planned : List ℕ) → R.remaining plan.old ≡ Some planned → FileGives (λ text. string_bytes text) file result
+            (told_of self.now.form self.now.count file image.now start.now planned) }
+    {
+        let text = match read_file(alloc, file, plan) {
+            Ok(text) => text,
+            Err(failure) => return Err(failure),
+        };
+        if let Some(report) = self.joined(alloc, image, start, &text) {
+            return Ok(report);
+        }
+        let plan = match planned(alloc, file, &text) {
+            Ok(plan) => plan,
+            Err(failure) => return Err(failure),
+        };
+        match self.written(alloc, image, start, &plan) {
+            Ok(text) => Ok(text),
+            Err(fault) => Err(Failure::Refused(fault, None)),
+        }
+    }
+
     /// The text that a campaign from that start writes, or the first fault of the files.
     fn text_of<R: Read>(
         &self,
@@ -119,21 +148,7 @@ impl<'a, T: Threads + Wait + Sync, G: Gate> Workers<'a, T, G> {
             Ok(image) => image,
             Err(failure) => return Err(failure),
         };
-        let text = match read_file(alloc, file, plan) {
-            Ok(text) => text,
-            Err(failure) => return Err(failure),
-        };
-        if let Some(report) = self.joined(alloc, &image, start, &text) {
-            return Ok(report);
-        }
-        let plan = match planned(alloc, file, &text) {
-            Ok(plan) => plan,
-            Err(failure) => return Err(failure),
-        };
-        match self.written(alloc, &image, start, &plan) {
-            Ok(text) => Ok(text),
-            Err(fault) => Err(Failure::Refused(fault, None)),
-        }
+        self.told(alloc, file, &image, start, plan)
     }
 
     /// Writes in the workers' form what comes of the plan's schedules, as `campaign_text` does their report. The gate is told of the

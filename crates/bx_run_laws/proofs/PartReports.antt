@@ -18,7 +18,9 @@ use Rattle.bx_engine.specs.Units.{◌>>=◌, in_file}
 use Rattle.bx_engine.specs.declared.failures.Failure.{Failure}
 use Rattle.bx_engine.specs.declared.failures.Failure.TheVariants.{Refused}
 use Rattle.bx_engine.specs.declared.forms.Form.{Form}
-use Rattle.bx_run_laws.specs.Parted.{AreWhole, IsCutInto, IsReadable, joined}
+use Rattle.bx_engine.specs.Joints.{AreWhole}
+use Rattle.bx_engine.proofs.JointRows.{rows_behind}
+use Rattle.bx_run_laws.specs.Parted.{IsCutInto, IsReadable, joined}
 use Rattle.bx_run_laws.proofs.Parting.{IsRefused, IsTold, halved, is_told, readable_halves}
 
 abbrev Answer : Type 0
@@ -26,10 +28,6 @@ Answer = Result (List ℕ) Failure
 
 abbrev two : Answer → Answer → Answer
 two first second = first >>= λ text. second >>= λ more. Ok (text ++ more)
-
-rows_behind : (texts : List (List ℕ)) (first more : List Scheduled) → report_lines texts (first ++ more) ≡ report_lines texts first ++ report_lines texts more
-rows_behind texts [] more = refl
-rows_behind texts (one ∷ first) more = ap (λ rest. schedule_lines texts one ++ rest) (rows_behind texts first more) ∙ sym (append_assoc (schedule_lines texts one) (report_lines texts first) (report_lines texts more))
 
 reports_behind : (image : Loaded) (names : Names) (first second : List Named) → report_of image names (first ++ second) ≡ two (report_of image names first) (report_of image names second)
 reports_behind image names first second = one (is_told image names) where

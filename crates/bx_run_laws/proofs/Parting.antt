@@ -26,45 +26,11 @@ use Rattle.bx_engine.specs.Loads.{of_no_file}
 use Rattle.bx_engine.specs.Runs.{Names, entry_in, report_of, reported}
 use Rattle.bx_engine.specs.declared.failures.Failure.{Failure}
 use Rattle.bx_engine.specs.declared.failures.Failure.TheVariants.{Refused}
-use Rattle.bx_run_laws.specs.Parted.{AreWhole, IsCutInto, IsReadable}
-
--- ---- the lines of a text that is cut behind a line feed
-
-onto_front : (b : ℕ) (parts more : List (List ℕ)) → 0 < length parts → onto_first b (parts ++ more) ≡ onto_first b parts ++ more
-onto_front b [] more some = absurd (omega (arith, some))
-onto_front b (part ∷ parts) more some = refl
-
-lines_cut : (front rest : List ℕ) → parts_of 10 (front ++ 10 ∷ rest) ≡ parts_of 10 front ++ parts_of 10 rest
-lines_cut [] rest = refl
-lines_cut (b ∷ bs) rest = one (nat_eq b 10) (lines_cut bs rest) where
-  one : (feed : Bool) → parts_of 10 (bs ++ 10 ∷ rest) ≡ parts_of 10 bs ++ parts_of 10 rest
-      → cond feed ([] ∷ parts_of 10 (bs ++ 10 ∷ rest)) (onto_first b (parts_of 10 (bs ++ 10 ∷ rest))) ≡ cond feed ([] ∷ parts_of 10 bs) (onto_first b (parts_of 10 bs)) ++ parts_of 10 rest
-  one true e = ap (λ parts. [] ∷ parts) e
-  one false e = ap (onto_first b) e ∙ onto_front b (parts_of 10 bs) (parts_of 10 rest) (omega (arith, length-slice_split (λ c. nat_eq c 10) bs))
+use Rattle.bx_engine.specs.Joints.{AreWhole}
+use Rattle.bx_engine.proofs.PartsRead.{Answer, lines_after, lines_cut, ok_is, steps, whole_lines}
+use Rattle.bx_run_laws.specs.Parted.{IsCutInto, IsReadable}
 
 -- ---- lines behind others
-
-abbrev Answer : Type 0
-Answer = Result (List Named) Fault
-
--- a good answer of two steps is one of each
-abbrev Steps : Answer → (List Named → Answer) → List Named → Type 0
-Steps first next after = (middle : List Named) × (first ≡ Ok middle) × (next middle ≡ Ok after)
-
-steps : (first : Answer) (next : List Named → Answer) (after : List Named) → (first >>= next) ≡ Ok after → Steps first next after
-steps (Ok middle) next after e = (middle, refl, e)
-steps (Err fault) next after e = cc
-
-ok_is : (x y : List Named) → ◌≡◌ {A = Answer} (Ok x) (Ok y) → x ≡ y
-ok_is x y e = cc
-
-lines_after : (n : ℕ) (before : List Named) (lines more : List (List ℕ)) → with_lines n before (lines ++ more) ≡ (with_lines n before lines >>= λ middle. with_lines (n + length lines) middle more)
-lines_after n before [] more = let e : n ≡ n + 0 = omega arith in ap (λ m. with_lines m before more) e
-lines_after n before (line ∷ lines) more = one (with_read n before (line_of line)) (λ next. lines_after (n + 1) next lines more) where
-  one : (read : Answer) → ((next : List Named) → with_lines (n + 1) next (lines ++ more) ≡ (with_lines (n + 1) next lines >>= λ middle. with_lines (n + 1 + length lines) middle more))
-      → (read >>= λ next. with_lines (n + 1) next (lines ++ more)) ≡ ((read >>= λ next. with_lines (n + 1) next lines) >>= λ middle. with_lines (n + suc (length lines)) middle more)
-  one (Err fault) on = refl
-  one (Ok next) on = let e : n + 1 + length lines ≡ n + suc (length lines) = omega arith in on next ∙ ap (λ m. with_lines (n + 1) next lines >>= λ middle. with_lines m middle more) e
 
 prefix_behind : (front more : List (List Choice)) (path : List Choice) → IsPrefix more path → IsPrefix (front ++ more) path
 prefix_behind [] more path h = h
@@ -115,13 +81,6 @@ lines_alone n m front before after (line ∷ lines) e =
     (more.0, ap (λ r. r >>= λ p. with_lines (m + 1) p lines) here.1 ∙ more.1, more.2)
 
 -- ---- plans
-
--- behind the last line feed stands no line
-whole_lines : (front : List ℕ) → plan_of (front ++ 10 ∷ []) ≡ with_lines 1 [] (parts_of 10 front)
-whole_lines front = ap (with_lines 1 []) (lines_cut front []) ∙ lines_after 1 [] (parts_of 10 front) ([] ∷ []) ∙ one (with_lines 1 [] (parts_of 10 front)) where
-  one : (read : Answer) → (read >>= λ middle. with_lines (1 + length (parts_of 10 front)) middle ([] ∷ [])) ≡ read
-  one (Ok plan) = refl
-  one (Err fault) = refl
 
 abbrev Halves : List ℕ → List ℕ → List Named → Type 0
 Halves part rest plan = (first : List Named) × (plan_of part ≡ Ok first) × Alone first (plan_of rest) plan

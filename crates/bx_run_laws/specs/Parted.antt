@@ -1,17 +1,14 @@
 -- A plan's text in parts, and the reports of the parts one behind another.
-use Rattle.std.specs.Prelude.{◌≡◌, ◌≤◌, ◌⊎◌, ℕ, List, [], ◌∷◌, ◌++◌, Result, Ok, IsOk, codes, length}
+use Rattle.std.specs.Prelude.{◌≡◌, ◌≤◌, ℕ, List, [], ◌∷◌, ◌++◌, Result, Ok, IsOk, length}
 use Rattle.bx_plan.specs.Plans.{plan_of}
 use Rattle.bx_engine.specs.Inputs.{input_limit}
+use Rattle.bx_engine.specs.Joints.{AreWhole}
 use Rattle.bx_engine.specs.Units.{◌>>=◌}
 use Rattle.bx_engine.specs.declared.failures.Failure.{Failure}
 
 -- a text that is read as a plan
 abbrev pub IsReadable : List ℕ → Type 0
 IsReadable text = (length text ≤ input_limit) × IsOk (plan_of text)
-
--- lines that are each ended by a line feed, or no lines
-abbrev pub AreWhole : List ℕ → Type 0
-AreWhole text = (text ≡ []) ⊎ ((front : List ℕ) × (text ≡ front ++ codes "\n"))
 
 -- the text is cut between lines into these, one part at least: the last of them may lack its line feed
 abbrev pub IsCutInto : List ℕ → List (List ℕ) → Type 0
