@@ -97,6 +97,24 @@ fn add_names<'a>(names: &mut BTreeSet<&'a str>, plan: &'a Plan) -> Option<()>
     Some(())
 }
 
+/// The report of a plan from that start.
+fn report_over(
+    alloc: Global,
+    code: &Image,
+    start: (AtomId, AtomId),
+    plan: &Plan,
+) -> Option<String>
+    ensures { IfSome result (λ report. lines_from code.now start (schedules plan.now) ≡ Ok (string_bytes report)) }
+{
+    let Ok(rows) = report_alone(alloc, code, start.0, start.1, plan) else {
+        return None;
+    };
+    let Ok(report) = report_text(alloc, code.atoms(), &rows) else {
+        return None;
+    };
+    Some(report)
+}
+
 impl<'a> Task<'a> {
     /// Where the part of that number begins, of so many: behind the line feed that comes next to an even share.
     fn begin(&self, parts: usize, number: usize) -> usize {
@@ -117,9 +135,7 @@ impl<'a> Task<'a> {
     {
         let own = self.image.deep_copy(alloc, MOST_COPIED).ok();
         let code = own.as_ref().unwrap_or(self.image);
-        let (module, function) = self.start;
-        let rows = report_alone(alloc, code, module, function, plan).ok()?;
-        report_text(alloc, code.atoms(), &rows).ok()
+        report_over(alloc, code, self.start, plan)
     }
 
     /// Reads and runs the part of that number, of so many.
