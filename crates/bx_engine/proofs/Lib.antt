@@ -14,3 +14,4 @@ pub mod TidyRows
 pub mod PartsRead
 pub mod PrefixCounts
 pub mod JointRows
+pub mod CampaignRows
