@@ -98,12 +98,7 @@ fn add_names<'a>(names: &mut BTreeSet<&'a str>, plan: &'a Plan) -> Option<()>
 }
 
 /// The report of a plan from that start.
-fn report_over(
-    alloc: Global,
-    code: &Image,
-    start: (AtomId, AtomId),
-    plan: &Plan,
-) -> Option<String>
+fn report_over(alloc: Global, code: &Image, start: (AtomId, AtomId), plan: &Plan) -> Option<String>
     ensures { IfSome result (λ report. lines_from code.now start (schedules plan.now) ≡ Ok (string_bytes report)) }
 {
     let Ok(rows) = report_alone(alloc, code, start.0, start.1, plan) else {
@@ -208,7 +203,12 @@ pub(crate) fn joined<R: Threads + Sync>(
     if parts < 2 {
         return None;
     }
-    let made = thread::map_indices(rt, alloc, parts, &|number| task.part(alloc, parts, number)).ok()?;
+    let made = thread::map_indices(
+        rt,
+        alloc,
+        parts,
+        &|number| task.part(alloc, parts, number),
+    ).ok()?;
     let mut joint = Joint {
         past: 0,
         names: BTreeSet::new(alloc),

@@ -9,8 +9,6 @@ mod drawings;
 #[cfg(test)]
 mod engines;
 #[cfg(test)]
-mod parted;
-#[cfg(test)]
 mod refusals;
 #[cfg(test)]
 mod rows;
