@@ -52,8 +52,8 @@ impl<'a, T: Threads + Wait + Sync, G: Gate> Workers<'a, T, G> {
 
     /// These workers, of which several may also each take a part of the plan's text: of those parts the gate is told nothing.
     pub fn in_parts(self) -> Workers<'a, T, G>
-        ensures count { result.count ≡ self.count }
-        ensures form { result.form ≡ self.form }
+        ensures count { result.count ≡ self.entry.count }
+        ensures form { result.form ≡ self.entry.form }
     {
         Workers {
             rt: self.rt,
