@@ -25,7 +25,13 @@ pub trait Gate: Sync {
     /// Called between the work of a lease and its submit.
     fn worked(&self, worker: usize, piece: &Piece<'_>);
 
-    /// Called once by a campaign, when its workers have ended.
+    /// Called once by a campaign that runs its plan's text in parts, before the first of them, with how many they are.
+    fn cut(&self, _parts: usize) {}
+
+    /// Called after a part was run.
+    fn ran(&self) {}
+
+    /// Called when a campaign's workers have ended.
     fn ended(&self) {}
 }
 

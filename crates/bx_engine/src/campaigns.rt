@@ -26,14 +26,13 @@ use std::sync::Wait;
 use std::thread::Threads;
 
 /// The workers of a campaign: how many they are, the form in which is written what comes of it, the runtime that their threads are of,
-/// the gate that is called as they go on, and whether each may take a part of the plan's text.
+/// and the gate that is called as they go on.
 #[derive(Drop)]
 pub struct Workers<'a, T, G> {
     rt: &'a T,
     pub count: u32,
     pub form: Form,
     gate: &'a G,
-    in_parts: bool,
 }
 
 impl<'a, T: Threads + Wait + Sync, G: Gate> Workers<'a, T, G> {
@@ -46,37 +45,22 @@ impl<'a, T: Threads + Wait + Sync, G: Gate> Workers<'a, T, G> {
             count,
             form,
             gate,
-            in_parts: false,
         }
     }
 
-    /// These workers, of which several may also each take a part of the plan's text: of those parts the gate is told nothing.
-    pub fn in_parts(self) -> Workers<'a, T, G>
-        ensures count { result.count ≡ self.entry.count }
-        ensures form { result.form ≡ self.entry.form }
-    {
-        Workers {
-            rt: self.rt,
-            count: self.count,
-            form: self.form,
-            gate: self.gate,
-            in_parts: true,
-        }
-    }
-
-    /// The report by workers that each take a part of the plan's text; none where they may not, or where that is not the way.
+    /// The report by several workers that share the parts of the plan's text; none where that is not the way.
     fn joined(&self, alloc: Global, image: &Image, start: &Start, text: &[u8]) -> Option<String>
         ensures { IfSome result (λ report. IsCampaignOf self.now.form self.now.count image.now start.now text.now (string_bytes report)) }
     {
         let workers = self.count;
-        if !self.in_parts || self.form != Form::Report || workers < 2 || workers > 64 {
+        if self.form != Form::Report || workers < 2 || workers > 64 {
             return None;
         }
         let Some(start) = entry_in(image, start) else {
             return None;
         };
         let task = Task { image, start, text };
-        joined(self.rt, alloc, &task, workers as usize)
+        joined(self.rt, alloc, &task, workers as usize, self.gate)
     }
 
     /// The text of what comes of the plan's schedules.
@@ -203,6 +187,6 @@ pub fn campaign_text<T: Threads + Wait + Sync, R: Read, W: Write>(
     ensures unwritten { IfErr result (λ failure. (failure ≡ Failure.Write) ⊎ Keeps
         (W.contents writer.old) (W.contents writer.new)) }
 {
-    let workers = Workers::new(rt, workers, Form::Report, &FreeGate).in_parts();
+    let workers = Workers::new(rt, workers, Form::Report, &FreeGate);
     workers.campaign_text(alloc, listings, start, plan, writer)
 }

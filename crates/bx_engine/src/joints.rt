@@ -1,22 +1,27 @@
-//! The report of a plan whose text is cut into parts, each read and run by a thread of its own.
+//! The report of a plan whose text is cut into parts, which several workers read and run.
 
 ghost use Rattle.std.specs.Prelude.{◌≡◌, ◌++◌, ◌≤◌, List, IfSome, IsOk, IsTrue, Ok, OnSome, length, string_bytes, take};
+ghost use Rattle.std.specs.List.{All};
 ghost use Rattle.bx_plan.specs.Planned.{schedules};
 ghost use Rattle.bx_world.specs.World.{started};
 ghost use Rattle.bx_plan.specs.Plans.{Named};
 ghost use Rattle.bx_engine.specs.Joints.{AreApart, AreWhole, IsJoint, IsPart, IsReportOf, Knows, lines_from, place_count, prefix_count};
 
-use bx_board::{report_alone, report_text};
+use bx_board::{Gate, report_alone, report_text};
 use bx_load::Image;
 use bx_plan::{Chains, Plan, chains_of, cut, read_plan};
 use bx_terms::AtomId;
 use std::alloc::Global;
 use std::collections::BTreeSet;
+use std::sync::atomic::{AtomicUsize, Ordering};
 use std::thread;
 use std::thread::Threads;
 
-/// How many bytes of a plan pay for a thread: below two such parts a campaign leases chains.
+/// How many bytes of a plan pay for a part: below two such parts a campaign leases chains.
 const PART: usize = 32_768;
+
+/// How many parts there are for each worker, as not all of them take as long.
+const PARTS_EACH: usize = 4;
 
 /// How many distinct prefixes a plan's schedules may have, the empty one aside.
 const MOST_PREFIXES: usize = 1_000_000;
@@ -33,9 +38,18 @@ pub(crate) struct Task<'a> {
     pub(crate) text: &'a [u8],
 }
 
+/// The turns of the workers that share so many parts: each takes the next one as soon as it is free.
+#[derive(Drop)]
+struct Turns<'a, G> {
+    next: AtomicUsize,
+    parts: usize,
+    gate: &'a G,
+}
+
 /// A part of a plan's text that is read as a plan of its own, and was run.
 #[derive(Drop)]
 struct Part {
+    number: usize,
     /// Where it begins in the text.
     first: usize,
     /// Where what follows it begins.
@@ -110,6 +124,28 @@ fn report_over(alloc: Global, code: &Image, start: (AtomId, AtomId), plan: &Plan
     Some(report)
 }
 
+impl<'a, G: Gate> Turns<'a, G> {
+    fn new(parts: usize, gate: &'a G) -> Turns<'a, G> {
+        gate.cut(parts);
+        Turns {
+            next: AtomicUsize::new(0),
+            parts,
+            gate,
+        }
+    }
+
+    /// The number of the part that is to be done next, if one is left.
+    fn take(&self) -> Option<usize> {
+        let number = self.next.fetch_add(1, Ordering::SeqCst);
+        (number < self.parts).then_some(number)
+    }
+
+    /// Leaves no part to be done, as the text is no plan.
+    fn end(&self) {
+        self.next.store(self.parts, Ordering::SeqCst);
+    }
+}
+
 impl<'a> Task<'a> {
     /// Where the part of that number begins, of so many: behind the line feed that comes next to an even share.
     fn begin(&self, parts: usize, number: usize) -> usize {
@@ -124,17 +160,9 @@ impl<'a> Task<'a> {
         }
     }
 
-    /// The report of a plan, run over code of this thread's own, so that it waits for no other thread's count of references.
-    fn report(&self, alloc: Global, plan: &Plan) -> Option<String>
-        ensures { IfSome result (λ report. lines_from self.now.image.now self.now.start (schedules plan.now) ≡ Ok (string_bytes report)) }
-    {
-        let own = self.image.deep_copy(alloc, MOST_COPIED).ok();
-        let code = own.as_ref().unwrap_or(self.image);
-        report_over(alloc, code, self.start, plan)
-    }
-
-    /// Reads and runs the part of that number, of so many.
-    fn part(&self, alloc: Global, parts: usize, number: usize) -> Option<Part>
+    /// Reads and runs over that code, which is the task's, the part of that number, of so many.
+    fn part(&self, alloc: Global, code: &Image, parts: usize, number: usize) -> Option<Part>
+        requires { code.now ≡ self.now.image.now }
         ensures { IfSome result (IsPart self.now) }
     {
         let first = self.begin(parts, number);
@@ -144,14 +172,74 @@ impl<'a> Task<'a> {
         }
         let plan = read_plan(alloc, &self.text[first..past]).ok()?;
         let prefixes = prefixes_of(alloc, &plan)?;
-        let report = self.report(alloc, &plan)?;
+        let report = report_over(alloc, code, self.start, &plan)?;
         Some(Part {
+            number,
             first,
             past,
             plan,
             prefixes,
             report,
         })
+    }
+
+    /// Reads and runs the parts that come at this worker's turns, over code of its own, so that it waits for no other worker's count
+    /// of references.
+    fn in_turn<G: Gate>(&self, alloc: Global, turns: &Turns<'_, G>) -> Option<Vec<Part>>
+        ensures { IfSome result (λ made. All (IsPart self.now) made.items) }
+    {
+        let own = self.image.deep_copy(alloc, MOST_COPIED).ok();
+        let code = own.as_ref().unwrap_or(self.image);
+        let mut made = Vec::new(alloc);
+        while let Some(number) = turns.take() {
+            let Some(part) = self.part(alloc, code, turns.parts, number) else {
+                turns.end();
+                return None;
+            };
+            made.push(part).ok()?;
+            turns.gate.ran();
+        }
+        Some(made)
+    }
+
+    /// The parts by so many workers, in their order.
+    fn parts<R: Threads + Sync, G: Gate>(
+        &self,
+        rt: &R,
+        alloc: Global,
+        workers: usize,
+        turns: &Turns<'_, G>,
+    ) -> Option<Vec<Part>>
+        ensures { IfSome result (λ made. All (IsPart self.now) made.items) }
+    {
+        let rows = thread::map_indices(rt, alloc, workers, &|_| self.in_turn(alloc, turns)).ok()?;
+        let mut made = Vec::new(alloc);
+        for row in rows {
+            made.append(&mut row?).ok()?;
+        }
+        made.sort_unstable_by_key(|part| part.number);
+        Some(made)
+    }
+
+    /// The report of all parts in their order, where they make up the text.
+    fn joint(&self, alloc: Global, parts: &[Part]) -> Option<String>
+        requires { All (IsPart self.now) parts.now }
+        ensures { IfSome result (λ report. IsReportOf self.now (string_bytes report)) }
+    {
+        let mut joint = Joint {
+            past: 0,
+            names: BTreeSet::new(alloc),
+            prefixes: 1,
+            report: String::new(alloc),
+        };
+        for part in parts {
+            joint.add(self, part)?;
+        }
+        if parts.is_empty() || joint.past != self.text.len() {
+            return None;
+        }
+        let Joint { report, .. } = joint;
+        Some(report)
     }
 
     /// Whether what stands before that place is whole lines.
@@ -189,38 +277,25 @@ impl<'a> Joint<'a> {
     }
 }
 
-/// The report of a plan's text by so many workers, each of which reads and runs a part of it. None where that is not the way: the text
-/// is short or no plan, the parts may have too many prefixes, or memory runs out.
-pub(crate) fn joined<R: Threads + Sync>(
+/// The report of a plan's text by so many workers, who share its parts. None where that is not the way: the text is short or no plan,
+/// the parts may have too many prefixes, or memory runs out.
+pub(crate) fn joined<R: Threads + Sync, G: Gate>(
     rt: &R,
     alloc: Global,
     task: &Task<'_>,
     workers: usize,
+    gate: &G,
 ) -> Option<String>
     ensures { IfSome result (λ report. IsReportOf task.now (string_bytes report)) }
 {
-    let parts = workers.min(task.text.len() / PART);
+    let parts = workers
+        .saturating_mul(PARTS_EACH)
+        .min(task.text.len() / PART);
     if parts < 2 {
         return None;
     }
-    let made = thread::map_indices(
-        rt,
-        alloc,
-        parts,
-        &|number| task.part(alloc, parts, number),
-    ).ok()?;
-    let mut joint = Joint {
-        past: 0,
-        names: BTreeSet::new(alloc),
-        prefixes: 1,
-        report: String::new(alloc),
-    };
-    for part in &made {
-        joint.add(task, part.as_ref()?)?;
-    }
-    if joint.past != task.text.len() {
-        return None;
-    }
-    let Joint { report, .. } = joint;
-    Some(report)
+    let turns = Turns::new(parts, gate);
+    let made = task.parts(rt, alloc, workers.min(parts), &turns);
+    gate.ended();
+    task.joint(alloc, &made?)
 }

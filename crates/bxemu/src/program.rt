@@ -134,7 +134,7 @@ where
             form,
             ..
         } => {
-            let workers = Workers::new(rt, *workers, *form, &FreeGate).in_parts();
+            let workers = Workers::new(rt, *workers, *form, &FreeGate);
             let ended = campaign(rt, &workers, Task { start, names }, input, output);
             told(&ended, names, errors)
         }

@@ -7,8 +7,8 @@ use std::time::{Clock, Instant};
 /// How many milliseconds the line stands before it is written again.
 const PAUSE: u64 = 100;
 
-/// A gate that rewrites one line of standard error in place: how many chains are done of all, and how many choices are made a
-/// second.
+/// A gate that rewrites one line of standard error in place: how many parts are done of all; or how many chains, and how many choices
+/// are made a second.
 #[derive(Drop)]
 pub struct Progress<'a, R: Clock + Eprint> {
     rt: &'a R,
@@ -16,6 +16,7 @@ pub struct Progress<'a, R: Clock + Eprint> {
     /// Milliseconds since it was opened: when the workers began, and when the line is to be written again.
     began: AtomicU64,
     due: AtomicU64,
+    /// How many parts there are, or chains, and how many of them are done.
     all: AtomicU64,
     done: AtomicU64,
     choices: AtomicU64,
@@ -41,15 +42,31 @@ impl<'a, R: Clock + Eprint> Progress<'a, R> {
         u64::try_from(age.as_millis()).ok()
     }
 
-    /// Writes the line where it is due. One thread at a time finds that it is.
-    fn show(&self, done: u64, choices: u64) {
-        let Some(age) = self.age() else {
+    /// Counts from none on, up to so many.
+    fn count_to(&self, all: usize) {
+        self.all.store(all as u64, Ordering::SeqCst);
+        self.done.store(0, Ordering::SeqCst);
+        self.began.store(self.age().unwrap_or(0), Ordering::SeqCst);
+    }
+
+    /// How many milliseconds ago it was opened, where the line is due. One thread at a time finds that it is.
+    fn due_at(&self) -> Option<u64> {
+        let age = self.age()?;
+        let due = self.due.load(Ordering::SeqCst);
+        (age >= due && self.is_next(due, age.saturating_add(PAUSE))).then_some(age)
+    }
+
+    fn show_parts(&self, done: u64) {
+        if self.due_at().is_some() {
+            let all = self.all.load(Ordering::SeqCst);
+            let _ = eprint!(self.rt; "\r{done} of {all} parts done        ");
+        }
+    }
+
+    fn show_chains(&self, done: u64, choices: u64) {
+        let Some(age) = self.due_at() else {
             return;
         };
-        let due = self.due.load(Ordering::SeqCst);
-        if age < due || !self.is_next(due, age.saturating_add(PAUSE)) {
-            return;
-        }
         let all = self.all.load(Ordering::SeqCst);
         let took = age.saturating_sub(self.began.load(Ordering::SeqCst));
         let rate = a_second(choices, took);
@@ -71,9 +88,8 @@ fn a_second(count: u64, millis: u64) -> u64 {
 
 impl<'a, R: Clock + Eprint + Sync> Gate for Progress<'a, R> {
     fn begun(&self, chains: usize) {
-        self.all.store(chains as u64, Ordering::SeqCst);
-        self.began.store(self.age().unwrap_or(0), Ordering::SeqCst);
-        self.show(0, 0);
+        self.count_to(chains);
+        self.show_chains(0, 0);
     }
 
     fn leased(&self, _worker: usize) {}
@@ -82,7 +98,17 @@ impl<'a, R: Clock + Eprint + Sync> Gate for Progress<'a, R> {
         let done = self.done.fetch_add(1, Ordering::SeqCst);
         let more = piece.choices() as u64;
         let choices = self.choices.fetch_add(more, Ordering::SeqCst);
-        self.show(done.saturating_add(1), choices.saturating_add(more));
+        self.show_chains(done.saturating_add(1), choices.saturating_add(more));
+    }
+
+    fn cut(&self, parts: usize) {
+        self.count_to(parts);
+        self.show_parts(0);
+    }
+
+    fn ran(&self) {
+        let done = self.done.fetch_add(1, Ordering::SeqCst);
+        self.show_parts(done.saturating_add(1));
     }
 
     /// Leaves the line blank, for what is written next.
