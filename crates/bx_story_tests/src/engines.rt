@@ -81,7 +81,7 @@ fn push_line(alloc: Global, failure: &Failure, written: &mut Vec<u8>) -> Result<
 }
 
 /// What was written, and behind it the line of the failure, where there is one. Out of memory is handed on.
-fn with_line(
+pub fn with_line(
     alloc: Global,
     ended: Result<(), Failure>,
     mut written: Vec<u8>,

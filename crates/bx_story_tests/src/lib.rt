@@ -9,6 +9,8 @@ mod drawings;
 #[cfg(test)]
 mod engines;
 #[cfg(test)]
+mod parted;
+#[cfg(test)]
 mod refusals;
 #[cfg(test)]
 mod rows;
