@@ -1,5 +1,6 @@
 -- What was taken at a place is a spelling, and what is spelled is taken.
-use Rattle.std.proofs.Common.{◌≡◌, ℕ, ◌+◌, ◌≤◌, Bool, true, false, cond, eqb, List, [], ◌∷◌, ◌++◌, drop, length, Result, Ok, refl, sym, ap, subst, arith, drop_at, le_of_eq}
+use Rattle.std.proofs.Common.{◌≡◌, ℕ, ◌+◌, ◌≤◌, eqb, List, [], ◌∷◌, ◌++◌, drop, length, Result, Ok, refl, sym, ap, ◌∙◌, subst, arith, drop_at, le_of_eq}
+use Rattle.std.proofs.lemmas.Bool.{cond_both}
 use Rattle.bx_terms.specs.declared.faults.Fault.{Fault}
 use Rattle.bx_text.specs.Place.{Place, after}
 use Rattle.bx_text.specs.Token.{Token}
@@ -20,30 +21,19 @@ abbrev pub Found : Place → Token → List ℕ → Type 0
 Found p t rest = (x : Token × Place) × (token_at p ≡ Ok x) × (length x.1.rest ≤ length rest) × (length x.1.rest ≡ length rest → meant x.0 ≡ t)
 
 -- bytes with no line feed
+pub spelled_at : (p : Place) (bytes rest : List ℕ) (n : ℕ) (u : Token) → p.rest ≡ bytes ++ rest → Spelling bytes (meant u) → MayFollow (meant u) rest → lines bytes ≡ 0 → n ≡ length bytes → Spelled p (u, after p n)
+spelled_at p bytes rest n u t s f l e =
+    let gone : drop n p.rest ≡ rest = ap (λ ws. drop n ws) t ∙ drop_at bytes rest n (sym e) in
+    (bytes, (t ∙ ap (λ ys. bytes ++ ys) (sym gone), s, subst (MayFollow (meant u)) (sym gone) f), (ap (λ m. p.at + m) e, omega (arith, l)))
+
 pub spelled_on : (bytes rest : List ℕ) (at line n : ℕ) (u : Token) (x : Token × Place) → Spelling bytes (meant u) → MayFollow (meant u) rest → lines bytes ≡ 0 → n ≡ length bytes
     → ◌≡◌ {A = Result (Token × Place) Fault} (Ok (u, after (on (bytes ++ rest) at line) n)) (Ok x) → Spelled (on (bytes ++ rest) at line) x
 spelled_on bytes rest at line n u x s f l e h =
-    subst (Spelled (on (bytes ++ rest) at line)) (ok_same (u, after (on (bytes ++ rest) at line) n) x h)
-    (bytes, (ap (λ ys. bytes ++ ys) (sym gone), s, subst (MayFollow (meant u)) (sym gone) f), (ap (λ m. at + m) e, lined))
-  where
-    gone : drop n (bytes ++ rest) ≡ rest
-    gone = drop_at bytes rest n (sym e)
-
-    lined : line ≡ line + lines bytes
-    lined = omega (arith, l)
+    subst (Spelled (on (bytes ++ rest) at line)) (ok_same (u, after (on (bytes ++ rest) at line) n) x h) (spelled_at (on (bytes ++ rest) at line) bytes rest n u refl s f l e)
 
 pub found_exact : (p q : Place) (u t : Token) (rest : List ℕ) → token_at p ≡ Ok (u, q) → q.rest ≡ rest → meant u ≡ t → Found p t rest
 found_exact p q u t rest h e m = ((u, q), h, le_of_eq (ap length e), λ _. m)
 
--- one of two, by a test
-pub pick : {K R X : Type 0} (read : K → Result X Fault) (x : X) (t : Bool) (k l : K) → (t ≡ true → read k ≡ Ok x → R) → (t ≡ false → read l ≡ Ok x → R) → read (cond t k l) ≡ Ok x → R
-pick read x true k l f g h = f refl h
-pick read x false k l f g h = g refl h
-
 pub lines-append : (xs ys : List ℕ) → lines (xs ++ ys) ≡ lines xs + lines ys
 lines-append [] ys = omega arith
-lines-append (x ∷ xs) ys = by_feed (eqb x 10) (lines (xs ++ ys)) (lines xs) (lines ys) (lines-append xs ys)
-  where
-    by_feed : (t : Bool) (a b c : ℕ) → a ≡ b + c → cond t (1 + a) a ≡ cond t (1 + b) b + c
-    by_feed true a b c e = omega arith
-    by_feed false a b c e = e
+lines-append (x ∷ xs) ys = cond_both (eqb x 10) _ _ (λ a. a ≡ lines (x ∷ xs) + lines ys) (λ e. rw e (omega (arith, lines-append xs ys))) (λ e. rw e (lines-append xs ys))

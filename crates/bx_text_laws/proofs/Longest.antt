@@ -1,13 +1,10 @@
 -- What is taken is the longest spelling.
 use Rattle.std.proofs.Common.{◌≡◌, ℕ, ◌+◌, ◌≤◌, Bool, true, false, cond, eqb, leb, ◌||◌, ◌↔◌, pos, neg_ℤ, List, [], ◌∷◌, ◌++◌, take, drop, length, Result, Ok, Err, refl, sym, ap, ◌∙◌, subst, arith, drop_at, take_at, length-append}
-use Rattle.std.specs.List.{list_all}
 use Rattle.std.specs.Str.Lossy.{utf8_valid_len}
-use Rattle.std.proofs.lemmas.Bool.{eqb-true, and_parts}
-use Rattle.std.proofs.lemmas.Bool.Decides.{nat_tests}
+use Rattle.std.proofs.lemmas.Bool.{eqb-true}
 use Rattle.bx_terms.specs.declared.faults.Fault.{Fault}
 use Rattle.bx_terms.specs.declared.faults.Fault.TheVariants.{BadToken}
 use Rattle.bx_text.specs.Bytes.{is_digit, is_lower}
-use Rattle.bx_text.specs.Number.{number, decimal, signed}
 use Rattle.bx_text.specs.Place.{Place, after}
 use Rattle.bx_text.specs.Named as named
 use Rattle.bx_text.specs.Token as token
@@ -20,6 +17,7 @@ use Rattle.bx_text_laws.proofs.Frame.{on, Spelled, Found, found_exact}
 use Rattle.bx_text_laws.proofs.Marks.{one_byte, two_bytes, a_stop, ends_there}
 use Rattle.bx_text_laws.proofs.Numbers.{a_number}
 use Rattle.bx_text_laws.proofs.NumbersFound.{integer_found, float_found}
+pub use Rattle.bx_text_laws.proofs.Runs.{unsigned}
 use Rattle.bx_text_laws.proofs.Runs.{digits_of}
 use Rattle.bx_text_laws.proofs.Words.{a_letter, an_accent, no_foreign, atom_found, fun_found}
 use Rattle.bx_text_laws.proofs.Quotes.{a_quoted_atom, a_string, quoted_found, string_found}
@@ -75,37 +73,12 @@ sound p x h = by_list p.rest p.at p.line x h
     by_list (b ∷ bs) at line x h = by_byte b bs at line x h
 
 -- what is spelled is taken
-not_minus : (d : ℕ) → is_digit d ≡ true → eqb d 45 ≡ false
-not_minus d e = grind (arith, nat_tests)
-
-pub unsigned : (ds : List ℕ) → list_all is_digit ds ≡ true → number ds ≡ pos (decimal ds)
-unsigned [] a = refl
-unsigned (d ∷ ds) a = ap (λ t. cond t (signed true (decimal ds)) (signed false (decimal (d ∷ ds)))) (not_minus d (and_parts (is_digit d) (list_all is_digit ds) a).0)
-
 stop_found : (rest : List ℕ) (at line : ℕ) → MayFollow named.full_stop rest → Found (on (46 ∷ rest) at line) named.full_stop rest
 stop_found rest at line f =
     found_exact (on (46 ∷ rest) at line) (after (on (46 ∷ rest) at line) 1) named.full_stop named.full_stop rest
     (ap (λ t. cond {A = Result (Token × Place) Fault} t (Ok (named.full_stop, after (on (46 ∷ rest) at line) 1)) (Err (BadToken line))) (ends_there rest (f refl))) refl refl
 
--- a mark whose bytes are written out
-marked : (p : Place) (n : ℕ) (u : Token) (rest : List ℕ) → token_at p ≡ Ok (u, after p n) → drop n p.rest ≡ rest → meant u ≡ u → Found p u rest
-marked p n u rest h e m = found_exact p (after p n) u u rest h e m
-
 complete : {bytes : List ℕ} {t : Token} → Spelling bytes t → (rest : List ℕ) (at line : ℕ) → MayFollow t rest → Found (on (bytes ++ rest) at line) t rest
-complete open_tuple rest at line f = marked (on (123 ∷ rest) at line) 1 token.open_tuple rest refl refl refl
-complete close_tuple rest at line f = marked (on (125 ∷ rest) at line) 1 named.close_tuple rest refl refl refl
-complete open_list rest at line f = marked (on (91 ∷ rest) at line) 1 token.open_list rest refl refl refl
-complete close_list rest at line f = marked (on (93 ∷ rest) at line) 1 named.close_list rest refl refl refl
-complete open_map rest at line f = marked (on (35 ∷ 123 ∷ rest) at line) 2 token.open_map rest refl refl refl
-complete open_binary rest at line f = marked (on (60 ∷ 60 ∷ rest) at line) 2 token.open_binary rest refl refl refl
-complete close_binary rest at line f = marked (on (62 ∷ 62 ∷ rest) at line) 2 named.close_binary rest refl refl refl
-complete comma rest at line f = marked (on (44 ∷ rest) at line) 1 named.comma rest refl refl refl
-complete bar rest at line f = marked (on (124 ∷ rest) at line) 1 named.bar rest refl refl refl
-complete arrow rest at line f = marked (on (61 ∷ 62 ∷ rest) at line) 2 named.arrow rest refl refl refl
-complete colon rest at line f = marked (on (58 ∷ rest) at line) 1 named.colon rest refl refl refl
-complete slash rest at line f = marked (on (47 ∷ rest) at line) 1 named.slash rest refl refl refl
-complete open_parenthesis rest at line f = marked (on (40 ∷ rest) at line) 1 named.parenthesis rest refl refl refl
-complete close_parenthesis rest at line f = marked (on (41 ∷ rest) at line) 1 named.parenthesis rest refl refl refl
 complete full_stop rest at line f = stop_found rest at line f
 complete the_word_fun rest at line f = fun_found rest at line
 complete (integer {ds = ds} {n = n} k) rest at line f =
@@ -121,6 +94,8 @@ complete (float {ds = ds} {fs = fs} mi (m, k) (n, l) ex) rest at line f =
 complete (bare_atom x cs {bytes = bytes} small a utf8 other) rest at line f = atom_found x cs bytes rest at line small a utf8 other
 complete (quoted_atom {cs = cs} {vs = vs} {bytes = bytes} q utf8) rest at line f = quoted_found cs vs bytes rest at line q utf8
 complete (string {cs = cs} {vs = vs} {bytes = bytes} q utf8) rest at line f = string_found cs vs bytes rest at line q utf8
+complete {bytes = bytes} {t = t} s rest at line f =
+    let p : Place = on (bytes ++ rest) at line in found_exact p (after p (length bytes)) t t rest refl (drop_at bytes rest (length bytes) refl) refl
 
 pub found : (p : Place) (bytes : List ℕ) (t : Token) (rest : List ℕ) → Begins p.rest bytes t rest → Found p t rest
 found p bytes t rest (e, s, f) = subst (λ text. Found (on text p.at p.line) t rest) (sym e) (complete s rest p.at p.line f)

@@ -1,25 +1,21 @@
 -- What stands in a text, put where other bytes follow it.
-use Rattle.std.proofs.Common.{◌≡◌, ◌≢◌, ℕ, ◌+◌, ◌-◌, ◌≤◌, ◌<◌, false, cond, eqb, List, [], ◌∷◌, ◌++◌, take, length, Ok, refl, sym, ap, ◌∙◌, subst, arith, append_assoc, take_at, length-append, inl, inr, encode_utf8_all}
-use Rattle.std.specs.List.{prefix_len}
+use Rattle.std.proofs.Common.{◌≡◌, ◌≢◌, ℕ, ◌+◌, ◌-◌, ◌≤◌, ◌<◌, true, List, [], ◌∷◌, ◌++◌, take, length, refl, sym, ap, ◌∙◌, subst, arith, append_assoc, take_at, length-append, inl, inr, encode_utf8_all}
 use Rattle.std.specs.Char.{encode_utf8}
 use Rattle.std.proofs.lemmas.Bool.Decides.{nat_tests}
-use Rattle.bx_text.specs.Bytes.{is_digit, is_name}
 use Rattle.bx_text.specs.Place.{Place}
 use Rattle.bx_text.specs.Named as named
-use Rattle.bx_text.specs.Token as token
 use Rattle.bx_text.specs.Token.{Token, Lexeme}
-use Rattle.bx_text.specs.Lexing.{token_at, point_len, name_len, accent_len}
 use Rattle.bx_text.specs.Terms.{taken}
 use Rattle.bx_text_laws.specs.Blanks.{Blank, nothing, space, comment, NoBlank, LineEnds, Passes}
 use Rattle.bx_text_laws.specs.Characters.{IsSpace}
-use Rattle.bx_text_laws.specs.Spelling.{Spelling, open_tuple, close_tuple, open_list, close_list, open_map, open_binary, close_binary, comma, bar, arrow, colon, slash, full_stop, the_word_fun, integer, negative, float, bare_atom, quoted_atom, string}
-use Rattle.bx_text_laws.specs.Tokens.{lines, meant, NoLonger, Longest}
+use Rattle.bx_text_laws.specs.Spelling.{Spelling, close_tuple, close_list, close_binary, comma, bar, arrow, colon, slash, integer, float, bare_atom}
+use Rattle.bx_text_laws.specs.Tokens.{lines, NoLonger}
 use Rattle.bx_text_laws.specs.Terms.{Stood, NoQuote, NoText}
 use Rattle.bx_text_laws.proofs.Runs.{digits_of}
 use Rattle.bx_text_laws.proofs.Free.{Shape, shape}
 use Rattle.bx_text_laws.proofs.Longest.{taken_is_longest}
 use Rattle.bx_text_laws.proofs.Printing.{Delimits, Exactly}
-use Rattle.bx_text_laws.proofs.Exact.{Solid, solid_exact, exact}
+use Rattle.bx_text_laws.proofs.Exact.{ends, shuts, shuts_ends, solid_exact, exact}
 
 -- the bytes from p to q; and from each place where they stand before what may follow them, the same is done up to their end
 pub record Run (p q : Place) (May : List ℕ → Type 0) (Do : Place → Place → Type 0) : Type 0 where
@@ -34,29 +30,21 @@ stay p May = record { text = []; rest = refl; size = omega arith; again = λ Y a
 pub under : {p q : Place} {A B : List ℕ → Type 0} {D : Place → Place → Type 0} → ((Y : List ℕ) → B Y → A Y) → Run p q A D → Run p q B D
 under f run = record { text = run.text; rest = run.rest; size = run.size; again = λ Y b p2 e. run.again Y (f Y b) p2 e }
 
-pub doing : {p q : Place} {A : List ℕ → Type 0} {D E : Place → Place → Type 0} → ((p2 q2 : Place) → D p2 q2 → E p2 q2) → Run p q A D → Run p q A E
-doing {D = D} {E = E} f run = record { text = run.text; rest = run.rest; size = run.size; again = λ Y a p2 e. by (run.again Y a p2 e) }
-  where
-    by : {p2 : Place} {Y : List ℕ} → ((q2 : Place) × D p2 q2 × (q2.rest ≡ Y) × (q2.at ≡ p2.at + length run.text)) → (q2 : Place) × E p2 q2 × (q2.rest ≡ Y) × (q2.at ≡ p2.at + length run.text)
-    by (q2, d, r, s) = (q2, f _ q2 d, r, s)
+pub doing : {p q : Place} {A : List ℕ → Type 0} {D E : Place → Place → Type 0} → Run p q A D → ((p2 q2 : Place) → D p2 q2 → E p2 q2) → Run p q A E
+doing run f = record { text = run.text; rest = run.rest; size = run.size; again = λ Y a p2 e. let (q2, d, r, s) = run.again Y a p2 e in (q2, f p2 q2 d, r, s) }
 
 -- one behind the other
 pub then : {p q r : Place} {A B : List ℕ → Type 0} {D E : Place → Place → Type 0} → (one : Run p q A D) → (two : Run q r B E) → ((Y : List ℕ) → B Y → A (two.text ++ Y))
     → Run p r B (λ p2 r2. (q2 : Place) × D p2 q2 × E q2 r2)
-then {p = p} {q = q} {r = r} {B = B} {D = D} {E = E} one two fits = record {
+then {r = r} one two fits = record {
   text = one.text ++ two.text;
   rest = one.rest ∙ ap (λ ws. one.text ++ ws) two.rest ∙ sym (append_assoc one.text two.text r.rest);
   size = omega (arith, one.size, two.size, length-append one.text two.text);
-  again = λ Y b p2 e. on Y b p2 (one.again (two.text ++ Y) (fits Y b) p2 (e ∙ append_assoc one.text two.text Y));
+  again = λ Y b p2 e.
+      let (q2, d, left, long) = one.again (two.text ++ Y) (fits Y b) p2 (e ∙ append_assoc one.text two.text Y) in
+      let (r2, f, last, size) = two.again Y b q2 left in
+      (r2, (q2, d, f), last, omega (arith, long, size, length-append one.text two.text));
 }
-  where
-    on : (Y : List ℕ) → B Y → (p2 : Place) → ((q2 : Place) × D p2 q2 × (q2.rest ≡ two.text ++ Y) × (q2.at ≡ p2.at + length one.text))
-        → (r2 : Place) × ((q2 : Place) × D p2 q2 × E q2 r2) × (r2.rest ≡ Y) × (r2.at ≡ p2.at + length (one.text ++ two.text))
-    on Y b p2 (q2, d, left, long) = behind (two.again Y b q2 left)
-      where
-        behind : ((r2 : Place) × E q2 r2 × (r2.rest ≡ Y) × (r2.at ≡ q2.at + length two.text))
-            → (r2 : Place) × ((q2 : Place) × D p2 q2 × E q2 r2) × (r2.rest ≡ Y) × (r2.at ≡ p2.at + length (one.text ++ two.text))
-        behind (r2, f, last, size) = (r2, (q2, d, f), last, omega (arith, long, size, length-append one.text two.text))
 
 -- a token by its bytes
 pub record Stepped (p : Place) (l : Lexeme) : Type 0 where
@@ -124,88 +112,40 @@ token_run p l s = record {
   text = s.blank ++ s.bytes;
   rest = s.rest ∙ sym (append_assoc s.blank s.bytes l.after.rest);
   size = omega (arith, s.size, s.from, length-append s.blank s.bytes);
-  again = λ Y x p2 e. by_exact Y p2 (e ∙ append_assoc s.blank s.bytes Y) (x (p2.at + length s.blank) (p2.line + lines s.blank));
+  again = λ Y x p2 e.
+      let here : Place = record { rest = s.bytes ++ Y; at = p2.at + length s.blank; line = p2.line + lines s.blank } in
+      let (u, q, h, r, mean) = x here.at here.line in
+      let (bs, b, more, st) = (taken_is_longest here l.token q).0 (u, h, mean) in
+      let some : 0 < length s.bytes = some_bytes s.spells in
+      let same : length bs ≡ length s.bytes = omega (arith, ap length b.0, length-append bs q.rest, length-append s.bytes Y, ap length r) in
+      let at_is : q.at ≡ p2.at + length s.blank + length s.bytes = omega (arith, st.0, same) in
+      let passes : Passes p2 here =
+      (s.blank, e ∙ append_assoc s.blank s.bytes Y, blank_again s.blank s.bytes l.after.rest Y some s.blanks, solid_again s.bytes l.after.rest Y some s.solid, (refl, refl)) in
+      let m : Lexeme = record { token = l.token; from = here.at; line = here.line; begin = here.rest; after = q } in
+      (q, (m, (here, passes, (bs, b, more, st), refl, refl, refl), refl, refl, ap (λ ws. s.bytes ++ ws) (sym r), at_is), r, omega (arith, at_is, length-append s.blank s.bytes));
 }
-  where
-    here : List ℕ → Place → Place
-    here Y p2 = record { rest = s.bytes ++ Y; at = p2.at + length s.blank; line = p2.line + lines s.blank }
-
-    by_exact : (Y : List ℕ) (p2 : Place) → p2.rest ≡ s.blank ++ (s.bytes ++ Y) → ((u : Token) × (q : Place) × (token_at (here Y p2) ≡ Ok (u, q)) × (q.rest ≡ Y) × (meant u ≡ l.token))
-        → (q2 : Place) × Copied l s.bytes p2 q2 × (q2.rest ≡ Y) × (q2.at ≡ p2.at + length (s.blank ++ s.bytes))
-    by_exact Y p2 e (u, q, h, r, mean) = by_longest ((taken_is_longest (here Y p2) l.token q).0 (u, h, mean))
-      where
-        by_longest : Longest (here Y p2) l.token q → (q2 : Place) × Copied l s.bytes p2 q2 × (q2.rest ≡ Y) × (q2.at ≡ p2.at + length (s.blank ++ s.bytes))
-        by_longest (bs, b, more, st) =
-            let some : 0 < length s.bytes = some_bytes s.spells in
-            let same : length bs ≡ length s.bytes = omega (arith, ap length b.0, length-append bs q.rest, length-append s.bytes Y, ap length r) in
-            let at_is : q.at ≡ p2.at + length s.blank + length s.bytes = omega (arith, st.0, same) in
-            let passes : Passes p2 (here Y p2) = (s.blank, e, blank_again s.blank s.bytes l.after.rest Y some s.blanks, solid_again s.bytes l.after.rest Y some s.solid, (refl, refl)) in
-            let m : Lexeme = record { token = l.token; from = p2.at + length s.blank; line = p2.line + lines s.blank; begin = s.bytes ++ Y; after = q } in
-            let stood : Stood p2 m = (here Y p2, passes, (bs, b, more, st), refl, refl, refl) in
-            (q, (m, stood, refl, refl, ap (λ ws. s.bytes ++ ws) (sym r), at_is), r, omega (arith, at_is, length-append s.blank s.bytes))
-
--- a token that ends what stands before it
-pub record Closer (t : Token) : Type 0 where
-  pub solid : Solid t
-  pub text : (b : token.Body) → t ≢ token.text b
-  pub tuple : t ≢ token.open_tuple
-  pub list : t ≢ token.open_list
-  pub map : t ≢ token.open_map
-  pub binary : t ≢ token.open_binary
-  pub parenthesis : t ≢ named.parenthesis
 
 pub record Plain (Y : List ℕ) : Type 0 where
   pub delimits : Delimits Y
   pub quote : NoQuote Y
 
-mark_plain : (b : ℕ) (Y : List ℕ) → Delimits (b ∷ Y) → b ≢ 34 → Plain (b ∷ Y)
-mark_plain b Y d n = record { delimits = d; quote = n }
-
-closer_plain : {bytes : List ℕ} {t : Token} → Spelling bytes t → Closer t → (Y : List ℕ) → Plain (bytes ++ Y)
-closer_plain open_tuple c Y = absurd (c.tuple refl)
-closer_plain close_tuple c Y = mark_plain 125 Y (record { digits = refl; fraction = refl; name = refl }) (λ e. omega arith)
-closer_plain open_list c Y = absurd (c.list refl)
-closer_plain close_list c Y = mark_plain 93 Y (record { digits = refl; fraction = refl; name = refl }) (λ e. omega arith)
-closer_plain open_map c Y = absurd (c.map refl)
-closer_plain open_binary c Y = absurd (c.binary refl)
-closer_plain close_binary c Y = mark_plain 62 (62 ∷ Y) (record { digits = refl; fraction = refl; name = refl }) (λ e. omega arith)
-closer_plain comma c Y = mark_plain 44 Y (record { digits = refl; fraction = refl; name = refl }) (λ e. omega arith)
-closer_plain bar c Y = mark_plain 124 Y (record { digits = refl; fraction = refl; name = refl }) (λ e. omega arith)
-closer_plain arrow c Y = mark_plain 61 (62 ∷ Y) (record { digits = refl; fraction = refl; name = refl }) (λ e. omega arith)
-closer_plain colon c Y = mark_plain 58 Y (record { digits = refl; fraction = refl; name = refl }) (λ e. omega arith)
-closer_plain slash c Y = mark_plain 47 Y (record { digits = refl; fraction = refl; name = refl }) (λ e. omega arith)
-closer_plain full_stop c Y = absurd (c.solid.stop refl)
-closer_plain the_word_fun c Y = absurd (c.solid.word refl)
-closer_plain (integer k) c Y = absurd (c.solid.integer _ refl)
-closer_plain (negative k) c Y = absurd (c.solid.integer _ refl)
-closer_plain (float mi a b ex) c Y = absurd (c.solid.float refl)
-closer_plain (bare_atom x cs small a utf8 other) c Y = absurd (c.solid.atom _ refl)
-closer_plain (quoted_atom q utf8) c Y = absurd (c.solid.atom _ refl)
-closer_plain (string q utf8) c Y = absurd (c.text _ refl)
-closer_plain s c Y = absurd (c.parenthesis refl)
+shut_plain : {bytes : List ℕ} {t : Token} → Spelling bytes t → shuts t ≡ true → (Y : List ℕ) → Plain (bytes ++ Y)
+shut_plain close_tuple c Y = record { delimits = record { digits = refl; fraction = refl; name = refl }; quote = λ e. omega arith }
+shut_plain close_list c Y = record { delimits = record { digits = refl; fraction = refl; name = refl }; quote = λ e. omega arith }
+shut_plain close_binary c Y = record { delimits = record { digits = refl; fraction = refl; name = refl }; quote = λ e. omega arith }
+shut_plain comma c Y = record { delimits = record { digits = refl; fraction = refl; name = refl }; quote = λ e. omega arith }
+shut_plain bar c Y = record { delimits = record { digits = refl; fraction = refl; name = refl }; quote = λ e. omega arith }
+shut_plain arrow c Y = record { delimits = record { digits = refl; fraction = refl; name = refl }; quote = λ e. omega arith }
+shut_plain colon c Y = record { delimits = record { digits = refl; fraction = refl; name = refl }; quote = λ e. omega arith }
+shut_plain slash c Y = record { delimits = record { digits = refl; fraction = refl; name = refl }; quote = λ e. omega arith }
+shut_plain s c Y = cc
 
 -- a space delimits
-low_digit : (b : ℕ) → b ≤ 32 → is_digit b ≡ false
-low_digit b l = grind (arith, nat_tests)
-
-low_point : (b : ℕ) → b ≤ 32 → eqb b 46 ≡ false
-low_point b l = grind (arith, nat_tests)
-
-low_name : (b : ℕ) → b ≤ 32 → is_name b ≡ false
-low_name b l = grind (arith, nat_tests)
-
-low_accent : (b : ℕ) → b ≤ 32 → eqb b 195 ≡ false
-low_accent b l = grind (arith, nat_tests)
-
 pub low_delimits : (b : ℕ) (bs : List ℕ) → b ≤ 32 → Delimits (b ∷ bs)
-low_delimits b bs l = record {
-  digits = ap (λ t. cond t (1 + prefix_len is_digit bs) 0) (low_digit b l);
-  fraction = ap (λ t. cond t (point_len (prefix_len is_digit bs)) 0) (low_point b l);
-  name = ap (λ t. cond t (1 + name_len bs) (cond (eqb b 195) (accent_len bs) 0)) (low_name b l) ∙ ap (λ t. cond t (accent_len bs) 0) (low_accent b l);
-}
+low_delimits b bs l = record { digits = grind (arith, nat_tests); fraction = grind (arith, nat_tests); name = grind (arith, nat_tests) }
 
-pub blank_delimits : {blank rest : List ℕ} → Blank blank rest → (Z : List ℕ) → Delimits Z → Delimits (blank ++ Z)
-blank_delimits nothing Z d = d
+pub blank_delimits : {blank rest : List ℕ} → Blank blank rest → (Z : List ℕ) → (blank ≡ [] → Delimits Z) → Delimits (blank ++ Z)
+blank_delimits nothing Z d = d refl
 blank_delimits (space {b = b} {bytes = bytes} s k) Z d = low_delimits b (bytes ++ Z) s
 blank_delimits (comment text o l k) Z d = record { digits = refl; fraction = refl; name = refl }
 
@@ -214,12 +154,12 @@ pub record Closes (Y : List ℕ) : Type 0 where
   pub delimits : Delimits Y
   pub text : (p : Place) → p.rest ≡ Y → NoText p
 
-pub closing : (p : Place) (m : Lexeme) → (s : Stepped p m) → Closer m.token → (Z : List ℕ) → Closes (s.blank ++ (s.bytes ++ Z))
+pub closing : (p : Place) (m : Lexeme) → (s : Stepped p m) → shuts m.token ≡ true → (Z : List ℕ) → Closes (s.blank ++ (s.bytes ++ Z))
 closing p m s c Z =
     let some : 0 < length s.bytes = some_bytes s.spells in
-    let plain = closer_plain s.spells c Z in
+    let plain = shut_plain s.spells c Z in
     record {
-      delimits = blank_delimits s.blanks (s.bytes ++ Z) plain.delimits;
+      delimits = blank_delimits s.blanks (s.bytes ++ Z) (λ _. plain.delimits);
       text = λ p2 e. (
         record { rest = s.bytes ++ Z; at = p2.at + length s.blank; line = p2.line + lines s.blank },
         (s.blank, e, blank_again s.blank s.bytes m.after.rest Z some s.blanks, solid_again s.bytes m.after.rest Z some s.solid, (refl, refl)),
@@ -246,20 +186,20 @@ abbrev pub Any : List ℕ → Type 0
 Any Y = Unit {0}
 
 -- a mark
-pub shut_token : {May : List ℕ → Type 0} (p : Place) (m : Lexeme) → (st : Stood p m) → Closer m.token → Shut p m.after May (Copied m (stepped p m st).bytes)
+pub shut_token : {May : List ℕ → Type 0} (p : Place) (m : Lexeme) → (st : Stood p m) → shuts m.token ≡ true → Shut p m.after May (Copied m (stepped p m st).bytes)
 unfolding under stepped token_run
 shut_token p m st c =
     let s = stepped p m st in
-    record { run = under (λ Y a. solid_exact s.spells c.solid Y) (token_run p m s); shut = λ Y a. subst Closes (sym (append_assoc s.blank s.bytes Y)) (closing p m s c Y) }
+    record { run = under (λ Y a. solid_exact s.spells (shuts_ends m.token c) Y) (token_run p m s); shut = λ Y a. subst Closes (sym (append_assoc s.blank s.bytes Y)) (closing p m s c Y) }
 
 -- a mark, and what follows it
-pub shut_more : {May : List ℕ → Type 0} {E : Place → Place → Type 0} {r : Place} (p : Place) (m : Lexeme) → (st : Stood p m) → Closer m.token → Run m.after r May E
+pub shut_more : {May : List ℕ → Type 0} {E : Place → Place → Type 0} {r : Place} (p : Place) (m : Lexeme) → (st : Stood p m) → shuts m.token ≡ true → Run m.after r May E
     → Shut p r May (λ p2 r2. (q2 : Place) × Copied m (stepped p m st).bytes p2 q2 × E q2 r2)
 unfolding then stepped token_run
 shut_more p m st c two =
     let s = stepped p m st in
     let grouped : (Y : List ℕ) → ((s.blank ++ s.bytes) ++ two.text) ++ Y ≡ s.blank ++ (s.bytes ++ (two.text ++ Y)) = λ Y. simp append_assoc in
-    record { run = then (token_run p m s) two (λ Y a. solid_exact s.spells c.solid (two.text ++ Y)); shut = λ Y a. subst Closes (sym (grouped Y)) (closing p m s c (two.text ++ Y)) }
+    record { run = then (token_run p m s) two (λ Y a. solid_exact s.spells (shuts_ends m.token c) (two.text ++ Y)); shut = λ Y a. subst Closes (sym (grouped Y)) (closing p m s c (two.text ++ Y)) }
 
 -- a token before such a mark
 pub before_shut : {May : List ℕ → Type 0} {E : Place → Place → Type 0} {r : Place} (p : Place) (m : Lexeme) → (st : Stood p m) → m.token ≢ named.full_stop → Shut m.after r May E
@@ -267,7 +207,7 @@ pub before_shut : {May : List ℕ → Type 0} {E : Place → Place → Type 0} {
 before_shut p m st n two = let s = stepped p m st in then (token_run p m s) two.run (λ Y a. exact s.spells n (two.run.text ++ Y) (two.shut Y a).delimits)
 
 -- a token that nothing goes on in, and what follows it
-pub solid_before : {May : List ℕ → Type 0} {E : Place → Place → Type 0} {r : Place} (p : Place) (m : Lexeme) → (st : Stood p m) → Solid m.token → Run m.after r May E
+pub solid_before : {May : List ℕ → Type 0} {E : Place → Place → Type 0} {r : Place} (p : Place) (m : Lexeme) → (st : Stood p m) → ends m.token ≡ true → Run m.after r May E
     → Run p r May (λ p2 r2. (q2 : Place) × Copied m (stepped p m st).bytes p2 q2 × E q2 r2)
 solid_before p m st sol two = let s = stepped p m st in then (token_run p m s) two (λ Y a. solid_exact s.spells sol (two.text ++ Y))
 
@@ -276,9 +216,9 @@ pub before_text : {May : List ℕ → Type 0} {E : Place → Place → Type 0} {
 unfolding stepped before_shut then token_run
 before_text p m st n two = refl
 
-pub shutting : {p q : Place} {A : List ℕ → Type 0} {D E : Place → Place → Type 0} → ((p2 q2 : Place) → D p2 q2 → E p2 q2) → Shut p q A D → Shut p q A E
+pub shutting : {p q : Place} {A : List ℕ → Type 0} {D E : Place → Place → Type 0} → Shut p q A D → ((p2 q2 : Place) → D p2 q2 → E p2 q2) → Shut p q A E
 unfolding doing
-shutting f s = record { run = doing f s.run; shut = s.shut }
+shutting s f = record { run = doing s.run f; shut = s.shut }
 
 pub anywhere : {p q : Place} {D : Place → Place → Type 0} → Run p q Any D → Run p q Closes D
 anywhere run = under (λ Y c. tt) run

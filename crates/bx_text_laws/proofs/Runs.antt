@@ -1,28 +1,26 @@
 -- Runs of digits.
-use Rattle.std.proofs.Common.{◌≡◌, ℕ, suc, ◌+◌, ◌-◌, ◌*◌, ◌<◌, Bool, true, false, cond, eqb, List, [], ◌∷◌, ◌++◌, length, refl, sym, ap, ◌∙◌, subst, arith, append_assoc, append-nil}
+use Rattle.std.proofs.Common.{◌≡◌, ℕ, ◌+◌, ◌-◌, ◌*◌, ◌<◌, Bool, true, false, cond, eqb, pos, List, [], ◌∷◌, ◌++◌, length, refl, sym, ap, ◌∙◌, subst, arith, append_assoc, append-nil}
 use Rattle.std.specs.List.{fold, list_all, prefix_len}
-use Rattle.std.proofs.lemmas.Bool.{and_parts, and_from}
+use Rattle.std.proofs.lemmas.Bool.{and_parts, and_from, cond_both}
 use Rattle.std.proofs.lemmas.Bool.Decides.{nat_tests}
 use Rattle.std.proofs.lemmas.List.{length-append}
 use Rattle.std.proofs.lemmas.List.Folds.{list_all-append}
 use Rattle.std.proofs.lemmas.List.Sums.{fold-append}
 use Rattle.bx_text.specs.Bytes.{is_digit}
-use Rattle.bx_text.specs.Number.{with_digit, decimal}
+use Rattle.bx_text.specs.Number.{number, with_digit, decimal}
 use Rattle.bx_text_laws.specs.Numerals.{Digit, Numeral, one_digit, digit_more}
 use Rattle.bx_text_laws.specs.Tokens.{lines}
 
 -- the longest run of elements that pass, and what follows it
+abbrev Front : (ℕ → Bool) → List ℕ → ℕ → Type 0
+Front p xs n = (ys zs : List ℕ) × (xs ≡ ys ++ zs) × (list_all p ys ≡ true) × (n ≡ length ys)
+
 pub run_split : (p : ℕ → Bool) (xs : List ℕ) → (ys zs : List ℕ) × (xs ≡ ys ++ zs) × (list_all p ys ≡ true) × (prefix_len p xs ≡ length ys)
 run_split p [] = ([], [], refl, refl, refl)
-run_split p (x ∷ xs) = by_first (p x) refl (run_split p xs)
+run_split p (x ∷ xs) = by (run_split p xs)
   where
-    by_first : (t : Bool) → p x ≡ t → ((ys zs : List ℕ) × (xs ≡ ys ++ zs) × (list_all p ys ≡ true) × (prefix_len p xs ≡ length ys))
-        → (ys zs : List ℕ) × (x ∷ xs ≡ ys ++ zs) × (list_all p ys ≡ true) × (cond t (1 + prefix_len p xs) 0 ≡ length ys)
-    by_first true is (ys, zs, e, a, n) = (x ∷ ys, zs, ap (λ ws. x ∷ ws) e, and_from (p x) (list_all p ys) is a, one_longer (prefix_len p xs) (length ys) n)
-      where
-        one_longer : (m n : ℕ) → m ≡ n → 1 + m ≡ suc n
-        one_longer m n e = omega arith
-    by_first false is rest = ([], x ∷ xs, refl, refl, refl)
+    by : Front p xs (prefix_len p xs) → Front p (x ∷ xs) (cond (p x) (1 + prefix_len p xs) 0)
+    by (ys, zs, e, a, n) = cond_both (p x) _ _ (Front p (x ∷ xs)) (λ is. (x ∷ ys, zs, ap (λ ws. x ∷ ws) e, and_from (p x) (list_all p ys) is a, omega (arith, n))) (λ _. ([], x ∷ xs, refl, refl, refl))
 
 pub run_append : (p : ℕ → Bool) (xs ys : List ℕ) → list_all p xs ≡ true → prefix_len p (xs ++ ys) ≡ length xs + prefix_len p ys
 run_append p [] ys a = omega arith
@@ -66,11 +64,16 @@ digits_of (digit_more {base = b} {n = n} {c = c} {x = x} {cs = cs} k d) e =
     let last : with_digit n c ≡ b * n + x = omega (arith, counts_value c x t, ap (λ b. b * n) e) in
     (push_all is_digit cs c front.0 (counts_digit c x t), fold-append with_digit 0 cs (c ∷ []) ∙ ap (λ m. with_digit m c) value ∙ last, omega (arith, length-append cs (c ∷ [])))
 
-not_feed : (b : ℕ) → is_digit b ≡ true → eqb b 10 ≡ false
-not_feed b e = grind (arith, nat_tests)
-
 pub digit_lines : (ds : List ℕ) → list_all is_digit ds ≡ true → lines ds ≡ 0
 digit_lines [] a = refl
-digit_lines (d ∷ ds) a =
-    let both = and_parts (is_digit d) (list_all is_digit ds) a in
-    ap (λ t. cond t (1 + lines ds) (lines ds)) (not_feed d both.0) ∙ digit_lines ds both.1
+digit_lines (d ∷ ds) a = let both = and_parts (is_digit d) (list_all is_digit ds) a in rw (not_feed d both.0) (digit_lines ds both.1)
+  where
+    not_feed : (b : ℕ) → is_digit b ≡ true → eqb b 10 ≡ false
+    not_feed b e = grind (arith, nat_tests)
+
+pub unsigned : (ds : List ℕ) → list_all is_digit ds ≡ true → number ds ≡ pos (decimal ds)
+unsigned [] a = refl
+unsigned (d ∷ ds) a = rw (not_minus d (and_parts (is_digit d) (list_all is_digit ds) a).0)
+  where
+    not_minus : (d : ℕ) → is_digit d ≡ true → eqb d 45 ≡ false
+    not_minus d e = grind (arith, nat_tests)
