@@ -27,9 +27,6 @@ low bs a = in_utf8 bs (ascii_utf8 bs a)
 one : (b : ℕ) → b < 128 → IsUtf8 (b ∷ [])
 one b l = low (b ∷ []) (l, tt)
 
-two : (b c : ℕ) → b < 128 → c < 128 → IsUtf8 (b ∷ c ∷ [])
-two b c l m = low (b ∷ c ∷ []) (l, (m, tt))
-
 before : (b : ℕ) (bs : List ℕ) → b < 128 → IsUtf8 bs → IsUtf8 (b ∷ bs)
 before b bs l u = IsUtf8-append (b ∷ []) bs (one b l) u
 
@@ -65,22 +62,6 @@ quoted_utf8 : (q : ℕ) (cs : List ℕ) {bytes : List ℕ} → q < 128 → InUtf
 quoted_utf8 q cs {bytes} l u = before q (bytes ++ q ∷ []) l (IsUtf8-append bytes (q ∷ []) (in_utf8 cs u) (one q l))
 
 spelled_utf8 : {bytes : List ℕ} {t : Token} → Spelling bytes t → IsUtf8 bytes
-spelled_utf8 spelling.open_tuple = one 123 (omega arith)
-spelled_utf8 spelling.close_tuple = one 125 (omega arith)
-spelled_utf8 spelling.open_list = one 91 (omega arith)
-spelled_utf8 spelling.close_list = one 93 (omega arith)
-spelled_utf8 spelling.open_map = two 35 123 (omega arith) (omega arith)
-spelled_utf8 spelling.open_binary = two 60 60 (omega arith) (omega arith)
-spelled_utf8 spelling.close_binary = two 62 62 (omega arith) (omega arith)
-spelled_utf8 spelling.comma = one 44 (omega arith)
-spelled_utf8 spelling.bar = one 124 (omega arith)
-spelled_utf8 spelling.arrow = two 61 62 (omega arith) (omega arith)
-spelled_utf8 spelling.colon = one 58 (omega arith)
-spelled_utf8 spelling.slash = one 47 (omega arith)
-spelled_utf8 spelling.open_parenthesis = one 40 (omega arith)
-spelled_utf8 spelling.close_parenthesis = one 41 (omega arith)
-spelled_utf8 spelling.full_stop = one 46 (omega arith)
-spelled_utf8 spelling.the_word_fun = low (codes "fun") (omega arith, (omega arith, (omega arith, tt)))
 spelled_utf8 (spelling.integer k) = numeral_utf8 k
 spelled_utf8 (spelling.negative {ds = ds} k) = before 45 ds (omega arith) (numeral_utf8 k)
 spelled_utf8 (spelling.float {m = m} {ds = ds} {fs = fs} {es = es} h (i, d) (j, f) e) =
@@ -89,6 +70,7 @@ spelled_utf8 (spelling.float {m = m} {ds = ds} {fs = fs} {es = es} h (i, d) (j, 
 spelled_utf8 (spelling.bare_atom c cs h a u o) = in_utf8 (c ∷ cs) u
 spelled_utf8 (spelling.quoted_atom {cs = cs} r u) = quoted_utf8 39 cs (omega arith) u
 spelled_utf8 (spelling.string {cs = cs} r u) = quoted_utf8 34 cs (omega arith) u
+spelled_utf8 {bytes} s = low bytes (omega arith)
 
 -- the text from p to q is in UTF-8
 pub record Clean (p q : Place) : Type 0 where
