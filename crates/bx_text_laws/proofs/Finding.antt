@@ -8,7 +8,7 @@ use Rattle.bx_text.specs.Lexing.{token_at, lexeme_from, lexeme_at}
 use Rattle.bx_text.proofs.Outcomes.{ok_same, bind_ok}
 use Rattle.bx_text_laws.specs.Blanks.{Passes}
 use Rattle.bx_text_laws.specs.Lexemes.{Finds}
-use Rattle.bx_text_laws.specs.Tokens.{meant, Takes, Longest}
+use Rattle.bx_text_laws.specs.Tokens.{meant, Longest}
 use Rattle.bx_text_laws.proofs.Blanking.{skipped_is_blank}
 use Rattle.bx_text_laws.proofs.Longest.{same_place, taken_is_longest}
 
@@ -23,23 +23,17 @@ parts p l h =
     (s.0, t.0, s.1, t.1, ok_same (standing s.0 t.0) l t.2)
 
 found_is : (p q : Place) (t : Token) (r : Place) → Finds p q t r → Passes p q × Longest q t r
-found_is p q t r (l, h, m, a, f, n, b) = by_parts (parts p l h)
-  where
-    by_parts : ((s : Place) × (x : Token × Place) × (skip p ≡ Ok s) × (token_at s ≡ Ok x) × (standing s x ≡ l)) → Passes p q × Longest q t r
-    by_parts (s, x, e, g, is) =
-        let there : s ≡ q = same_place s q (ap (λ (l : Lexeme). l.begin) is ∙ b) (ap (λ (l : Lexeme). l.from) is ∙ f) (ap (λ (l : Lexeme). l.line) is ∙ n) in
-        let passed : Passes p q = (skipped_is_blank p q).0 (e ∙ ap (λ (s : Place). Ok s) there) in
-        let token_is : meant x.0 ≡ t = ap (λ (l : Lexeme). meant l.token) is ∙ m in
-        let end_is : x.1 ≡ r = ap (λ (l : Lexeme). l.after) is ∙ a in
-        let taken : token_at q ≡ Ok (x.0, r) = ap token_at (sym there) ∙ g ∙ ap (λ (r : Place). Ok (x.0, r)) end_is in
-        (passed, (taken_is_longest q t r).0 (x.0, taken, token_is))
+found_is p q t r (l, h, m, a, f, n, b) =
+    let (s, x, e, g, is) = parts p l h in
+    let there : s ≡ q = same_place s q (ap (λ (l : Lexeme). l.begin) is ∙ b) (ap (λ (l : Lexeme). l.from) is ∙ f) (ap (λ (l : Lexeme). l.line) is ∙ n) in
+    let end_is : x.1 ≡ r = ap (λ (l : Lexeme). l.after) is ∙ a in
+    let taken : token_at q ≡ Ok (x.0, r) = ap token_at (sym there) ∙ g ∙ ap (λ (r : Place). Ok (x.0, r)) end_is in
+    ((skipped_is_blank p q).0 (e ∙ ap (λ (s : Place). Ok s) there), (taken_is_longest q t r).0 (x.0, taken, ap (λ (l : Lexeme). meant l.token) is ∙ m))
 
 is_found : (p q : Place) (t : Token) (r : Place) → Passes p q → Longest q t r → Finds p q t r
-is_found p q t r passed longest = by_takes ((taken_is_longest q t r).1 longest)
-  where
-    by_takes : Takes q t r → Finds p q t r
-    by_takes (u, h, m) =
-        (standing q (u, r), ap (λ s. s >>= lexeme_from) ((skipped_is_blank p q).1 passed) ∙ ap (λ s. s >>= λ x. Ok (standing q x)) h, m, refl, refl, refl, refl)
+is_found p q t r passed longest =
+    let (u, h, m) = (taken_is_longest q t r).1 longest in
+    (standing q (u, r), ap (λ s. s >>= lexeme_from) ((skipped_is_blank p q).1 passed) ∙ ap (λ s. s >>= λ x. Ok (standing q x)) h, m, refl, refl, refl, refl)
 
 pub next_is_longest : (p q : Place) (t : Token) (r : Place) → Finds p q t r ↔ (Passes p q × Longest q t r)
 next_is_longest p q t r = (found_is p q t r, λ x. is_found p q t r x.0 x.1)

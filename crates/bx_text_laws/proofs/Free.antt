@@ -29,7 +29,7 @@ high_plain : (q b : ℕ) → q < 128 → 128 ≤ b → (eqb b 92 ≡ false) × (
 high_plain q b l h = (grind (arith, nat_tests), grind (arith, nat_tests), grind (arith, nat_tests))
 
 past_plain : (q b : ℕ) (bs : List ℕ) → eqb b 92 ≡ false → eqb b q ≡ false → free q (b ∷ bs) ≡ free q bs
-past_plain q b bs e f = ap (λ (t : Bool). cond t (freed q bs) (not (eqb b q) && free q bs)) e ∙ ap (λ (t : Bool). not t && free q bs) f
+past_plain q b bs e f = rw (e, f)
 
 free_high : (q : ℕ) (hs bs : List ℕ) → q < 128 → High hs → free q (hs ++ bs) ≡ free q bs
 free_high q [] bs l h = refl
@@ -49,17 +49,17 @@ shape c =
     (λ _. inr (high, (240 + c / 262144, _, refl, omega arith, (omega arith, (omega arith, (omega arith, tt))))))))
 
 free_step : (q c : ℕ) (bs cs : List ℕ) → free q bs ≡ free q cs → freed q bs ≡ freed q cs → free q (c ∷ bs) ≡ free q (c ∷ cs)
-free_step q c bs cs e f = ap (λ (t : Bool). cond (eqb c 92) t (not (eqb c q) && free q bs)) f ∙ ap (λ (t : Bool). cond (eqb c 92) (freed q cs) (not (eqb c q) && t)) e
+free_step q c bs cs e f = cc
 
 -- the same of what stands behind a backslash
 freed_step : (q c : ℕ) (bs cs : List ℕ) → free q bs ≡ free q cs → capped q bs ≡ capped q cs → freed q (c ∷ bs) ≡ freed q (c ∷ cs)
-freed_step q c bs cs e f = ap (λ (t : Bool). cond (eqb c 94) t (free q bs)) f ∙ ap (λ (t : Bool). cond (eqb c 94) (capped q cs) t) e
+freed_step q c bs cs e f = cc
 
 pub past_cap : (q c : ℕ) (cs : List ℕ) → eqb c 94 ≡ false → freed q (c ∷ cs) ≡ free q cs
-past_cap q c cs e = ap (λ (t : Bool). cond t (capped q cs) (free q cs)) e
+past_cap q c cs e = rw e
 
 past_capped : (q c : ℕ) (cs : List ℕ) → eqb c q ≡ false → capped q (c ∷ cs) ≡ free q cs
-past_capped q c cs e = ap (λ (t : Bool). not t && free q cs) e
+past_capped q c cs e = rw e
 
 abbrev Alike : ℕ → List ℕ → List ℕ → Type 0
 Alike q bs cs = (free q bs ≡ free q cs) × (freed q bs ≡ freed q cs) × (capped q bs ≡ capped q cs)
@@ -67,34 +67,33 @@ Alike q bs cs = (free q bs ≡ free q cs) × (freed q bs ≡ freed q cs) × (cap
 -- the bytes are free where the characters are
 free_bytes : (q : ℕ) → q < 128 → (cs : List ℕ) → Alike q (encode_utf8_all cs) cs
 free_bytes q l [] = (refl, refl, refl)
-free_bytes q l (c ∷ cs) = by_shape (shape c) (free_bytes q l cs)
-  where
-    X : List ℕ
-    X = encode_utf8_all cs
-
-    by_shape : Shape c (encode_utf8 c) → Alike q X cs → Alike q (encode_utf8 c ++ X) (c ∷ cs)
-    by_shape (inl (low, e)) (a, b, d) =
-        subst (λ bytes. Alike q (bytes ++ X) (c ∷ cs)) (sym e) (free_step q c X cs a b, freed_step q c X cs a d, ap (λ (t : Bool). not (eqb c q) && t) a)
-    by_shape (inr (high, (b, hs, e, first, rest))) (a, z, d) =
-        let plain = high_plain q c l high in
-        let lead = high_plain q b l first in
-        let tail : free q (hs ++ X) ≡ free q cs = free_high q hs X l rest ∙ a in
-        subst (λ bytes. Alike q (bytes ++ X) (c ∷ cs)) (sym e) (
-          past_plain q b (hs ++ X) lead.0 lead.1 ∙ tail ∙ sym (past_plain q c cs plain.0 plain.1),
-          past_cap q b (hs ++ X) lead.2 ∙ tail ∙ sym (past_cap q c cs plain.2),
-          past_capped q b (hs ++ X) lead.1 ∙ tail ∙ sym (past_capped q c cs plain.1),
-        )
+free_bytes q l (c ∷ cs) =
+    let X : List ℕ = encode_utf8_all cs in
+    let (a, b, d) = free_bytes q l cs in
+    elim (shape c) [
+      inl s ↦ subst (λ bytes. Alike q (bytes ++ X) (c ∷ cs)) (sym s.1) (free_step q c X cs a b, freed_step q c X cs a d, ap (λ (t : Bool). not (eqb c q) && t) a)
+      | inr s ↦
+          let (b, hs, e, first, rest) = s.1 in
+          let plain = high_plain q c l s.0 in
+          let lead = high_plain q b l first in
+          let tail : free q (hs ++ X) ≡ free q cs = free_high q hs X l rest ∙ a in
+          subst (λ bytes. Alike q (bytes ++ X) (c ∷ cs)) (sym e) (
+            past_plain q b (hs ++ X) lead.0 lead.1 ∙ tail ∙ sym (past_plain q c cs plain.0 plain.1),
+            past_cap q b (hs ++ X) lead.2 ∙ tail ∙ sym (past_cap q c cs plain.2),
+            past_capped q b (hs ++ X) lead.1 ∙ tail ∙ sym (past_capped q c cs plain.1),
+          )
+    ]
 
 pub free_text : (q : ℕ) (cs : List ℕ) → q < 128 → free q (encode_utf8_all cs) ≡ free q cs
 free_text q cs l = (free_bytes q l cs).0
 
 -- where the bytes between quotes end
 pub len_cond : (q b : ℕ) (bs : List ℕ) (t u : Bool) → eqb b q ≡ t → eqb b 92 ≡ u → body_len q (b ∷ bs) ≡ cond t 0 (cond u (1 + escaped_len q bs) (1 + body_len q bs))
-len_cond q b bs t u e f = ap (λ (t : Bool). cond t 0 (cond (eqb b 92) (1 + escaped_len q bs) (1 + body_len q bs))) e ∙ ap (λ (u : Bool). cond t 0 (cond u (1 + escaped_len q bs) (1 + body_len q bs))) f
+len_cond q b bs t u e f = rw (e, f)
 
 -- free bytes go on to the quote
 quote_len : (q : ℕ) (zs : List ℕ) → body_len q (q ∷ zs) ≡ 0
-quote_len q zs = ap (λ (t : Bool). cond t 0 (cond (eqb q 92) (1 + escaped_len q zs) (1 + body_len q zs))) (eq-eqb q q refl)
+quote_len q zs = rw (eq-eqb q q refl)
 
 pub slash_quote : (q b : ℕ) → q ≢ 92 → eqb b 92 ≡ true → eqb b q ≡ false
 slash_quote q b n e = grind (arith, nat_tests)

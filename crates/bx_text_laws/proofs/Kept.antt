@@ -1,5 +1,5 @@
 -- What is kept as it was written stands in each text where what follows does not go on in it.
-use Rattle.std.proofs.Common.{◌≡◌, ℕ, ◌+◌, List, [], ◌++◌, length, refl, sym, ap, ◌∙◌, subst, arith}
+use Rattle.std.proofs.Common.{◌≡◌, ℕ, List, [], ◌++◌, refl, sym, ap, ◌∙◌, subst, arith}
 use Rattle.bx_text.specs.declared.node.Span.{Span}
 use Rattle.bx_text.specs.declared.node.Sort.{Sort}
 use Rattle.bx_text.specs.Place.{Place}
@@ -35,17 +35,11 @@ beginning p l (q, (blank, e, b, n, s), longest, from_is, line_is, begin_is) =
 
 pub kept_moves : (d : ℕ) (k : Sort) (w : List ℕ) → StandsAs d k w → (rest : List ℕ) → Closes rest → (at line : ℕ)
     → (m : Lexeme) × (s : Span) × (q : Place) × Stood (on (w ++ rest) at line) m × Term d m (other s k w) q × (q.rest ≡ rest)
-kept_moves d k w (p, l, s, q, st, t) rest c at line = by_place (beginning p l st)
-  where
-    by_place : ((b : Place) × Stood b l × (l.begin ≡ b.rest) × (l.from ≡ b.at)) → (m : Lexeme) × (s : Span) × (q : Place) × Stood (on (w ++ rest) at line) m × Term d m (other s k w) q × (q.rest ≡ rest)
-    by_place (b, stood, begin_is, from_is) = by_run (run.again rest c (on (w ++ rest) at line) (ap (λ ws. ws ++ rest) (sym text_is)))
-      where
-        run : Run b q Closes (TermFrom d (other s k w))
-        run = term_run t b stood
-
-        text_is : run.text ≡ w
-        text_is = sym (taken_is l q [] run.text q.rest (begin_is ∙ run.rest) (omega (arith, from_is, run.size))) ∙ sym (term_taken t)
-
-        by_run : ((r : Place) × TermFrom d (other s k w) (on (w ++ rest) at line) r × (r.rest ≡ rest) × (r.at ≡ at + length run.text))
-            → (m : Lexeme) × (s : Span) × (q : Place) × Stood (on (w ++ rest) at line) m × Term d m (other s k w) q × (q.rest ≡ rest)
-        by_run (r, (m, u, there, term, (z, is)), left, size) = (m, z, r, there, subst (λ u. Term d m u r) is term, left)
+kept_moves d k w (p, l, s, q, st, t) rest c at line =
+    let (b, stood, begin_is, from_is) = beginning p l st in
+    let run : Run b q Closes (TermFrom d (other s k w)) = term_run t b stood in
+    let text_is : run.text ≡ w = sym (taken_is l q [] run.text q.rest (begin_is ∙ run.rest) (omega (arith, from_is, run.size))) ∙ sym (term_taken t) in
+    let (r, x, left, size) = run.again rest c (on (w ++ rest) at line) (ap (λ ws. ws ++ rest) (sym text_is)) in
+    let (m, u, there, term, same) = x in
+    let (z, is) = same in
+    (m, z, r, there, subst (λ u. Term d m u r) is term, left)

@@ -25,11 +25,7 @@ no_octal_slash es (inr u) = by u
 
     by : {es : List ℕ} → Unfinished es → NoOctal es
     by slash = none
-    by hex = none
-    by (hex_digit d) = none
-    by brace = none
-    by (braced n) = none
-    by control = none
+    by u = none
 
 pub leaves : {q : ℕ} {cs vs : List ℕ} → Quoted q cs vs → (es : List ℕ) → Left es → Turn named.nothing (cs ++ es) vs named.nothing es
 leaves k es l = over_quoted k es (no_octal_slash es l)
@@ -62,11 +58,7 @@ state p b o h d r s c control = inr c
 
 pub left_good : (es : List ℕ) → Left es → is_bad (fold step named.nothing es) ≡ false
 left_good es (inl e) = ap (λ es. is_bad (fold step named.nothing es)) e
-left_good es (inr u) = by (state is_bad false (λ v. refl, λ v. refl) refl (λ v. refl) refl (λ v. refl) refl u)
-  where
-    by : (es ≡ 92 ∷ []) ⊎ (is_bad (fold step named.nothing es) ≡ false) → is_bad (fold step named.nothing es) ≡ false
-    by (inl e) = ap (λ es. is_bad (fold step named.nothing es)) e
-    by (inr e) = e
+left_good es (inr u) = elim (state is_bad false (λ v. refl, λ v. refl) refl (λ v. refl) refl (λ v. refl) refl u) [ inl e ↦ ap (λ es. is_bad (fold step named.nothing es)) e | inr e ↦ e ]
 
 -- any character may come behind nothing or a backslash alone
 abbrev pub Slash : List ℕ → Type 0
@@ -74,11 +66,7 @@ Slash es = (es ≡ []) ⊎ (es ≡ 92 ∷ [])
 
 pub left_slash : (es : List ℕ) → Left es → may_go_on (fold step named.nothing es) ≡ true → Slash es
 left_slash es (inl e) g = inl e
-left_slash es (inr u) g = by (state may_go_on false (λ v. refl, λ v. refl) refl (λ v. refl) refl (λ v. refl) refl u)
-  where
-    by : (es ≡ 92 ∷ []) ⊎ (may_go_on (fold step named.nothing es) ≡ false) → Slash es
-    by (inl e) = inr e
-    by (inr e) = let no : true ≡ false = sym g ∙ e in cc
+left_slash es (inr u) g = elim (state may_go_on false (λ v. refl, λ v. refl) refl (λ v. refl) refl (λ v. refl) refl u) [ inl e ↦ inr e | inr e ↦ let no : true ≡ false = sym g ∙ e in cc ]
 
 pub slash_left : (es : List ℕ) → Slash es → Left es
 slash_left es (inl e) = inl e
@@ -95,11 +83,10 @@ left_open q h es (inr u) = by u
   where
     by : {es : List ℕ} → Unfinished es → free q (then_letter es) ≡ true
     by slash = refl
-    by hex = letter q h
     by (hex_digit {c = c} {x = x} d) = hex_from q (c ∷ []) (97 ∷ []) h (numeral_value (one_digit {base = 16} {c = c} {x = x} d)).0 (letter q h)
     by brace = free_plain q 123 (97 ∷ []) refl (brace_plain q h).0 (letter q h)
     by (braced {ds = ds} n) = free_plain q 123 (ds ++ 97 ∷ []) refl (brace_plain q h).0 (hex_from q ds (97 ∷ []) h (all_hex 16 ds (omega arith) (numeral_value n).0) (letter q h))
-    by control = letter q h
+    by s = letter q h
 
 pub quoted_open : {q : ℕ} {cs vs : List ℕ} → Quoted q cs vs → IsQuote q → (es : List ℕ) → Left es → free q (then_letter (cs ++ es)) ≡ true
 quoted_open {q = q} {cs = cs} k h es l = subst (λ us. free q us ≡ true) (sym (append_assoc cs es (97 ∷ []))) (quoted_before k h (then_letter es) (left_open q h es l))

@@ -1,9 +1,8 @@
 -- What is taken is the longest spelling.
-use Rattle.std.proofs.Common.{◌≡◌, ℕ, ◌+◌, ◌≤◌, Bool, true, false, cond, eqb, leb, ◌||◌, ◌↔◌, pos, neg_ℤ, List, [], ◌∷◌, ◌++◌, take, drop, length, Result, Ok, Err, refl, sym, ap, ◌∙◌, subst, arith, drop_at, take_at, length-append}
+use Rattle.std.proofs.Common.{◌≡◌, ℕ, ◌+◌, ◌≤◌, Bool, true, false, cond, eqb, leb, ◌||◌, ◌↔◌, pos, neg_ℤ, List, [], ◌∷◌, ◌++◌, take, drop, length, Result, Ok, refl, sym, ap, ◌∙◌, subst, arith, drop_at, take_at, length-append}
 use Rattle.std.specs.Str.Lossy.{utf8_valid_len}
 use Rattle.std.proofs.lemmas.Bool.{eqb-true}
 use Rattle.bx_terms.specs.declared.faults.Fault.{Fault}
-use Rattle.bx_terms.specs.declared.faults.Fault.TheVariants.{BadToken}
 use Rattle.bx_text.specs.Bytes.{is_digit, is_lower}
 use Rattle.bx_text.specs.Place.{Place, after}
 use Rattle.bx_text.specs.Named as named
@@ -74,9 +73,7 @@ sound p x h = by_list p.rest p.at p.line x h
 
 -- what is spelled is taken
 stop_found : (rest : List ℕ) (at line : ℕ) → MayFollow named.full_stop rest → Found (on (46 ∷ rest) at line) named.full_stop rest
-stop_found rest at line f =
-    found_exact (on (46 ∷ rest) at line) (after (on (46 ∷ rest) at line) 1) named.full_stop named.full_stop rest
-    (ap (λ t. cond {A = Result (Token × Place) Fault} t (Ok (named.full_stop, after (on (46 ∷ rest) at line) 1)) (Err (BadToken line))) (ends_there rest (f refl))) refl refl
+stop_found rest at line f = let p : Place = on (46 ∷ rest) at line in found_exact p (after p 1) named.full_stop named.full_stop rest (rw (ends_there rest (f refl))) refl refl
 
 complete : {bytes : List ℕ} {t : Token} → Spelling bytes t → (rest : List ℕ) (at line : ℕ) → MayFollow t rest → Found (on (bytes ++ rest) at line) t rest
 complete full_stop rest at line f = stop_found rest at line f
@@ -105,16 +102,13 @@ sizes : (text bytes rest : List ℕ) → text ≡ bytes ++ rest → length text 
 sizes text bytes rest e = ap length e ∙ length-append bytes rest
 
 furthest : (p : Place) (x : Token × Place) → token_at p ≡ Ok x → (bytes : List ℕ) (t : Token) (rest : List ℕ) → Begins p.rest bytes t rest → length x.1.rest ≤ length rest
-furthest p x h bytes t rest b = by_found (found p bytes t rest b)
-  where
-    by_found : Found p t rest → length x.1.rest ≤ length rest
-    by_found (y, g, short, same) = subst (λ (z : Token × Place). length z.1.rest ≤ length rest) (ok_same y x (sym g ∙ h)) short
+furthest p x h bytes t rest b =
+    let (y, g, short, same) = found p bytes t rest b in
+    subst (λ (z : Token × Place). length z.1.rest ≤ length rest) (ok_same y x (sym g ∙ h)) short
 
 takes_longest : (p : Place) (t : Token) (q : Place) → Takes p t q → Longest p t q
-takes_longest p t q (u, h, m) = by_spelled (sound p (u, q) h)
-  where
-    by_spelled : Spelled p (u, q) → Longest p t q
-    by_spelled (bytes, b, st) = (
+takes_longest p t q (u, h, m) =
+    let (bytes, b, st) = sound p (u, q) h in (
       bytes,
       subst (λ t. Begins p.rest bytes t q.rest) m b,
       (λ others v rest d. omega (arith, sizes p.rest bytes q.rest b.0, sizes p.rest others rest d.0, furthest p (u, q) h others v rest d)),
@@ -131,19 +125,16 @@ pub same_place : (p q : Place) → p.rest ≡ q.rest → p.at ≡ q.at → p.lin
 same_place p q a b c = λ i. record { rest = a i; at = b i; line = c i }
 
 longest_takes : (p : Place) (t : Token) (q : Place) → Longest p t q → Takes p t q
-longest_takes p t q (bytes, b, none, st) = by_found (found p bytes t q.rest b)
-  where
-    both : (u : Token) (r : Place) → token_at p ≡ Ok (u, r) → length r.rest ≤ length q.rest → (length r.rest ≡ length q.rest → meant u ≡ t) → Spelled p (u, r) → Takes p t q
-    both u r h short same (others, c, su) =
-        let short2 : length others ≤ length bytes = none others (meant u) r.rest c in
-        let exact : length others ≡ length bytes = omega (arith, short, short2, sizes p.rest bytes q.rest b.0, sizes p.rest others r.rest c.0) in
-        let left : length r.rest ≡ length q.rest = omega (arith, exact, sizes p.rest bytes q.rest b.0, sizes p.rest others r.rest c.0) in
-        let fronts = same_front p.rest others bytes r.rest q.rest c.0 b.0 exact in
-        let there : r ≡ q = same_place r q fronts.1 (su.0 ∙ ap (λ w. p.at + length w) fronts.0 ∙ sym st.0) (su.1 ∙ ap (λ w. p.line + lines w) fronts.0 ∙ sym st.1) in
-        (u, h ∙ ap (λ r. Ok (u, r)) there, same left)
-
-    by_found : Found p t q.rest → Takes p t q
-    by_found ((u, r), h, short, same) = both u r h short same (sound p (u, r) h)
+longest_takes p t q (bytes, b, none, st) =
+    let (x, h, short, same) = found p bytes t q.rest b in
+    let (u, r) = x in
+    let (others, c, su) = sound p (u, r) h in
+    let short2 : length others ≤ length bytes = none others (meant u) r.rest c in
+    let exact : length others ≡ length bytes = omega (arith, short, short2, sizes p.rest bytes q.rest b.0, sizes p.rest others r.rest c.0) in
+    let left : length r.rest ≡ length q.rest = omega (arith, exact, sizes p.rest bytes q.rest b.0, sizes p.rest others r.rest c.0) in
+    let fronts = same_front p.rest others bytes r.rest q.rest c.0 b.0 exact in
+    let there : r ≡ q = same_place r q fronts.1 (su.0 ∙ ap (λ w. p.at + length w) fronts.0 ∙ sym st.0) (su.1 ∙ ap (λ w. p.line + lines w) fronts.0 ∙ sym st.1) in
+    (u, h ∙ ap (λ r. Ok (u, r)) there, same left)
 
 pub taken_is_longest : (p : Place) (t : Token) (q : Place) → Takes p t q ↔ Longest p t q
 taken_is_longest p t q = (takes_longest p t q, longest_takes p t q)

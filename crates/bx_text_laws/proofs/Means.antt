@@ -1,7 +1,7 @@
 -- What is quoted is what the reader makes of it.
-use Rattle.std.proofs.Common.{◌≡◌, ◌≢◌, ℕ, ◌+◌, ◌*◌, ◌%◌, ◌≤◌, ◌<◌, Bool, true, false, not, eqb, ◌&&◌, List, [], ◌∷◌, ◌++◌, length, refl, sym, ap, ◌∙◌, subst, arith, append_assoc, append-nil, ◌⊎◌, inl, inr}
+use Rattle.std.proofs.Common.{◌≡◌, ◌≢◌, ℕ, ◌+◌, ◌*◌, ◌%◌, ◌≤◌, ◌<◌, true, false, not, eqb, ◌&&◌, List, [], ◌∷◌, ◌++◌, length, refl, sym, ap, ◌∙◌, subst, arith, append_assoc, append-nil, ◌⊎◌, inl, inr}
 use Rattle.std.specs.List.{fold, list_all}
-use Rattle.std.proofs.lemmas.Bool.{and_parts}
+use Rattle.std.proofs.lemmas.Bool.{and_parts, false_from_ne_true}
 use Rattle.std.proofs.lemmas.Bool.Decides.{nat_tests}
 use Rattle.bx_text.specs.Named as named
 use Rattle.bx_text.specs.Escapes.{digit, is_octal, is_hex, is_control, is_scalar, coded}
@@ -18,11 +18,7 @@ pub small_coded : (v : ℕ) → v < 0xd800 → coded v ≡ v ∷ []
 small_coded v h = coded_is v (small_scalar v h)
 
 octal_next : (c : ℕ) → (IsOctal c → ⊥) → is_octal c ≡ false
-octal_next c f = by (is_octal c) refl
-  where
-    by : (t : Bool) → is_octal c ≡ t → t ≡ false
-    by true e = let small : digit c < 8 = below 8 c e in absurd (f (digit c, (small, counts c (omega arith))))
-    by false e = refl
+octal_next c f = false_from_ne_true (is_octal c) (λ e. let small : digit c < 8 = below 8 c e in f (digit c, (small, counts c (omega arith))))
 
 none_next : (cs : List ℕ) → NoOctal cs → no_octal cs ≡ true
 none_next [] n = refl
@@ -56,7 +52,6 @@ three_turn a b c cs e f g =
     (then (over_slash (a ∷ b ∷ c ∷ cs)) (then (first_octal a (b ∷ c ∷ cs) e) (then (second_octal (digit a) b (c ∷ cs) f) (third_octal (8 * digit a + digit b) c cs g))))
 
 octal_turn : (ds cs : List ℕ) (v : ℕ) → Value 8 ds v → length ds ≤ 3 → (length ds ≡ 3) ⊎ NoOctal cs → Turn named.nothing (92 ∷ (ds ++ cs)) (v ∷ []) named.nothing cs
-octal_turn [] cs v (a, e, some) l n = absurd (omega arith)
 octal_turn (x ∷ []) cs v (a, e, some) l n =
     let value : digit x ≡ v = omega arith in
     subst (λ v. Turn named.nothing (92 ∷ x ∷ cs) (v ∷ []) named.nothing cs) value (one_turn x cs (and_parts (is_octal x) true a).0 (none_next cs (few 1 (omega arith) n)))
@@ -69,7 +64,7 @@ octal_turn (x ∷ y ∷ z ∷ []) cs v (a, e, some) l n =
     let all = and_parts (is_octal x) (is_octal y && (is_octal z && true)) a in
     let rest = and_parts (is_octal y) (is_octal z && true) all.1 in
     subst (λ v. Turn named.nothing (92 ∷ x ∷ y ∷ z ∷ cs) (v ∷ []) named.nothing cs) value (three_turn x y z cs all.0 rest.0 (and_parts (is_octal z) true rest.1).0)
-octal_turn (x ∷ y ∷ z ∷ u ∷ ds) cs v (a, e, some) l n = absurd (omega arith)
+octal_turn ds cs v (a, e, some) l n = absurd (omega arith)
 
 pub hex_two : (x y : ℕ) (cs : List ℕ) → is_hex x ≡ true → is_hex y ≡ true → Turn named.nothing (92 ∷ 120 ∷ x ∷ y ∷ cs) ((16 * digit x + digit y) ∷ []) named.nothing cs
 hex_two x y cs e f =
@@ -80,13 +75,11 @@ hex_two x y cs e f =
     (then (over_slash (120 ∷ x ∷ y ∷ cs)) (then (one named.backslash 120 (x ∷ y ∷ cs)) (then (first_hex x (y ∷ cs) e) (second_hex (digit x) y cs f))))
 
 hex_turn : (ds cs : List ℕ) (v : ℕ) → Value 16 ds v → length ds ≡ 2 → Turn named.nothing (92 ∷ 120 ∷ (ds ++ cs)) (v ∷ []) named.nothing cs
-hex_turn [] cs v (a, e, some) l = absurd (omega arith)
-hex_turn (x ∷ []) cs v (a, e, some) l = absurd (omega arith)
 hex_turn (x ∷ y ∷ []) cs v (a, e, some) l =
     let value : 16 * digit x + digit y ≡ v = omega arith in
     let all = and_parts (is_hex x) (is_hex y && true) a in
     subst (λ v. Turn named.nothing (92 ∷ 120 ∷ x ∷ y ∷ cs) (v ∷ []) named.nothing cs) value (hex_two x y cs all.0 (and_parts (is_hex y) true all.1).0)
-hex_turn (x ∷ y ∷ z ∷ ds) cs v (a, e, some) l = absurd (omega arith)
+hex_turn ds cs v (a, e, some) l = absurd (omega arith)
 
 -- digits between braces, whose code the reader has as w
 pub braced_by : (x : ℕ) (ds cs : List ℕ) (w : ℕ) → is_hex x ≡ true → list_all is_hex ds ≡ true → fold saturated (digit x) ds ≡ w → is_scalar w ≡ true
@@ -119,14 +112,7 @@ named_turn c cs o x k = then (over_slash (c ∷ cs)) (over_named c cs o x k)
 
 named_by : {c v : ℕ} → Named c v → (cs : List ℕ) → Turn named.nothing (92 ∷ c ∷ cs) (v ∷ []) named.nothing cs
 named_by backspace cs = named_turn 98 cs refl refl refl
-named_by delete cs = named_turn 100 cs refl refl refl
-named_by escape cs = named_turn 101 cs refl refl refl
-named_by form_feed cs = named_turn 102 cs refl refl refl
-named_by line_feed cs = named_turn 110 cs refl refl refl
-named_by carriage_return cs = named_turn 114 cs refl refl refl
-named_by space cs = named_turn 115 cs refl refl refl
-named_by tab cs = named_turn 116 cs refl refl refl
-named_by vertical_tab cs = named_turn 118 cs refl refl refl
+named_by s cs = named_turn _ cs refl refl refl
 
 pub names_itself : (c : ℕ) → c ≢ 98 → c ≢ 100 → c ≢ 101 → c ≢ 102 → c ≢ 110 → c ≢ 114 → c ≢ 115 → c ≢ 116 → c ≢ 118 → escapes.named c ≡ c
 names_itself c a b d e f g h i j = grind (arith, nat_tests)
