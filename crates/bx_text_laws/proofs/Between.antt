@@ -1,5 +1,5 @@
 -- What stands between two places of a text is in UTF-8, where blanks and tokens stand there.
-use Rattle.std.proofs.Common.{◌≡◌, ℕ, ◌+◌, ◌≤◌, ◌<◌, List, [], ◌∷◌, ◌++◌, length, Ok, refl, sym, ap, ◌∙◌, subst, arith, codes, append_assoc, length-append, ◌⊎◌, IsUtf8, if◌then◌else◌, Bool, Err}
+use Rattle.std.proofs.Common.{◌≡◌, ℕ, ◌+◌, ◌≤◌, ◌<◌, List, [], ◌∷◌, ◌++◌, length, Ok, refl, sym, ap, ◌∙◌, subst, arith, append_assoc, length-append, ◌⊎◌, IsUtf8, if◌then◌else◌, Bool, Err}
 use Rattle.std.specs.List.{AllByRecursion}
 use Rattle.std.proofs.lemmas.Bool.{eq-eqb}
 use Rattle.std.proofs.lemmas.Str.{IsUtf8-nil, IsUtf8-append, utf8_valid_len-IsUtf8}

@@ -11,7 +11,7 @@ use Rattle.bx_text.specs.Token as token
 use Rattle.bx_text.specs.Token.{Token, Lexeme}
 use Rattle.bx_text.specs.Forms.{form_at}
 use Rattle.bx_text.specs.Terms.{span, letters, tail_of}
-use Rattle.bx_text.specs.Tree.{Tree, integer, atom, tuple, list, other, nil, cons, chain}
+use Rattle.bx_text.specs.Tree.{Tree, integer, other, nil, chain}
 use Rattle.bx_text_laws.specs.Quoted as quoted
 use Rattle.bx_text_laws.specs.Quoted.{Quoted, Named}
 use Rattle.bx_text_laws.specs.Shown.{StandsAs, Shown, ShownRow, ShownList, ShownRest, IsReadBack}
