@@ -28,12 +28,9 @@ High bs = AllByRecursion (λ b. 128 ≤ b) bs
 high_plain : (q b : ℕ) → q < 128 → 128 ≤ b → (eqb b 92 ≡ false) × (eqb b q ≡ false) × (eqb b 94 ≡ false)
 high_plain q b l h = (grind (arith, nat_tests), grind (arith, nat_tests), grind (arith, nat_tests))
 
-past_plain : (q b : ℕ) (bs : List ℕ) → eqb b 92 ≡ false → eqb b q ≡ false → free q (b ∷ bs) ≡ free q bs
-past_plain q b bs e f = rw (e, f)
-
 free_high : (q : ℕ) (hs bs : List ℕ) → q < 128 → High hs → free q (hs ++ bs) ≡ free q bs
 free_high q [] bs l h = refl
-free_high q (b ∷ hs) bs l (a, h) = let plain = high_plain q b l a in past_plain q b (hs ++ bs) plain.0 plain.1 ∙ free_high q hs bs l h
+free_high q (b ∷ hs) bs l (a, h) = let plain = high_plain q b l a in rw (plain.0, plain.1) (free_high q hs bs l h)
 
 -- a character of ASCII is its byte, and any other only has bytes beyond
 abbrev pub Shape : ℕ → List ℕ → Type 0
@@ -48,18 +45,8 @@ shape c =
     (λ _. cond_both (ltb c 65536) _ _ (Shape c) (λ _. inr (high, (224 + c / 4096, _, refl, omega arith, (omega arith, (omega arith, tt)))))
     (λ _. inr (high, (240 + c / 262144, _, refl, omega arith, (omega arith, (omega arith, (omega arith, tt))))))))
 
-free_step : (q c : ℕ) (bs cs : List ℕ) → free q bs ≡ free q cs → freed q bs ≡ freed q cs → free q (c ∷ bs) ≡ free q (c ∷ cs)
-free_step q c bs cs e f = cc
-
--- the same of what stands behind a backslash
-freed_step : (q c : ℕ) (bs cs : List ℕ) → free q bs ≡ free q cs → capped q bs ≡ capped q cs → freed q (c ∷ bs) ≡ freed q (c ∷ cs)
-freed_step q c bs cs e f = cc
-
 pub past_cap : (q c : ℕ) (cs : List ℕ) → eqb c 94 ≡ false → freed q (c ∷ cs) ≡ free q cs
 past_cap q c cs e = rw e
-
-past_capped : (q c : ℕ) (cs : List ℕ) → eqb c q ≡ false → capped q (c ∷ cs) ≡ free q cs
-past_capped q c cs e = rw e
 
 abbrev Alike : ℕ → List ℕ → List ℕ → Type 0
 Alike q bs cs = (free q bs ≡ free q cs) × (freed q bs ≡ freed q cs) × (capped q bs ≡ capped q cs)
@@ -68,20 +55,15 @@ Alike q bs cs = (free q bs ≡ free q cs) × (freed q bs ≡ freed q cs) × (cap
 free_bytes : (q : ℕ) → q < 128 → (cs : List ℕ) → Alike q (encode_utf8_all cs) cs
 free_bytes q l [] = (refl, refl, refl)
 free_bytes q l (c ∷ cs) =
-    let X : List ℕ = encode_utf8_all cs in
     let (a, b, d) = free_bytes q l cs in
     elim (shape c) [
-      inl s ↦ subst (λ bytes. Alike q (bytes ++ X) (c ∷ cs)) (sym s.1) (free_step q c X cs a b, freed_step q c X cs a d, ap (λ (t : Bool). not (eqb c q) && t) a)
+      inl s ↦ rw s.1 ((cc), (cc), (cc))
       | inr s ↦
           let (b, hs, e, first, rest) = s.1 in
           let plain = high_plain q c l s.0 in
           let lead = high_plain q b l first in
-          let tail : free q (hs ++ X) ≡ free q cs = free_high q hs X l rest ∙ a in
-          subst (λ bytes. Alike q (bytes ++ X) (c ∷ cs)) (sym e) (
-            past_plain q b (hs ++ X) lead.0 lead.1 ∙ tail ∙ sym (past_plain q c cs plain.0 plain.1),
-            past_cap q b (hs ++ X) lead.2 ∙ tail ∙ sym (past_cap q c cs plain.2),
-            past_capped q b (hs ++ X) lead.1 ∙ tail ∙ sym (past_capped q c cs plain.1),
-          )
+          let tail : free q (hs ++ encode_utf8_all cs) ≡ free q cs = free_high q hs (encode_utf8_all cs) l rest ∙ a in
+          rw e (rw (lead.0, lead.1, plain.0, plain.1) tail, rw (lead.2, plain.2) tail, rw (lead.1, plain.1) tail)
     ]
 
 pub free_text : (q : ℕ) (cs : List ℕ) → q < 128 → free q (encode_utf8_all cs) ≡ free q cs
@@ -133,10 +115,10 @@ split_more : (q b n : ℕ) (p r : List ℕ → Bool) (bs : List ℕ) → ((raw :
 split_more q b n p r bs f (raw, zs, e, l, d) = (b ∷ raw, zs, ap (λ us. b ∷ us) e, omega (arith, l), ended_by q p r raw (b ∷ raw) zs (f raw) d)
 
 pub free_slash : (q b : ℕ) (raw : List ℕ) → eqb b 92 ≡ true → freed q raw ≡ true → free q (b ∷ raw) ≡ true
-free_slash q b raw e f = ap (λ (t : Bool). cond t (freed q raw) (not (eqb b q) && free q raw)) e ∙ f
+free_slash q b raw e f = rw e f
 
 pub free_plain : (q b : ℕ) (raw : List ℕ) → eqb b 92 ≡ false → eqb b q ≡ false → free q raw ≡ true → free q (b ∷ raw) ≡ true
-free_plain q b raw e g f = past_plain q b raw e g ∙ f
+free_plain q b raw e g f = rw (e, g) f
 
 mutual
   pub body_split : (q : ℕ) (bs : List ℕ) → Split q (free q) bs (body_len q bs)
@@ -156,4 +138,4 @@ mutual
   control_split q [] = ([], [], refl, refl, inl refl)
   control_split q (b ∷ bs) =
       cond_both (eqb b q) _ _ (Split q (capped q) (b ∷ bs)) (λ e. ([], b ∷ bs, refl, refl, inr (refl, (bs, ap (λ c. c ∷ bs) (eqb-true b q e)))))
-      (λ e. split_more q b (body_len q bs) (free q) (capped q) bs (λ raw g. past_capped q b raw e ∙ g) (body_split q bs))
+      (λ e. split_more q b (body_len q bs) (free q) (capped q) bs (λ raw g. rw e g) (body_split q bs))
