@@ -21,12 +21,7 @@ TakenAs t l q = Unit {0}
 
 term_taken : {d : ℕ} {l : Lexeme} {t : Tree} {q : Place} → Term d l t q → TakenAs t l q
 term_taken (terms.a_float t w) = refl
-term_taken (terms.an_empty_map t a z w) = refl
-term_taken (terms.a_map t a r z w) = refl
-term_taken (terms.an_empty_binary t a z w) = refl
-term_taken (terms.a_binary t a r z w) = refl
-term_taken (terms.a_fun t a x b y c z e o h j r) = refl
-term_taken s = tt
+term_taken s = search
 
 -- the place of the first token itself
 beginning : (p : Place) (l : Lexeme) → Stood p l → (q : Place) × Stood q l × (l.begin ≡ q.rest) × (l.from ≡ q.at)

@@ -125,19 +125,18 @@ token_run p l s = record {
       (q, (m, (here, passes, (bs, b, more, st), refl, refl, refl), refl, refl, ap (λ ws. s.bytes ++ ws) (sym r), at_is), r, omega (arith, at_is, length-append s.blank s.bytes));
 }
 
-pub record Plain (Y : List ℕ) : Type 0 where
-  pub delimits : Delimits Y
-  pub quote : NoQuote Y
+abbrev Plain : List ℕ → Type 0
+Plain Y = Delimits Y × NoQuote Y
 
 shut_plain : {bytes : List ℕ} {t : Token} → Spelling bytes t → shuts t ≡ true → (Y : List ℕ) → Plain (bytes ++ Y)
-shut_plain close_tuple c Y = record { delimits = record { digits = refl; fraction = refl; name = refl }; quote = λ e. omega arith }
-shut_plain close_list c Y = record { delimits = record { digits = refl; fraction = refl; name = refl }; quote = λ e. omega arith }
-shut_plain close_binary c Y = record { delimits = record { digits = refl; fraction = refl; name = refl }; quote = λ e. omega arith }
-shut_plain comma c Y = record { delimits = record { digits = refl; fraction = refl; name = refl }; quote = λ e. omega arith }
-shut_plain bar c Y = record { delimits = record { digits = refl; fraction = refl; name = refl }; quote = λ e. omega arith }
-shut_plain arrow c Y = record { delimits = record { digits = refl; fraction = refl; name = refl }; quote = λ e. omega arith }
-shut_plain colon c Y = record { delimits = record { digits = refl; fraction = refl; name = refl }; quote = λ e. omega arith }
-shut_plain slash c Y = record { delimits = record { digits = refl; fraction = refl; name = refl }; quote = λ e. omega arith }
+shut_plain close_tuple c Y = (record { digits = refl; fraction = refl; name = refl }, λ e. omega arith)
+shut_plain close_list c Y = (record { digits = refl; fraction = refl; name = refl }, λ e. omega arith)
+shut_plain close_binary c Y = (record { digits = refl; fraction = refl; name = refl }, λ e. omega arith)
+shut_plain comma c Y = (record { digits = refl; fraction = refl; name = refl }, λ e. omega arith)
+shut_plain bar c Y = (record { digits = refl; fraction = refl; name = refl }, λ e. omega arith)
+shut_plain arrow c Y = (record { digits = refl; fraction = refl; name = refl }, λ e. omega arith)
+shut_plain colon c Y = (record { digits = refl; fraction = refl; name = refl }, λ e. omega arith)
+shut_plain slash c Y = (record { digits = refl; fraction = refl; name = refl }, λ e. omega arith)
 shut_plain s c Y = cc
 
 -- a space delimits
@@ -159,11 +158,11 @@ closing p m s c Z =
     let some : 0 < length s.bytes = some_bytes s.spells in
     let plain = shut_plain s.spells c Z in
     record {
-      delimits = blank_delimits s.blanks (s.bytes ++ Z) (λ _. plain.delimits);
+      delimits = blank_delimits s.blanks (s.bytes ++ Z) (λ _. plain.0);
       text = λ p2 e. (
         record { rest = s.bytes ++ Z; at = p2.at + length s.blank; line = p2.line + lines s.blank },
         (s.blank, e, blank_again s.blank s.bytes m.after.rest Z some s.blanks, solid_again s.bytes m.after.rest Z some s.solid, (refl, refl)),
-        plain.quote,
+        plain.1,
       );
     }
 
