@@ -164,24 +164,27 @@ record Onward (P : Lexeme → Type 0) (k : Lexeme) : Type 0 where
   plain : plainly lexeme ≡ k
   leads : P lexeme
 
+led : {P : Lexeme → Type 0} {k : Lexeme} (l : Lexeme) → plainly l ≡ k → P l → Onward P k
+led l e x = record { lexeme = l; plain = e; leads = x }
+
 sized_back : {m k : Lexeme} → Sized m k → (l : Lexeme) → plainly l ≡ m → Onward (Size l) k
-sized_back (terms.unsized {m = m} t) l e = record { lexeme = l; plain = e; leads = grammar.no_size (same_test is_colon same_colon l m false e t) }
+sized_back (terms.unsized {m = m} t) l e = led l e (grammar.no_size (same_test is_colon same_colon l m false e t))
 sized_back (terms.a_size {n = n} {k = k} t a j b) l e =
     let first = on l e n a in
     let second = on first.lexeme first.plain k b in
-    record { lexeme = second.lexeme; plain = second.plain; leads = grammar.a_size (bare l e t tt) first.next (bare first.lexeme first.plain j tt) second.next }
+    led second.lexeme second.plain (grammar.a_size (bare l e t tt) first.next (bare first.lexeme first.plain j tt) second.next)
 
 pub utf8_back : (t : Token) → meant t ≡ token.atom (token.plain (codes "utf8")) → is_utf8_name t ≡ true
 utf8_back (token.atom b) e = let text : spelled b ≡ codes "utf8" = cc in (bytes_eq-Decides (spelled b) (codes "utf8")).1 text
 utf8_back t e = cc
 
 encoded_back : {m k : Lexeme} → Encoded m k → (l : Lexeme) → plainly l ≡ m → Onward (Encoding l) k
-encoded_back (terms.unencoded {m = m} t) l e = record { lexeme = l; plain = e; leads = grammar.no_encoding (same_test is_slash same_slash l m false e t) }
+encoded_back (terms.unencoded {m = m} t) l e = led l e (grammar.no_encoding (same_test is_slash same_slash l m false e t))
 encoded_back (terms.in_utf8 {n = n} {k = k} t a j b) l e =
     let first = on l e n a in
     let second = on first.lexeme first.plain k b in
     let named : is_utf8_name first.lexeme.token ≡ true = utf8_back first.lexeme.token (ap (λ (l : Lexeme). l.token) first.plain ∙ j) in
-    record { lexeme = second.lexeme; plain = second.plain; leads = grammar.in_utf8 (bare l e t tt) first.next named second.next }
+    led second.lexeme second.plain (grammar.in_utf8 (bare l e t tt) first.next named second.next)
 
 part_back : {d : ℕ} {k e : Lexeme} → Part d k e → (l : Lexeme) → plainly l ≡ k → Onward (Segment d l) e
 part_back (terms.a_part {m = m} {q = q} h a s k) l e =
@@ -189,15 +192,15 @@ part_back (terms.a_part {m = m} {q = q} h a s k) l e =
     let first = back q m a in
     let size = sized_back s first.lexeme first.plain in
     let encoding = encoded_back k size.lexeme size.plain in
-    record { lexeme = encoding.lexeme; plain = encoding.plain; leads = grammar.a_segment held first.next size.leads encoding.leads }
+    led encoding.lexeme encoding.plain (grammar.a_segment held first.next size.leads encoding.leads)
 
 parts_back : {d : ℕ} {k e : Lexeme} → Parts d k e → (l : Lexeme) → plainly l ≡ k → Onward (Segments d l) e
-parts_back (terms.one_part s) l e = let part = part_back s l e in record { lexeme = part.lexeme; plain = part.plain; leads = grammar.one_segment part.leads }
+parts_back (terms.one_part s) l e = let part = part_back s l e in led part.lexeme part.plain (grammar.one_segment part.leads)
 parts_back (terms.more_parts {next = next} s t a r) l e =
     let part = part_back s l e in
     let first = on part.lexeme part.plain next a in
     let rest = parts_back r first.lexeme first.plain in
-    record { lexeme = rest.lexeme; plain = rest.plain; leads = grammar.more_segments part.leads (bare part.lexeme part.plain t tt) first.next rest.leads }
+    led rest.lexeme rest.plain (grammar.more_segments part.leads (bare part.lexeme part.plain t tt) first.next rest.leads)
 
 kept : {k n : Lexeme} (l m : Lexeme) → plainly l ≡ k → plainly m ≡ n → Written k n.after → Kept l m.after
 kept {n = n} l m e f w = utf8_valid_len-IsUtf8 (taken l m.after) (subst (λ (n : Lexeme). Written l n.after) (sym f) (subst (λ k. Written k n.after) (sym e) w))
@@ -251,12 +254,12 @@ mutual
       fourth.next (bare fourth.lexeme fourth.plain u tt) fifth.next (bare fifth.lexeme fifth.plain s tt) (kept l fifth.lexeme e fifth.plain r))
 
   elements_back : {d : ℕ} {k m : Lexeme} {ts : List Tree} → Elements d k ts m → (l : Lexeme) → plainly l ≡ k → Onward (λ m. Row d l ts m) m
-  elements_back (terms.one {m = m} {r = r} u a) l e = let last = back r m a in record { lexeme = last.lexeme; plain = last.plain; leads = grammar.one (term_back u l e) last.next }
+  elements_back (terms.one {m = m} {r = r} u a) l e = let last = back r m a in led last.lexeme last.plain (grammar.one (term_back u l e) last.next)
   elements_back (terms.more {comma = comma} {next = next} {r = r} u a t b w) l e =
       let first = back r comma a in
       let second = on first.lexeme first.plain next b in
       let rest = elements_back w second.lexeme second.plain in
-      record { lexeme = rest.lexeme; plain = rest.plain; leads = grammar.more (term_back u l e) first.next (bare first.lexeme first.plain t tt) second.next rest.leads }
+      led rest.lexeme rest.plain (grammar.more (term_back u l e) first.next (bare first.lexeme first.plain t tt) second.next rest.leads)
 
   pairs_back : {d : ℕ} {k m : Lexeme} → Pairs d k m → (l : Lexeme) → plainly l ≡ k → Onward (grammar.Pairs d l) m
   pairs_back (terms.one_pair {arrow = arrow} {v = v} {m = m} {r = r} {q = q} u a t b w z) l e =
@@ -264,7 +267,7 @@ mutual
       let second = on first.lexeme first.plain v b in
       let last = back q m z in
       let value = term_back w second.lexeme second.plain in
-      record { lexeme = last.lexeme; plain = last.plain; leads = grammar.one_pair (term_back u l e) first.next (bare first.lexeme first.plain t tt) second.next value last.next }
+      led last.lexeme last.plain (grammar.one_pair (term_back u l e) first.next (bare first.lexeme first.plain t tt) second.next value last.next)
   pairs_back (terms.more_pairs {arrow = arrow} {v = v} {comma = comma} {next = next} {r = r} {q = q} u a t b w z s o y) l e =
       let first = back r arrow a in
       let second = on first.lexeme first.plain v b in
@@ -272,11 +275,7 @@ mutual
       let third = back q comma z in
       let fourth = on third.lexeme third.plain next o in
       let rest = pairs_back y fourth.lexeme fourth.plain in
-      record {
-        lexeme = rest.lexeme;
-        plain = rest.plain;
-        leads = grammar.more_pairs (term_back u l e) first.next (bare first.lexeme first.plain t tt) second.next value third.next (bare third.lexeme third.plain s tt) fourth.next rest.leads;
-      }
+      led rest.lexeme rest.plain (grammar.more_pairs (term_back u l e) first.next (bare first.lexeme first.plain t tt) second.next value third.next (bare third.lexeme third.plain s tt) fourth.next rest.leads)
 
 sentence_back : {d : ℕ} {p q : Place} {t : Tree} → Sentence d p t q → Form d p t q
 sentence_back (terms.a_sentence {d = d} {p = p} {r = r} {l = k} {m = m} {t = t} a u b z) =
