@@ -3,7 +3,7 @@ use Rattle.std.proofs.Common.{◌≡◌, ◌≢◌, ℕ, ◌+◌, Bool, true, fa
 use Rattle.std.specs.List.{AllByRecursion, prefix_len}
 use Rattle.std.specs.Str.{is_utf8}
 use Rattle.std.specs.Str.Lossy.{utf8_valid_len}
-use Rattle.std.proofs.lemmas.Bool.{eqb-true, eqb-false, eq-eqb, ne_eqb, both_ways, cases_Bool, cases_lt}
+use Rattle.std.proofs.lemmas.Bool.{eq-eqb, ne_eqb, both_ways, cases_Bool, cases_eq, cases_lt}
 use Rattle.std.proofs.lemmas.Bool.Decides.{nat_tests}
 use Rattle.std.proofs.lemmas.Str.{utf8_valid_len-IsUtf8, IsUtf8-from_is_utf8, is_utf8-from_IsUtf8}
 use Rattle.bx_terms.specs.declared.faults.Fault.TheVariants.{NotUtf8}
@@ -44,14 +44,14 @@ at_byte : (b : ℕ) (bs : List ℕ) → Split bs → Inside bs → Split (b ∷ 
 at_byte b bs (bytes, rest, e, k, r) i =
     elim (cases_lt 32 b) [
       inr s ↦ (b ∷ bytes, rest, ap (λ us. b ∷ us) e, space s k, r)
-      | inl s ↦ elim (cases_Bool (eqb b 37)) [ inl c ↦ subst (λ b. Split (b ∷ bs)) (sym (eqb-true b 37 c)) (at_comment bs i) | inr c ↦ ([], b ∷ bs, refl, nothing, inl (λ t. omega arith, eqb-false b 37 c)) ]
+      | inl s ↦ elim (cases_eq b 37) [ inl c ↦ rw c (at_comment bs i) | inr c ↦ ([], b ∷ bs, refl, nothing, inl (λ t. omega arith, c)) ]
     ]
 
 in_byte : (b : ℕ) (bs : List ℕ) → Split bs → Inside bs → Inside (b ∷ bs)
 in_byte b bs (bytes, rest, e, k, r) (text, ends, f, a, l, s) =
-    elim (cases_Bool (eqb b 10)) [
-      inl c ↦ let feed : b ≡ 10 = eqb-true b 10 c in ([], b ∷ bs, refl, tt, feed, (b ∷ bytes, rest, ap (λ us. b ∷ us) e, space (omega arith) k, r))
-      | inr c ↦ (b ∷ text, ends, ap (λ us. b ∷ us) f, (eqb-false b 10 c, a), l, s)
+    elim (cases_eq b 10) [
+      inl feed ↦ ([], b ∷ bs, refl, tt, feed, (b ∷ bytes, rest, ap (λ us. b ∷ us) e, space (omega arith) k, r))
+      | inr c ↦ (b ∷ text, ends, ap (λ us. b ∷ us) f, (c, a), l, s)
     ]
 
 sides : (bs : List ℕ) → Split bs × Inside bs

@@ -20,7 +20,7 @@ use Rattle.bx_text_laws.proofs.Runs.{digits_of, unsigned}
 use Rattle.bx_text_laws.proofs.NumbersFound.{exponent_is, float_reads}
 use Rattle.bx_text_laws.proofs.Free.{free, free_text}
 use Rattle.bx_text_laws.proofs.Readings.{quoted_free}
-use Rattle.bx_text_laws.proofs.Quotes.{Gives, gives, behind_rest, grouped}
+use Rattle.bx_text_laws.proofs.Quotes.{gives, behind_rest, grouped}
 use Rattle.bx_text_laws.proofs.Printing.{Delimits, Exactly, numeral_exact, exactly_is, word_exact}
 
 -- no exponent begins where no name does
@@ -47,13 +47,11 @@ enclosed : (q : ℕ) (make : token.Body → Token) → IsQuote q → q < 128 →
     → ((bs : List ℕ) (at line : ℕ) → token_at (on (q ∷ bs) at line) ≡ (quoted_at q (on (q ∷ bs) at line) >>= λ y. Ok (make y.0, y.1)))
     → (cs vs bytes rest : List ℕ) → Quoted q cs vs → InUtf8 cs bytes → Exactly (q ∷ (bytes ++ q ∷ [])) (make (token.plain (encode_utf8_all vs))) rest
 enclosed q make is low means first cs vs bytes rest r u at line =
-    subst (λ text. (w : Token) × (p : Place) × (token_at (on text at line) ≡ Ok (w, p)) × (p.rest ≡ rest) × (meant w ≡ make (token.plain (encode_utf8_all vs)))) (sym (grouped q bytes rest))
-    (by_gives (gives q cs vs bytes rest at line is (ap (free q) (sym u.1) ∙ free_text q cs low ∙ quoted_free r is) r u))
-  where
-    by_gives : Gives q bytes rest at line vs → (w : Token) × (p : Place) × (token_at (on (q ∷ (bytes ++ q ∷ rest)) at line) ≡ Ok (w, p)) × (p.rest ≡ rest) × (meant w ≡ make (token.plain (encode_utf8_all vs)))
-    by_gives (b, e, m) = (
+    let p : Place = on (q ∷ (bytes ++ q ∷ rest)) at line in
+    let (b, e, m) = gives q cs vs bytes rest at line is (ap (free q) (sym u.1) ∙ free_text q cs low ∙ quoted_free r is) r u in
+    rw (grouped q bytes rest) (
       make b,
-      behind (on (q ∷ (bytes ++ q ∷ rest)) at line) (bytes ++ q ∷ rest) (length bytes),
+      behind p (bytes ++ q ∷ rest) (length bytes),
       first (bytes ++ q ∷ rest) at line ∙ ap (λ r. r >>= λ y. Ok (make y.0, y.1)) e,
       behind_rest q bytes rest,
       means b ∙ ap (λ w. make (token.plain w)) m,

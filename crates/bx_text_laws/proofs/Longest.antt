@@ -1,14 +1,14 @@
 -- What is taken is the longest spelling.
-use Rattle.std.proofs.Common.{◌≡◌, ℕ, ◌+◌, ◌≤◌, Bool, true, false, cond, eqb, leb, ◌||◌, ◌↔◌, pos, neg_ℤ, List, [], ◌∷◌, ◌++◌, take, drop, length, Result, Ok, refl, sym, ap, ◌∙◌, subst, arith, drop_at, take_at, length-append}
+use Rattle.std.proofs.Common.{◌≡◌, ℕ, ◌+◌, ◌≤◌, true, eqb, leb, ◌||◌, ◌↔◌, pos, neg_ℤ, List, [], ◌∷◌, ◌++◌, take, drop, length, Result, Ok, refl, sym, ap, ◌∙◌, subst, arith, drop_at, take_at, length-append, inl, inr}
 use Rattle.std.specs.Str.Lossy.{utf8_valid_len}
-use Rattle.std.proofs.lemmas.Bool.{eqb-true}
+use Rattle.std.proofs.lemmas.Bool.{eqb-true, or_cases, cond_both}
 use Rattle.bx_terms.specs.declared.faults.Fault.{Fault}
 use Rattle.bx_text.specs.Bytes.{is_digit, is_lower}
 use Rattle.bx_text.specs.Place.{Place, after}
 use Rattle.bx_text.specs.Named as named
 use Rattle.bx_text.specs.Token as token
 use Rattle.bx_text.specs.Token.{Token}
-use Rattle.bx_text.specs.Lexing.{number_at, kind_of, punctuation_of, token_by, token_at}
+use Rattle.bx_text.specs.Lexing.{kind_of, punctuation_of, token_by, token_at}
 use Rattle.bx_text.proofs.Outcomes.{ok_same}
 use Rattle.bx_text_laws.specs.Spelling.{Spelling, MayFollow, Begins, no_minus, a_minus, open_tuple, close_tuple, open_list, close_list, open_map, open_binary, close_binary, comma, bar, arrow, colon, slash, open_parenthesis, close_parenthesis, full_stop, the_word_fun, integer, negative, float, bare_atom, quoted_atom, string}
 use Rattle.bx_text_laws.specs.Tokens.{lines, meant, Longest, Takes}
@@ -21,48 +21,42 @@ use Rattle.bx_text_laws.proofs.Runs.{digits_of}
 use Rattle.bx_text_laws.proofs.Words.{a_letter, an_accent, no_foreign, atom_found, fun_found}
 use Rattle.bx_text_laws.proofs.Quotes.{a_quoted_atom, a_string, quoted_found, string_found}
 
-pick : {R : Type 0} (p : Place) (x : Token × Place) (t : Bool) (k l : named.Beginning) → (t ≡ true → token_by k p ≡ Ok x → R) → (t ≡ false → token_by l p ≡ Ok x → R) → token_by (cond t k l) p ≡ Ok x → R
-pick p x true k l f g h = f refl h
-pick p x false k l f g h = g refl h
-
-by_parenthesis : (b : ℕ) (bs : List ℕ) (at line : ℕ) (x : Token × Place) (t u : Bool) → eqb b 40 ≡ t → eqb b 41 ≡ u → (t || u) ≡ true
+by_parenthesis : (b : ℕ) (bs : List ℕ) (at line : ℕ) (x : Token × Place) → (eqb b 40 || eqb b 41) ≡ true
     → ◌≡◌ {A = Result (Token × Place) Fault} (Ok (named.parenthesis, after (on (b ∷ bs) at line) 1)) (Ok x) → Spelled (on (b ∷ bs) at line) x
-by_parenthesis b bs at line x true u e f is = one_byte b 40 bs at line named.parenthesis x refl open_parenthesis (λ e. cc) e
-by_parenthesis b bs at line x false true e f is = one_byte b 41 bs at line named.parenthesis x refl close_parenthesis (λ e. cc) f
-by_parenthesis b bs at line x false false e f is = cc
-
-by_minus : (b : ℕ) (bs : List ℕ) (at line : ℕ) (x : Token × Place) → eqb b 45 ≡ true → number_at (on (b ∷ bs) at line) 1 ≡ Ok x → Spelled (on (b ∷ bs) at line) x
-by_minus b bs at line x e =
-    subst (λ b. number_at (on (b ∷ bs) at line) 1 ≡ Ok x → Spelled (on (b ∷ bs) at line) x) (sym (eqb-true b 45 e)) (a_number (45 ∷ []) bs at line x a_minus)
+by_parenthesis b bs at line x e h =
+    elim (or_cases (eqb b 40) (eqb b 41) e) [
+      inl e ↦ one_byte b 40 bs at line named.parenthesis x refl open_parenthesis (λ e. cc) e h
+      | inr e ↦ one_byte b 41 bs at line named.parenthesis x refl close_parenthesis (λ e. cc) e h
+    ]
 
 by_punctuation : (b : ℕ) (bs : List ℕ) (at line : ℕ) (x : Token × Place) → token_by (punctuation_of b) (on (b ∷ bs) at line) ≡ Ok x → Spelled (on (b ∷ bs) at line) x
 by_punctuation b bs at line x =
-    let p : Place = on (b ∷ bs) at line in
-    pick p x (eqb b 123) _ _ (one_byte b 123 bs at line token.open_tuple x refl open_tuple (λ e. cc)) (λ _.
-    pick p x (eqb b 125) _ _ (one_byte b 125 bs at line named.close_tuple x refl close_tuple (λ e. cc)) (λ _.
-    pick p x (eqb b 91) _ _ (one_byte b 91 bs at line token.open_list x refl open_list (λ e. cc)) (λ _.
-    pick p x (eqb b 93) _ _ (one_byte b 93 bs at line named.close_list x refl close_list (λ e. cc)) (λ _.
-    pick p x (eqb b 44) _ _ (one_byte b 44 bs at line named.comma x refl comma (λ e. cc)) (λ _.
-    pick p x (eqb b 124) _ _ (one_byte b 124 bs at line named.bar x refl bar (λ e. cc)) (λ _.
-    pick p x (eqb b 46) _ _ (a_stop b bs at line x) (λ _.
-    pick p x (eqb b 39) _ _ (a_quoted_atom b bs at line x) (λ _.
-    pick p x (eqb b 34) _ _ (a_string b bs at line x) (λ _.
-    pick p x (eqb b 45) _ _ (by_minus b bs at line x) (λ _.
-    pick p x (eqb b 58) _ _ (one_byte b 58 bs at line named.colon x refl colon (λ e. cc)) (λ _.
-    pick p x (eqb b 47) _ _ (one_byte b 47 bs at line named.slash x refl slash (λ e. cc)) (λ _.
-    pick p x (eqb b 40 || eqb b 41) _ _ (by_parenthesis b bs at line x (eqb b 40) (eqb b 41) refl refl) (λ _.
-    pick p x (eqb b 35) _ _ (two_bytes b 35 123 bs at line token.open_map x refl open_map (λ rest e. cc)) (λ _.
-    pick p x (eqb b 60) _ _ (two_bytes b 60 60 bs at line token.open_binary x refl open_binary (λ rest e. cc)) (λ _.
-    pick p x (eqb b 61) _ _ (two_bytes b 61 62 bs at line named.arrow x refl arrow (λ rest e. cc)) (λ _.
-    pick p x (eqb b 62) _ _ (two_bytes b 62 62 bs at line named.close_binary x refl close_binary (λ rest e. cc)) (λ _ h. cc)))))))))))))))))
+    let P : named.Beginning → Type 0 = λ k. token_by k (on (b ∷ bs) at line) ≡ Ok x → Spelled (on (b ∷ bs) at line) x in
+    cond_both (eqb b 123) _ _ P (one_byte b 123 bs at line token.open_tuple x refl open_tuple (λ e. cc)) (λ _.
+    cond_both (eqb b 125) _ _ P (one_byte b 125 bs at line named.close_tuple x refl close_tuple (λ e. cc)) (λ _.
+    cond_both (eqb b 91) _ _ P (one_byte b 91 bs at line token.open_list x refl open_list (λ e. cc)) (λ _.
+    cond_both (eqb b 93) _ _ P (one_byte b 93 bs at line named.close_list x refl close_list (λ e. cc)) (λ _.
+    cond_both (eqb b 44) _ _ P (one_byte b 44 bs at line named.comma x refl comma (λ e. cc)) (λ _.
+    cond_both (eqb b 124) _ _ P (one_byte b 124 bs at line named.bar x refl bar (λ e. cc)) (λ _.
+    cond_both (eqb b 46) _ _ P (a_stop b bs at line x) (λ _.
+    cond_both (eqb b 39) _ _ P (a_quoted_atom b bs at line x) (λ _.
+    cond_both (eqb b 34) _ _ P (a_string b bs at line x) (λ _.
+    cond_both (eqb b 45) _ _ P (λ e. let is : b ≡ 45 = eqb-true b 45 e in rw is (a_number (45 ∷ []) bs at line x a_minus)) (λ _.
+    cond_both (eqb b 58) _ _ P (one_byte b 58 bs at line named.colon x refl colon (λ e. cc)) (λ _.
+    cond_both (eqb b 47) _ _ P (one_byte b 47 bs at line named.slash x refl slash (λ e. cc)) (λ _.
+    cond_both (eqb b 40 || eqb b 41) _ _ P (by_parenthesis b bs at line x) (λ _.
+    cond_both (eqb b 35) _ _ P (two_bytes b 35 123 bs at line token.open_map x refl open_map (λ rest e. cc)) (λ _.
+    cond_both (eqb b 60) _ _ P (two_bytes b 60 60 bs at line token.open_binary x refl open_binary (λ rest e. cc)) (λ _.
+    cond_both (eqb b 61) _ _ P (two_bytes b 61 62 bs at line named.arrow x refl arrow (λ rest e. cc)) (λ _.
+    cond_both (eqb b 62) _ _ P (two_bytes b 62 62 bs at line named.close_binary x refl close_binary (λ rest e. cc)) (λ _ h. cc)))))))))))))))))
 
 by_byte : (b : ℕ) (bs : List ℕ) (at line : ℕ) (x : Token × Place) → token_by (kind_of b) (on (b ∷ bs) at line) ≡ Ok x → Spelled (on (b ∷ bs) at line) x
 by_byte b bs at line x =
-    let p : Place = on (b ∷ bs) at line in
-    pick p x (is_lower b) _ _ (a_letter b bs at line x) (λ _.
-    pick p x (is_digit b) _ _ (λ _. a_number [] (b ∷ bs) at line x no_minus) (λ _.
-    pick p x (eqb b 195) _ _ (an_accent b bs at line x) (λ _.
-    pick p x (leb 128 b) _ _ (λ _ h. absurd (no_foreign (eqb (utf8_valid_len (b ∷ bs)) 0) line x h)) (λ _. by_punctuation b bs at line x))))
+    let P : named.Beginning → Type 0 = λ k. token_by k (on (b ∷ bs) at line) ≡ Ok x → Spelled (on (b ∷ bs) at line) x in
+    cond_both (is_lower b) _ _ P (a_letter b bs at line x) (λ _.
+    cond_both (is_digit b) _ _ P (λ _. a_number [] (b ∷ bs) at line x no_minus) (λ _.
+    cond_both (eqb b 195) _ _ P (an_accent b bs at line x) (λ _.
+    cond_both (leb 128 b) _ _ P (λ _ h. absurd (no_foreign (eqb (utf8_valid_len (b ∷ bs)) 0) line x h)) (λ _. by_punctuation b bs at line x))))
 
 pub sound : (p : Place) (x : Token × Place) → token_at p ≡ Ok x → Spelled p x
 sound p x h = by_list p.rest p.at p.line x h

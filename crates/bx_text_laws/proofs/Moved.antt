@@ -1,13 +1,11 @@
 -- A term put where other bytes follow it.
-use Rattle.std.proofs.Common.{◌≡◌, ◌≢◌, ℕ, suc, true, false, ◌≤◌, List, [], ◌∷◌, ◌++◌, length, refl, sym, ap, ◌∙◌, subst, arith, codes, append_assoc, length-append, inl, IsUtf8, encode_utf8_all, ◌<◌}
-use Rattle.std.specs.List.{AllByRecursion}
-use Rattle.bx_text_laws.specs.Characters.{IsSmall, IsNameCharacter}
+use Rattle.std.proofs.Common.{◌≡◌, ◌≢◌, ℕ, suc, ◌+◌, true, false, ◌≤◌, List, [], ◌∷◌, ◌++◌, take, length, refl, sym, ap, ◌∙◌, subst, arith, codes, append_assoc, length-append, IsUtf8}
 use Rattle.std.proofs.lemmas.Bool.{both_ways}
-use Rattle.std.proofs.lemmas.Str.{encodes-append}
 use Rattle.bx_text.specs.declared.node.Span.{Span}
 use Rattle.bx_text.specs.declared.node.Sort.{Sort}
 use Rattle.bx_text.specs.declared.node.Sort.TheVariants as sort
-use Rattle.bx_text.specs.Place.{Place}
+use Rattle.bx_text.specs.Place.{Place, after}
+use Rattle.bx_text.specs.Lexing.{name_len, word}
 use Rattle.bx_text.specs.Named as named
 use Rattle.bx_text.specs.Token as token
 use Rattle.bx_text.specs.Token.{Token, Lexeme}
@@ -17,8 +15,10 @@ use Rattle.bx_text_laws.specs.Spelling.{Spelling, Begins, InUtf8}
 use Rattle.bx_text_laws.specs.Spelling as spelling
 use Rattle.bx_text_laws.specs.Terms as terms
 use Rattle.bx_text_laws.specs.Terms.{Stood, NoText, Texts, Written, Held, Sized, Encoded, Part, Parts, Term, Elements, Pairs}
-use Rattle.bx_text_laws.proofs.Words.{small_name}
-use Rattle.bx_text_laws.proofs.Printing.{Delimits, Exactly, ascii_utf8, scalars_append}
+use Rattle.bx_text_laws.proofs.Frame.{on}
+use Rattle.bx_text_laws.proofs.Words.{small_name, name_take}
+use Rattle.bx_text_laws.proofs.Longest.{sound}
+use Rattle.bx_text_laws.proofs.Printing.{Delimits, Exactly}
 use Rattle.bx_text_laws.proofs.Exact.{shuts, ends, solid_exact, exact}
 use Rattle.bx_text_laws.proofs.Moving.{Run, stay, under, doing, then, Stepped, stepped, token_run, some_bytes, Closes, blank_delimits, taken_is, Any, Shut, shut_token, shut_more, before_shut, solid_before, before_text, shutting, anywhere}
 
@@ -86,35 +86,25 @@ fun_bytes spelling.the_word_fun e = refl
 fun_bytes s e = cc
 
 -- a name that followed it at once would go on in it
-longer_name : (text rest : List ℕ) (c : ℕ) (cs bytes : List ℕ) → text ≡ codes "fun" ++ (bytes ++ rest) → IsSmall c → AllByRecursion IsNameCharacter cs → InUtf8 (c ∷ cs) bytes → 0 < length bytes
-    → Begins text (codes "fun" ++ bytes) (token.atom (token.plain (codes "fun" ++ bytes))) rest
-longer_name text rest c cs bytes e small a (s, u) l = (e, spelling.bare_atom 102 (117 ∷ 110 ∷ c ∷ cs) (inl (omega arith, omega arith)) (inl (omega arith, omega arith), (inl (omega arith, omega arith), (small_name c small, a))) all other, λ z. cc)
-  where
-    word : InUtf8 (codes "fun") (codes "fun")
-    word = ascii_utf8 (codes "fun") (omega arith, (omega arith, (omega arith, tt)))
-
-    all : InUtf8 (102 ∷ 117 ∷ 110 ∷ c ∷ cs) (codes "fun" ++ bytes)
-    all = (scalars_append (codes "fun") (c ∷ cs) word.0 s, encodes-append (codes "fun") (c ∷ cs) ∙ ap (λ us. us ++ encode_utf8_all (c ∷ cs)) word.1 ∙ ap (λ us. codes "fun" ++ us) u)
-
-    other : codes "fun" ++ bytes ≢ codes "fun"
-    other same = omega (arith, ap length same, l)
-
-name_delimits : {bytes : List ℕ} {t : Token} → Spelling bytes t → (v : List ℕ) → t ≡ token.atom (token.plain v) → (text rest Z : List ℕ) → text ≡ codes "fun" ++ (bytes ++ rest)
-    → ((others : List ℕ) (u : Token) (r : List ℕ) → Begins text others u r → length others ≤ 3) → Delimits (bytes ++ Z)
-name_delimits (spelling.bare_atom c cs {bytes = bytes} small a u o) v e text rest Z is more =
-    let some : 0 < length bytes = some_bytes (spelling.bare_atom c cs small a u o) in
-    absurd (omega (arith, some, more (codes "fun" ++ bytes) (token.atom (token.plain (codes "fun" ++ bytes))) rest (longer_name text rest c cs bytes is small a u some)))
-name_delimits (spelling.quoted_atom q u) v e text rest Z is more = record { digits = refl; fraction = refl; name = refl }
-name_delimits s v e text rest Z is more = cc
+name_delimits : {bytes : List ℕ} {t : Token} → Spelling bytes t → (v : List ℕ) → t ≡ token.atom (token.plain v) → (rest Z : List ℕ) → name_len (bytes ++ rest) ≡ 0 → Delimits (bytes ++ Z)
+name_delimits (spelling.bare_atom c cs {bytes = bytes} small a u o) v e rest Z none =
+    let long : name_len (bytes ++ rest) ≡ length bytes + name_len rest = subst (λ bytes. name_len (bytes ++ rest) ≡ length bytes + name_len rest) u.1 (name_take (c ∷ cs) rest (small_name c small, a)) in
+    absurd (omega (arith, long, none, some_bytes (spelling.bare_atom c cs small a u o)))
+name_delimits (spelling.quoted_atom q u) v e rest Z none = record { digits = refl; fraction = refl; name = refl }
+name_delimits s v e rest Z none = cc
 
 fun_delimits : (p : Place) (l f : Lexeme) → (s : Stepped p l) → (sf : Stepped l.after f) → l.token ≡ named.the_word_fun → (v : List ℕ) → f.token ≡ token.atom (token.plain v) → (Z : List ℕ) → Delimits ((sf.blank ++ sf.bytes) ++ Z)
 fun_delimits p l f s sf t v x Z =
-    let word : s.bytes ≡ codes "fun" = fun_bytes s.spells t in
-    let text : List ℕ = s.bytes ++ l.after.rest in
-    let is : text ≡ codes "fun" ++ (sf.blank ++ (sf.bytes ++ f.after.rest)) = ap (λ ws. ws ++ l.after.rest) word ∙ ap (λ ws. codes "fun" ++ ws) sf.rest in
-    let most : (others : List ℕ) (u : Token) (r : List ℕ) → Begins text others u r → length others ≤ 3 = λ others u r b. omega (arith, s.longest others u r b, ap length word) in
+    let fun : s.bytes ≡ codes "fun" = fun_bytes s.spells t in
+    let here : Place = on (codes "fun" ++ l.after.rest) 0 0 in
+    let (others, b, st) = sound here (word (take (name_len here.rest) here.rest), after here (name_len here.rest)) refl in
+    let most : length others ≤ length s.bytes = s.longest others _ _ (ap (λ ws. ws ++ l.after.rest) fun ∙ b.0, b.1, b.2) in
+    let none : name_len l.after.rest ≡ 0 = omega (arith, most, st.0, ap length fun, three l.after.rest) in
     subst Delimits (sym (append_assoc sf.blank sf.bytes Z))
-    (blank_delimits sf.blanks (sf.bytes ++ Z) (λ none. name_delimits sf.spells v x text f.after.rest Z (is ∙ ap (λ ws. codes "fun" ++ (ws ++ (sf.bytes ++ f.after.rest))) none) most))
+    (blank_delimits sf.blanks (sf.bytes ++ Z) (λ e. name_delimits sf.spells v x f.after.rest Z (ap name_len (sym (sf.rest ∙ ap (λ ws. ws ++ (sf.bytes ++ f.after.rest)) e)) ∙ none)))
+  where
+    three : (rest : List ℕ) → name_len (codes "fun" ++ rest) ≡ 3 + name_len rest
+    three rest = omega arith
 
 -- the same term, spans aside, where it is kept as it was read
 abbrev pub Same : Tree → Tree → Type 0

@@ -1,7 +1,7 @@
 -- Integers and floats.
-use Rattle.std.proofs.Common.{◌≡◌, ℕ, ◌+◌, ◌<◌, Bool, true, false, cond, eqb, ◌||◌, List, [], ◌∷◌, ◌++◌, take, drop, length, Result, Ok, refl, sym, ap, ◌∙◌, subst, arith, append_assoc, drop_at, take_at, length-append, ◌⊎◌, inl, inr}
+use Rattle.std.proofs.Common.{◌≡◌, ℕ, ◌+◌, ◌<◌, true, false, eqb, ◌||◌, List, [], ◌∷◌, ◌++◌, take, drop, length, Result, Ok, refl, sym, ap, ◌∙◌, subst, arith, append_assoc, drop_at, take_at, length-append, ◌⊎◌, inl, inr}
 use Rattle.std.specs.List.{list_all, prefix_len}
-use Rattle.std.proofs.lemmas.Bool.{eqb-true, cond_both}
+use Rattle.std.proofs.lemmas.Bool.{eqb-true, cond_both, or_cases}
 use Rattle.std.proofs.lemmas.Bool.Decides.{nat_tests}
 use Rattle.bx_terms.specs.declared.faults.Fault.{Fault}
 use Rattle.bx_text.specs.Bytes.{is_digit}
@@ -48,12 +48,10 @@ SignSplit bs n = (s ys : List ℕ) × (bs ≡ s ++ ys) × Sign s × (n ≡ lengt
 
 sign_split : (bs : List ℕ) → SignSplit bs (sign_len bs)
 sign_split [] = ([], [], refl, no_sign, refl)
-sign_split (c ∷ cs) = by_sign (eqb c 43) (eqb c 45) refl refl
-  where
-    by_sign : (t u : Bool) → eqb c 43 ≡ t → eqb c 45 ≡ u → SignSplit (c ∷ cs) (cond (t || u) 1 0)
-    by_sign true u e f = (43 ∷ [], cs, ap (λ d. d ∷ cs) (eqb-true c 43 e), plus, refl)
-    by_sign false true e f = (45 ∷ [], cs, ap (λ d. d ∷ cs) (eqb-true c 45 f), minus, refl)
-    by_sign false false e f = ([], c ∷ cs, refl, no_sign, refl)
+sign_split (c ∷ cs) =
+    cond_both (eqb c 43 || eqb c 45) _ _ (SignSplit (c ∷ cs))
+    (λ e. elim (or_cases (eqb c 43) (eqb c 45) e) [ inl f ↦ (43 ∷ [], cs, ap (λ d. d ∷ cs) (eqb-true c 43 f), plus, refl) | inr f ↦ (45 ∷ [], cs, ap (λ d. d ∷ cs) (eqb-true c 45 f), minus, refl) ])
+    (λ _. ([], c ∷ cs, refl, no_sign, refl))
 
 abbrev ExponentSplit : List ℕ → ℕ → Type 0
 ExponentSplit xs n = (es zs : List ℕ) × (xs ≡ es ++ zs) × Exponent es × (n ≡ length es)
