@@ -10,6 +10,7 @@ use Rattle.bx_text.specs.Token.{Token, Lexeme}
 use Rattle.bx_text.specs.Lexing.{lexeme_at}
 use Rattle.bx_text.specs.Tree.{other}
 use Rattle.bx_text.specs.Terms.{span, taken, kept_at}
+use Rattle.bx_text.proofs.Shorter.{next_shorter}
 use Rattle.bx_text_laws.specs.Blanks.{Blank, nothing, space, comment}
 use Rattle.bx_text_laws.specs.Numerals.{Digit, Numeral, one_digit, digit_more}
 use Rattle.bx_text_laws.specs.Spelling.{InUtf8, Minus, no_minus, a_minus, Sign, no_sign, plus, minus, Exponent, no_exponent, an_exponent, Spelling}
@@ -106,9 +107,7 @@ clean_token p l n = let s = read p l n in record {
 }
 
 pub token_less : (p : Place) (l : Lexeme) → lexeme_at p ≡ Ok l → length l.after.rest < length p.rest
-token_less p l n =
-    let s = read p l n in
-    omega (arith, ap length s.rest, length-append s.blank (s.bytes ++ l.after.rest), length-append s.bytes l.after.rest, some_bytes s.spells)
+token_less = next_shorter
 
 -- what is kept as it is written is always in UTF-8
 pub kept_is : (p q : Place) (l : Lexeme) → lexeme_at p ≡ Ok l → Clean l.after q → (k : Sort) → kept_at k l q ≡ Ok (other (span l q) k (taken l q), q)

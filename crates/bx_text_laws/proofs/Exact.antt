@@ -64,14 +64,14 @@ text_exactly : (cs vs bytes rest : List ℕ) → Quoted 34 cs vs → InUtf8 cs b
 text_exactly = enclosed 34 token.text (inr refl) (omega arith) (λ b. refl) (λ bs at line. refl)
 
 -- the word `fun`
+pub fun_len : (rest : List ℕ) → name_len (codes "fun" ++ rest) ≡ 3 + name_len rest
+fun_len rest = omega arith
+
 fun_exactly : (rest : List ℕ) → Delimits rest → Exactly (codes "fun") named.the_word_fun rest
 fun_exactly rest d at line =
     let p : Place = on (codes "fun" ++ rest) at line in
-    let count : name_len (codes "fun" ++ rest) ≡ 3 = omega (arith, d.name, three rest) in
+    let count : name_len (codes "fun" ++ rest) ≡ 3 = omega (arith, d.name, fun_len rest) in
     (word (take (name_len (codes "fun" ++ rest)) p.rest), after p (name_len (codes "fun" ++ rest)), refl, ap (λ n. drop n p.rest) count, ap (λ n. meant (word (take n p.rest))) count)
-  where
-    three : (rest : List ℕ) → name_len (codes "fun" ++ rest) ≡ 3 + name_len rest
-    three rest = omega arith
 
 -- marks that end what stands before them, and tokens that nothing goes on in
 abbrev pub shuts : Token → Bool

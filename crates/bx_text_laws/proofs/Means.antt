@@ -1,7 +1,7 @@
 -- What is quoted is what the reader makes of it.
 use Rattle.std.proofs.Common.{◌≡◌, ◌≢◌, ℕ, ◌+◌, ◌*◌, ◌%◌, ◌≤◌, ◌<◌, true, false, not, eqb, ◌&&◌, List, [], ◌∷◌, ◌++◌, length, refl, sym, ap, ◌∙◌, subst, arith, append_assoc, append-nil, ◌⊎◌, inl, inr}
 use Rattle.std.specs.List.{fold, list_all}
-use Rattle.std.proofs.lemmas.Bool.{and_parts, false_from_ne_true}
+use Rattle.std.proofs.lemmas.Bool.{and_parts, false_from_ne_true, ne_eqb}
 use Rattle.std.proofs.lemmas.Bool.Decides.{nat_tests}
 use Rattle.bx_text.specs.Named as named
 use Rattle.bx_text.specs.Escapes.{digit, is_octal, is_hex, is_control, is_scalar, coded}
@@ -11,11 +11,8 @@ use Rattle.bx_text_laws.specs.Quoted as quoted
 use Rattle.bx_text_laws.specs.Quoted.{Quoted, Named, IsOctal, IsOther, NoOctal, backspace, delete, escape, form_feed, line_feed, carriage_return, space, tab, vertical_tab}
 use Rattle.bx_text_laws.proofs.Escapes.{run, whole, Turn, ends, one, then, over_itself, over_slash, first_octal, second_octal, third_octal, no_octal, octal_ends, octal_one, octal_two, first_hex, second_hex, first_braced, close_braced, over_braced, over_control, over_named, with_digit, Value, numeral_value, counts, below, saturated, same_fold, same_scalar, is_scalar_from, coded_is}
 
-pub small_scalar : (v : ℕ) → v < 0xd800 → is_scalar v ≡ true
-small_scalar v h = grind (arith, nat_tests)
-
-pub small_coded : (v : ℕ) → v < 0xd800 → coded v ≡ v ∷ []
-small_coded v h = coded_is v (small_scalar v h)
+small_coded : (v : ℕ) → v < 0xd800 → coded v ≡ v ∷ []
+small_coded v h = coded_is v (grind (arith, nat_tests))
 
 octal_next : (c : ℕ) → (IsOctal c → ⊥) → is_octal c ≡ false
 octal_next c f = false_from_ne_true (is_octal c) (λ e. let small : digit c < 8 = below 8 c e in f (digit c, (small, counts c (omega arith))))
@@ -117,16 +114,13 @@ named_by s cs = named_turn _ cs refl refl refl
 pub names_itself : (c : ℕ) → c ≢ 98 → c ≢ 100 → c ≢ 101 → c ≢ 102 → c ≢ 110 → c ≢ 114 → c ≢ 115 → c ≢ 116 → c ≢ 118 → escapes.named c ≡ c
 names_itself c a b d e f g h i j = grind (arith, nat_tests)
 
-unequal : (c d : ℕ) → c ≢ d → eqb c d ≡ false
-unequal c d h = grind (arith, nat_tests)
-
 other_by : (c : ℕ) (cs : List ℕ) → IsOther c → Turn named.nothing (92 ∷ c ∷ cs) (c ∷ []) named.nothing cs
 other_by c cs (n, o, x, k) =
     let is : escapes.named c ≡ c =
     names_itself c (λ e. n (8, subst (λ c. Named c 8) (sym e) backspace)) (λ e. n (127, subst (λ c. Named c 127) (sym e) delete)) (λ e. n (27, subst (λ c. Named c 27) (sym e) escape))
     (λ e. n (12, subst (λ c. Named c 12) (sym e) form_feed)) (λ e. n (10, subst (λ c. Named c 10) (sym e) line_feed)) (λ e. n (13, subst (λ c. Named c 13) (sym e) carriage_return))
     (λ e. n (32, subst (λ c. Named c 32) (sym e) space)) (λ e. n (9, subst (λ c. Named c 9) (sym e) tab)) (λ e. n (11, subst (λ c. Named c 11) (sym e) vertical_tab)) in
-    subst (λ v. Turn named.nothing (92 ∷ c ∷ cs) (v ∷ []) named.nothing cs) is (named_turn c cs (octal_next c o) (unequal c 120 x) (unequal c 94 k))
+    subst (λ v. Turn named.nothing (92 ∷ c ∷ cs) (v ∷ []) named.nothing cs) is (named_turn c cs (octal_next c o) (ne_eqb c 120 x) (ne_eqb c 94 k))
 
 -- over what is quoted, where no octal digit follows
 octal_behind : (cs ys : List ℕ) → NoOctal cs → NoOctal ys → NoOctal (cs ++ ys)
@@ -139,7 +133,7 @@ ended n cs ys m (inr k) = inr (octal_behind cs ys k m)
 
 pub over_quoted : {q : ℕ} {cs vs : List ℕ} → Quoted q cs vs → (ys : List ℕ) → NoOctal ys → Turn named.nothing (cs ++ ys) vs named.nothing ys
 over_quoted quoted.none ys m = record { means = refl; tests = λ p o. refl }
-over_quoted (quoted.itself {c = c} {cs = cs} other plain k) ys m = then (over_itself c (cs ++ ys) (unequal c 92 plain)) (over_quoted k ys m)
+over_quoted (quoted.itself {c = c} {cs = cs} other plain k) ys m = then (over_itself c (cs ++ ys) (ne_eqb c 92 plain)) (over_quoted k ys m)
 over_quoted (quoted.named {cs = cs} n k) ys m = then (named_by n (cs ++ ys)) (over_quoted k ys m)
 over_quoted (quoted.octal {v = v} {ds = ds} {cs = cs} {vs = vs} n l e k) ys m =
     subst (λ us. Turn named.nothing (92 ∷ us) (v ∷ vs) named.nothing ys) (sym (append_assoc ds cs ys))

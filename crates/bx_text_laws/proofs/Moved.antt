@@ -19,7 +19,7 @@ use Rattle.bx_text_laws.proofs.Frame.{on}
 use Rattle.bx_text_laws.proofs.Words.{small_name, name_take}
 use Rattle.bx_text_laws.proofs.Longest.{sound}
 use Rattle.bx_text_laws.proofs.Printing.{Delimits, Exactly}
-use Rattle.bx_text_laws.proofs.Exact.{shuts, ends, solid_exact, exact}
+use Rattle.bx_text_laws.proofs.Exact.{fun_len, shuts, ends, solid_exact, exact}
 use Rattle.bx_text_laws.proofs.Moving.{Run, stay, under, doing, then, Stepped, stepped, token_run, some_bytes, Closes, blank_delimits, taken_is, Any, Shut, shut_token, shut_more, before_shut, solid_before, before_text, shutting, anywhere}
 
 no_stop : (t : Token) {v : Token} → t ≡ v → is_stop v ≡ false → t ≢ named.full_stop
@@ -99,12 +99,9 @@ fun_delimits p l f s sf t v x Z =
     let here : Place = on (codes "fun" ++ l.after.rest) 0 0 in
     let (others, b, st) = sound here (word (take (name_len here.rest) here.rest), after here (name_len here.rest)) refl in
     let most : length others ≤ length s.bytes = s.longest others _ _ (ap (λ ws. ws ++ l.after.rest) fun ∙ b.0, b.1, b.2) in
-    let none : name_len l.after.rest ≡ 0 = omega (arith, most, st.0, ap length fun, three l.after.rest) in
+    let none : name_len l.after.rest ≡ 0 = omega (arith, most, st.0, ap length fun, fun_len l.after.rest) in
     subst Delimits (sym (append_assoc sf.blank sf.bytes Z))
     (blank_delimits sf.blanks (sf.bytes ++ Z) (λ e. name_delimits sf.spells v x f.after.rest Z (ap name_len (sym (sf.rest ∙ ap (λ ws. ws ++ (sf.bytes ++ f.after.rest)) e)) ∙ none)))
-  where
-    three : (rest : List ℕ) → name_len (codes "fun" ++ rest) ≡ 3 + name_len rest
-    three rest = omega arith
 
 -- the same term, spans aside, where it is kept as it was read
 abbrev pub Same : Tree → Tree → Type 0
