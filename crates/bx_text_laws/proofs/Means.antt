@@ -27,25 +27,18 @@ few n l (inr a) = a
 
 pub one_turn : (a : ℕ) (cs : List ℕ) → is_octal a ≡ true → no_octal cs ≡ true → Turn named.nothing (92 ∷ a ∷ cs) (digit a ∷ []) named.nothing cs
 one_turn a cs e n =
-    let small : digit a < 8 = below 8 a e in
-    subst (λ vs. Turn named.nothing (92 ∷ a ∷ cs) vs named.nothing cs) (small_coded (digit a) (omega arith))
+    subst (λ vs. Turn named.nothing (92 ∷ a ∷ cs) vs named.nothing cs) (small_coded (digit a) (omega (arith, below 8 a e)))
     (then (over_slash (a ∷ cs)) (then (first_octal a cs e) (octal_ends (named.octal_digit (digit a)) (digit a) cs (octal_one (digit a)) n)))
 
 pub two_turn : (a b : ℕ) (cs : List ℕ) → is_octal a ≡ true → is_octal b ≡ true → no_octal cs ≡ true → Turn named.nothing (92 ∷ a ∷ b ∷ cs) ((8 * digit a + digit b) ∷ []) named.nothing cs
 two_turn a b cs e f n =
-    let one_small : digit a < 8 = below 8 a e in
-    let two_small : digit b < 8 = below 8 b f in
     let v : ℕ = 8 * digit a + digit b in
-    subst (λ vs. Turn named.nothing (92 ∷ a ∷ b ∷ cs) vs named.nothing cs) (small_coded v (omega arith))
+    subst (λ vs. Turn named.nothing (92 ∷ a ∷ b ∷ cs) vs named.nothing cs) (small_coded v (omega (arith, below 8 a e, below 8 b f)))
     (then (over_slash (a ∷ b ∷ cs)) (then (first_octal a (b ∷ cs) e) (then (second_octal (digit a) b cs f) (octal_ends (named.octal_digits v) v cs (octal_two v) n))))
 
 pub three_turn : (a b c : ℕ) (cs : List ℕ) → is_octal a ≡ true → is_octal b ≡ true → is_octal c ≡ true → Turn named.nothing (92 ∷ a ∷ b ∷ c ∷ cs) ((8 * (8 * digit a + digit b) + digit c) ∷ []) named.nothing cs
 three_turn a b c cs e f g =
-    let one_small : digit a < 8 = below 8 a e in
-    let two_small : digit b < 8 = below 8 b f in
-    let three_small : digit c < 8 = below 8 c g in
-    let v : ℕ = 8 * (8 * digit a + digit b) + digit c in
-    subst (λ vs. Turn named.nothing (92 ∷ a ∷ b ∷ c ∷ cs) vs named.nothing cs) (small_coded v (omega arith))
+    subst (λ vs. Turn named.nothing (92 ∷ a ∷ b ∷ c ∷ cs) vs named.nothing cs) (small_coded (8 * (8 * digit a + digit b) + digit c) (omega (arith, below 8 a e, below 8 b f, below 8 c g)))
     (then (over_slash (a ∷ b ∷ c ∷ cs)) (then (first_octal a (b ∷ c ∷ cs) e) (then (second_octal (digit a) b (c ∷ cs) f) (third_octal (8 * digit a + digit b) c cs g))))
 
 octal_turn : (ds cs : List ℕ) (v : ℕ) → Value 8 ds v → length ds ≤ 3 → (length ds ≡ 3) ⊎ NoOctal cs → Turn named.nothing (92 ∷ (ds ++ cs)) (v ∷ []) named.nothing cs
@@ -65,10 +58,7 @@ octal_turn ds cs v (a, e, some) l n = absurd (omega arith)
 
 pub hex_two : (x y : ℕ) (cs : List ℕ) → is_hex x ≡ true → is_hex y ≡ true → Turn named.nothing (92 ∷ 120 ∷ x ∷ y ∷ cs) ((16 * digit x + digit y) ∷ []) named.nothing cs
 hex_two x y cs e f =
-    let one_small : digit x < 16 = below 16 x e in
-    let two_small : digit y < 16 = below 16 y f in
-    let v : ℕ = 16 * digit x + digit y in
-    subst (λ vs. Turn named.nothing (92 ∷ 120 ∷ x ∷ y ∷ cs) vs named.nothing cs) (small_coded v (omega arith))
+    subst (λ vs. Turn named.nothing (92 ∷ 120 ∷ x ∷ y ∷ cs) vs named.nothing cs) (small_coded (16 * digit x + digit y) (omega (arith, below 16 x e, below 16 y f)))
     (then (over_slash (120 ∷ x ∷ y ∷ cs)) (then (one named.backslash 120 (x ∷ y ∷ cs)) (then (first_hex x (y ∷ cs) e) (second_hex (digit x) y cs f))))
 
 hex_turn : (ds cs : List ℕ) (v : ℕ) → Value 16 ds v → length ds ≡ 2 → Turn named.nothing (92 ∷ 120 ∷ (ds ++ cs)) (v ∷ []) named.nothing cs
@@ -100,7 +90,6 @@ control_is c h = grind (arith, nat_tests)
 
 pub control_turn : (c : ℕ) (cs : List ℕ) → is_control c ≡ true → Turn named.nothing (92 ∷ 94 ∷ c ∷ cs) ((c % 32) ∷ []) named.nothing cs
 control_turn c cs e =
-    let small : c % 32 < 32 = omega arith in
     subst (λ vs. Turn named.nothing (92 ∷ 94 ∷ c ∷ cs) vs named.nothing cs) (small_coded (c % 32) (omega arith))
     (then (over_slash (94 ∷ c ∷ cs)) (then (one named.backslash 94 (c ∷ cs)) (over_control c cs e)))
 

@@ -23,23 +23,21 @@ pub ascii : (b : ℕ) (bs : List ℕ) → b < 128 → NoCharacter (b ∷ bs) →
 ascii b bs l n = n.longest 1 (omega arith) (subst IsUtf8 (encode_ascii b l) (IsUtf8-encode b (low_scalar b (omega (arith, l)))))
 
 -- the longest front that is UTF-8
-at_least : (bs : List ℕ) (k n : ℕ) → IsUtf8 (take k bs) → k ≤ n → k ≤ valid_len_up_to bs n
-at_least bs k zero u l = omega (arith, l)
-at_least bs k (suc n) u l =
-    cond_both (is_utf8 (take (suc n) bs)) _ _ (λ m. k ≤ m) (λ _. l)
-    (λ e. let last : k ≢ suc n = λ is. both_ways (is_utf8 (take (suc n) bs)) e (is_utf8-from_IsUtf8 (take (suc n) bs) (subst (λ k. IsUtf8 (take k bs)) is u)) in at_least bs k n u (omega (arith, l, last)))
-
-front_up_to : (bs : List ℕ) (n : ℕ) → IsUtf8 (take (valid_len_up_to bs n) bs)
-front_up_to bs zero = IsUtf8-nil
-front_up_to bs (suc n) = cond_both (is_utf8 (take (suc n) bs)) _ _ (λ m. IsUtf8 (take m bs)) (λ e. IsUtf8-from_is_utf8 (take (suc n) bs) e) (λ _. front_up_to bs n)
+up_to : (bs : List ℕ) (n : ℕ) → IsUtf8 (take (valid_len_up_to bs n) bs) × ((k : ℕ) → IsUtf8 (take k bs) → k ≤ n → k ≤ valid_len_up_to bs n)
+up_to bs zero = (IsUtf8-nil, λ k u l. l)
+up_to bs (suc n) =
+    let P : ℕ → Type 0 = λ m. IsUtf8 (take m bs) × ((k : ℕ) → IsUtf8 (take k bs) → k ≤ suc n → k ≤ m) in
+    let below = up_to bs n in
+    cond_both (is_utf8 (take (suc n) bs)) _ _ P (λ e. (IsUtf8-from_is_utf8 (take (suc n) bs) e, λ k u l. l))
+    (λ e. (below.0, λ k u l. let last : k ≢ suc n = λ is. both_ways (is_utf8 (take (suc n) bs)) e (is_utf8-from_IsUtf8 (take (suc n) bs) (subst (λ k. IsUtf8 (take k bs)) is u)) in below.1 k u (omega (arith, l, last))))
 
 pub valid_front : (bs : List ℕ) → IsUtf8 (take (utf8_valid_len bs) bs)
 unfolding utf8_valid_len
-valid_front bs = front_up_to bs (length bs)
+valid_front bs = (up_to bs (length bs)).0
 
 valid_most : (bs : List ℕ) (k : ℕ) → IsUtf8 (take k bs) → k ≤ length bs → k ≤ utf8_valid_len bs
 unfolding utf8_valid_len
-valid_most bs k u l = at_least bs k (length bs) u l
+valid_most bs = (up_to bs (length bs)).1
 
 -- bytes beyond which a text is UTF-8 no more
 abbrev pub Seam : List ℕ → Type 0
