@@ -2,6 +2,7 @@
 use Rattle.std.proofs.Common.{◌≡◌, ◌≢◌, ℕ, ◌+◌, ◌-◌, ◌≤◌, ◌<◌, true, List, [], ◌∷◌, ◌++◌, take, length, refl, sym, ap, ◌∙◌, subst, arith, append_assoc, take_at, length-append, inl, inr, encode_utf8_all}
 use Rattle.std.specs.Char.{encode_utf8}
 use Rattle.std.proofs.lemmas.Bool.Decides.{nat_tests}
+use Rattle.std.proofs.lemmas.Str.{length-encode, len_utf8_bounds}
 use Rattle.bx_text.specs.Place.{Place}
 use Rattle.bx_text.specs.Named as named
 use Rattle.bx_text.specs.Token.{Token, Lexeme}
@@ -12,7 +13,6 @@ use Rattle.bx_text_laws.specs.Spelling.{Spelling, close_tuple, close_list, close
 use Rattle.bx_text_laws.specs.Tokens.{lines, NoLonger}
 use Rattle.bx_text_laws.specs.Terms.{Stood, NoQuote, NoText}
 use Rattle.bx_text_laws.proofs.Runs.{digits_of}
-use Rattle.bx_text_laws.proofs.Free.{Shape, shape}
 use Rattle.bx_text_laws.proofs.Longest.{taken_is_longest}
 use Rattle.bx_text_laws.proofs.Printing.{Delimits, Exactly}
 use Rattle.bx_text_laws.proofs.Exact.{ends, shuts, shuts_ends, solid_exact, exact}
@@ -74,15 +74,11 @@ stepped p l (q, (blank, e, b, n, s), (bytes, (f, k, may), longest, t), from_is, 
 }
 
 -- a token has a byte at least
-shape_some : (c : ℕ) (bytes : List ℕ) → Shape c bytes → 0 < length bytes
-shape_some c bytes (inl (low, e)) = omega (arith, ap length e)
-shape_some c bytes (inr (high, (b, hs, e, first, rest))) = omega (arith, ap length e)
-
 pub some_bytes : {bytes : List ℕ} {t : Token} → Spelling bytes t → 0 < length bytes
 some_bytes (integer k) = (digits_of k refl).2
 some_bytes (float {m = m} {ds = ds} {fs = fs} {es = es} mi a b ex) = omega (arith, length-append m (ds ++ (46 ∷ (fs ++ es))), length-append ds (46 ∷ (fs ++ es)))
 some_bytes (bare_atom c cs {bytes = bytes} small a (s, e) other) =
-    omega (arith, ap length e, length-append (encode_utf8 c) (encode_utf8_all cs), shape_some c (encode_utf8 c) (shape c))
+    omega (arith, ap length e, length-append (encode_utf8 c) (encode_utf8_all cs), length-encode c, len_utf8_bounds c)
 some_bytes s = omega arith
 
 -- blanks before other bytes with the same first one
@@ -95,13 +91,16 @@ blank_moves (comment text {bytes = bytes} {rest = rest} o l k) b R S e = comment
     ends [] h = subst (λ ws. LineEnds ws) e h
     ends (x ∷ xs) h = h
 
-blank_again : (blank bytes R S : List ℕ) → 0 < length bytes → Blank blank (bytes ++ R) → Blank blank (bytes ++ S)
-blank_again blank [] R S l k = absurd (omega arith)
-blank_again blank (b ∷ bs) R S l k = blank_moves k b (bs ++ R) (bs ++ S) refl
+-- before other bytes behind them, a token's bytes stand behind the same blanks
+abbrev ahead : {p : Place} {l : Lexeme} → Stepped p l → List ℕ → Place → Place
+ahead s Y p2 = record { rest = s.bytes ++ Y; at = p2.at + length s.blank; line = p2.line + lines s.blank }
 
-solid_again : (bytes R S : List ℕ) → 0 < length bytes → NoBlank (bytes ++ R) → NoBlank (bytes ++ S)
-solid_again [] R S l n = absurd (omega arith)
-solid_again (b ∷ bs) R S l n = n
+passes_again : {p : Place} {l : Lexeme} (s : Stepped p l) (Y : List ℕ) (p2 : Place) → p2.rest ≡ s.blank ++ (s.bytes ++ Y) → Passes p2 (ahead s Y p2)
+passes_again {l = l} s Y p2 e = let m = moves s.bytes (some_bytes s.spells) s.blanks s.solid in (s.blank, e, m.0, m.1, (refl, refl))
+  where
+    moves : (bytes : List ℕ) → 0 < length bytes → Blank s.blank (bytes ++ l.after.rest) → NoBlank (bytes ++ l.after.rest) → Blank s.blank (bytes ++ Y) × NoBlank (bytes ++ Y)
+    moves [] some k n = absurd (omega arith)
+    moves (b ∷ bs) some k n = (blank_moves k b (bs ++ l.after.rest) (bs ++ Y) refl, n)
 
 -- the same token elsewhere
 abbrev pub Copied : Lexeme → List ℕ → Place → Place → Type 0
@@ -113,16 +112,13 @@ token_run p l s = record {
   rest = s.rest ∙ sym (append_assoc s.blank s.bytes l.after.rest);
   size = omega (arith, s.size, s.from, length-append s.blank s.bytes);
   again = λ Y x p2 e.
-      let here : Place = record { rest = s.bytes ++ Y; at = p2.at + length s.blank; line = p2.line + lines s.blank } in
+      let here : Place = ahead s Y p2 in
       let (u, q, h, r, mean) = x here.at here.line in
       let (bs, b, more, st) = (taken_is_longest here l.token q).0 (u, h, mean) in
-      let some : 0 < length s.bytes = some_bytes s.spells in
       let same : length bs ≡ length s.bytes = omega (arith, ap length b.0, length-append bs q.rest, length-append s.bytes Y, ap length r) in
       let at_is : q.at ≡ p2.at + length s.blank + length s.bytes = omega (arith, st.0, same) in
-      let passes : Passes p2 here =
-      (s.blank, e ∙ append_assoc s.blank s.bytes Y, blank_again s.blank s.bytes l.after.rest Y some s.blanks, solid_again s.bytes l.after.rest Y some s.solid, (refl, refl)) in
       let m : Lexeme = record { token = l.token; from = here.at; line = here.line; begin = here.rest; after = q } in
-      (q, (m, (here, passes, (bs, b, more, st), refl, refl, refl), refl, refl, ap (λ ws. s.bytes ++ ws) (sym r), at_is), r, omega (arith, at_is, length-append s.blank s.bytes));
+      (q, (m, (here, passes_again s Y p2 (e ∙ append_assoc s.blank s.bytes Y), (bs, b, more, st), refl, refl, refl), refl, refl, ap (λ ws. s.bytes ++ ws) (sym r), at_is), r, omega (arith, at_is, length-append s.blank s.bytes));
 }
 
 abbrev Plain : List ℕ → Type 0
@@ -155,16 +151,8 @@ pub record Closes (Y : List ℕ) : Type 0 where
 
 pub closing : (p : Place) (m : Lexeme) → (s : Stepped p m) → shuts m.token ≡ true → (Z : List ℕ) → Closes (s.blank ++ (s.bytes ++ Z))
 closing p m s c Z =
-    let some : 0 < length s.bytes = some_bytes s.spells in
     let plain = shut_plain s.spells c Z in
-    record {
-      delimits = blank_delimits s.blanks (s.bytes ++ Z) (λ _. plain.0);
-      text = λ p2 e. (
-        record { rest = s.bytes ++ Z; at = p2.at + length s.blank; line = p2.line + lines s.blank },
-        (s.blank, e, blank_again s.blank s.bytes m.after.rest Z some s.blanks, solid_again s.bytes m.after.rest Z some s.solid, (refl, refl)),
-        plain.1,
-      );
-    }
+    record { delimits = blank_delimits s.blanks (s.bytes ++ Z) (λ _. plain.0); text = λ p2 e. (ahead s Z p2, passes_again s Z p2 e, plain.1) }
 
 pub closes_by : (b : ℕ) (Y : List ℕ) → Delimits (b ∷ Y) → (IsSpace b → ⊥) → b ≢ 37 → b ≢ 34 → Closes (b ∷ Y)
 closes_by b Y d s c q = record { delimits = d; text = λ p e. (p, ([], refl, nothing, subst (λ ws. NoBlank ws) (sym e) (s, c), (omega arith, omega arith)), subst (λ ws. NoQuote ws) (sym e) q) }
