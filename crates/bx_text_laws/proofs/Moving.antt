@@ -1,5 +1,5 @@
 -- What stands in a text, put where other bytes follow it.
-use Rattle.std.proofs.Common.{◌≡◌, ◌≢◌, ℕ, ◌+◌, ◌-◌, ◌≤◌, ◌<◌, true, List, [], ◌∷◌, ◌++◌, take, length, refl, sym, ap, ◌∙◌, subst, arith, append_assoc, take_at, length-append, inl, inr, encode_utf8_all}
+use Rattle.std.proofs.Common.{◌≡◌, ◌≢◌, ℕ, ◌+◌, ◌-◌, ◌≤◌, ◌<◌, true, List, [], ◌∷◌, ◌++◌, take, length, refl, sym, ap, ◌∙◌, subst, arith, append_assoc, take_at, length-append, encode_utf8_all}
 use Rattle.std.specs.Char.{encode_utf8}
 use Rattle.std.proofs.lemmas.Bool.Decides.{nat_tests}
 use Rattle.std.proofs.lemmas.Str.{length-encode, len_utf8_bounds}
@@ -9,7 +9,7 @@ use Rattle.bx_text.specs.Token.{Token, Lexeme}
 use Rattle.bx_text.specs.Terms.{taken}
 use Rattle.bx_text_laws.specs.Blanks.{Blank, nothing, space, comment, NoBlank, LineEnds, Passes}
 use Rattle.bx_text_laws.specs.Characters.{IsSpace}
-use Rattle.bx_text_laws.specs.Spelling.{Spelling, close_tuple, close_list, close_binary, comma, bar, arrow, colon, slash, integer, float, bare_atom}
+use Rattle.bx_text_laws.specs.Spelling.{Spelling, comma, integer, float, bare_atom}
 use Rattle.bx_text_laws.specs.Tokens.{lines, NoLonger}
 use Rattle.bx_text_laws.specs.Terms.{Stood, NoQuote, NoText}
 use Rattle.bx_text_laws.proofs.Runs.{digits_of}
@@ -125,15 +125,8 @@ abbrev Plain : List ℕ → Type 0
 Plain Y = Delimits Y × NoQuote Y
 
 shut_plain : {bytes : List ℕ} {t : Token} → Spelling bytes t → shuts t ≡ true → (Y : List ℕ) → Plain (bytes ++ Y)
-shut_plain close_tuple c Y = (record { digits = refl; fraction = refl; name = refl }, λ e. omega arith)
-shut_plain close_list c Y = (record { digits = refl; fraction = refl; name = refl }, λ e. omega arith)
-shut_plain close_binary c Y = (record { digits = refl; fraction = refl; name = refl }, λ e. omega arith)
-shut_plain comma c Y = (record { digits = refl; fraction = refl; name = refl }, λ e. omega arith)
-shut_plain bar c Y = (record { digits = refl; fraction = refl; name = refl }, λ e. omega arith)
-shut_plain arrow c Y = (record { digits = refl; fraction = refl; name = refl }, λ e. omega arith)
-shut_plain colon c Y = (record { digits = refl; fraction = refl; name = refl }, λ e. omega arith)
-shut_plain slash c Y = (record { digits = refl; fraction = refl; name = refl }, λ e. omega arith)
-shut_plain s c Y = cc
+shut_plain comma c Y = search arith
+shut_plain s c Y = search arith
 
 -- a space delimits
 pub low_delimits : (b : ℕ) (bs : List ℕ) → b ≤ 32 → Delimits (b ∷ bs)
