@@ -15,7 +15,7 @@ use Rattle.bx_text_laws.specs.Blanks.{Blank, nothing, space, comment}
 use Rattle.bx_text_laws.specs.Numerals.{Digit, Numeral, one_digit, digit_more}
 use Rattle.bx_text_laws.specs.Spelling.{InUtf8, Minus, no_minus, a_minus, Sign, no_sign, plus, minus, Exponent, no_exponent, an_exponent, Spelling}
 use Rattle.bx_text_laws.specs.Spelling as spelling
-use Rattle.bx_text_laws.proofs.Moving.{Stepped, stepped, some_bytes, taken_is}
+use Rattle.bx_text_laws.proofs.Moving.{Stepped, stepped, taken_is}
 use Rattle.bx_text_laws.proofs.Printing.{ascii_utf8}
 use Rattle.bx_text_laws.proofs.Sentences.{step, plainly}
 

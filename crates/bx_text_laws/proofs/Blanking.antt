@@ -36,21 +36,21 @@ Inside bs = (text rest : List ℕ) × (bs ≡ text ++ rest) × NoFeed text × Li
 at_comment : (bs : List ℕ) → Inside bs → Split (37 ∷ bs)
 at_comment bs (text, ends, e, a, l, (bytes, rest, f, k, r)) =
     elim (cases_Bool (is_utf8 text)) [
-      inl u ↦ (37 ∷ (text ++ bytes), rest, ap (λ us. 37 ∷ us) (e ∙ ap (λ us. text ++ us) f ∙ sym (append_assoc text bytes rest)), comment text (a, IsUtf8-from_is_utf8 text u) (subst LineEnds f l) k, r)
+      | inl u ↦ (37 ∷ (text ++ bytes), rest, ap (λ us. 37 ∷ us) (e ∙ ap (λ us. text ++ us) f ∙ sym (append_assoc text bytes rest)), comment text (a, IsUtf8-from_is_utf8 text u) (subst LineEnds f l) k, r)
       | inr u ↦ ([], 37 ∷ bs, refl, nothing, inr (text, ends, ap (λ us. 37 ∷ us) e, a, l, λ v. both_ways (is_utf8 text) u (is_utf8-from_IsUtf8 text v)))
     ]
 
 at_byte : (b : ℕ) (bs : List ℕ) → Split bs → Inside bs → Split (b ∷ bs)
 at_byte b bs (bytes, rest, e, k, r) i =
     elim (cases_lt 32 b) [
-      inr s ↦ (b ∷ bytes, rest, ap (λ us. b ∷ us) e, space s k, r)
+      | inr s ↦ (b ∷ bytes, rest, ap (λ us. b ∷ us) e, space s k, r)
       | inl s ↦ elim (cases_eq b 37) [ inl c ↦ rw c (at_comment bs i) | inr c ↦ ([], b ∷ bs, refl, nothing, inl (λ t. omega arith, c)) ]
     ]
 
 in_byte : (b : ℕ) (bs : List ℕ) → Split bs → Inside bs → Inside (b ∷ bs)
 in_byte b bs (bytes, rest, e, k, r) (text, ends, f, a, l, s) =
     elim (cases_eq b 10) [
-      inl feed ↦ ([], b ∷ bs, refl, tt, feed, (b ∷ bytes, rest, ap (λ us. b ∷ us) e, space (omega arith) k, r))
+      | inl feed ↦ ([], b ∷ bs, refl, tt, feed, (b ∷ bytes, rest, ap (λ us. b ∷ us) e, space (omega arith) k, r))
       | inr c ↦ (b ∷ text, ends, ap (λ us. b ∷ us) f, (c, a), l, s)
     ]
 

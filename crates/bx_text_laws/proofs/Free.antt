@@ -57,7 +57,7 @@ free_bytes q l [] = (refl, refl, refl)
 free_bytes q l (c ∷ cs) =
     let (a, b, d) = free_bytes q l cs in
     elim (shape c) [
-      inl s ↦ rw s.1 ((cc), (cc), (cc))
+      | inl s ↦ rw s.1 ((cc), (cc), (cc))
       | inr s ↦
           let (b, hs, e, first, rest) = s.1 in
           let plain = high_plain q c l s.0 in

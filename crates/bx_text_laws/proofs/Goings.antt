@@ -80,8 +80,10 @@ refused_is (faults.again {vs = vs} {l = k} st e r) = inr (k, instead vs, st, e, 
 
 -- where there is no next token, its fault is the first
 pub its_own : (w : Wanted) (ws : List Wanted) (p : Place) (g f : Fault) → lexeme_at p ≡ Err g → Refused (w ∷ ws) p f ↔ (f ≡ g)
-its_own w ws p g f n =
-    (λ r. elim (refused_is r) [ inl h ↦ let there : lexeme_at p ≡ Err f = (next_fails p f).1 h in cc | inr x ↦ absurd (not_both p x.0 g n x.2) ], λ e. subst (λ f. Refused (w ∷ ws) p f) (sym e) (faults.no_token ((next_fails p g).0 n)))
+its_own w ws p g f n = (
+  λ r. elim (refused_is r) [ inl h ↦ let there : lexeme_at p ≡ Err f = (next_fails p f).1 h in cc | inr x ↦ absurd (not_both p x.0 g n x.2) ],
+  λ e. subst (λ f. Refused (w ∷ ws) p f) (sym e) (faults.no_token ((next_fails p g).0 n)),
+)
 
 same_onward : (m : Move) (ws : List Wanted) (p : Place) (f : Fault) (l : Lexeme) → Onward m ws p (plainly l) f → Onward m ws p l f
 same_onward misplaced ws p f l o = o

@@ -25,7 +25,7 @@ by_parenthesis : (b : ℕ) (bs : List ℕ) (at line : ℕ) (x : Token × Place) 
     → ◌≡◌ {A = Result (Token × Place) Fault} (Ok (named.parenthesis, after (on (b ∷ bs) at line) 1)) (Ok x) → Spelled (on (b ∷ bs) at line) x
 by_parenthesis b bs at line x e h =
     elim (or_cases (eqb b 40) (eqb b 41) e) [
-      inl e ↦ one_byte b 40 bs at line named.parenthesis x refl open_parenthesis (λ e. cc) e h
+      | inl e ↦ one_byte b 40 bs at line named.parenthesis x refl open_parenthesis (λ e. cc) e h
       | inr e ↦ one_byte b 41 bs at line named.parenthesis x refl close_parenthesis (λ e. cc) e h
     ]
 

@@ -209,7 +209,8 @@ mutual
       whole (other (span l n.after) sort.Fun (taken l n.after)) p l st inner
       (λ Y s. exact (stepped p l st).spells (no_stop l.token t refl) (inner.text ++ Y) (subst Delimits (sym (same Y)) (fun_delimits p l f (stepped p l st) sf t v x (coloned.run.text ++ Y))))
       (λ k q2 tk (q3, f2, w) same. let (q4, c2, w) = w in let (q5, g2, w) = w in let (q6, s2, n2) = w in
-      kept_built d l n.after sort.Fun k n2.0.after q2 n2.3 same r (λ u. terms.a_fun (tk ∙ t) f2.1 (f2.2 ∙ x) (from_there c2.0 f2.3 c2.1) (c2.2 ∙ y) (from_there g2.0 c2.3 g2.1) (g2.2 ∙ z) (from_there s2.0 g2.3 s2.1) (s2.2 ∙ o) (from_there n2.0 s2.3 n2.1) (n2.2 ∙ j) u))
+      kept_built d l n.after sort.Fun k n2.0.after q2 n2.3 same r
+      (λ u. terms.a_fun (tk ∙ t) f2.1 (f2.2 ∙ x) (from_there c2.0 f2.3 c2.1) (c2.2 ∙ y) (from_there g2.0 c2.3 g2.1) (g2.2 ∙ z) (from_there s2.0 g2.3 s2.1) (s2.2 ∙ o) (from_there n2.0 s2.3 n2.1) (n2.2 ∙ j) u))
 
   elements_run : {d : ℕ} {l m : Lexeme} {ts : List Tree} → Elements d l ts m → (p : Place) → Stood p l → shuts m.token ≡ true → Run p m.after Any (From (Listed d) m)
   elements_run (terms.one {m = m} {r = r} x y) p st c =

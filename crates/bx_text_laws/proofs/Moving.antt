@@ -118,7 +118,8 @@ token_run p l s = record {
       let same : length bs ≡ length s.bytes = omega (arith, ap length b.0, length-append bs q.rest, length-append s.bytes Y, ap length r) in
       let at_is : q.at ≡ p2.at + length s.blank + length s.bytes = omega (arith, st.0, same) in
       let m : Lexeme = record { token = l.token; from = here.at; line = here.line; begin = here.rest; after = q } in
-      (q, (m, (here, passes_again s Y p2 (e ∙ append_assoc s.blank s.bytes Y), (bs, b, more, st), refl, refl, refl), refl, refl, ap (λ ws. s.bytes ++ ws) (sym r), at_is), r, omega (arith, at_is, length-append s.blank s.bytes));
+      let stood : Stood p2 m = (here, passes_again s Y p2 (e ∙ append_assoc s.blank s.bytes Y), (bs, b, more, st), refl, refl, refl) in
+      (q, (m, stood, refl, refl, ap (λ ws. s.bytes ++ ws) (sym r), at_is), r, omega (arith, at_is, length-append s.blank s.bytes));
 }
 
 abbrev Plain : List ℕ → Type 0

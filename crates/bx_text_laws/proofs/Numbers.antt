@@ -106,7 +106,8 @@ by_exponent : {front : List ℕ} → Minus front → (ds fs Z : List ℕ) (at li
 by_exponent {front} mi ds fs Z at line x a l b k w (es, W, e, ex, n) h =
     let bytes : List ℕ = front ++ (ds ++ (46 ∷ (fs ++ es))) in
     let p : Place = on (front ++ (ds ++ (46 ∷ (fs ++ Z)))) at line in
-    let none : lines bytes ≡ 0 = omega (arith, lines-append front (ds ++ (46 ∷ (fs ++ es))), minus_lines mi, lines-append ds (46 ∷ (fs ++ es)), lines-append fs es, digit_lines ds a, digit_lines fs b, exponent_lines ex) in
+    let none : lines bytes ≡ 0 =
+    omega (arith, lines-append front (ds ++ (46 ∷ (fs ++ es))), minus_lines mi, lines-append ds (46 ∷ (fs ++ es)), lines-append fs es, digit_lines ds a, digit_lines fs b, exponent_lines ex) in
     let long : exponent_len (drop (prefix_len is_digit Z) Z) ≡ length es = ap (λ k. exponent_len (drop k Z)) w ∙ n in
     subst (Spelled p) (ok_same _ x (sym (float_reads mi ds fs Z at line a l b k) ∙ h))
     (spelled_at p bytes W _ token.float (rw e (simp append_assoc)) (float mi (digits_are ds a l) (digits_are fs b k) ex) (λ e. cc) none

@@ -37,7 +37,12 @@ integer_by : (p : Place) (rest bytes : List ℕ) (m : ℕ) → token_at p ≡ nu
 integer_by p rest bytes m h e long most =
     cond_both (eqb F 0) _ _ (λ r. token_at p ≡ r → Found p (token.integer (number bytes)) rest)
     (λ z g. ((token.integer (number (take m p.rest)), after p m), g, omega (arith, size, length-drop m p.rest, long), same))
-    (λ z g. ((token.float, after p N), g, omega (arith, size, length-drop N p.rest, long), λ l. absurd (omega (arith, size, l, eqb-false F 0 z, some (drop m p.rest) (eqb-false F 0 z), length-drop m p.rest, length-drop N p.rest, long)))) h
+    (λ z g. (
+      (token.float, after p N),
+      g,
+      omega (arith, size, length-drop N p.rest, long),
+      λ l. absurd (omega (arith, size, l, eqb-false F 0 z, some (drop m p.rest) (eqb-false F 0 z), length-drop m p.rest, length-drop N p.rest, long)),
+    )) h
   where
     F : ℕ
     F = fraction_len (drop m p.rest)

@@ -120,7 +120,7 @@ more_bytes ts zs n a = record { short = omega (arith, length-append ts zs, n.sho
     longest : (k : ℕ) → 0 < k → IsUtf8 (take k (ts ++ zs)) → ⊥
     longest k some u =
         elim (least k (length ts)) [
-          inl l ↦ n.longest k some (subst IsUtf8 (take-append-le k ts zs l) u)
+          | inl l ↦ n.longest k some (subst IsUtf8 (take-append-le k ts zs l) u)
           | inr l ↦ let whole : k ≡ length ts + (k - length ts) = omega (arith, l) in beyond zs a (k - length ts) (subst IsUtf8 (ap (λ k. take k (ts ++ zs)) whole ∙ take-append-add ts zs (k - length ts)) u)
         ]
 
@@ -130,6 +130,6 @@ fewer_bytes ts zs some n = record { short = some; front = IsUtf8-nil; longest = 
     longest : (k : ℕ) → 0 < k → IsUtf8 (take k ts) → ⊥
     longest k more u =
         elim (least k (length ts)) [
-          inl l ↦ n.longest k more (subst IsUtf8 (sym (take-append-le k ts zs l)) u)
+          | inl l ↦ n.longest k more (subst IsUtf8 (sym (take-append-le k ts zs l)) u)
           | inr l ↦ n.longest (length ts) some (subst IsUtf8 (take_all k ts l ∙ sym (take_at ts zs (length ts) refl)) u)
         ]

@@ -93,7 +93,8 @@ mutual
   term_is (grammar.a_map t a r k w) = terms.a_map (ap meant t) (step _ _ a) (pairs_are r) (ap meant k) (valid_is _ w)
   term_is (grammar.an_empty_binary t a k w) = terms.an_empty_binary (ap meant t) (step _ _ a) (ap meant k) (valid_is _ w)
   term_is (grammar.a_binary t a r k w) = terms.a_binary (ap meant t) (step _ _ a) (parts_are r) (ap meant k) (valid_is _ w)
-  term_is (grammar.a_fun t a x b y k z j u i v w) = terms.a_fun (ap meant t) (step _ _ a) (ap meant x) (step _ _ b) (ap meant y) (step _ _ k) (ap meant z) (step _ _ j) (ap meant u) (step _ _ i) (ap meant v) (valid_is _ w)
+  term_is (grammar.a_fun t a x b y k z j u i v w) =
+      terms.a_fun (ap meant t) (step _ _ a) (ap meant x) (step _ _ b) (ap meant y) (step _ _ k) (ap meant z) (step _ _ j) (ap meant u) (step _ _ i) (ap meant v) (valid_is _ w)
 
   elements_are : {d : ℕ} {l m : Lexeme} {ts : List Tree} → Row d l ts m → Elements d (plainly l) ts (plainly m)
   elements_are (grammar.one s a) = terms.one (term_is s) (step _ _ a)
