@@ -1,21 +1,21 @@
 -- Integers and floats.
-use Rattle.std.proofs.Common.{◌≡◌, ℕ, ◌+◌, ◌<◌, true, false, eqb, ◌||◌, List, [], ◌∷◌, ◌++◌, take, drop, length, Result, Ok, refl, sym, ap, ◌∙◌, subst, arith, append_assoc, drop_at, take_at, length-append, ◌⊎◌, inl, inr}
+use Rattle.std.proofs.Common.{◌≡◌, ℕ, ◌<◌, true, false, eqb, ◌||◌, List, [], ◌∷◌, ◌++◌, drop, length, Result, Ok, refl, sym, ap, ◌∙◌, subst, arith, append_assoc, drop_at, length-append, ◌⊎◌, inl, inr}
 use Rattle.std.specs.List.{list_all, prefix_len}
 use Rattle.std.proofs.lemmas.Bool.{eqb-true, cond_both, or_cases}
 use Rattle.std.proofs.lemmas.Bool.Decides.{nat_tests}
 use Rattle.bx_terms.specs.declared.faults.Fault.{Fault}
 use Rattle.bx_text.specs.Bytes.{is_digit}
 use Rattle.bx_text.specs.Number.{number}
-use Rattle.bx_text.specs.Place.{Place, after}
+use Rattle.bx_text.specs.Place.{Place}
 use Rattle.bx_text.specs.Token as token
 use Rattle.bx_text.specs.Token.{Token}
-use Rattle.bx_text.specs.Lexing.{token_at, number_at, number_by, fraction_len, point_len, sign_len, power_len, exponent_len}
+use Rattle.bx_text.specs.Lexing.{token_at, number_at, fraction_len, point_len, sign_len, power_len, exponent_len}
 use Rattle.bx_text.proofs.Outcomes.{ok_same}
 use Rattle.bx_text_laws.specs.Spelling.{Spelling, Minus, no_minus, a_minus, Digits, Sign, no_sign, plus, minus, Exponent, no_exponent, an_exponent, integer, negative, float}
 use Rattle.bx_text_laws.specs.Tokens.{lines}
 use Rattle.bx_text_laws.proofs.Frame.{on, Spelled, spelled_at, lines-append}
 use Rattle.bx_text_laws.proofs.Runs.{run_split, run_append, numeral_is, digits_of, digit_lines, unsigned}
-use Rattle.bx_text_laws.proofs.NumbersFound.{first_number, digits_on, power_is, float_reads}
+use Rattle.bx_text_laws.proofs.NumbersFound.{first_number, integer_reads, power_is, float_reads}
 
 -- all digits in front
 abbrev Run : List ℕ → Type 0
@@ -117,14 +117,9 @@ by_fraction : {front : List ℕ} → Minus front → (ds Y : List ℕ) (at line 
     → (fraction_len Y ≡ 0) ⊎ Fraction Y → token_at (on (front ++ (ds ++ Y)) at line) ≡ Ok x → Spelled (on (front ++ (ds ++ Y)) at line) x
 by_fraction {front} mi ds Y at line x a l z (inl f) h =
     let p : Place = on (front ++ (ds ++ Y)) at line in
-    let m : ℕ = length front + length ds in
-    let whole : p.rest ≡ (front ++ ds) ++ Y = sym (append_assoc front ds Y) in
-    let left : drop m p.rest ≡ Y = ap (λ ws. drop m ws) whole ∙ drop_at (front ++ ds) Y m (length-append front ds) in
-    let begun : token_at p ≡ number_by p m 0 =
-    first_number mi ds Y at line a l ∙ digits_on front (ds ++ Y) at line (length ds) (omega (arith, run_append is_digit ds Y a, z)) l ∙ ap (λ f. number_by p m f) (ap fraction_len left ∙ f) in
-    let bytes : take m p.rest ≡ front ++ ds = ap (λ ws. take m ws) whole ∙ take_at (front ++ ds) Y m (length-append front ds) in
-    subst (Spelled p) (ok_same (token.integer (number (front ++ ds)), after p m) x (ap (λ w. Ok (token.integer (number w), after p m)) (sym bytes) ∙ sym begun ∙ h))
-    (spelled_at p (front ++ ds) Y m (token.integer (number (front ++ ds))) whole (integer_is mi ds a l) (λ e. cc) (omega (arith, lines-append front ds, minus_lines mi, digit_lines ds a)) (sym (length-append front ds)))
+    subst (Spelled p) (ok_same _ x (sym (integer_reads mi ds Y at line a l z f) ∙ h))
+    (spelled_at p (front ++ ds) Y _ (token.integer (number (front ++ ds))) (sym (append_assoc front ds Y)) (integer_is mi ds a l) (λ e. cc)
+    (omega (arith, lines-append front ds, minus_lines mi, digit_lines ds a)) (sym (length-append front ds)))
 by_fraction {front} mi ds Y at line x a l z (inr (fs, Z, e, b, k, w)) h =
     subst (λ Y. token_at (on (front ++ (ds ++ Y)) at line) ≡ Ok x → Spelled (on (front ++ (ds ++ Y)) at line) x) (sym e) (by_exponent mi ds fs Z at line x a l b k w (exponent_split Z)) h
 

@@ -31,6 +31,17 @@ pub digits_on : (front X : List ℕ) (at line n : ℕ) → n ≡ prefix_len is_d
     → number_at (on (front ++ X) at line) (length front) ≡ number_by (on (front ++ X) at line) (length front + n) (fraction_len (drop (length front + n) (front ++ X)))
 digits_on front X at line n e some = rw (ap (λ ws. prefix_len is_digit ws) (drop_at front X (length front) refl) ∙ sym e, ne_eqb n 0 (λ z. omega (arith, z, some)))
 
+-- an integer is read as one, where neither a digit nor a fraction follows
+pub integer_reads : {front : List ℕ} → Minus front → (ds Y : List ℕ) (at line : ℕ) → list_all is_digit ds ≡ true → 0 < length ds → prefix_len is_digit Y ≡ 0 → fraction_len Y ≡ 0
+    → token_at (on (front ++ (ds ++ Y)) at line) ≡ Ok (token.integer (number (front ++ ds)), after (on (front ++ (ds ++ Y)) at line) (length front + length ds))
+integer_reads {front} mi ds Y at line a l z f =
+    let p : Place = on (front ++ (ds ++ Y)) at line in
+    let m : ℕ = length front + length ds in
+    let left : drop m p.rest ≡ Y = ap (λ ws. drop m ws) (sym (append_assoc front ds Y)) ∙ drop_at (front ++ ds) Y m (length-append front ds) in
+    let bytes : take m p.rest ≡ front ++ ds = ap (λ ws. take m ws) (sym (append_assoc front ds Y)) ∙ take_at (front ++ ds) Y m (length-append front ds) in
+    first_number mi ds Y at line a l ∙ digits_on front (ds ++ Y) at line (length ds) (omega (arith, run_append is_digit ds Y a, z)) l ∙ ap (λ f. number_by p m f) (ap fraction_len left ∙ f)
+    ∙ ap (λ w. Ok (token.integer (number w), after p m)) bytes
+
 -- m bytes of a sign and digits, of which those that are spelled are a part
 integer_by : (p : Place) (rest bytes : List ℕ) (m : ℕ) → token_at p ≡ number_by p m (fraction_len (drop m p.rest)) → p.rest ≡ bytes ++ rest → length bytes ≤ m → m ≤ length p.rest
     → Found p (token.integer (number bytes)) rest
