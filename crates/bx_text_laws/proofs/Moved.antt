@@ -20,7 +20,7 @@ use Rattle.bx_text_laws.proofs.Words.{small_name, name_take}
 use Rattle.bx_text_laws.proofs.Longest.{sound}
 use Rattle.bx_text_laws.proofs.Printing.{Delimits, Exactly}
 use Rattle.bx_text_laws.proofs.Exact.{fun_len, shuts, ends, solid_exact, exact}
-use Rattle.bx_text_laws.proofs.Moving.{Run, stay, under, doing, then, Stepped, stepped, token_run, some_bytes, Closes, blank_delimits, taken_is, Any, Shut, shut_token, shut_more, before_shut, solid_before, before_text, shutting, anywhere}
+use Rattle.bx_text_laws.proofs.Moving.{Run, stay, under, doing, then, Stepped, stepped, token_run, some_bytes, Closes, blank_delimits, taken_is, Any, Shut, shut_token, shut_more, before_shut, solid_before, shutting, anywhere}
 
 no_stop : (t : Token) {v : Token} → t ≡ v → is_stop v ≡ false → t ≢ named.full_stop
 no_stop t e n h = both_ways (is_stop t) (ap is_stop e ∙ n) (ap is_stop h)
@@ -204,8 +204,7 @@ mutual
       let coloned = shut_more {May = Closes} f.after colon b (ap shuts y) called in
       let inner = before_shut l.after f a (no_stop f.token x refl) coloned in
       let sf = stepped l.after f a in
-      let same : (Y : List ℕ) → inner.text ++ Y ≡ (sf.blank ++ sf.bytes) ++ (coloned.run.text ++ Y) =
-      λ Y. ap (λ ws. ws ++ Y) (before_text l.after f a (no_stop f.token x refl) coloned) ∙ append_assoc (sf.blank ++ sf.bytes) coloned.run.text Y in
+      let same : (Y : List ℕ) → inner.text ++ Y ≡ (sf.blank ++ sf.bytes) ++ (coloned.run.text ++ Y) = λ Y. append_assoc (sf.blank ++ sf.bytes) coloned.run.text Y in
       whole (other (span l n.after) sort.Fun (taken l n.after)) p l st inner
       (λ Y s. exact (stepped p l st).spells (no_stop l.token t refl) (inner.text ++ Y) (subst Delimits (sym (same Y)) (fun_delimits p l f (stepped p l st) sf t v x (coloned.run.text ++ Y))))
       (λ k q2 tk (q3, f2, w) same. let (q4, c2, w) = w in let (q5, g2, w) = w in let (q6, s2, n2) = w in

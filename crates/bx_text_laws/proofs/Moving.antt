@@ -27,14 +27,14 @@ pub record Run (p q : Place) (May : List ℕ → Type 0) (Do : Place → Place �
 abbrev pub stay : (p : Place) (May : List ℕ → Type 0) → Run p p May (λ p2 q2. p2 ≡ q2)
 stay p May = record { text = []; rest = refl; size = omega arith; again = λ Y a p2 e. (p2, refl, e, omega arith) }
 
-pub under : {p q : Place} {A B : List ℕ → Type 0} {D : Place → Place → Type 0} → ((Y : List ℕ) → B Y → A Y) → Run p q A D → Run p q B D
+abbrev pub under : {p q : Place} {A B : List ℕ → Type 0} {D : Place → Place → Type 0} → ((Y : List ℕ) → B Y → A Y) → Run p q A D → Run p q B D
 under f run = record { text = run.text; rest = run.rest; size = run.size; again = λ Y b p2 e. run.again Y (f Y b) p2 e }
 
-pub doing : {p q : Place} {A : List ℕ → Type 0} {D E : Place → Place → Type 0} → Run p q A D → ((p2 q2 : Place) → D p2 q2 → E p2 q2) → Run p q A E
+abbrev pub doing : {p q : Place} {A : List ℕ → Type 0} {D E : Place → Place → Type 0} → Run p q A D → ((p2 q2 : Place) → D p2 q2 → E p2 q2) → Run p q A E
 doing run f = record { text = run.text; rest = run.rest; size = run.size; again = λ Y a p2 e. let (q2, d, r, s) = run.again Y a p2 e in (q2, f p2 q2 d, r, s) }
 
 -- one behind the other
-pub then : {p q r : Place} {A B : List ℕ → Type 0} {D E : Place → Place → Type 0} → (one : Run p q A D) → (two : Run q r B E) → ((Y : List ℕ) → B Y → A (two.text ++ Y))
+abbrev pub then : {p q r : Place} {A B : List ℕ → Type 0} {D E : Place → Place → Type 0} → (one : Run p q A D) → (two : Run q r B E) → ((Y : List ℕ) → B Y → A (two.text ++ Y))
     → Run p r B (λ p2 r2. (q2 : Place) × D p2 q2 × E q2 r2)
 then {r = r} one two fits = record {
   text = one.text ++ two.text;
@@ -59,7 +59,7 @@ pub record Stepped (p : Place) (l : Lexeme) : Type 0 where
   pub spells : Spelling bytes l.token
   pub longest : NoLonger (bytes ++ l.after.rest) bytes
 
-pub stepped : (p : Place) (l : Lexeme) → Stood p l → Stepped p l
+abbrev pub stepped : (p : Place) (l : Lexeme) → Stood p l → Stepped p l
 stepped p l (q, (blank, e, b, n, s), (bytes, (f, k, may), longest, t), from_is, line_is, begin_is) = record {
   blank = blank;
   bytes = bytes;
@@ -92,10 +92,10 @@ blank_moves (comment text {bytes = bytes} {rest = rest} o l k) b R S e = comment
     ends (x ∷ xs) h = h
 
 -- before other bytes behind them, a token's bytes stand behind the same blanks
-abbrev ahead : {p : Place} {l : Lexeme} → Stepped p l → List ℕ → Place → Place
+abbrev pub ahead : {p : Place} {l : Lexeme} → Stepped p l → List ℕ → Place → Place
 ahead s Y p2 = record { rest = s.bytes ++ Y; at = p2.at + length s.blank; line = p2.line + lines s.blank }
 
-passes_again : {p : Place} {l : Lexeme} (s : Stepped p l) (Y : List ℕ) (p2 : Place) → p2.rest ≡ s.blank ++ (s.bytes ++ Y) → Passes p2 (ahead s Y p2)
+pub passes_again : {p : Place} {l : Lexeme} (s : Stepped p l) (Y : List ℕ) (p2 : Place) → p2.rest ≡ s.blank ++ (s.bytes ++ Y) → Passes p2 (ahead s Y p2)
 passes_again {l = l} s Y p2 e = let m = moves s.bytes (some_bytes s.spells) s.blanks s.solid in (s.blank, e, m.0, m.1, (refl, refl))
   where
     moves : (bytes : List ℕ) → 0 < length bytes → Blank s.blank (bytes ++ l.after.rest) → NoBlank (bytes ++ l.after.rest) → Blank s.blank (bytes ++ Y) × NoBlank (bytes ++ Y)
@@ -106,7 +106,7 @@ passes_again {l = l} s Y p2 e = let m = moves s.bytes (some_bytes s.spells) s.bl
 abbrev pub Copied : Lexeme → List ℕ → Place → Place → Type 0
 Copied l bytes p2 q2 = (m : Lexeme) × Stood p2 m × (m.token ≡ l.token) × (m.after ≡ q2) × (m.begin ≡ bytes ++ q2.rest) × (q2.at ≡ m.from + length bytes)
 
-pub token_run : (p : Place) (l : Lexeme) → (s : Stepped p l) → Run p l.after (λ Y. Exactly s.bytes l.token Y) (Copied l s.bytes)
+abbrev pub token_run : (p : Place) (l : Lexeme) → (s : Stepped p l) → Run p l.after (λ Y. Exactly s.bytes l.token Y) (Copied l s.bytes)
 token_run p l s = record {
   text = s.blank ++ s.bytes;
   rest = s.rest ∙ sym (append_assoc s.blank s.bytes l.after.rest);
@@ -168,7 +168,6 @@ Any Y = Unit {0}
 
 -- a mark
 pub shut_token : {May : List ℕ → Type 0} (p : Place) (m : Lexeme) → (st : Stood p m) → shuts m.token ≡ true → Shut p m.after May (Copied m (stepped p m st).bytes)
-unfolding under stepped token_run
 shut_token p m st c =
     let s = stepped p m st in
     record { run = under (λ Y a. solid_exact s.spells (shuts_ends m.token c) Y) (token_run p m s); shut = λ Y a. subst Closes (sym (append_assoc s.blank s.bytes Y)) (closing p m s c Y) }
@@ -176,14 +175,13 @@ shut_token p m st c =
 -- a mark, and what follows it
 pub shut_more : {May : List ℕ → Type 0} {E : Place → Place → Type 0} {r : Place} (p : Place) (m : Lexeme) → (st : Stood p m) → shuts m.token ≡ true → Run m.after r May E
     → Shut p r May (λ p2 r2. (q2 : Place) × Copied m (stepped p m st).bytes p2 q2 × E q2 r2)
-unfolding then stepped token_run
 shut_more p m st c two =
     let s = stepped p m st in
     let grouped : (Y : List ℕ) → ((s.blank ++ s.bytes) ++ two.text) ++ Y ≡ s.blank ++ (s.bytes ++ (two.text ++ Y)) = λ Y. simp append_assoc in
     record { run = then (token_run p m s) two (λ Y a. solid_exact s.spells (shuts_ends m.token c) (two.text ++ Y)); shut = λ Y a. subst Closes (sym (grouped Y)) (closing p m s c (two.text ++ Y)) }
 
 -- a token before such a mark
-pub before_shut : {May : List ℕ → Type 0} {E : Place → Place → Type 0} {r : Place} (p : Place) (m : Lexeme) → (st : Stood p m) → m.token ≢ named.full_stop → Shut m.after r May E
+abbrev pub before_shut : {May : List ℕ → Type 0} {E : Place → Place → Type 0} {r : Place} (p : Place) (m : Lexeme) → (st : Stood p m) → m.token ≢ named.full_stop → Shut m.after r May E
     → Run p r May (λ p2 r2. (q2 : Place) × Copied m (stepped p m st).bytes p2 q2 × E q2 r2)
 before_shut p m st n two = let s = stepped p m st in then (token_run p m s) two.run (λ Y a. exact s.spells n (two.run.text ++ Y) (two.shut Y a).delimits)
 
@@ -192,13 +190,7 @@ pub solid_before : {May : List ℕ → Type 0} {E : Place → Place → Type 0} 
     → Run p r May (λ p2 r2. (q2 : Place) × Copied m (stepped p m st).bytes p2 q2 × E q2 r2)
 solid_before p m st sol two = let s = stepped p m st in then (token_run p m s) two (λ Y a. solid_exact s.spells sol (two.text ++ Y))
 
-pub before_text : {May : List ℕ → Type 0} {E : Place → Place → Type 0} {r : Place} (p : Place) (m : Lexeme) → (st : Stood p m) → (n : m.token ≢ named.full_stop) → (two : Shut m.after r May E)
-    → (before_shut p m st n two).text ≡ ((stepped p m st).blank ++ (stepped p m st).bytes) ++ two.run.text
-unfolding stepped before_shut then token_run
-before_text p m st n two = refl
-
 pub shutting : {p q : Place} {A : List ℕ → Type 0} {D E : Place → Place → Type 0} → Shut p q A D → ((p2 q2 : Place) → D p2 q2 → E p2 q2) → Shut p q A E
-unfolding doing
 shutting s f = record { run = doing s.run f; shut = s.shut }
 
 pub anywhere : {p q : Place} {D : Place → Place → Type 0} → Run p q Any D → Run p q Closes D
