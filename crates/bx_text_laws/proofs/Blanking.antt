@@ -133,17 +133,13 @@ fails p q (bytes, text, rest, t, k, e, a, l, bad, st) = up_to p q bytes t k st �
 
 -- one of the two
 pub went : (p : Place) → ((q : Place) × Passes p q × (skip p ≡ Ok q)) ⊎ ((q : Place) × Spoilt p q × (skip p ≡ Err (NotUtf8 q.line)))
-went p = by (sides p.rest).0
-  where
-    by : Split p.rest → ((q : Place) × Passes p q × (skip p ≡ Ok q)) ⊎ ((q : Place) × Spoilt p q × (skip p ≡ Err (NotUtf8 q.line)))
-    by (bytes, rest, e, k, inl n) =
-        let q : Place = on rest (p.at + length bytes) (p.line + lines bytes) in
-        let s : Passes p q = (bytes, e, k, n, (refl, refl)) in
-        inl (q, s, skips p q s)
-    by (bytes, rest, e, k, inr (text, ends, f, a, l, bad)) =
-        let q : Place = on rest (p.at + length bytes) (p.line + lines bytes) in
-        let s : Spoilt p q = (bytes, text, ends, e, k, f, a, l, bad, (refl, refl)) in
-        inr (q, s, fails p q s)
+went p =
+    let (bytes, rest, e, k, r) = (sides p.rest).0 in
+    let q : Place = on rest (p.at + length bytes) (p.line + lines bytes) in
+    elim r [
+      inl n ↦ let s : Passes p q = (bytes, e, k, n, (refl, refl)) in inl (q, s, skips p q s)
+      | inr x ↦ let (text, ends, f, a, l, bad) = x in let s : Spoilt p q = (bytes, text, ends, e, k, f, a, l, bad, (refl, refl)) in inr (q, s, fails p q s)
+    ]
 
 pub skipped_is_blank : (p q : Place) → (skip p ≡ Ok q) ↔ Passes p q
 skipped_is_blank p q = (λ h. elim (went p) [ inl x ↦ subst (Passes p) (ok_same x.0 q (sym x.2 ∙ h)) x.1 | inr x ↦ cc ], skips p q)

@@ -90,14 +90,15 @@ same_onward misplaced ws p f l o = o
 same_onward m ws p f l o = o
 
 goes_out : {w : Wanted} {ws : List Wanted} {p : Place} {f : Fault} (l : Lexeme) (m : Move) → lexeme_at p ≡ Ok l → Does w (meant l.token) m → Refused (w ∷ ws) p f → Onward m ws p l f
-goes_out {w = w} {ws = ws} {p = p} {f = f} l m n d r = by (refused_is r)
-  where
-    by : NextFails p f ⊎ ((k : Lexeme) × (m : Move) × Stood p k × Does w k.token m × Onward m ws p k f) → Onward m ws p l f
-    by (inl h) = absurd (let there : lexeme_at p ≡ Err f = (next_fails p f).1 h in cc)
-    by (inr (k, o, st, e, x)) =
-        let same : plainly l ≡ k = found_same p l k n st in
-        let move : m ≡ o = does_one d (subst (λ (k : Lexeme). Does w k.token o) (sym same) e) in
-        same_onward m ws p f l (subst (λ m. Onward m ws p (plainly l) f) (sym move) (subst (λ k. Onward o ws p k f) (sym same) x))
+goes_out {w = w} {ws = ws} {p = p} {f = f} l m n d r =
+    elim (refused_is r) [
+      inl h ↦ absurd (let there : lexeme_at p ≡ Err f = (next_fails p f).1 h in cc)
+      | inr x ↦
+          let (k, o, st, e, y) = x in
+          let same : plainly l ≡ k = found_same p l k n st in
+          let move : m ≡ o = does_one d (subst (λ (k : Lexeme). Does w k.token o) (sym same) e) in
+          same_onward m ws p f l (subst (λ m. Onward m ws p (plainly l) f) (sym move) (subst (λ k. Onward o ws p k f) (sym same) y))
+    ]
 
 goes_in : (w : Wanted) (ws : List Wanted) (p : Place) (f : Fault) (l : Lexeme) (m : Move) → lexeme_at p ≡ Ok l → Does w (meant l.token) m → Onward m ws p l f → Refused (w ∷ ws) p f
 goes_in w ws p f l misplaced n d e = subst (λ f. Refused (w ∷ ws) p f) (sym e) (faults.bad_term (step p l n) d)

@@ -22,10 +22,7 @@ abbrev Run : List ℕ → Type 0
 Run xs = (ds zs : List ℕ) × (xs ≡ ds ++ zs) × (list_all is_digit ds ≡ true) × (prefix_len is_digit zs ≡ 0)
 
 digits_split : (xs : List ℕ) → Run xs
-digits_split xs = by (run_split is_digit xs)
-  where
-    by : ((ds zs : List ℕ) × (xs ≡ ds ++ zs) × (list_all is_digit ds ≡ true) × (prefix_len is_digit xs ≡ length ds)) → Run xs
-    by (ds, zs, e, a, n) = (ds, zs, e, a, omega (arith, ap (λ ws. prefix_len is_digit ws) e, run_append is_digit ds zs a, n))
+digits_split xs = let (ds, zs, e, a, n) = run_split is_digit xs in (ds, zs, e, a, omega (arith, ap (λ ws. prefix_len is_digit ws) e, run_append is_digit ds zs a, n))
 
 digits_are : (ds : List ℕ) → list_all is_digit ds ≡ true → 0 < length ds → Digits ds
 digits_are [] a l = absurd (omega arith)

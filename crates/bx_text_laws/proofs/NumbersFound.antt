@@ -85,19 +85,18 @@ integer_found {front} mi ds rest at line a l =
 pub power_some : (s n : ℕ) → 0 < n → power_len s n ≡ 1 + s + n
 power_some s n h = grind (arith, nat_tests)
 
+counted : (k : ℕ) (ds rest : List ℕ) → list_all is_digit ds ≡ true → 0 < length ds → power_len k (prefix_len is_digit (ds ++ rest)) ≡ 1 + k + (length ds + prefix_len is_digit rest)
+counted k ds rest a l = power_some k (prefix_len is_digit (ds ++ rest)) (omega (arith, run_append is_digit ds rest a)) ∙ omega (arith, run_append is_digit ds rest a)
+
 pub power_is : {s : List ℕ} → Sign s → (ds rest : List ℕ) → list_all is_digit ds ≡ true → 0 < length ds
     → power_len (sign_len (s ++ (ds ++ rest))) (prefix_len is_digit (drop (sign_len (s ++ (ds ++ rest))) (s ++ (ds ++ rest)))) ≡ 1 + length s + (length ds + prefix_len is_digit rest)
-power_is {s} sg ds rest a l = by sg ds a l (λ k. power_some k (prefix_len is_digit (ds ++ rest)) (omega (arith, run_append is_digit ds rest a)) ∙ omega (arith, run_append is_digit ds rest a))
+power_is sg [] rest a l = absurd (omega arith)
+power_is no_sign (d ∷ ds) rest a l = rw (no_sign_digit d (and_parts (is_digit d) (list_all is_digit ds) a).0) (counted 0 (d ∷ ds) rest a l)
   where
-    by : {s : List ℕ} → Sign s → (ds : List ℕ) → list_all is_digit ds ≡ true → 0 < length ds → ((k : ℕ) → power_len k (prefix_len is_digit (ds ++ rest)) ≡ 1 + k + (length ds + prefix_len is_digit rest))
-        → power_len (sign_len (s ++ (ds ++ rest))) (prefix_len is_digit (drop (sign_len (s ++ (ds ++ rest))) (s ++ (ds ++ rest)))) ≡ 1 + length s + (length ds + prefix_len is_digit rest)
-    by sg [] a l h = absurd (omega arith)
-    by no_sign (d ∷ ds) a l h = rw (no_sign_digit d (and_parts (is_digit d) (list_all is_digit ds) a).0) (h 0)
-      where
-        no_sign_digit : (d : ℕ) → is_digit d ≡ true → (eqb d 43 || eqb d 45) ≡ false
-        no_sign_digit d h = grind (arith, nat_tests)
-    by plus (d ∷ ds) a l h = h 1
-    by minus (d ∷ ds) a l h = h 1
+    no_sign_digit : (d : ℕ) → is_digit d ≡ true → (eqb d 43 || eqb d 45) ≡ false
+    no_sign_digit d h = grind (arith, nat_tests)
+power_is plus (d ∷ ds) rest a l = counted 1 (d ∷ ds) rest a l
+power_is minus (d ∷ ds) rest a l = counted 1 (d ∷ ds) rest a l
 
 -- behind a fraction's digits, and those that happen to follow, an exponent ends no later than the reader does, and there where
 -- neither a digit nor an exponent follows

@@ -17,10 +17,9 @@ Front p xs n = (ys zs : List ℕ) × (xs ≡ ys ++ zs) × (list_all p ys ≡ tru
 
 pub run_split : (p : ℕ → Bool) (xs : List ℕ) → (ys zs : List ℕ) × (xs ≡ ys ++ zs) × (list_all p ys ≡ true) × (prefix_len p xs ≡ length ys)
 run_split p [] = ([], [], refl, refl, refl)
-run_split p (x ∷ xs) = by (run_split p xs)
-  where
-    by : Front p xs (prefix_len p xs) → Front p (x ∷ xs) (cond (p x) (1 + prefix_len p xs) 0)
-    by (ys, zs, e, a, n) = cond_both (p x) _ _ (Front p (x ∷ xs)) (λ is. (x ∷ ys, zs, ap (λ ws. x ∷ ws) e, and_from (p x) (list_all p ys) is a, omega (arith, n))) (λ _. ([], x ∷ xs, refl, refl, refl))
+run_split p (x ∷ xs) =
+    let (ys, zs, e, a, n) = run_split p xs in
+    cond_both (p x) _ _ (Front p (x ∷ xs)) (λ is. (x ∷ ys, zs, ap (λ ws. x ∷ ws) e, and_from (p x) (list_all p ys) is a, omega (arith, n))) (λ _. ([], x ∷ xs, refl, refl, refl))
 
 pub run_append : (p : ℕ → Bool) (xs ys : List ℕ) → list_all p xs ≡ true → prefix_len p (xs ++ ys) ≡ length xs + prefix_len p ys
 run_append p [] ys a = omega arith
