@@ -57,12 +57,6 @@ enclosed q make is low means first cs vs bytes rest r u at line =
       means b ∙ ap (λ w. make (token.plain w)) m,
     )
 
-atom_exactly : (cs vs bytes rest : List ℕ) → Quoted 39 cs vs → InUtf8 cs bytes → Exactly (39 ∷ (bytes ++ 39 ∷ [])) (token.atom (token.plain (encode_utf8_all vs))) rest
-atom_exactly = enclosed 39 token.atom (inl refl) (omega arith) (λ b. refl) (λ bs at line. refl)
-
-text_exactly : (cs vs bytes rest : List ℕ) → Quoted 34 cs vs → InUtf8 cs bytes → Exactly (34 ∷ (bytes ++ 34 ∷ [])) (token.text (token.plain (encode_utf8_all vs))) rest
-text_exactly = enclosed 34 token.text (inr refl) (omega arith) (λ b. refl) (λ bs at line. refl)
-
 -- the word `fun`
 pub fun_len : (rest : List ℕ) → name_len (codes "fun" ++ rest) ≡ 3 + name_len rest
 fun_len rest = omega arith
@@ -106,8 +100,8 @@ exact_by (float {ds = ds} {fs = fs} mi (m, k) (j, l) ex) n rest d =
     let b = digits_of l refl in
     float_exact mi ds fs rest a.0 a.2 b.0 b.2 ex (d refl)
 exact_by (bare_atom x cs {bytes = bytes} small a utf8 other) n rest d = word_exact x cs bytes rest small a utf8 other (d refl)
-exact_by (quoted_atom {cs = cs} {vs = vs} {bytes = bytes} q utf8) n rest d = atom_exactly cs vs bytes rest q utf8
-exact_by (string {cs = cs} {vs = vs} {bytes = bytes} q utf8) n rest d = text_exactly cs vs bytes rest q utf8
+exact_by (quoted_atom {cs = cs} {vs = vs} {bytes = bytes} q utf8) n rest d = enclosed 39 token.atom (inl refl) (omega arith) (λ b. refl) (λ bs at line. refl) cs vs bytes rest q utf8
+exact_by (string {cs = cs} {vs = vs} {bytes = bytes} q utf8) n rest d = enclosed 34 token.text (inr refl) (omega arith) (λ b. refl) (λ bs at line. refl) cs vs bytes rest q utf8
 exact_by {bytes = bytes} {t = t} s n rest d = λ at line. (t, after (on (bytes ++ rest) at line) (length bytes), refl, drop_at bytes rest (length bytes) refl, refl)
 
 pub solid_exact : {bytes : List ℕ} {t : Token} → Spelling bytes t → ends t ≡ true → (rest : List ℕ) → Exactly bytes t rest

@@ -66,11 +66,8 @@ sound p x h = by_list p.rest p.at p.line x h
     by_list (b ∷ bs) at line x h = by_byte b bs at line x h
 
 -- what is spelled is taken
-stop_found : (rest : List ℕ) (at line : ℕ) → MayFollow named.full_stop rest → Found (on (46 ∷ rest) at line) named.full_stop rest
-stop_found rest at line f = let p : Place = on (46 ∷ rest) at line in found_exact p (after p 1) named.full_stop named.full_stop rest (rw (ends_there rest (f refl))) refl refl
-
 complete : {bytes : List ℕ} {t : Token} → Spelling bytes t → (rest : List ℕ) (at line : ℕ) → MayFollow t rest → Found (on (bytes ++ rest) at line) t rest
-complete full_stop rest at line f = stop_found rest at line f
+complete full_stop rest at line f = let p : Place = on (46 ∷ rest) at line in found_exact p (after p 1) named.full_stop named.full_stop rest (rw (ends_there rest (f refl))) refl refl
 complete the_word_fun rest at line f = fun_found rest at line
 complete (integer {ds = ds} {n = n} k) rest at line f =
     let d = digits_of k refl in

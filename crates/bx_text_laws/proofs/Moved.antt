@@ -144,9 +144,6 @@ kept_built d l q a k e q2 is same w make =
     subst (λ r. taken k r ≡ taken l q → (u : Tree) × Term d k u r × Same (other (span l q) a (taken l q)) u) is
     (λ g. (other (span k e) a (taken k e), make (subst IsUtf8 (sym g) w), (span k e, ap (λ v. other (span k e) a v) g))) same
 
-ends_at : {d : ℕ} {k : Lexeme} {u : Tree} (e q : Place) → e ≡ q → Term d k u e → Term d k u q
-ends_at {d = d} {k = k} {u = u} e q is t = subst (λ r. Term d k u r) is t
-
 -- elements with their trees
 abbrev Listed : ℕ → Lexeme → Lexeme → Type 0
 Listed d k f = (us : List Tree) × Elements d k us f
@@ -155,32 +152,32 @@ mutual
   pub term_run : {d : ℕ} {l : Lexeme} {t : Tree} {q : Place} → Term d l t q → (p : Place) → Stood p l → Run p q Closes (TermFrom d t)
   term_run (terms.an_integer {l = l} {n = n} t) p st =
       whole (integer (span l l.after) n) p l st (stay l.after Closes) (λ Y c. exact (stepped p l st).spells (no_stop l.token t refl) Y c.delimits)
-      (λ k q2 tk e same. (integer (span k k.after) n, ends_at k.after q2 e (terms.an_integer (tk ∙ t)), tt))
+      (λ k q2 tk e same. (integer (span k k.after) n, rw (← e) (terms.an_integer (tk ∙ t)), tt))
   term_run (terms.an_atom {l = l} {w = w} t) p st =
       whole (atom (span l l.after) w) p l st (stay l.after Closes) (λ Y c. exact (stepped p l st).spells (no_stop l.token t refl) Y c.delimits)
-      (λ k q2 tk e same. (atom (span k k.after) w, ends_at k.after q2 e (terms.an_atom (tk ∙ t)), tt))
+      (λ k q2 tk e same. (atom (span k k.after) w, rw (← e) (terms.an_atom (tk ∙ t)), tt))
   term_run (terms.texts {l = l} {w = w} {ts = ts} {q = q} t s) p st =
       let inner : Run l.after q Closes TextsFrom = under (λ Y c. c.text) (texts_run s) in
       whole (list (span l q) (chain (letters (span l l.after) w ++ ts) nil)) p l st inner (λ Y c. solid_exact (stepped p l st).spells (ap ends t) (inner.text ++ Y))
       (λ k q2 tk x same. (list (span k q2) (chain (letters (span k k.after) w ++ x.0) nil), terms.texts (tk ∙ t) x.1, tt))
   term_run (terms.empty_tuple {l = l} {m = m} t a z) p st =
       bracketed (tuple (span l m.after) nil) p l st (ap ends t) (shut_token {May = Any} l.after m a (ap shuts z)).run
-      (λ k q2 tk x same. (tuple (span k x.0.after) nil, ends_at x.0.after q2 x.3 (terms.empty_tuple (tk ∙ t) x.1 (x.2 ∙ z)), tt))
+      (λ k q2 tk x same. (tuple (span k x.0.after) nil, rw (← x.3) (terms.empty_tuple (tk ∙ t) x.1 (x.2 ∙ z)), tt))
   term_run (terms.a_tuple {l = l} {m = m} {ts = ts} t a w z) p st =
       bracketed (tuple (span l m.after) (chain ts nil)) p l st (ap ends t) (elements_run w l.after a (ap shuts z))
-      (λ k q2 tk x same. (tuple (span k x.1.after) (chain x.3.0 nil), ends_at x.1.after q2 x.5 (terms.a_tuple (tk ∙ t) x.2 x.3.1 (x.4 ∙ z)), tt))
+      (λ k q2 tk x same. (tuple (span k x.1.after) (chain x.3.0 nil), rw (← x.5) (terms.a_tuple (tk ∙ t) x.2 x.3.1 (x.4 ∙ z)), tt))
   term_run (terms.empty_list {l = l} {m = m} t a z) p st =
       bracketed (list (span l m.after) nil) p l st (ap ends t) (shut_token {May = Any} l.after m a (ap shuts z)).run
-      (λ k q2 tk x same. (list (span k x.0.after) nil, ends_at x.0.after q2 x.3 (terms.empty_list (tk ∙ t) x.1 (x.2 ∙ z)), tt))
+      (λ k q2 tk x same. (list (span k x.0.after) nil, rw (← x.3) (terms.empty_list (tk ∙ t) x.1 (x.2 ∙ z)), tt))
   term_run (terms.a_list {l = l} {m = m} {ts = ts} t a w z) p st =
       bracketed (list (span l m.after) (chain ts nil)) p l st (ap ends t) (elements_run w l.after a (ap shuts z))
-      (λ k q2 tk x same. (list (span k x.1.after) (chain x.3.0 nil), ends_at x.1.after q2 x.5 (terms.a_list (tk ∙ t) x.2 x.3.1 (x.4 ∙ z)), tt))
+      (λ k q2 tk x same. (list (span k x.1.after) (chain x.3.0 nil), rw (← x.5) (terms.a_list (tk ∙ t) x.2 x.3.1 (x.4 ∙ z)), tt))
   term_run (terms.a_list_with_tail {l = l} {bar = bar} {m = m} {ts = ts} {t = tail} {r = r} t a w b c u y z) p st =
       let last = shut_token {May = Any} r m y (ap shuts z) in
       bracketed (list (span l m.after) (chain ts (tail_of tail))) p l st (ap ends t) (then (elements_run w l.after a (ap shuts b)) (then (term_run u bar.after c) last.run last.shut) (λ Y x. tt))
       (λ k q2 tk (q3, x, w) same. let (q4, y, v) = w in (
         list (span k v.0.after) (chain x.3.0 (tail_of y.1)),
-        ends_at v.0.after q2 v.3 (terms.a_list_with_tail (tk ∙ t) x.2 x.3.1 (x.4 ∙ b) (from_there y.0 x.5 y.2) y.3 v.1 (v.2 ∙ z)),
+        rw (← v.3) (terms.a_list_with_tail (tk ∙ t) x.2 x.3.1 (x.4 ∙ b) (from_there y.0 x.5 y.2) y.3 v.1 (v.2 ∙ z)),
         tt,
       ))
   term_run (terms.a_float {d = d} {l = l} t w) p st =
