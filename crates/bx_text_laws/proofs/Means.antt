@@ -43,17 +43,16 @@ three_turn a b c cs e f g =
 
 octal_turn : (ds cs : List ℕ) (v : ℕ) → Value 8 ds v → length ds ≤ 3 → (length ds ≡ 3) ⊎ NoOctal cs → Turn named.nothing (92 ∷ (ds ++ cs)) (v ∷ []) named.nothing cs
 octal_turn (x ∷ []) cs v (a, e, some) l n =
-    let value : digit x ≡ v = omega arith in
-    subst (λ v. Turn named.nothing (92 ∷ x ∷ cs) (v ∷ []) named.nothing cs) value (one_turn x cs (and_parts (is_octal x) true a).0 (none_next cs (few 1 (omega arith) n)))
+    let value : digit x ≡ v = omega arith in rw (← value) (one_turn x cs (and_parts (is_octal x) true a).0 (none_next cs (few 1 (omega arith) n)))
 octal_turn (x ∷ y ∷ []) cs v (a, e, some) l n =
     let value : 8 * digit x + digit y ≡ v = omega arith in
     let all = and_parts (is_octal x) (is_octal y && true) a in
-    subst (λ v. Turn named.nothing (92 ∷ x ∷ y ∷ cs) (v ∷ []) named.nothing cs) value (two_turn x y cs all.0 (and_parts (is_octal y) true all.1).0 (none_next cs (few 2 (omega arith) n)))
+    rw (← value) (two_turn x y cs all.0 (and_parts (is_octal y) true all.1).0 (none_next cs (few 2 (omega arith) n)))
 octal_turn (x ∷ y ∷ z ∷ []) cs v (a, e, some) l n =
     let value : 8 * (8 * digit x + digit y) + digit z ≡ v = omega arith in
     let all = and_parts (is_octal x) (is_octal y && (is_octal z && true)) a in
     let rest = and_parts (is_octal y) (is_octal z && true) all.1 in
-    subst (λ v. Turn named.nothing (92 ∷ x ∷ y ∷ z ∷ cs) (v ∷ []) named.nothing cs) value (three_turn x y z cs all.0 rest.0 (and_parts (is_octal z) true rest.1).0)
+    rw (← value) (three_turn x y z cs all.0 rest.0 (and_parts (is_octal z) true rest.1).0)
 octal_turn ds cs v (a, e, some) l n = absurd (omega arith)
 
 pub hex_two : (x y : ℕ) (cs : List ℕ) → is_hex x ≡ true → is_hex y ≡ true → Turn named.nothing (92 ∷ 120 ∷ x ∷ y ∷ cs) ((16 * digit x + digit y) ∷ []) named.nothing cs
@@ -65,7 +64,7 @@ hex_turn : (ds cs : List ℕ) (v : ℕ) → Value 16 ds v → length ds ≡ 2 �
 hex_turn (x ∷ y ∷ []) cs v (a, e, some) l =
     let value : 16 * digit x + digit y ≡ v = omega arith in
     let all = and_parts (is_hex x) (is_hex y && true) a in
-    subst (λ v. Turn named.nothing (92 ∷ 120 ∷ x ∷ y ∷ cs) (v ∷ []) named.nothing cs) value (hex_two x y cs all.0 (and_parts (is_hex y) true all.1).0)
+    rw (← value) (hex_two x y cs all.0 (and_parts (is_hex y) true all.1).0)
 hex_turn ds cs v (a, e, some) l = absurd (omega arith)
 
 -- digits between braces, whose code the reader has as w
@@ -124,15 +123,11 @@ pub over_quoted : {q : ℕ} {cs vs : List ℕ} → Quoted q cs vs → (ys : List
 over_quoted quoted.none ys m = record { means = refl; tests = λ p o. refl }
 over_quoted (quoted.itself {c = c} {cs = cs} other plain k) ys m = then (over_itself c (cs ++ ys) (ne_eqb c 92 plain)) (over_quoted k ys m)
 over_quoted (quoted.named {cs = cs} n k) ys m = then (named_by n (cs ++ ys)) (over_quoted k ys m)
-over_quoted (quoted.octal {v = v} {ds = ds} {cs = cs} {vs = vs} n l e k) ys m =
-    subst (λ us. Turn named.nothing (92 ∷ us) (v ∷ vs) named.nothing ys) (sym (append_assoc ds cs ys))
-    (then (octal_turn ds (cs ++ ys) v (numeral_value n) l (ended (length ds) cs ys m e)) (over_quoted k ys m))
-over_quoted (quoted.hex {v = v} {ds = ds} {cs = cs} {vs = vs} n l k) ys m =
-    subst (λ us. Turn named.nothing (92 ∷ 120 ∷ us) (v ∷ vs) named.nothing ys) (sym (append_assoc ds cs ys))
-    (then (hex_turn ds (cs ++ ys) v (numeral_value n) l) (over_quoted k ys m))
-over_quoted (quoted.braced {v = v} {ds = ds} {cs = cs} {vs = vs} n s k) ys m =
-    subst (λ us. Turn named.nothing (92 ∷ 120 ∷ 123 ∷ us) (v ∷ vs) named.nothing ys) (sym (append_assoc ds (125 ∷ cs) ys))
-    (then (braced_turn ds (cs ++ ys) v (numeral_value n) (is_scalar_from v s)) (over_quoted k ys m))
+over_quoted (quoted.octal {v = v} {ds = ds} {cs = cs} n l e k) ys m =
+    rw (append_assoc ds cs ys) (then (octal_turn ds (cs ++ ys) v (numeral_value n) l (ended (length ds) cs ys m e)) (over_quoted k ys m))
+over_quoted (quoted.hex {v = v} {ds = ds} {cs = cs} n l k) ys m = rw (append_assoc ds cs ys) (then (hex_turn ds (cs ++ ys) v (numeral_value n) l) (over_quoted k ys m))
+over_quoted (quoted.braced {v = v} {ds = ds} {cs = cs} n s k) ys m =
+    rw (append_assoc ds (125 ∷ cs) ys) (then (braced_turn ds (cs ++ ys) v (numeral_value n) (is_scalar_from v s)) (over_quoted k ys m))
 over_quoted (quoted.control {c = c} {cs = cs} h k) ys m = then (control_turn c (cs ++ ys) (control_is c h)) (over_quoted k ys m)
 over_quoted (quoted.other {c = c} {cs = cs} h k) ys m = then (other_by c (cs ++ ys) h) (over_quoted k ys m)
 

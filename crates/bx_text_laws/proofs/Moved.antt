@@ -141,8 +141,8 @@ bracketed t p l st e inner build = whole t p l st (anywhere inner) (λ Y c. soli
 kept_built : (d : ℕ) (l : Lexeme) (q : Place) (a : Sort) (k : Lexeme) (e q2 : Place) → e ≡ q2 → taken k q2 ≡ taken l q → Written l q → (Written k e → Term d k (other (span k e) a (taken k e)) e)
     → (u : Tree) × Term d k u q2 × Same (other (span l q) a (taken l q)) u
 kept_built d l q a k e q2 is same w make =
-    subst (λ r. taken k r ≡ taken l q → (u : Tree) × Term d k u r × Same (other (span l q) a (taken l q)) u) is
-    (λ g. (other (span k e) a (taken k e), make (subst IsUtf8 (sym g) w), (span k e, ap (λ v. other (span k e) a v) g))) same
+    let g : taken k e ≡ taken l q = rw (← is) at same in
+    rw (← is) (other (span k e) a (taken k e), make (subst IsUtf8 (sym g) w), (span k e, ap (λ v. other (span k e) a v) g))
 
 -- elements with their trees
 abbrev Listed : ℕ → Lexeme → Lexeme → Type 0
