@@ -137,7 +137,7 @@ went p =
     let (bytes, rest, e, k, r) = (sides p.rest).0 in
     let q : Place = on rest (p.at + length bytes) (p.line + lines bytes) in
     elim r [
-      inl n ↦ let s : Passes p q = (bytes, e, k, n, (refl, refl)) in inl (q, s, skips p q s)
+      | inl n ↦ let s : Passes p q = (bytes, e, k, n, (refl, refl)) in inl (q, s, skips p q s)
       | inr x ↦ let (text, ends, f, a, l, bad) = x in let s : Spoilt p q = (bytes, text, ends, e, k, f, a, l, bad, (refl, refl)) in inr (q, s, fails p q s)
     ]
 

@@ -92,7 +92,7 @@ same_onward m ws p f l o = o
 goes_out : {w : Wanted} {ws : List Wanted} {p : Place} {f : Fault} (l : Lexeme) (m : Move) → lexeme_at p ≡ Ok l → Does w (meant l.token) m → Refused (w ∷ ws) p f → Onward m ws p l f
 goes_out {w = w} {ws = ws} {p = p} {f = f} l m n d r =
     elim (refused_is r) [
-      inl h ↦ absurd (let there : lexeme_at p ≡ Err f = (next_fails p f).1 h in cc)
+      | inl h ↦ absurd (let there : lexeme_at p ≡ Err f = (next_fails p f).1 h in cc)
       | inr x ↦
           let (k, o, st, e, y) = x in
           let same : plainly l ≡ k = found_same p l k n st in
