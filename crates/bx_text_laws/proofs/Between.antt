@@ -1,19 +1,10 @@
 -- What stands between two places of a text is in UTF-8, where blanks and tokens stand there.
-use Rattle.std.proofs.Common.{◌≡◌, ℕ, ◌+◌, ◌≤◌, ◌<◌, List, [], ◌∷◌, ◌++◌, length, Ok, refl, sym, ap, ◌∙◌, subst, arith, append_assoc, length-append, ◌⊎◌, IsUtf8, if◌then◌else◌, Bool, Err}
-use Rattle.std.specs.List.{AllByRecursion}
-use Rattle.std.proofs.lemmas.Bool.{eq-eqb}
-use Rattle.std.proofs.lemmas.Str.{IsUtf8-nil, IsUtf8-append, utf8_valid_len-IsUtf8}
-use Rattle.bx_terms.specs.declared.faults.Fault.TheVariants.{NotUtf8}
-use Rattle.bx_text.specs.declared.node.Sort.{Sort}
-use Rattle.bx_text.specs.Place.{Place}
-use Rattle.bx_text.specs.Token.{Token, Lexeme}
-use Rattle.bx_text.specs.Lexing.{lexeme_at}
-use Rattle.bx_text.specs.Tree.{other}
-use Rattle.bx_text.specs.Terms.{span, taken, kept_at}
+use Rattle.bx_text_laws.proofs.Commons.{◌≡◌, ℕ, ◌+◌, ◌≤◌, ◌<◌, List, [], ◌∷◌, ◌++◌, length, Ok, refl, sym, ap, ◌∙◌, subst, arith, append_assoc, length-append, ◌⊎◌, IsUtf8, if◌then◌else◌, Bool, Err}
+use Rattle.bx_text_laws.proofs.Commons.{AllByRecursion, eq-eqb, IsUtf8-nil, IsUtf8-append, utf8_valid_len-IsUtf8, NotUtf8, Sort, Place, Token, Lexeme, lexeme_at, other, span, kept_at, Blank, nothing}
+use Rattle.bx_text_laws.proofs.Commons.{comment, Digit, Numeral, one_digit, digit_more, InUtf8, Minus, no_minus, a_minus, Sign, no_sign, plus, minus, Exponent, no_exponent, an_exponent, Spelling}
+use Rattle.bx_text.specs.Terms.{taken}
 use Rattle.bx_text.proofs.Shorter.{next_shorter}
-use Rattle.bx_text_laws.specs.Blanks.{Blank, nothing, space, comment}
-use Rattle.bx_text_laws.specs.Numerals.{Digit, Numeral, one_digit, digit_more}
-use Rattle.bx_text_laws.specs.Spelling.{InUtf8, Minus, no_minus, a_minus, Sign, no_sign, plus, minus, Exponent, no_exponent, an_exponent, Spelling}
+use Rattle.bx_text_laws.specs.Blanks.{space}
 use Rattle.bx_text_laws.specs.Spelling as spelling
 use Rattle.bx_text_laws.proofs.Moving.{Stepped, stepped, taken_is}
 use Rattle.bx_text_laws.proofs.Printing.{ascii_utf8}

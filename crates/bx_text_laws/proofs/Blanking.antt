@@ -1,20 +1,11 @@
 -- What is skipped: all blanks that stand there, up to a comment that is no text in UTF-8.
-use Rattle.std.proofs.Common.{◌≡◌, ◌≢◌, ℕ, ◌+◌, Bool, true, false, cond, eqb, ◌↔◌, List, [], ◌∷◌, ◌++◌, drop, length, Ok, Err, refl, sym, ap, ◌∙◌, subst, arith, append_assoc, add-zero, ◌⊎◌, inl, inr, drop_at, take_at, length-append, IsUtf8}
-use Rattle.std.specs.List.{AllByRecursion, prefix_len}
-use Rattle.std.specs.Str.{is_utf8}
+use Rattle.bx_text_laws.proofs.Commons.{◌≡◌, ◌≢◌, ℕ, ◌+◌, Bool, true, false, cond, eqb, ◌↔◌, List, [], ◌∷◌, ◌++◌, drop, length, Ok, Err, refl, sym, ap, ◌∙◌, subst, arith, append_assoc, add-zero, ◌⊎◌, inl}
+use Rattle.bx_text_laws.proofs.Commons.{inr, drop_at, take_at, length-append, IsUtf8, AllByRecursion, prefix_len, is_utf8, eq-eqb, ne_eqb, both_ways, cases_Bool, cases_eq, cases_lt, nat_tests}
+use Rattle.bx_text_laws.proofs.Commons.{utf8_valid_len-IsUtf8, IsUtf8-from_is_utf8, is_utf8-from_IsUtf8, NotUtf8, is_space, is_not_feed, Place, skip, skip_from, line_of, ok_same, IsSpace, Blank, nothing}
+use Rattle.bx_text_laws.proofs.Commons.{comment, LineEnds, NoBlank, Passes, Spoilt, lines, Stands}
 use Rattle.std.specs.Str.Lossy.{utf8_valid_len}
-use Rattle.std.proofs.lemmas.Bool.{eq-eqb, ne_eqb, both_ways, cases_Bool, cases_eq, cases_lt}
-use Rattle.std.proofs.lemmas.Bool.Decides.{nat_tests}
-use Rattle.std.proofs.lemmas.Str.{utf8_valid_len-IsUtf8, IsUtf8-from_is_utf8, is_utf8-from_IsUtf8}
-use Rattle.bx_terms.specs.declared.faults.Fault.TheVariants.{NotUtf8}
-use Rattle.bx_text.specs.Bytes.{is_space, is_not_feed}
-use Rattle.bx_text.specs.Place.{Place}
-use Rattle.bx_text.specs.Blank.{skip, skip_from, line_of}
-use Rattle.bx_text.proofs.Outcomes.{ok_same}
 use Rattle.bx_text.proofs.Skipping.{line_skipped}
-use Rattle.bx_text_laws.specs.Characters.{IsSpace}
-use Rattle.bx_text_laws.specs.Blanks.{Blank, nothing, space, comment, LineEnds, NoBlank, Passes, Spoilt}
-use Rattle.bx_text_laws.specs.Tokens.{lines, Stands}
+use Rattle.bx_text_laws.specs.Blanks.{space}
 use Rattle.bx_text_laws.proofs.Frame.{on, lines-append}
 use Rattle.bx_text_laws.proofs.Quotes.{valid_is}
 

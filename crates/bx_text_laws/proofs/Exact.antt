@@ -1,20 +1,12 @@
 -- A spelling that a delimiter follows is taken, and no more.
-use Rattle.std.proofs.Common.{◌≡◌, ◌≢◌, ℕ, suc, ◌+◌, ◌<◌, Bool, true, false, eqb, ◌||◌, pos, neg_ℤ, List, [], ◌∷◌, ◌++◌, take, drop, length, Ok, refl, sym, ap, ◌∙◌, subst, arith, codes, append_assoc, drop_at, length-append, inl, inr, encode_utf8_all}
-use Rattle.std.specs.List.{list_all, prefix_len}
-use Rattle.std.proofs.lemmas.Bool.{both_ways, or_right, cond_both}
-use Rattle.std.proofs.lemmas.Bool.Decides.{nat_tests}
-use Rattle.bx_terms.specs.Outcomes.{◌>>=◌}
-use Rattle.bx_text.specs.Bytes.{is_digit, is_name}
-use Rattle.bx_text.specs.Number.{number}
-use Rattle.bx_text.specs.Place.{Place, after}
+use Rattle.bx_text_laws.proofs.Commons.{◌≡◌, ◌≢◌, ℕ, suc, ◌+◌, ◌<◌, Bool, true, false, eqb, ◌||◌, pos, neg_ℤ, List, [], ◌∷◌, ◌++◌, take, drop, length, Ok, refl, sym, ap, ◌∙◌, subst, arith, codes}
+use Rattle.bx_text_laws.proofs.Commons.{append_assoc, drop_at, length-append, inl, inr, encode_utf8_all, list_all, prefix_len, both_ways, or_right, cond_both, nat_tests, ◌>>=◌, is_digit, is_name, number}
+use Rattle.bx_text_laws.proofs.Commons.{Place, after, Token, token_at, quoted_at, exponent_len, name_len, behind, word, is_comma, is_bar, is_arrow, is_colon, is_slash, closes_tuple, closes_list}
+use Rattle.bx_text_laws.proofs.Commons.{closes_binary, IsQuote, Quoted, Spelling, Minus, no_minus, a_minus, Exponent, InUtf8, full_stop, the_word_fun, negative, float, bare_atom, quoted_atom, string}
+use Rattle.bx_text_laws.proofs.Commons.{meant}
 use Rattle.bx_text.specs.Named as named
 use Rattle.bx_text.specs.Token as token
-use Rattle.bx_text.specs.Token.{Token}
-use Rattle.bx_text.specs.Lexing.{token_at, quoted_at, exponent_len, name_len, behind, word}
-use Rattle.bx_text.specs.Terms.{is_comma, is_bar, is_arrow, is_colon, is_slash, closes_tuple, closes_list, closes_binary}
-use Rattle.bx_text_laws.specs.Quoted.{IsQuote, Quoted}
-use Rattle.bx_text_laws.specs.Spelling.{Spelling, Minus, no_minus, a_minus, Exponent, InUtf8, full_stop, the_word_fun, integer, negative, float, bare_atom, quoted_atom, string}
-use Rattle.bx_text_laws.specs.Tokens.{meant}
+use Rattle.bx_text_laws.specs.Spelling.{integer}
 use Rattle.bx_text_laws.proofs.Frame.{on}
 use Rattle.bx_text_laws.proofs.Runs.{digits_of, unsigned}
 use Rattle.bx_text_laws.proofs.NumbersFound.{exponent_is, float_reads}

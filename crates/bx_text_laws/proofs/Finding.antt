@@ -1,14 +1,6 @@
 -- The next token is the longest that is spelled behind the blanks.
-use Rattle.std.proofs.Common.{◌≡◌, ◌↔◌, Ok, refl, sym, ap, ◌∙◌}
-use Rattle.bx_terms.specs.Outcomes.{◌>>=◌}
-use Rattle.bx_text.specs.Place.{Place}
-use Rattle.bx_text.specs.Blank.{skip}
-use Rattle.bx_text.specs.Token.{Token, Lexeme}
-use Rattle.bx_text.specs.Lexing.{token_at, lexeme_from, lexeme_at}
-use Rattle.bx_text.proofs.Outcomes.{ok_same, bind_ok}
-use Rattle.bx_text_laws.specs.Blanks.{Passes}
+use Rattle.bx_text_laws.proofs.Commons.{◌≡◌, ◌↔◌, Ok, refl, sym, ap, ◌∙◌, ◌>>=◌, Place, skip, Token, Lexeme, token_at, lexeme_from, lexeme_at, ok_same, bind_ok, Passes, meant, Longest}
 use Rattle.bx_text_laws.specs.Lexemes.{Finds}
-use Rattle.bx_text_laws.specs.Tokens.{meant, Longest}
 use Rattle.bx_text_laws.proofs.Blanking.{skipped_is_blank}
 use Rattle.bx_text_laws.proofs.Longest.{same_place, taken_is_longest}
 

@@ -1,13 +1,6 @@
 -- What was taken at a place is a spelling, and what is spelled is taken.
-use Rattle.std.proofs.Common.{◌≡◌, ℕ, ◌+◌, ◌≤◌, eqb, List, [], ◌∷◌, ◌++◌, drop, length, Result, Ok, refl, sym, ap, ◌∙◌, subst, arith, drop_at, le_of_eq}
-use Rattle.std.proofs.lemmas.Bool.{cond_both}
-use Rattle.bx_terms.specs.declared.faults.Fault.{Fault}
-use Rattle.bx_text.specs.Place.{Place, after}
-use Rattle.bx_text.specs.Token.{Token}
-use Rattle.bx_text.specs.Lexing.{token_at}
-use Rattle.bx_text.proofs.Outcomes.{ok_same}
-use Rattle.bx_text_laws.specs.Spelling.{Spelling, MayFollow, Begins}
-use Rattle.bx_text_laws.specs.Tokens.{lines, Stands, meant}
+use Rattle.bx_text_laws.proofs.Commons.{◌≡◌, ℕ, ◌+◌, ◌≤◌, eqb, List, [], ◌∷◌, ◌++◌, drop, length, Result, Ok, refl, sym, ap, ◌∙◌, subst, arith, drop_at, le_of_eq, cond_both, Fault, Place, after, Token}
+use Rattle.bx_text_laws.proofs.Commons.{token_at, ok_same, Spelling, MayFollow, Begins, lines, Stands, meant}
 
 abbrev pub on : List ℕ → ℕ → ℕ → Place
 on bs at line = record { rest = bs; at = at; line = line }

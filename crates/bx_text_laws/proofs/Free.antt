@@ -1,10 +1,8 @@
 -- Where no quote stands but behind a backslash: the bytes between quotes, and their characters.
-use Rattle.std.proofs.Common.{◌≡◌, ◌≢◌, ℕ, suc, ◌+◌, ◌/◌, ◌≤◌, ◌<◌, Bool, true, false, cond, not, eqb, ltb, ◌&&◌, List, [], ◌∷◌, ◌++◌, length, refl, sym, ap, ◌∙◌, arith, ◌⊎◌, inl, inr, encode_utf8_all}
-use Rattle.std.specs.List.{AllByRecursion}
+use Rattle.bx_text_laws.proofs.Commons.{◌≡◌, ◌≢◌, ℕ, suc, ◌+◌, ◌/◌, ◌≤◌, ◌<◌, Bool, true, false, cond, not, eqb, ltb, ◌&&◌, List, [], ◌∷◌, ◌++◌, length, refl, sym, ap, ◌∙◌, arith, ◌⊎◌, inl, inr}
+use Rattle.bx_text_laws.proofs.Commons.{encode_utf8_all, AllByRecursion, eqb-true, eq-eqb, ltb-true, ltb-false, not-true, and_parts, cond-true, cond-false, cond_both, nat_tests, body_len, escaped_len}
+use Rattle.bx_text_laws.proofs.Commons.{control_len}
 use Rattle.std.specs.Char.{encode_utf8}
-use Rattle.std.proofs.lemmas.Bool.{eqb-true, eq-eqb, ltb-true, ltb-false, not-true, and_parts, cond-true, cond-false, cond_both}
-use Rattle.std.proofs.lemmas.Bool.Decides.{nat_tests}
-use Rattle.bx_text.specs.Lexing.{body_len, escaped_len, control_len}
 
 abbrev mutual
   pub free : ℕ → List ℕ → Bool

@@ -1,18 +1,9 @@
 -- Reading, and the first fault where something is wanted.
-use Rattle.std.proofs.Common.{arith, ◌≡◌, List, [], ◌∷◌, ◌++◌, Result, Ok, Err, refl, sym, ap, ◌∙◌, subst, append_assoc, append-nil, ◌⊎◌, inl, inr, ◌↔◌}
-use Rattle.bx_terms.specs.Outcomes.{◌>>=◌}
-use Rattle.bx_terms.specs.declared.faults.Fault.{Fault}
-use Rattle.bx_terms.specs.declared.faults.Fault.TheVariants.{BadTerm, TooDeep}
-use Rattle.bx_text.specs.Place.{Place}
+use Rattle.bx_text_laws.proofs.Commons.{arith, ◌≡◌, List, [], ◌∷◌, ◌++◌, Result, Ok, Err, refl, sym, ap, ◌∙◌, subst, append_assoc, append-nil, ◌⊎◌, inl, inr, ◌↔◌, ◌>>=◌, Fault, BadTerm, TooDeep, Place}
+use Rattle.bx_text_laws.proofs.Commons.{Token, Lexeme, lexeme_at, passed, ok_same, meant, Stood}
 use Rattle.bx_text.specs.Named as named
 use Rattle.bx_text.specs.Token as token
-use Rattle.bx_text.specs.Token.{Token, Lexeme}
-use Rattle.bx_text.specs.Lexing.{lexeme_at}
-use Rattle.bx_text.specs.Terms.{passed}
-use Rattle.bx_text.proofs.Outcomes.{ok_same}
-use Rattle.bx_text_laws.specs.Tokens.{meant}
 use Rattle.bx_text_laws.specs.Lexemes.{NextFails}
-use Rattle.bx_text_laws.specs.Terms.{Stood}
 use Rattle.bx_text_laws.specs.Faults as faults
 use Rattle.bx_text_laws.specs.Faults.{Bracket, a_tuple, a_list, a_map, a_binary, opening, closing, Wanted, Move, misplaced, too_deep, taken, instead, Meets, Does, Refused}
 use Rattle.bx_text_laws.proofs.NextFailing.{next_fails}

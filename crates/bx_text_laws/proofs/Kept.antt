@@ -1,15 +1,7 @@
 -- What is kept as it was written stands in each text where what follows does not go on in it.
-use Rattle.std.proofs.Common.{◌≡◌, ℕ, List, [], ◌++◌, refl, sym, ap, ◌∙◌, subst, arith}
-use Rattle.bx_text.specs.declared.node.Span.{Span}
-use Rattle.bx_text.specs.declared.node.Sort.{Sort}
-use Rattle.bx_text.specs.Place.{Place}
-use Rattle.bx_text.specs.Token.{Lexeme}
+use Rattle.bx_text_laws.proofs.Commons.{◌≡◌, ℕ, List, [], ◌++◌, refl, sym, ap, ◌∙◌, subst, arith, Span, Sort, Place, Lexeme, Tree, other, nothing, StandsAs, Stood, Term}
 use Rattle.bx_text.specs.Terms.{taken}
-use Rattle.bx_text.specs.Tree.{Tree, other}
-use Rattle.bx_text_laws.specs.Blanks.{nothing}
-use Rattle.bx_text_laws.specs.Shown.{StandsAs}
 use Rattle.bx_text_laws.specs.Terms as terms
-use Rattle.bx_text_laws.specs.Terms.{Stood, Term}
 use Rattle.bx_text_laws.proofs.Frame.{on}
 use Rattle.bx_text_laws.proofs.Moving.{Run, Closes, taken_is}
 use Rattle.bx_text_laws.proofs.Moved.{TermFrom, term_run}

@@ -1,8 +1,6 @@
 -- The texts that nodes keep are terms by their bytes.
-use Rattle.std.proofs.Common.{ℕ, ◌↔◌, List}
-use Rattle.bx_text.specs.declared.node.Sort.{Sort}
+use Rattle.bx_text_laws.proofs.Commons.{ℕ, ◌↔◌, List, Sort, IsStanding}
 use Rattle.bx_text.specs.Grammar.{SpelledAs}
-use Rattle.bx_text_laws.specs.Shown.{IsStanding}
 use Rattle.bx_text_laws.proofs.Sentences.{plainly, step, term_is, back, term_back}
 
 stands : (k : Sort) (w : List ℕ) → SpelledAs k w → IsStanding k w

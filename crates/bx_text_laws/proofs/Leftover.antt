@@ -1,13 +1,10 @@
 -- What is left of an escape at the end of characters.
-use Rattle.std.proofs.Common.{◌≡◌, ℕ, Bool, true, false, cond, eqb, ◌&&◌, List, [], ◌∷◌, ◌++◌, refl, sym, ap, ◌∙◌, subst, arith, append_assoc, ◌⊎◌, inl, inr}
-use Rattle.std.specs.List.{fold, list_all}
-use Rattle.std.proofs.lemmas.Bool.{and_parts}
+use Rattle.bx_text_laws.proofs.Commons.{◌≡◌, ℕ, Bool, true, false, cond, eqb, ◌&&◌, List, [], ◌∷◌, ◌++◌, refl, sym, ap, ◌∙◌, subst, arith, append_assoc, ◌⊎◌, inl, inr, fold, list_all, and_parts, Digit}
+use Rattle.bx_text_laws.proofs.Commons.{one_digit, IsQuote, Quoted, NoOctal, IsOctal}
 use Rattle.bx_text.specs.Named as named
 use Rattle.bx_text.specs.Named.{Open}
 use Rattle.bx_text.specs.Escapes.{digit, is_hex, is_scalar, step, is_bad, may_go_on}
 use Rattle.bx_text.specs.Escapes as escapes
-use Rattle.bx_text_laws.specs.Numerals.{Digit, one_digit}
-use Rattle.bx_text_laws.specs.Quoted.{IsQuote, Quoted, NoOctal, IsOctal}
 use Rattle.bx_text_laws.specs.Refusals.{Unfinished, slash, hex, hex_digit, brace, braced, control}
 use Rattle.bx_text_laws.proofs.Free.{free, free_plain}
 use Rattle.bx_text_laws.proofs.Escapes.{Turn, Tests, first_hex, numeral_value}

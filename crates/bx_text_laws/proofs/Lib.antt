@@ -1,5 +1,6 @@
 pub mod Between
 pub mod Blanking
+pub mod Commons
 pub mod Escapes
 pub mod Exact
 pub mod Failing

@@ -1,17 +1,12 @@
 -- What is taken is the longest spelling.
-use Rattle.std.proofs.Common.{◌≡◌, ℕ, ◌+◌, ◌≤◌, true, eqb, leb, ◌||◌, ◌↔◌, pos, neg_ℤ, List, [], ◌∷◌, ◌++◌, take, drop, length, Result, Ok, refl, sym, ap, ◌∙◌, subst, arith, drop_at, take_at, length-append, inl, inr}
+use Rattle.bx_text_laws.proofs.Commons.{◌≡◌, ℕ, ◌+◌, ◌≤◌, true, eqb, leb, ◌||◌, ◌↔◌, pos, neg_ℤ, List, [], ◌∷◌, ◌++◌, take, drop, length, Result, Ok, refl, sym, ap, ◌∙◌, subst, arith, drop_at, take_at}
+use Rattle.bx_text_laws.proofs.Commons.{length-append, inl, inr, eqb-true, or_cases, cond_both, Fault, is_digit, is_lower, Place, after, Token, kind_of, punctuation_of, token_by, token_at, ok_same}
+use Rattle.bx_text_laws.proofs.Commons.{Spelling, MayFollow, Begins, no_minus, a_minus, open_tuple, close_tuple, open_list, close_list, open_map, open_binary, close_binary, comma, bar, arrow, colon}
+use Rattle.bx_text_laws.proofs.Commons.{open_parenthesis, close_parenthesis, full_stop, the_word_fun, negative, float, bare_atom, quoted_atom, string, lines, meant, Longest, Takes}
 use Rattle.std.specs.Str.Lossy.{utf8_valid_len}
-use Rattle.std.proofs.lemmas.Bool.{eqb-true, or_cases, cond_both}
-use Rattle.bx_terms.specs.declared.faults.Fault.{Fault}
-use Rattle.bx_text.specs.Bytes.{is_digit, is_lower}
-use Rattle.bx_text.specs.Place.{Place, after}
 use Rattle.bx_text.specs.Named as named
 use Rattle.bx_text.specs.Token as token
-use Rattle.bx_text.specs.Token.{Token}
-use Rattle.bx_text.specs.Lexing.{kind_of, punctuation_of, token_by, token_at}
-use Rattle.bx_text.proofs.Outcomes.{ok_same}
-use Rattle.bx_text_laws.specs.Spelling.{Spelling, MayFollow, Begins, no_minus, a_minus, open_tuple, close_tuple, open_list, close_list, open_map, open_binary, close_binary, comma, bar, arrow, colon, slash, open_parenthesis, close_parenthesis, full_stop, the_word_fun, integer, negative, float, bare_atom, quoted_atom, string}
-use Rattle.bx_text_laws.specs.Tokens.{lines, meant, Longest, Takes}
+use Rattle.bx_text_laws.specs.Spelling.{slash, integer}
 use Rattle.bx_text_laws.proofs.Frame.{on, Spelled, Found, found_exact}
 use Rattle.bx_text_laws.proofs.Marks.{one_byte, two_bytes, a_stop, ends_there}
 use Rattle.bx_text_laws.proofs.Numbers.{a_number}

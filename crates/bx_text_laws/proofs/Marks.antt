@@ -1,16 +1,8 @@
 -- Punctuation.
-use Rattle.std.proofs.Common.{◌≡◌, ℕ, true, eqb, ◌||◌, List, [], ◌∷◌, Result, Ok, refl, arith, ◌⊎◌}
-use Rattle.std.proofs.lemmas.Bool.{eqb-true, cond_both}
-use Rattle.std.proofs.lemmas.Bool.Decides.{nat_tests}
-use Rattle.bx_terms.specs.declared.faults.Fault.{Fault}
-use Rattle.bx_text.specs.Bytes.{is_space, is_percent}
-use Rattle.bx_text.specs.Place.{Place, after}
+use Rattle.bx_text_laws.proofs.Commons.{◌≡◌, ℕ, true, eqb, ◌||◌, List, [], ◌∷◌, Result, Ok, refl, arith, ◌⊎◌, eqb-true, cond_both, nat_tests, Fault, is_space, is_percent, Place, after, Token, pair_on}
+use Rattle.bx_text_laws.proofs.Commons.{stop_at, IsSpace, Spelling, MayFollow, StopsAt, full_stop, lines, meant}
 use Rattle.bx_text.specs.Named as named
-use Rattle.bx_text.specs.Token.{Token}
-use Rattle.bx_text.specs.Lexing.{pair_on, ends, stop_at}
-use Rattle.bx_text_laws.specs.Characters.{IsSpace}
-use Rattle.bx_text_laws.specs.Spelling.{Spelling, MayFollow, StopsAt, full_stop}
-use Rattle.bx_text_laws.specs.Tokens.{lines, meant}
+use Rattle.bx_text.specs.Lexing.{ends}
 use Rattle.bx_text_laws.proofs.Frame.{on, Spelled, spelled_on}
 
 pub one_byte : (b c : ℕ) (bs : List ℕ) (at line : ℕ) (u : Token) (x : Token × Place) → lines (c ∷ []) ≡ 0 → Spelling (c ∷ []) (meant u) → MayFollow (meant u) bs → eqb b c ≡ true

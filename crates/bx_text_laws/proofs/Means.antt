@@ -1,14 +1,12 @@
 -- What is quoted is what the reader makes of it.
-use Rattle.std.proofs.Common.{◌≡◌, ◌≢◌, ℕ, ◌+◌, ◌*◌, ◌%◌, ◌≤◌, ◌<◌, true, false, not, eqb, ◌&&◌, List, [], ◌∷◌, ◌++◌, length, refl, sym, ap, ◌∙◌, subst, arith, append_assoc, append-nil, ◌⊎◌, inl, inr}
-use Rattle.std.specs.List.{fold, list_all}
-use Rattle.std.proofs.lemmas.Bool.{and_parts, false_from_ne_true, ne_eqb}
-use Rattle.std.proofs.lemmas.Bool.Decides.{nat_tests}
+use Rattle.bx_text_laws.proofs.Commons.{◌≡◌, ◌≢◌, ℕ, ◌+◌, ◌*◌, ◌%◌, ◌≤◌, ◌<◌, true, false, not, eqb, ◌&&◌, List, [], ◌∷◌, ◌++◌, length, refl, sym, ap, ◌∙◌, subst, arith, append_assoc, append-nil, ◌⊎◌, inl}
+use Rattle.bx_text_laws.proofs.Commons.{inr, fold, list_all, and_parts, false_from_ne_true, ne_eqb, nat_tests, IsControl, Quoted, Named, IsOctal, IsOther, NoOctal, backspace, delete, escape, form_feed}
+use Rattle.bx_text_laws.proofs.Commons.{line_feed, carriage_return, tab, vertical_tab}
 use Rattle.bx_text.specs.Named as named
 use Rattle.bx_text.specs.Escapes.{digit, is_octal, is_hex, is_control, is_scalar, coded}
 use Rattle.bx_text.specs.Escapes as escapes
-use Rattle.bx_text_laws.specs.Characters.{IsControl}
 use Rattle.bx_text_laws.specs.Quoted as quoted
-use Rattle.bx_text_laws.specs.Quoted.{Quoted, Named, IsOctal, IsOther, NoOctal, backspace, delete, escape, form_feed, line_feed, carriage_return, space, tab, vertical_tab}
+use Rattle.bx_text_laws.specs.Quoted.{space}
 use Rattle.bx_text_laws.proofs.Escapes.{run, whole, Turn, ends, one, then, over_itself, over_slash, first_octal, second_octal, third_octal, no_octal, octal_ends, octal_one, octal_two, first_hex, second_hex, first_braced, close_braced, over_braced, over_control, over_named, with_digit, Value, numeral_value, counts, below, saturated, same_fold, same_scalar, is_scalar_from, coded_is}
 
 small_coded : (v : ℕ) → v < 0xd800 → coded v ≡ v ∷ []

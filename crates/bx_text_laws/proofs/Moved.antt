@@ -1,20 +1,14 @@
 -- A term put where other bytes follow it.
-use Rattle.std.proofs.Common.{◌≡◌, ◌≢◌, ℕ, suc, ◌+◌, true, false, ◌≤◌, List, [], ◌∷◌, ◌++◌, take, length, refl, sym, ap, ◌∙◌, subst, arith, codes, append_assoc, length-append, IsUtf8}
-use Rattle.std.proofs.lemmas.Bool.{both_ways}
-use Rattle.bx_text.specs.declared.node.Span.{Span}
-use Rattle.bx_text.specs.declared.node.Sort.{Sort}
+use Rattle.bx_text_laws.proofs.Commons.{◌≡◌, ◌≢◌, ℕ, suc, ◌+◌, true, false, ◌≤◌, List, [], ◌∷◌, ◌++◌, take, length, refl, sym, ap, ◌∙◌, subst, arith, codes, append_assoc, length-append, IsUtf8, both_ways}
+use Rattle.bx_text_laws.proofs.Commons.{Span, Sort, Place, after, name_len, word, Token, Lexeme, span, letters, tail_of, is_colon, is_slash, is_stop, Tree, atom, tuple, list, other, nil, chain, Spelling}
+use Rattle.bx_text_laws.proofs.Commons.{Stood, NoText, Texts, Written, Held, Sized, Encoded, Part, Parts, Term, Elements, Pairs}
 use Rattle.bx_text.specs.declared.node.Sort.TheVariants as sort
-use Rattle.bx_text.specs.Place.{Place, after}
-use Rattle.bx_text.specs.Lexing.{name_len, word}
 use Rattle.bx_text.specs.Named as named
 use Rattle.bx_text.specs.Token as token
-use Rattle.bx_text.specs.Token.{Token, Lexeme}
-use Rattle.bx_text.specs.Terms.{span, letters, tail_of, taken, is_colon, is_slash, is_stop}
-use Rattle.bx_text.specs.Tree.{Tree, integer, atom, tuple, list, other, nil, chain}
-use Rattle.bx_text_laws.specs.Spelling.{Spelling, Begins, InUtf8}
+use Rattle.bx_text.specs.Terms.{taken}
+use Rattle.bx_text.specs.Tree.{integer}
 use Rattle.bx_text_laws.specs.Spelling as spelling
 use Rattle.bx_text_laws.specs.Terms as terms
-use Rattle.bx_text_laws.specs.Terms.{Stood, NoText, Texts, Written, Held, Sized, Encoded, Part, Parts, Term, Elements, Pairs}
 use Rattle.bx_text_laws.proofs.Frame.{on}
 use Rattle.bx_text_laws.proofs.Words.{small_name, name_take}
 use Rattle.bx_text_laws.proofs.Longest.{sound}

@@ -1,17 +1,12 @@
 -- What stands in a text, put where other bytes follow it.
-use Rattle.std.proofs.Common.{◌≡◌, ◌≢◌, ℕ, ◌+◌, ◌-◌, ◌≤◌, ◌<◌, true, List, [], ◌∷◌, ◌++◌, take, length, refl, sym, ap, ◌∙◌, subst, arith, append_assoc, take_at, length-append, encode_utf8_all}
+use Rattle.bx_text_laws.proofs.Commons.{◌≡◌, ◌≢◌, ℕ, ◌+◌, ◌-◌, ◌≤◌, ◌<◌, true, List, [], ◌∷◌, ◌++◌, take, length, refl, sym, ap, ◌∙◌, subst, arith, append_assoc, take_at, length-append, encode_utf8_all}
+use Rattle.bx_text_laws.proofs.Commons.{nat_tests, length-encode, len_utf8_bounds, Place, Token, Lexeme, Blank, nothing, comment, NoBlank, LineEnds, Passes, IsSpace, Spelling, comma, float, bare_atom}
+use Rattle.bx_text_laws.proofs.Commons.{lines, NoLonger, Stood, NoQuote, NoText}
 use Rattle.std.specs.Char.{encode_utf8}
-use Rattle.std.proofs.lemmas.Bool.Decides.{nat_tests}
-use Rattle.std.proofs.lemmas.Str.{length-encode, len_utf8_bounds}
-use Rattle.bx_text.specs.Place.{Place}
 use Rattle.bx_text.specs.Named as named
-use Rattle.bx_text.specs.Token.{Token, Lexeme}
 use Rattle.bx_text.specs.Terms.{taken}
-use Rattle.bx_text_laws.specs.Blanks.{Blank, nothing, space, comment, NoBlank, LineEnds, Passes}
-use Rattle.bx_text_laws.specs.Characters.{IsSpace}
-use Rattle.bx_text_laws.specs.Spelling.{Spelling, comma, integer, float, bare_atom}
-use Rattle.bx_text_laws.specs.Tokens.{lines, NoLonger}
-use Rattle.bx_text_laws.specs.Terms.{Stood, NoQuote, NoText}
+use Rattle.bx_text_laws.specs.Blanks.{space}
+use Rattle.bx_text_laws.specs.Spelling.{integer}
 use Rattle.bx_text_laws.proofs.Runs.{digits_of}
 use Rattle.bx_text_laws.proofs.Longest.{taken_is_longest}
 use Rattle.bx_text_laws.proofs.Printing.{Delimits, Exactly}

@@ -1,18 +1,9 @@
 -- Integers and floats.
-use Rattle.std.proofs.Common.{◌≡◌, ℕ, ◌<◌, true, false, eqb, ◌||◌, List, [], ◌∷◌, ◌++◌, drop, length, Result, Ok, refl, sym, ap, ◌∙◌, subst, arith, append_assoc, drop_at, length-append, ◌⊎◌, inl, inr}
-use Rattle.std.specs.List.{list_all, prefix_len}
-use Rattle.std.proofs.lemmas.Bool.{eqb-true, cond_both, or_cases}
-use Rattle.std.proofs.lemmas.Bool.Decides.{nat_tests}
-use Rattle.bx_terms.specs.declared.faults.Fault.{Fault}
-use Rattle.bx_text.specs.Bytes.{is_digit}
-use Rattle.bx_text.specs.Number.{number}
-use Rattle.bx_text.specs.Place.{Place}
+use Rattle.bx_text_laws.proofs.Commons.{◌≡◌, ℕ, ◌<◌, true, false, eqb, ◌||◌, List, [], ◌∷◌, ◌++◌, drop, length, Result, Ok, refl, sym, ap, ◌∙◌, subst, arith, append_assoc, drop_at, length-append, ◌⊎◌, inl}
+use Rattle.bx_text_laws.proofs.Commons.{inr, list_all, prefix_len, eqb-true, cond_both, or_cases, nat_tests, Fault, is_digit, number, Place, Token, token_at, number_at, fraction_len, point_len, sign_len}
+use Rattle.bx_text_laws.proofs.Commons.{power_len, exponent_len, ok_same, Spelling, Minus, no_minus, a_minus, Digits, Sign, no_sign, plus, minus, Exponent, no_exponent, an_exponent, negative, float, lines}
 use Rattle.bx_text.specs.Token as token
-use Rattle.bx_text.specs.Token.{Token}
-use Rattle.bx_text.specs.Lexing.{token_at, number_at, fraction_len, point_len, sign_len, power_len, exponent_len}
-use Rattle.bx_text.proofs.Outcomes.{ok_same}
-use Rattle.bx_text_laws.specs.Spelling.{Spelling, Minus, no_minus, a_minus, Digits, Sign, no_sign, plus, minus, Exponent, no_exponent, an_exponent, integer, negative, float}
-use Rattle.bx_text_laws.specs.Tokens.{lines}
+use Rattle.bx_text_laws.specs.Spelling.{integer}
 use Rattle.bx_text_laws.proofs.Frame.{on, Spelled, spelled_at, lines-append}
 use Rattle.bx_text_laws.proofs.Runs.{run_split, run_append, numeral_is, digits_of, digit_lines, unsigned}
 use Rattle.bx_text_laws.proofs.NumbersFound.{first_number, integer_reads, power_is, float_reads}

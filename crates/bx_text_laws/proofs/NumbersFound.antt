@@ -1,17 +1,11 @@
 -- What is spelled as a number is taken.
-use Rattle.std.proofs.Common.{◌≡◌, ℕ, suc, ◌+◌, ◌≤◌, ◌<◌, true, false, eqb, ◌||◌, List, [], ◌∷◌, ◌++◌, take, drop, length, Ok, refl, sym, ap, ◌∙◌, subst, arith, append_assoc, drop_at, take_at, drop-drop, length-append, length-drop, ◌⊎◌}
-use Rattle.std.specs.List.{list_all, prefix_len}
+use Rattle.bx_text_laws.proofs.Commons.{◌≡◌, ℕ, suc, ◌+◌, ◌≤◌, ◌<◌, true, false, eqb, ◌||◌, List, [], ◌∷◌, ◌++◌, take, drop, length, Ok, refl, sym, ap, ◌∙◌, subst, arith, append_assoc, drop_at, take_at}
+use Rattle.bx_text_laws.proofs.Commons.{drop-drop, length-append, length-drop, ◌⊎◌, list_all, prefix_len, and_parts, ne_eqb, eqb-false, cond_both, nat_tests, is_digit, is_lower, number, Place, after}
+use Rattle.bx_text_laws.proofs.Commons.{kind_of, token_by, token_at, number_at, number_by, point_len, fraction_len, sign_len, power_len, exponent_len, Minus, no_minus, a_minus, Sign, no_sign, plus}
+use Rattle.bx_text_laws.proofs.Commons.{minus, Exponent, no_exponent, an_exponent}
 use Rattle.std.proofs.Math.Seq.{drop-append-add}
-use Rattle.std.proofs.lemmas.Bool.{and_parts, ne_eqb, eqb-false, cond_both}
-use Rattle.std.proofs.lemmas.Bool.Decides.{nat_tests}
 use Rattle.std.proofs.lemmas.List.Sums.{prefix_len-le-length}
-use Rattle.bx_text.specs.Bytes.{is_digit, is_lower}
-use Rattle.bx_text.specs.Number.{number}
-use Rattle.bx_text.specs.Place.{Place, after}
 use Rattle.bx_text.specs.Token as token
-use Rattle.bx_text.specs.Token.{Token}
-use Rattle.bx_text.specs.Lexing.{kind_of, token_by, token_at, number_at, number_by, point_len, fraction_len, sign_len, power_len, exponent_len}
-use Rattle.bx_text_laws.specs.Spelling.{Minus, no_minus, a_minus, Sign, no_sign, plus, minus, Exponent, no_exponent, an_exponent}
 use Rattle.bx_text_laws.proofs.Frame.{on, Found}
 use Rattle.bx_text_laws.proofs.Runs.{run_append, digits_of}
 

@@ -1,15 +1,10 @@
 -- Runs of digits.
-use Rattle.std.proofs.Common.{◌≡◌, ℕ, ◌+◌, ◌-◌, ◌*◌, ◌<◌, Bool, true, false, eqb, pos, List, [], ◌∷◌, ◌++◌, length, refl, sym, ap, ◌∙◌, subst, arith, append_assoc, append-nil}
-use Rattle.std.specs.List.{fold, list_all, prefix_len}
-use Rattle.std.proofs.lemmas.Bool.{and_parts, and_from, cond_both}
-use Rattle.std.proofs.lemmas.Bool.Decides.{nat_tests}
+use Rattle.bx_text_laws.proofs.Commons.{◌≡◌, ℕ, ◌+◌, ◌-◌, ◌*◌, ◌<◌, Bool, true, false, eqb, pos, List, [], ◌∷◌, ◌++◌, length, refl, sym, ap, ◌∙◌, subst, arith, append_assoc, append-nil, fold, list_all}
+use Rattle.bx_text_laws.proofs.Commons.{prefix_len, and_parts, and_from, cond_both, nat_tests, is_digit, number, decimal, Digit, Numeral, one_digit, digit_more, lines}
 use Rattle.std.proofs.lemmas.List.{length-append}
 use Rattle.std.proofs.lemmas.List.Folds.{list_all-append}
 use Rattle.std.proofs.lemmas.List.Sums.{fold-append}
-use Rattle.bx_text.specs.Bytes.{is_digit}
-use Rattle.bx_text.specs.Number.{number, with_digit, decimal}
-use Rattle.bx_text_laws.specs.Numerals.{Digit, Numeral, one_digit, digit_more}
-use Rattle.bx_text_laws.specs.Tokens.{lines}
+use Rattle.bx_text.specs.Number.{with_digit}
 
 -- the longest run of elements that pass, and what follows it
 abbrev Front : (ℕ → Bool) → List ℕ → ℕ → Type 0

@@ -1,12 +1,12 @@
 -- Where bytes stop being UTF-8.
-use Rattle.std.proofs.Common.{◌≡◌, ◌≢◌, ℕ, zero, suc, ◌+◌, ◌-◌, ◌≤◌, ◌<◌, List, [], ◌∷◌, ◌++◌, take, drop, get_or, length, refl, sym, ap, ◌∙◌, subst, arith, drop_at, take_at, take_all, length-append, append-nil, le_refl, ◌⊎◌, inl, inr, IsUtf8}
-use Rattle.std.specs.Str.{is_utf8}
-use Rattle.std.specs.Str.Lossy.{utf8_valid_len, valid_len_up_to}
+use Rattle.bx_text_laws.proofs.Commons.{◌≡◌, ◌≢◌, ℕ, zero, suc, ◌+◌, ◌-◌, ◌≤◌, ◌<◌, List, [], ◌∷◌, ◌++◌, take, drop, get_or, length, refl, sym, ap, ◌∙◌, subst, arith, drop_at, take_at, take_all}
+use Rattle.bx_text_laws.proofs.Commons.{length-append, append-nil, le_refl, ◌⊎◌, inl, inr, IsUtf8, is_utf8, valid_len_up_to, both_ways, cases_lt, cond_both, encode_ascii, IsUtf8-nil, IsUtf8-append}
+use Rattle.bx_text_laws.proofs.Commons.{IsUtf8-encode, IsUtf8-take, IsUtf8-drop, IsUtf8-from_is_utf8, is_utf8-from_IsUtf8, IsCharBoundary-before_ascii, IsCharBoundary-from_take, utf8_valid_len_le}
+use Rattle.bx_text_laws.proofs.Commons.{utf8_valid_len-IsValidUpTo}
+use Rattle.std.specs.Str.Lossy.{utf8_valid_len}
 use Rattle.std.proofs.Math.Seq.{take-append-add, take-length}
 use Rattle.std.proofs.Math.Utf8.{low_scalar}
-use Rattle.std.proofs.lemmas.Bool.{both_ways, cases_lt, cond_both}
 use Rattle.std.proofs.lemmas.List.{take-append-le, take-append-drop, length-take-le, get_or_at}
-use Rattle.std.proofs.lemmas.Str.{encode_ascii, IsUtf8-nil, IsUtf8-append, IsUtf8-encode, IsUtf8-take, IsUtf8-drop, IsUtf8-from_is_utf8, is_utf8-from_IsUtf8, IsCharBoundary-before_ascii, IsCharBoundary-from_take, utf8_valid_len_le, utf8_valid_len-IsValidUpTo}
 use Rattle.bx_text_laws.specs.Refusals.{NoCharacter}
 
 -- one text in two ways

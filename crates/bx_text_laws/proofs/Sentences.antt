@@ -1,21 +1,15 @@
 -- What is read as a term is one by its bytes.
-use Rattle.std.proofs.Common.{◌≡◌, ℕ, Bool, true, false, ◌↔◌, List, [], ◌∷◌, Some, None, Ok, arith, refl, sym, ap, ◌∙◌, subst, codes}
+use Rattle.bx_text_laws.proofs.Commons.{◌≡◌, ℕ, Bool, true, false, ◌↔◌, List, [], ◌∷◌, Some, None, Ok, arith, refl, sym, ap, ◌∙◌, subst, codes, eqb-false, ne_eqb, utf8_valid_len-IsUtf8, begins, Place}
+use Rattle.bx_text_laws.proofs.Commons.{Token, Body, Lexeme, spelled, Tree, is_quote, is_colon, is_slash, is_utf8_name, meant, Stood, NoQuote, NoText, Texts, Written, Held, Sized, Encoded, Part, Parts}
+use Rattle.bx_text_laws.proofs.Commons.{Term, Elements, Pairs, Sentence, OnlyBlanks}
 use Rattle.std.proofs.lemmas.Slice.Eq.{bytes_eq-Decides}
-use Rattle.std.proofs.lemmas.Bool.{eqb-false, ne_eqb}
-use Rattle.std.proofs.lemmas.Str.{utf8_valid_len-IsUtf8}
-use Rattle.bx_text.specs.Bytes.{begins}
-use Rattle.bx_text.specs.Place.{Place}
 use Rattle.bx_text.specs.Token as token
-use Rattle.bx_text.specs.Token.{Token, Body, Lexeme, spelled}
-use Rattle.bx_text.specs.Tree.{Tree}
-use Rattle.bx_text.specs.Terms.{taken, is_quote, is_colon, is_slash, is_utf8_name}
+use Rattle.bx_text.specs.Terms.{taken}
 use Rattle.bx_text.specs.Grammar as grammar
 use Rattle.bx_text.specs.Grammar.{Next, NoString, Strings, Content, Size, Encoding, Segment, Segments, Spells, Row, Form, Kept, OnlyBlank}
 use Rattle.bx_text.specs.Forms.{form_at}
 use Rattle.bx_text.proofs.Grammatical.{forms_are, none_are}
-use Rattle.bx_text_laws.specs.Tokens.{meant}
 use Rattle.bx_text_laws.specs.Terms as terms
-use Rattle.bx_text_laws.specs.Terms.{Stood, NoQuote, NoText, Texts, Written, Held, Sized, Encoded, Part, Parts, Term, Elements, Pairs, Sentence, OnlyBlanks}
 use Rattle.bx_text_laws.proofs.Blanking.{skipped_is_blank}
 use Rattle.bx_text_laws.proofs.Finding.{next_is_longest, parts}
 use Rattle.bx_text_laws.proofs.Quotes.{valid_is}

@@ -1,26 +1,16 @@
 -- What was read is printed and read back.
-use Rattle.std.proofs.Common.{◌≡◌, ℕ, zero, suc, ◌*◌, ◌^◌, ◌%◌, ◌≤◌, ◌<◌, true, pos, List, [], ◌∷◌, ◌++◌, map, length, length-append, Some, Ok, refl, ap, subst, arith, IsUtf8, chars, encode_utf8_all}
-use Rattle.std.specs.List.{AllByRecursion}
-use Rattle.std.specs.Str.{all_scalars}
-use Rattle.std.proofs.lemmas.Bool.{and_parts, and_from}
+use Rattle.bx_text_laws.proofs.Commons.{◌≡◌, ℕ, zero, suc, ◌*◌, ◌^◌, ◌%◌, ◌≤◌, ◌<◌, true, pos, List, [], ◌∷◌, ◌++◌, map, length, length-append, Some, Ok, refl, ap, subst, arith, IsUtf8, chars}
+use Rattle.bx_text_laws.proofs.Commons.{encode_utf8_all, AllByRecursion, all_scalars, and_parts, and_from, Span, Place, Token, Lexeme, span, letters, tail_of, Tree, other, nil, chain, Quoted, Named}
+use Rattle.bx_text_laws.proofs.Commons.{StandsAs, Shown, ShownRow, ShownList, ShownRest, IsReadBack, Spelling, Sort, Stood, Texts, Held, Parts, Term, Elements, Pairs, Sentence, Numeral, one_digit}
+use Rattle.bx_text_laws.proofs.Commons.{digit_more}
 use Rattle.std.proofs.Math.Utf8.{low_scalar}
 use Rattle.std.proofs.Math.Nat.{pow-zero, pow-succ', pow-le-pow_right, mul-le-mul_left}
-use Rattle.bx_text.specs.declared.node.Span.{Span}
-use Rattle.bx_text.specs.Place.{Place}
 use Rattle.bx_text.specs.Token as token
-use Rattle.bx_text.specs.Token.{Token, Lexeme}
 use Rattle.bx_text.specs.Forms.{form_at}
-use Rattle.bx_text.specs.Terms.{span, letters, tail_of}
-use Rattle.bx_text.specs.Tree.{Tree, integer, other, nil, chain}
+use Rattle.bx_text.specs.Tree.{integer}
 use Rattle.bx_text_laws.specs.Quoted as quoted
-use Rattle.bx_text_laws.specs.Quoted.{Quoted, Named}
-use Rattle.bx_text_laws.specs.Shown.{StandsAs, Shown, ShownRow, ShownList, ShownRest, IsReadBack}
 use Rattle.bx_text_laws.specs.Spelling as spelling
-use Rattle.bx_text_laws.specs.Spelling.{Spelling}
 use Rattle.bx_text_laws.specs.Terms as terms
-use Rattle.bx_text.specs.declared.node.Sort.{Sort}
-use Rattle.bx_text_laws.specs.Terms.{Stood, Texts, Held, Parts, Term, Elements, Pairs, Sentence}
-use Rattle.bx_text_laws.specs.Numerals.{Numeral, one_digit, digit_more}
 use Rattle.bx_text_laws.proofs.ReadBack.{read_back}
 use Rattle.bx_text_laws.proofs.Sentences.{forms_are_sentences}
 
