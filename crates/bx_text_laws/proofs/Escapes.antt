@@ -163,7 +163,7 @@ value_from b d ds l a =
 abbrev pub Same : ℕ → ℕ → Type 0
 Same w n = (w ≡ n) ⊎ ((0x110000 ≤ w) × (0x110000 ≤ n))
 
-same_more : (w n x : ℕ) → x < 16 → Same w n → Same (escapes.braced w x) (16 * n + x)
+pub same_more : (w n x : ℕ) → x < 16 → Same w n → Same (escapes.braced w x) (16 * n + x)
 same_more w n x l h = grind (arith, nat_tests)
 
 pub same_scalar : (w n : ℕ) → Same w n → is_scalar n ≡ true → w ≡ n

@@ -5,7 +5,6 @@ pub mod Escapes
 pub mod Exact
 pub mod Failing
 pub mod Faulty
-pub mod FaultsFound
 pub mod Finding
 pub mod FirstFaults
 pub mod FormsBack

@@ -1,25 +1,22 @@
 -- What is printed of an integer or an atom is taken as the same one, where a delimiter follows.
-use Rattle.std.proofs.Common.{◌≡◌, ◌≢◌, ℕ, zero, suc, ◌+◌, ◌*◌, ◌/◌, ◌%◌, ◌≤◌, ◌<◌, Bool, true, false, cond, not, eqb, ◌&&◌, ◌||◌, ℤ, pos, negsuc, neg_ℤ, List, [], ◌∷◌, ◌++◌, take, drop, length, Ok, refl, sym, ap, ◌∙◌, subst, arith, codes, append_assoc, append-nil, drop_at, take_at, length-append, inl, chars, IsUtf8, bytes_eq, encode_utf8_all}
+use Rattle.std.proofs.Common.{◌≡◌, ◌≢◌, ℕ, zero, suc, ◌+◌, ◌*◌, ◌/◌, ◌%◌, ◌≤◌, ◌<◌, Bool, true, false, cond, not, eqb, ◌&&◌, ◌||◌, ℤ, pos, negsuc, neg_ℤ, List, [], ◌∷◌, ◌++◌, take, drop, length, Ok, refl, sym, ap, ◌∙◌, subst, arith, codes, append_assoc, append-nil, drop_at, take_at, length-append, ◌⊎◌, inl, inr, chars, IsUtf8, encode_utf8_all}
 use Rattle.std.specs.Prelude.{nat_lt}
 use Rattle.std.specs.List.{list_all, prefix_len, flat_map, AllByRecursion}
 use Rattle.std.specs.Char.{encode_utf8}
 use Rattle.std.specs.Fmt.{digits, digits_onto, digit_glyph}
 use Rattle.std.specs.Str.{all_scalars}
-use Rattle.std.proofs.lemmas.Bool.{eqb-true, eqb-false, and_parts, and_from, false_from_ne_true, cond_both}
+use Rattle.std.proofs.lemmas.Bool.{eqb-true, eqb-false, and_parts, and_from, not-true, both_ways, cond_both}
 use Rattle.std.proofs.lemmas.Bool.Decides.{nat_tests}
-use Rattle.std.proofs.lemmas.Slice.Eq.{bytes_eq-Decides}
 use Rattle.std.proofs.lemmas.Str.{encode_ascii, encodes-append, encodes-chars, scalars-chars}
 use Rattle.std.proofs.Math.Utf8.{low_scalar}
-use Rattle.bx_terms.specs.Outcomes.{◌>>=◌}
 use Rattle.bx_terms.specs.AtomText.{is_name_byte, is_reserved, is_bare, by_code, printed_atom}
 use Rattle.bx_terms.specs.AtomText as atoms
 use Rattle.bx_text.specs.Bytes.{is_digit, is_space}
 use Rattle.bx_text.specs.Number.{number}
 use Rattle.bx_text.specs.Place.{Place, after}
-use Rattle.bx_text.specs.Named as named
 use Rattle.bx_text.specs.Token as token
 use Rattle.bx_text.specs.Token.{Token}
-use Rattle.bx_text.specs.Lexing.{token_at, number_by, fraction_len, name_len, word, behind}
+use Rattle.bx_text.specs.Lexing.{token_at, number_by, fraction_len, name_len, word}
 use Rattle.bx_text.specs.Printed.{digits_within, whole_decimal, integer_text}
 use Rattle.bx_text_laws.specs.Characters.{IsSmall, IsNameCharacter}
 use Rattle.bx_text_laws.specs.Numerals.{Digit, Numeral, one_digit, digit_more}
@@ -30,11 +27,10 @@ use Rattle.bx_text_laws.specs.Tokens.{meant}
 use Rattle.bx_text_laws.proofs.Frame.{on}
 use Rattle.bx_text_laws.proofs.Runs.{run_append, digits_of}
 use Rattle.bx_text_laws.proofs.NumbersFound.{first_number, digits_on}
-use Rattle.bx_text_laws.proofs.Words.{first_small, name_take, small_name}
-use Rattle.bx_text_laws.proofs.Free.{free, free_plain, free_text, past_cap}
-use Rattle.bx_text_laws.proofs.Escapes.{numeral_value}
-use Rattle.bx_text_laws.proofs.Readings.{hex_from, no_octal_is, not_named, different, named_uncapped}
-use Rattle.bx_text_laws.proofs.Quotes.{Gives, gives, behind_rest, grouped}
+use Rattle.bx_text_laws.proofs.Words.{word_taken, no_fun}
+use Rattle.bx_text_laws.proofs.Readings.{no_octal_is}
+pub use Rattle.bx_text_laws.proofs.Quotes.{Exactly}
+use Rattle.bx_text_laws.proofs.Quotes.{atom_quoting, quote_exact}
 use Rattle.bx_text_laws.proofs.Longest.{unsigned}
 
 -- no digit, name character or fraction begins
@@ -42,10 +38,6 @@ pub record Delimits (rest : List ℕ) : Type 0 where
   pub digits : prefix_len is_digit rest ≡ 0
   pub fraction : fraction_len rest ≡ 0
   pub name : name_len rest ≡ 0
-
--- just these bytes are taken, as t
-abbrev pub Exactly : List ℕ → Token → List ℕ → Type 0
-Exactly bytes t rest = (at line : ℕ) → (u : Token) × (q : Place) × (token_at (on (bytes ++ rest) at line) ≡ Ok (u, q)) × (q.rest ≡ rest) × (meant u ≡ t)
 
 -- integers
 digit_is : (n : ℕ) → n < 10 → Digit 10 (48 + n) n
@@ -121,34 +113,16 @@ integer_exact (negsuc n) rest d =
 
 -- bare atoms
 pub word_exact : (c : ℕ) (cs bytes rest : List ℕ) → IsSmall c → AllByRecursion IsNameCharacter cs → InUtf8 (c ∷ cs) bytes → bytes ≢ codes "fun" → Delimits rest → Exactly bytes (token.atom (token.plain bytes)) rest
-word_exact c cs bytes rest small a (s, e) other d at line = (
-  word (take n text),
-  after p n,
-  begun,
-  ap (λ n. drop n text) count ∙ drop_at bytes rest (length bytes) refl,
-  ap (λ n. meant (word (take n text))) count ∙ ap (λ w. meant (word w)) (take_at bytes rest (length bytes) refl)
-      ∙ ap (λ t. meant (cond t named.the_word_fun (token.atom (token.plain bytes)))) not_fun,
-)
-  where
-    text : List ℕ
-    text = bytes ++ rest
-
-    p : Place
-    p = on text at line
-
-    n : ℕ
-    n = name_len text
-
-    count : n ≡ length bytes
-    count = subst (λ ws. name_len (ws ++ rest) ≡ length ws + name_len rest) e (name_take (c ∷ cs) rest (small_name c small, a)) ∙ omega (arith, d.name)
-
-    begun : token_at p ≡ Ok (word (take n text), after p n)
-    begun =
-        subst (λ ws. token_at (on (ws ++ rest) at line) ≡ Ok (word (take (name_len (ws ++ rest)) (ws ++ rest)), after (on (ws ++ rest) at line) (name_len (ws ++ rest)))) e
-        (subst (λ ws. token_at (on ws at line) ≡ Ok (word (take (name_len ws) ws), after (on ws at line) (name_len ws))) (sym (append_assoc (encode_utf8 c) (encode_utf8_all cs) rest)) (first_small c (encode_utf8_all cs ++ rest) at line small))
-
-    not_fun : bytes_eq bytes (codes "fun") ≡ false
-    not_fun = false_from_ne_true (bytes_eq bytes (codes "fun")) (λ e. other ((bytes_eq-Decides bytes (codes "fun")).0 e))
+word_exact c cs bytes rest small a u other d at line =
+    let text : List ℕ = bytes ++ rest in
+    let t = word_taken c cs bytes rest at line small a u in
+    let count : name_len text ≡ length bytes = omega (arith, t.1, d.name) in (
+      word (take (name_len text) text),
+      after (on text at line) (name_len text),
+      t.0,
+      ap (λ n. drop n text) count ∙ drop_at bytes rest (length bytes) refl,
+      ap (λ n. meant (word (take n text))) count ∙ ap (λ w. meant (word w)) (take_at bytes rest (length bytes) refl) ∙ no_fun bytes other,
+    )
 
 bare_character : (b : ℕ) → is_name_byte b ≡ true → IsNameCharacter b
 bare_character b e = grind (arith, nat_tests)
@@ -173,15 +147,12 @@ bare_exact (b ∷ bs) rest e d =
     let first = and_parts (atoms.is_lower b && list_all is_name_byte (b ∷ bs)) (not (is_reserved (b ∷ bs))) e in
     let names = and_parts (atoms.is_lower b) (list_all is_name_byte (b ∷ bs)) first.0 in
     let text = bare_text (b ∷ bs) names.1 in
-    word_exact b bs (b ∷ bs) rest (bare_small b names.0) text.0.1 text.1 (λ is. reserved (ap is_reserved is) first.1) d
-  where
-    reserved : is_reserved (b ∷ bs) ≡ true → not (is_reserved (b ∷ bs)) ≡ true → ⊥
-    reserved e f = let both = sym (ap not e) ∙ f in cc
+    word_exact b bs (b ∷ bs) rest (bare_small b names.0) text.0.1 text.1 (λ is. both_ways (is_reserved (b ∷ bs)) (not-true (is_reserved (b ∷ bs)) first.1) (ap is_reserved is)) d
 
 -- quoted atoms: the characters that are written for one, and what they say
 abbrev Written : ℕ → List ℕ → Type 0
 Written c bytes =
-    (src : List ℕ) × InUtf8 src bytes × ((cs vs : List ℕ) → Quoted 39 cs vs → Quoted 39 (src ++ cs) (c ∷ vs)) × ((cs : List ℕ) → free 39 cs ≡ true → free 39 (src ++ cs) ≡ true)
+    (src : List ℕ) × InUtf8 src bytes × ((cs vs : List ℕ) → Quoted 39 cs vs → Quoted 39 (src ++ cs) (c ∷ vs))
 
 pub ascii_utf8 : (bs : List ℕ) → AllByRecursion (λ b. b < 128) bs → InUtf8 bs bs
 ascii_utf8 [] a = (refl, refl)
@@ -192,27 +163,20 @@ ascii_utf8 (b ∷ bs) (low, a) =
 pair_utf8 : (b : ℕ) → b < 128 → InUtf8 (92 ∷ b ∷ []) (92 ∷ b ∷ [])
 pair_utf8 b low = ascii_utf8 (92 ∷ b ∷ []) (omega arith, (low, tt))
 
+unnamed : {c v : ℕ} → Named c v → (c ≡ 39) ⊎ (c ≡ 92) → ⊥
+unnamed s h = grind arith
+
 quote_other : IsOther 39
-quote_other = (
-  λ x. not_named x.1 (λ e. omega arith) (λ e. omega arith) (λ e. omega arith) (λ e. omega arith) (λ e. omega arith) (λ e. omega arith) (λ e. omega arith) (λ e. omega arith) (λ e. omega arith),
-  no_octal_is 39 refl,
-  λ e. omega arith,
-  λ e. omega arith,
-)
+quote_other = (λ x. unnamed x.1 (inl refl), no_octal_is 39 refl, λ e. omega arith, λ e. omega arith)
 
 slash_other : IsOther 92
-slash_other = (
-  λ x. not_named x.1 (λ e. omega arith) (λ e. omega arith) (λ e. omega arith) (λ e. omega arith) (λ e. omega arith) (λ e. omega arith) (λ e. omega arith) (λ e. omega arith) (λ e. omega arith),
-  no_octal_is 92 refl,
-  λ e. omega arith,
-  λ e. omega arith,
-)
+slash_other = (λ x. unnamed x.1 (inr refl), no_octal_is 92 refl, λ e. omega arith, λ e. omega arith)
 
 other_written : (c : ℕ) → c < 128 → IsOther c → Written c (92 ∷ c ∷ [])
-other_written c low h = (92 ∷ c ∷ [], pair_utf8 c low, λ cs vs k. quoted.other h k, λ cs f. past_cap 39 c cs (different c 94 h.3) ∙ f)
+other_written c low h = (92 ∷ c ∷ [], pair_utf8 c low, λ cs vs k. quoted.other h k)
 
 named_written : (c n : ℕ) → n < 128 → Named n c → Written c (92 ∷ n ∷ [])
-named_written c n low h = (92 ∷ n ∷ [], pair_utf8 n low, λ cs vs k. quoted.named h k, λ cs f. past_cap 39 n cs (named_uncapped h) ∙ f)
+named_written c n low h = (92 ∷ n ∷ [], pair_utf8 n low, λ cs vs k. quoted.named h k)
 
 -- codes of control characters
 glyph_digit : (x : ℕ) → x < 16 → Digit 16 (digit_glyph false x) x
@@ -237,23 +201,17 @@ code_written c h = by (eqb (c / 16) 0) (eqb (c / 16 / 16) 0) refl refl
     value : 16 * ((c / 16) % 16) + c % 16 ≡ c
     value = omega arith
 
-    nothing_left : (n : ℕ) → eqb n 0 ≡ true → n ≡ 0
-    nothing_left n e = grind (arith, nat_tests)
-
-    some_left : (n : ℕ) → n < 1 → eqb n 0 ≡ false → ⊥
-    some_left n l e = grind (arith, nat_tests)
-
     by : (t u : Bool) → eqb (c / 16) 0 ≡ t → eqb (c / 16 / 16) 0 ≡ u
         → Code c (cond t (digit_glyph false (c % 16) ∷ []) (cond u (digit_glyph false ((c / 16) % 16) ∷ digit_glyph false (c % 16) ∷ []) (digits_onto 62 16 false (c / 16 / 16) (digit_glyph false ((c / 16) % 16) ∷ digit_glyph false (c % 16) ∷ []))))
     by true u e f =
-        let none : c / 16 ≡ 0 = nothing_left (c / 16) e in
+        let none : c / 16 ≡ 0 = eqb-true (c / 16) 0 e in
         let all : c % 16 ≡ c = omega arith in
         (subst (Numeral 16 (digit_glyph false (c % 16) ∷ [])) all (one_digit (glyph_digit (c % 16) low)), (glyph_low (c % 16) low, tt))
     by false true e f = (
       subst (Numeral 16 (digit_glyph false ((c / 16) % 16) ∷ digit_glyph false (c % 16) ∷ [])) value (digit_more (one_digit (glyph_digit ((c / 16) % 16) high)) (glyph_digit (c % 16) low)),
       (glyph_low ((c / 16) % 16) high, (glyph_low (c % 16) low, tt)),
     )
-    by false false e f = absurd (some_left (c / 16 / 16) (omega arith) f)
+    by false false e f = absurd (eqb-false (c / 16 / 16) 0 f (omega arith))
 
 all_low_append : (xs ys : List ℕ) → AllByRecursion (λ b. b < 128) xs → AllByRecursion (λ b. b < 128) ys → AllByRecursion (λ b. b < 128) (xs ++ ys)
 all_low_append [] ys a b = b
@@ -267,14 +225,10 @@ braced_written c h = by_digits (digits 16 false c) (code_written c (omega arith)
       92 ∷ 120 ∷ 123 ∷ (ds ++ 125 ∷ []),
       ascii_utf8 (92 ∷ 120 ∷ 123 ∷ (ds ++ 125 ∷ [])) (omega arith, (omega arith, (omega arith, all_low_append ds (125 ∷ []) a (omega arith, tt)))),
       (λ cs vs k. subst (λ us. Quoted 39 (92 ∷ 120 ∷ 123 ∷ us) (c ∷ vs)) (sym (append_assoc ds (125 ∷ []) cs)) (quoted.braced n (low_scalar c (omega arith)) k)),
-      (λ cs f. subst (λ us. free 39 (92 ∷ 120 ∷ 123 ∷ us) ≡ true) (sym (append_assoc ds (125 ∷ []) cs)) (braced_free ds cs n f)),
     )
-      where
-        braced_free : (ds cs : List ℕ) → Numeral 16 ds c → free 39 cs ≡ true → free 39 (123 ∷ (ds ++ 125 ∷ cs)) ≡ true
-        braced_free ds cs n f = free_plain 39 123 (ds ++ 125 ∷ cs) refl refl (hex_from 39 ds (125 ∷ cs) (inl refl) (numeral_value n).0 (free_plain 39 125 cs refl refl f))
 
 plain_written : (c : ℕ) → all_scalars (c ∷ []) ≡ true → eqb c 39 ≡ false → eqb c 92 ≡ false → Written c (encode_utf8 c)
-plain_written c s e f = (c ∷ [], (s, append-nil (encode_utf8 c)), λ cs vs k. quoted.itself (eqb-false c 39 e) (eqb-false c 92 f) k, λ cs g. free_plain 39 c cs f e g)
+plain_written c s e f = (c ∷ [], (s, append-nil (encode_utf8 c)), λ cs vs k. quoted.itself (eqb-false c 39 e) (eqb-false c 92 f) k)
 
 control_code : (c : ℕ) → (nat_lt c 32 || eqb c 127) ≡ true → c < 128
 control_code c e = grind (arith, nat_tests)
@@ -292,39 +246,24 @@ written c s =
     at d bytes e w = subst (λ c. Written c bytes) (sym (eqb-true c d e)) w
 
 abbrev AllWritten : List ℕ → List ℕ → Type 0
-AllWritten cs bytes = (src : List ℕ) × InUtf8 src bytes × Quoted 39 src cs × (free 39 src ≡ true)
+AllWritten cs bytes = (src : List ℕ) × InUtf8 src bytes × Quoted 39 src cs
 
 pub scalars_append : (xs ys : List ℕ) → all_scalars xs ≡ true → all_scalars ys ≡ true → all_scalars (xs ++ ys) ≡ true
 scalars_append [] ys a b = b
 scalars_append (x ∷ xs) ys a b = let both = and_parts _ (all_scalars xs) a in and_from _ (all_scalars (xs ++ ys)) both.0 (scalars_append xs ys both.1 b)
 
 all_written : (cs : List ℕ) → all_scalars cs ≡ true → AllWritten cs (flat_map atoms.escaped cs)
-all_written [] s = ([], (refl, refl), quoted.none, refl)
+all_written [] s = ([], (refl, refl), quoted.none)
 all_written (c ∷ cs) s = let both = and_parts _ (all_scalars cs) s in join (written c (and_from _ true both.0 refl)) (all_written cs both.1)
   where
     join : Written c (atoms.escaped c) → AllWritten cs (flat_map atoms.escaped cs) → AllWritten (c ∷ cs) (atoms.escaped c ++ flat_map atoms.escaped cs)
-    join (src, u, k, f) (rest, w, r, g) =
-        (src ++ rest, (scalars_append src rest u.0 w.0, encodes-append src rest ∙ ap (λ us. us ++ encode_utf8_all rest) u.1 ∙ ap (λ us. atoms.escaped c ++ us) w.1), k rest cs r, f rest g)
+    join (src, u, k) (rest, w, r) =
+        (src ++ rest, (scalars_append src rest u.0 w.0, encodes-append src rest ∙ ap (λ us. us ++ encode_utf8_all rest) u.1 ∙ ap (λ us. atoms.escaped c ++ us) w.1), k rest cs r)
 
 quoted_exact : (w rest : List ℕ) → IsUtf8 w → Exactly (atoms.quoted w) (token.atom (token.plain w)) rest
-quoted_exact w rest utf8 at line = by_written (all_written (chars w) (scalars-chars w utf8))
-  where
-    F : List ℕ
-    F = flat_map atoms.escaped (chars w)
-
-    by_gives : Gives 39 F rest at line (chars w) → (u : Token) × (q : Place) × (token_at (on (39 ∷ (F ++ 39 ∷ rest)) at line) ≡ Ok (u, q)) × (q.rest ≡ rest) × (meant u ≡ token.atom (token.plain w))
-    by_gives (b, e, m) = (
-      token.atom b,
-      behind (on (39 ∷ (F ++ 39 ∷ rest)) at line) (F ++ 39 ∷ rest) (length F),
-      ap (λ r. r >>= λ y. Ok (token.atom y.0, y.1)) e,
-      behind_rest 39 F rest,
-      ap (λ w. token.atom (token.plain w)) (m ∙ encodes-chars w utf8),
-    )
-
-    by_written : AllWritten (chars w) F → (u : Token) × (q : Place) × (token_at (on (((39 ∷ F) ++ 39 ∷ []) ++ rest) at line) ≡ Ok (u, q)) × (q.rest ≡ rest) × (meant u ≡ token.atom (token.plain w))
-    by_written (src, u, k, f) =
-        subst (λ text. (u : Token) × (q : Place) × (token_at (on text at line) ≡ Ok (u, q)) × (q.rest ≡ rest) × (meant u ≡ token.atom (token.plain w))) (sym (grouped 39 F rest))
-        (by_gives (gives 39 src (chars w) F rest at line (inl refl) (ap (free 39) (sym u.1) ∙ free_text 39 src (omega arith) ∙ f) k u))
+quoted_exact w rest utf8 =
+    let a = all_written (chars w) (scalars-chars w utf8) in
+    subst (λ v. Exactly (atoms.quoted w) (token.atom (token.plain v)) rest) (encodes-chars w utf8) (quote_exact 39 token.atom atom_quoting a.0 (chars w) (flat_map atoms.escaped (chars w)) rest a.2 a.1)
 
 pub atom_exact : (w rest : List ℕ) → IsUtf8 w → Delimits rest → Exactly (printed_atom w) (token.atom (token.plain w)) rest
 atom_exact w rest utf8 d = cond_both (is_bare w) w (atoms.quoted w) (λ bytes. Exactly bytes (token.atom (token.plain w)) rest) (λ e. bare_exact w rest e d) (λ _. quoted_exact w rest utf8)

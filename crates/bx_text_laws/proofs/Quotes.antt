@@ -1,36 +1,38 @@
 -- Quoted atoms and strings.
-use Rattle.std.proofs.Common.{◌≡◌, ◌≢◌, ℕ, ◌+◌, ◌≤◌, ◌<◌, Bool, true, false, cond, not, eqb, ◌&&◌, List, [], ◌∷◌, ◌++◌, take, drop, get_or, length, Result, Ok, Err, refl, sym, ap, ◌∙◌, subst, arith, append_assoc, drop_at, take_at, take_all, length-append, append-nil, encode_utf8_all, chars, IsUtf8, le_refl, ◌⊎◌, inl, inr}
-use Rattle.std.specs.List.{list_all, prefix_len}
+use Rattle.std.proofs.Common.{◌≡◌, ◌≢◌, ℕ, ◌+◌, ◌≤◌, ◌<◌, Bool, true, false, cond, eqb, List, [], ◌∷◌, ◌++◌, take, drop, length, Result, Ok, Err, refl, sym, ap, ◌∙◌, subst, arith, append_assoc, drop_at, take_at, take_all, length-append, append-nil, encode_utf8_all, chars, IsUtf8, le_refl, inl, inr}
+use Rattle.std.specs.List.{fold, list_all, prefix_len}
 use Rattle.std.specs.Char.{encode_utf8}
 use Rattle.std.specs.Str.Lossy.{utf8_valid_len}
-use Rattle.std.proofs.lemmas.Bool.{eq-eqb, eqb-true, and_parts, and_from}
+use Rattle.std.proofs.lemmas.Bool.{eqb-true, eqb-false, ne_eqb, and_parts, and_from, cond-true, cond-false, cond_both, false_from_ne_true}
 use Rattle.std.proofs.lemmas.Bool.Decides.{nat_tests}
-use Rattle.std.proofs.lemmas.List.{get_or_at}
+use Rattle.std.proofs.lemmas.List.Folds.{list_all-append}
 use Rattle.std.proofs.lemmas.List.Recursion.{is_count_by}
-use Rattle.std.proofs.lemmas.Str.{IsUtf8-take, IsCharBoundary-before_ascii, utf8_valid_len-IsUtf8, chars-encodes}
+use Rattle.std.proofs.lemmas.Str.{utf8_valid_len-IsUtf8, chars-encodes, encodes-append, encode_ascii}
 use Rattle.bx_terms.specs.Outcomes.{◌>>=◌}
 use Rattle.bx_terms.specs.declared.faults.Fault.{Fault}
 use Rattle.bx_terms.specs.declared.faults.Fault.TheVariants.{BadToken, NotUtf8}
 use Rattle.bx_text.specs.Bytes.{is_plain, is_feed}
-use Rattle.bx_text.specs.Escapes.{open_in, is_whole, decoded}
+use Rattle.bx_text.specs.Escapes.{step, open_in, is_whole, decoded}
 use Rattle.bx_text.specs.Place.{Place, feeds}
 use Rattle.bx_text.specs.Named as named
 use Rattle.bx_text.specs.Token as token
 use Rattle.bx_text.specs.Token.{Token, Body, spelled}
 use Rattle.bx_text.specs.Lexing as lexing
-use Rattle.bx_text.specs.Lexing.{token_at, quoted_at, body_at, closing_at, escaped_at, ended_at, behind, body_len, broken}
+use Rattle.bx_text.specs.Lexing.{token_at, quoted_at, closing_at, escaped_at, ended_at, behind, body_len, cut}
 use Rattle.bx_text.proofs.Outcomes.{ok_same, bind_ok}
 use Rattle.bx_text_laws.specs.Quoted as quoted
 use Rattle.bx_text_laws.specs.Quoted.{IsQuote, Quoted}
+use Rattle.bx_text_laws.specs.Refusals.{NoCharacter}
 use Rattle.bx_text_laws.specs.Spelling.{Spelling, MayFollow, InUtf8, quoted_atom, string}
 use Rattle.bx_text_laws.specs.Tokens.{lines, meant}
 use Rattle.bx_text_laws.proofs.Frame.{on, Spelled, Found, found_exact, lines-append}
-use Rattle.bx_text_laws.proofs.Runs.{run_split, run_append}
-use Rattle.bx_text_laws.proofs.Free.{free, freed, shape, Shape, free_text, body_of, body_split, Split}
-use Rattle.bx_text_laws.proofs.Escapes.{run, whole, over_itself}
+use Rattle.bx_text_laws.proofs.Runs.{run_split, run_append, push_all}
+use Rattle.bx_text_laws.proofs.Free.{free, free_plain, shape, Shape, free_text, body_of, body_split, Split, Ended}
+use Rattle.bx_text_laws.proofs.Escapes.{run, whole}
 use Rattle.bx_text_laws.proofs.Means.{means}
-use Rattle.bx_text_laws.proofs.Seams.{valid_front}
-use Rattle.bx_text_laws.proofs.Readings.{Read, reads, quoted_free}
+use Rattle.bx_text_laws.proofs.Seams.{valid_front, Seam, seam, to_seam, from_seam, AsciiNext, ascii, more_bytes, fewer_bytes}
+use Rattle.bx_text_laws.proofs.Readings.{quoted_free}
+use Rattle.bx_text_laws.proofs.Unclosed.{then_letter, inside, reaches, all_quoted}
 
 -- UTF-8
 pub valid_is : (bs : List ℕ) → utf8_valid_len bs ≡ length bs → IsUtf8 bs
@@ -49,9 +51,6 @@ quote_low q h = grind arith
 pub quote_slash : (q : ℕ) → IsQuote q → q ≢ 92
 quote_slash q h e = grind arith
 
-quote_slash_test : (q : ℕ) → IsQuote q → eqb q 92 ≡ false
-quote_slash_test q h = grind (arith, nat_tests)
-
 all_lines : (q : ℕ) (bytes : List ℕ) → IsQuote q → lines (q ∷ (bytes ++ q ∷ [])) ≡ lines bytes
 all_lines q bytes h =
     let last : lines (q ∷ []) ≡ 0 = ap (λ (t : Bool). cond t (1 + 0) 0) (quote_line q h) in
@@ -65,30 +64,18 @@ behind_rest q bytes zs =
     ap (λ us. drop (length bytes + 2) us) (sym (grouped q bytes zs))
     ∙ drop_at (q ∷ (bytes ++ q ∷ [])) zs (length bytes + 2) (omega (arith, length-append bytes (q ∷ [])))
 
--- what is taken between quotes
-abbrev Taken : ℕ → List ℕ → ℕ → ℕ → Body × Place → Type 0
-Taken q body at line y = (cs vs bytes zs : List ℕ) × (body ≡ bytes ++ q ∷ zs) × InUtf8 cs bytes × Quoted q cs vs × (spelled y.0 ≡ encode_utf8_all vs) × (y.1 ≡ behind (on (q ∷ body) at line) body (length bytes))
-
-pub plain_parts : (q c : ℕ) → is_plain q c ≡ true → (c ≢ q) × (c ≢ 92)
+plain_parts : (q c : ℕ) → is_plain q c ≡ true → (c ≢ q) × (c ≢ 92)
 plain_parts q c e = (λ i. grind (arith, nat_tests), λ i. grind (arith, nat_tests))
 
-pub plain_quoted : (q : ℕ) (cs : List ℕ) → list_all (is_plain q) cs ≡ true → Quoted q cs cs
-plain_quoted q [] a = quoted.none
-plain_quoted q (c ∷ cs) a =
-    let both = and_parts (is_plain q c) (list_all (is_plain q) cs) a in
-    let parts = plain_parts q c both.0 in
-    quoted.itself parts.0 parts.1 (plain_quoted q cs both.1)
-
-all_past : (p : ℕ → Bool) (xs ys : List ℕ) → list_all p (xs ++ ys) ≡ true → list_all p ys ≡ true
-all_past p [] ys a = a
-all_past p (x ∷ xs) ys a = all_past p xs ys (and_parts (p x) (list_all p (xs ++ ys)) a).1
+all_parts : (p : ℕ → Bool) (xs ys : List ℕ) → list_all p (xs ++ ys) ≡ true → (list_all p xs ≡ true) × (list_all p ys ≡ true)
+all_parts p xs ys a = and_parts (list_all p xs) (list_all p ys) (sym (list_all-append p xs ys) ∙ a)
 
 high_is_plain : (q c : ℕ) → q < 128 → 128 ≤ c → is_plain q c ≡ true
 high_is_plain q c l h = grind (arith, nat_tests)
 
-pub plain_chars : (q : ℕ) → q < 128 → (cs : List ℕ) → list_all (is_plain q) (encode_utf8_all cs) ≡ true → list_all (is_plain q) cs ≡ true
+plain_chars : (q : ℕ) → q < 128 → (cs : List ℕ) → list_all (is_plain q) (encode_utf8_all cs) ≡ true → list_all (is_plain q) cs ≡ true
 plain_chars q l [] a = refl
-plain_chars q l (c ∷ cs) a = by_shape (shape c) (plain_chars q l cs (all_past (is_plain q) (encode_utf8 c) (encode_utf8_all cs) a))
+plain_chars q l (c ∷ cs) a = by_shape (shape c) (plain_chars q l cs (all_parts (is_plain q) (encode_utf8 c) (encode_utf8_all cs) a).1)
   where
     by_shape : Shape c (encode_utf8 c) → list_all (is_plain q) cs ≡ true → list_all (is_plain q) (c ∷ cs) ≡ true
     by_shape (inl (low, e)) rest =
@@ -96,150 +83,184 @@ plain_chars q l (c ∷ cs) a = by_shape (shape c) (plain_chars q l cs (all_past 
         (and_parts (is_plain q c) (list_all (is_plain q) (encode_utf8_all cs)) (subst (λ us. list_all (is_plain q) (us ++ encode_utf8_all cs) ≡ true) e a)).0 rest
     by_shape (inr (high, s)) rest = and_from (is_plain q c) (list_all (is_plain q) cs) (high_is_plain q c l high) rest
 
--- with no backslash
-plain_taken : (q : ℕ) (raw zs : List ℕ) (at line : ℕ) (y : Body × Place) → IsQuote q → list_all (is_plain q) raw ≡ true → utf8_valid_len raw ≡ length raw
-    → y ≡ (token.plain raw, behind (on (q ∷ (raw ++ q ∷ zs)) at line) (raw ++ q ∷ zs) (length raw)) → Taken q (raw ++ q ∷ zs) at line y
-plain_taken q raw zs at line y h a v e = by_text (valid_is raw v)
-  where
-    by_text : IsUtf8 raw → Taken q (raw ++ q ∷ zs) at line y
-    by_text (cs, (s, t)) = (
-      cs,
-      cs,
-      raw,
-      zs,
-      refl,
-      (s, t),
-      plain_quoted q cs (plain_chars q (quote_low q h) cs (subst (λ us. list_all (is_plain q) us ≡ true) (sym t) a)),
-      ap (λ (y : Body × Place). spelled y.0) e ∙ sym t,
-      ap (λ (y : Body × Place). y.1) e,
-    )
+-- plain characters are quoted as themselves
+plainly : (q : ℕ) (cs : List ℕ) → list_all (is_plain q) cs ≡ true → Quoted q cs cs × (free q cs ≡ true) × (fold step named.nothing cs ≡ named.nothing)
+plainly q [] a = (quoted.none, refl, refl)
+plainly q (c ∷ cs) a =
+    let both = and_parts (is_plain q c) (list_all (is_plain q) cs) a in
+    let parts = plain_parts q c both.0 in
+    let slash : eqb c 92 ≡ false = ne_eqb c 92 parts.1 in
+    let rest = plainly q cs both.1 in
+    (quoted.itself parts.0 parts.1 rest.0, free_plain q c cs slash (ne_eqb c q parts.0) rest.1, ap (λ s. fold step s cs) (cond-false (eqb c 92) named.backslash named.nothing slash) ∙ rest.2)
 
--- with escapes
-decodes : (cs raw : List ℕ) → InUtf8 cs raw → decoded raw ≡ encode_utf8_all (run named.nothing cs)
-decodes cs raw (s, t) =
-    let same : chars raw ≡ cs = ap chars (sym t) ∙ chars-encodes cs s in
-    ap (λ us. encode_utf8_all (run named.nothing us)) same
+plain_letter : (q : ℕ) → IsQuote q → is_plain q 97 ≡ true
+plain_letter q h = grind (arith, nat_tests)
 
-opens : (cs raw : List ℕ) → InUtf8 cs raw → is_whole (open_in raw) ≡ whole named.nothing cs
-opens cs raw (s, t) =
-    let same : chars raw ≡ cs = ap chars (sym t) ∙ chars-encodes cs s in
-    ap (λ us. whole named.nothing us) same
+-- plain bytes as characters
+record Plain (q : ℕ) (raw : List ℕ) : Type 0 where
+  codes : List ℕ
+  text : InUtf8 codes raw
+  inside : free q (then_letter raw) ≡ true
+  means : run named.nothing codes ≡ codes
+  shut : fold step named.nothing codes ≡ named.nothing
 
-escaped_taken : (q : ℕ) (raw zs : List ℕ) (at line : ℕ) (y : Body × Place) → IsQuote q → free q raw ≡ true → utf8_valid_len raw ≡ length raw → is_whole (open_in raw) ≡ true
-    → y ≡ (token.escaped raw, behind (on (q ∷ (raw ++ q ∷ zs)) at line) (raw ++ q ∷ zs) (length raw)) → Taken q (raw ++ q ∷ zs) at line y
-escaped_taken q raw zs at line y h f v w e = by_text (valid_is raw v)
-  where
-    by_text : IsUtf8 raw → Taken q (raw ++ q ∷ zs) at line y
-    by_text (cs, (s, t)) = by_read (reads q cs h (sym (free_text q cs (quote_low q h)) ∙ ap (free q) t ∙ f) (sym (opens cs raw (s, t)) ∙ w))
-      where
-        by_read : Read q cs → Taken q (raw ++ q ∷ zs) at line y
-        by_read (vs, r, m) =
-            (cs, vs, raw, zs, refl, (s, t), r, ap (λ (y : Body × Place). spelled y.0) e ∙ decodes cs raw (s, t) ∙ ap encode_utf8_all m, ap (λ (y : Body × Place). y.1) e)
+plain_text : (q : ℕ) (raw : List ℕ) → IsQuote q → list_all (is_plain q) raw ≡ true → IsUtf8 raw → Plain q raw
+plain_text q raw h a (cs, (s, t)) =
+    let p = plainly q cs (plain_chars q (quote_low q h) cs (subst (λ us. list_all (is_plain q) us ≡ true) (sym t) a)) in
+    record { codes = cs; text = (s, t); inside = (plainly q (then_letter raw) (push_all (is_plain q) raw 97 a (plain_letter q h))).1; means = (means p.0).0; shut = p.2 }
 
--- which of them
-abbrev Parsed : Type 0
-Parsed = Result (Body × Place) Fault
-
-good : (t : Bool) (a : Parsed) (f : Fault) (y : Body × Place) → cond t a (Err f) ≡ Ok y → (t ≡ true) × (a ≡ Ok y)
-good true a f y h = (refl, h)
-good false a f y h = cc
-
-by_escapes : (q : ℕ) (body : List ℕ) (at line : ℕ) (y : Body × Place) → IsQuote q → Split q (free q) body (body_len q body)
-    → escaped_at (on (q ∷ body) at line) body (body_len q body) ≡ Ok y → Taken q body at line y
-by_escapes q body at line y h (raw, zs, e, l, d) g =
-    let n : ℕ = body_len q body in
-    let p : Place = on (q ∷ body) at line in
-    let front : take n body ≡ raw = ap (λ us. take n us) e ∙ take_at raw zs n (sym l) in
-    let back : drop n body ≡ zs = ap (λ us. drop n us) e ∙ drop_at raw zs n (sym l) in
-    let valid = good (eqb (utf8_valid_len (take n body)) n) (ended_at p body n (drop n body)) (broken p (lexing.valid_front (take n body)) (open_in (lexing.valid_front (take n body)))) y g in
-    let size : utf8_valid_len raw ≡ length raw = ap utf8_valid_len (sym front) ∙ eqb-true (utf8_valid_len (take n body)) n valid.0 ∙ l in
-    by_end zs d e l front size (subst (λ us. ended_at p body n us ≡ Ok y) back valid.1)
-  where
-    by_end : (zs : List ℕ) → ((zs ≡ []) ⊎ ((free q raw ≡ true) × ((ws : List ℕ) × (zs ≡ q ∷ ws)))) → body ≡ raw ++ zs → body_len q body ≡ length raw → take (body_len q body) body ≡ raw → utf8_valid_len raw ≡ length raw
-        → ended_at (on (q ∷ body) at line) body (body_len q body) zs ≡ Ok y → Taken q body at line y
-    by_end [] d e l front size k = cc
-    by_end (z ∷ ws) (inl d) e l front size k = cc
-    by_end (z ∷ ws) (inr (f, (us, d))) e l front size k =
-        let n : ℕ = body_len q body in
-        let p : Place = on (q ∷ body) at line in
-        let text : body ≡ raw ++ q ∷ us = e ∙ ap (λ zs. raw ++ zs) d in
-        let ended = good (is_whole (open_in (take n body))) (Ok (token.escaped (take n body), behind p body n)) (BadToken line) y k in
-        let closed : is_whole (open_in raw) ≡ true = ap (λ us. is_whole (open_in us)) (sym front) ∙ ended.0 in
-        let is : y ≡ (token.escaped raw, behind p body (length raw)) = sym (ok_same (token.escaped (take n body), behind p body n) y ended.1) ∙ ap (λ us. (token.escaped us, behind p body n)) front ∙ ap (λ n. (token.escaped raw, behind p body n)) l in
-        subst (λ b. y ≡ (token.escaped raw, behind (on (q ∷ b) at line) b (length raw)) → Taken q b at line y) (sym text) (escaped_taken q raw us at line y h f size closed) is
-
-pub not_slash : (q b : ℕ) → is_plain q b ≡ false → eqb b 92 ≡ false → b ≡ q
+not_slash : (q b : ℕ) → is_plain q b ≡ false → eqb b 92 ≡ false → b ≡ q
 not_slash q b e f = grind (arith, nat_tests)
 
-pub stop_at : (p : ℕ → Bool) (raw : List ℕ) (z : ℕ) (zs : List ℕ) → list_all p raw ≡ true → prefix_len p (raw ++ z ∷ zs) ≡ length raw → p z ≡ false
-stop_at p raw z zs a n = by (p z) refl
-  where
-    none : prefix_len p (z ∷ zs) ≡ 0
-    none = omega (arith, n, run_append p raw (z ∷ zs) a)
+stop_low : (q z : ℕ) → IsQuote q → is_plain q z ≡ false → z < 128
+stop_low q z h e = grind (arith, nat_tests)
 
-    by : (t : Bool) → p z ≡ t → t ≡ false
-    by true e = absurd (omega (arith, none, ap (λ (t : Bool). cond t (1 + prefix_len p zs) 0) e))
-    by false e = refl
+stops : (p : ℕ → Bool) (body raw : List ℕ) (z : ℕ) (zs : List ℕ) → body ≡ raw ++ z ∷ zs → list_all p raw ≡ true → prefix_len p body ≡ length raw → p z ≡ false
+stops p body raw z zs e a n = false_from_ne_true (p z) (λ y. omega (arith, n, ap (prefix_len p) e, run_append p raw (z ∷ zs) a, cond-true (p z) (1 + prefix_len p zs) 0 y))
 
-taken : (q : ℕ) (body : List ℕ) (at line : ℕ) (y : Body × Place) → IsQuote q → quoted_at q (on (q ∷ body) at line) ≡ Ok y → Taken q body at line y
-taken q body at line y h g = by_run (run_split (is_plain q) body)
+-- characters by their bytes
+opened : (cs raw : List ℕ) → InUtf8 cs raw → open_in raw ≡ fold step named.nothing cs
+opened cs raw (s, t) = ap (λ us. fold step named.nothing us) (ap chars (sym t) ∙ chars-encodes cs s)
+
+decodes : (cs raw : List ℕ) → InUtf8 cs raw → decoded raw ≡ encode_utf8_all (run named.nothing cs)
+decodes cs raw (s, t) = ap (λ us. encode_utf8_all (run named.nothing us)) (ap chars (sym t) ∙ chars-encodes cs s)
+
+pub codes_same : (cs ds bytes others : List ℕ) → InUtf8 cs bytes → InUtf8 ds others → bytes ≡ others → cs ≡ ds
+codes_same cs ds bytes others (s, t) (u, v) e = sym (chars-encodes cs s) ∙ ap chars (t ∙ e ∙ sym v) ∙ chars-encodes ds u
+
+pub open_text : (q : ℕ) (cs bytes : List ℕ) → IsQuote q → InUtf8 cs bytes → free q (then_letter bytes) ≡ free q (then_letter cs)
+open_text q cs bytes h (s, t) = ap (free q) (sym (encodes-append cs (97 ∷ []) ∙ ap (λ us. encode_utf8_all cs ++ us) (ap (λ us. us ++ []) (encode_ascii 97 (omega arith))) ∙ ap then_letter t)) ∙ free_text q (then_letter cs) (quote_low q h)
+
+-- bytes that are UTF-8, and behind which no character follows
+pub no_seam : (bytes rest : List ℕ) → IsUtf8 bytes → NoCharacter rest → IsUtf8 (bytes ++ rest) → ⊥
+no_seam bytes rest v n u = absurd (omega (arith, from_seam bytes rest v n, utf8_valid_len-IsUtf8 (bytes ++ rest) u, length-append bytes rest, n.short))
+
+pub no_mark : (bytes ts : List ℕ) (b : ℕ) (bs : List ℕ) → IsUtf8 bytes → IsUtf8 (bytes ++ ts) → b < 128 → NoCharacter (ts ++ b ∷ bs) → ⊥
+no_mark bytes [] b bs v u l n = ascii b bs l n
+no_mark bytes (t ∷ ts) b bs v u l n = no_seam bytes (t ∷ ts) v (fewer_bytes (t ∷ ts) (b ∷ bs) (omega arith) n) u
+
+-- what the reader makes of the bytes behind a quote: characters up to one that closes them, characters that none closes, or
+-- such ones behind which no character follows
+abbrev pub Parsed : Type 0
+Parsed = Result (Body × Place) Fault
+
+pub data Scan (q : ℕ) (body : List ℕ) (at line : ℕ) : Parsed → Type 0 where
+  closed : (cs raw zs : List ℕ) (b : Body) → body ≡ raw ++ q ∷ zs → body_len q body ≡ length raw → InUtf8 cs raw → free q (then_letter raw) ≡ true → spelled b ≡ encode_utf8_all (run named.nothing cs)
+      → Scan q body at line (cond (whole named.nothing cs) (Ok (b, behind (on (q ∷ body) at line) body (length raw))) (Err (BadToken line)))
+  unclosed : (cs : List ℕ) → InUtf8 cs body → free q (then_letter body) ≡ true → Scan q body at line (Err (cut (on (q ∷ body) at line) body (fold step named.nothing cs)))
+  spoilt : (cs bytes rest : List ℕ) → body ≡ bytes ++ rest → InUtf8 cs bytes → free q (then_letter bytes) ≡ true → NoCharacter rest
+      → Scan q body at line (Err (lexing.broken (on (q ∷ body) at line) bytes (fold step named.nothing cs)))
+
+-- a front of n bytes, which are UTF-8 or end where no character follows
+by_valid : (P : Parsed → Type 0) (good : ℕ → List ℕ → Parsed) (bad : List ℕ → Parsed) (body raw zs : List ℕ) (n : ℕ) → body ≡ raw ++ zs → n ≡ length raw → (IsUtf8 raw → P (good (length raw) zs))
+    → ((bytes ts : List ℕ) → raw ≡ bytes ++ ts → IsUtf8 bytes → NoCharacter ts → P (bad bytes)) → P (cond (eqb (utf8_valid_len (take n body)) n) (good n (drop n body)) (bad (lexing.valid_front (take n body))))
+by_valid P good bad body raw zs n e l valid broken =
+    subst (λ n. P (cond (eqb (utf8_valid_len (take n body)) n) (good n (drop n body)) (bad (lexing.valid_front (take n body))))) (sym l)
+    (subst (λ us. P (cond (eqb (utf8_valid_len us) m) (good m (drop m body)) (bad (lexing.valid_front us)))) (sym (ap (λ us. take m us) e ∙ take_at raw zs m refl))
+    (subst (λ us. P (cond (eqb (utf8_valid_len raw) m) (good m us) (bad (lexing.valid_front raw)))) (sym (ap (λ us. drop m us) e ∙ drop_at raw zs m refl))
+    (cond_both (eqb (utf8_valid_len raw) m) _ _ P (λ i. valid (valid_is raw (eqb-true (utf8_valid_len raw) m i))) (λ i. by_seam (to_seam raw (eqb-false (utf8_valid_len raw) m i))))))
   where
-    by_stop : (raw zs : List ℕ) → body ≡ raw ++ zs → list_all (is_plain q) raw ≡ true → prefix_len (is_plain q) body ≡ length raw → take (prefix_len (is_plain q) body) body ≡ raw → utf8_valid_len raw ≡ length raw
-        → closing_at q (on (q ∷ body) at line) body (prefix_len (is_plain q) body) zs ≡ Ok y → Taken q body at line y
-    by_stop raw [] e a n front size k = cc
-    by_stop raw (z ∷ zs) e a n front size k = by (eqb z 92) refl k
+    m : ℕ
+    m = length raw
+
+    by_seam : Seam raw → P (bad (lexing.valid_front raw))
+    by_seam (bytes, ts, i, v, n, k) = subst (λ us. P (bad us)) (sym (ap (λ n. take n raw) k ∙ ap (λ us. take (length bytes) us) i ∙ take_at bytes ts (length bytes) refl)) (broken bytes ts i v n)
+
+pub scan : (q : ℕ) (body : List ℕ) (at line : ℕ) → IsQuote q → Scan q body at line (quoted_at q (on (q ∷ body) at line))
+scan q body at line h = by_run (run_split (is_plain q) body)
+  where
+    p : Place
+    p = on (q ∷ body) at line
+
+    S : Parsed → Type 0
+    S r = Scan q body at line r
+
+    front : (raw zs : List ℕ) → body ≡ raw ++ zs → take (length raw) body ≡ raw
+    front raw zs e = ap (λ us. take (length raw) us) e ∙ take_at raw zs (length raw) refl
+
+    none_closes : (raw cs : List ℕ) → body ≡ raw ++ [] → InUtf8 cs raw → free q (then_letter raw) ≡ true → S (Err (cut p body (fold step named.nothing cs)))
+    none_closes raw cs e u f = let all : raw ≡ body = sym (e ∙ append-nil raw) in unclosed cs (subst (InUtf8 cs) all u) (subst (λ us. free q (then_letter us) ≡ true) all f)
+
+    ended : (raw zs : List ℕ) → body ≡ raw ++ zs → body_len q body ≡ length raw → Ended q (free q) raw zs → IsUtf8 raw → S (ended_at p body (length raw) zs)
+    ended raw [] e l d (cs, (s, t)) =
+        subst (λ o. S (Err (cut p body o))) (sym (ap open_in (front raw [] e) ∙ opened cs raw (s, t))) (none_closes raw cs e (s, t) (inside q h raw [] (omega (arith, l, ap (body_len q) e))))
+    ended raw (z ∷ zs) e l (inl d) v = cc
+    ended raw (z ∷ zs) e l (inr (f, (us, d))) (cs, (s, t)) =
+        subst (λ w. S (cond (is_whole (open_in w)) (Ok (token.escaped w, behind p body (length raw))) (Err (BadToken line)))) (sym (front raw (z ∷ zs) e))
+        (subst (λ o. S (cond (is_whole o) (Ok (token.escaped raw, behind p body (length raw))) (Err (BadToken line)))) (sym (opened cs raw (s, t)))
+        (closed cs raw us (token.escaped raw) (e ∙ ap (λ zs. raw ++ zs) d) l (s, t) (inside q h raw (z ∷ zs) (omega (arith, l, ap (body_len q) e))) (decodes cs raw (s, t))))
+
+    escapes : Split q (free q) body (body_len q body) → S (escaped_at p body (body_len q body))
+    escapes (raw, zs, e, l, d) =
+        by_valid S (λ n us. ended_at p body n us) (λ us. Err (lexing.broken p us (open_in us))) body raw zs (body_len q body) e l (ended raw zs e l d) broken
       where
-        by : (t : Bool) → eqb z 92 ≡ t
-            → cond t (escaped_at (on (q ∷ body) at line) body (body_len q body)) (Ok (token.plain (take (prefix_len (is_plain q) body) body), behind (on (q ∷ body) at line) body (prefix_len (is_plain q) body))) ≡ Ok y → Taken q body at line y
-        by true s k = by_escapes q body at line y h (body_split q body) k
-        by false s k =
-            let m : ℕ = prefix_len (is_plain q) body in
-            let p : Place = on (q ∷ body) at line in
-            let last : z ≡ q = not_slash q z (stop_at (is_plain q) raw z zs a (ap (λ us. prefix_len (is_plain q) us) (sym e) ∙ n)) s in
-            let text : body ≡ raw ++ q ∷ zs = e ∙ ap (λ z. raw ++ z ∷ zs) last in
-            let is : y ≡ (token.plain raw, behind p body (length raw)) = sym (ok_same (token.plain (take m body), behind p body m) y k) ∙ ap (λ us. (token.plain us, behind p body m)) front ∙ ap (λ n. (token.plain raw, behind p body n)) n in
-            subst (λ b. y ≡ (token.plain raw, behind (on (q ∷ b) at line) b (length raw)) → Taken q b at line y) (sym text) (plain_taken q raw zs at line y h a size) is
+        next : (zs : List ℕ) → Ended q (free q) raw zs → AsciiNext zs
+        next [] d = tt
+        next (z ∷ zs) (inl d) = cc
+        next (z ∷ zs) (inr (a, (ws, i))) = let first : z ≡ q = cc in omega (arith, quote_low q h, first)
 
-    by_run : ((raw zs : List ℕ) × (body ≡ raw ++ zs) × (list_all (is_plain q) raw ≡ true) × (prefix_len (is_plain q) body ≡ length raw)) → Taken q body at line y
+        broken : (bytes ts : List ℕ) → raw ≡ bytes ++ ts → IsUtf8 bytes → NoCharacter ts → S (Err (lexing.broken p bytes (open_in bytes)))
+        broken bytes ts i (cs, (s, t)) n =
+            let parted : body ≡ bytes ++ (ts ++ zs) = e ∙ ap (λ us. us ++ zs) i ∙ append_assoc bytes ts zs in
+            subst (λ o. S (Err (lexing.broken p bytes o))) (sym (opened cs bytes (s, t)))
+            (spoilt cs bytes (ts ++ zs) parted (s, t) (inside q h bytes (ts ++ zs) (omega (arith, l, ap (body_len q) parted, ap length i, length-append bytes ts))) (more_bytes ts zs n (next zs d)))
+
+    by_run : ((raw zs : List ℕ) × (body ≡ raw ++ zs) × (list_all (is_plain q) raw ≡ true) × (prefix_len (is_plain q) body ≡ length raw)) → S (quoted_at q p)
     by_run (raw, zs, e, a, n) =
-        let m : ℕ = prefix_len (is_plain q) body in
-        let p : Place = on (q ∷ body) at line in
-        let front : take m body ≡ raw = ap (λ us. take m us) e ∙ take_at raw zs m (sym n) in
-        let back : drop m body ≡ zs = ap (λ us. drop m us) e ∙ drop_at raw zs m (sym n) in
-        let valid = good (eqb (utf8_valid_len (take m body)) m) (closing_at q p body m (drop m body)) (NotUtf8 (line + feeds (lexing.valid_front (take m body)))) y g in
-        let size : utf8_valid_len raw ≡ length raw = ap utf8_valid_len (sym front) ∙ eqb-true (utf8_valid_len (take m body)) m valid.0 ∙ n in
-        by_stop raw zs e a n front size (subst (λ us. closing_at q p body m us ≡ Ok y) back valid.1)
+        by_valid S (λ n us. closing_at q p body n us) (λ us. Err (NotUtf8 (line + feeds us))) body raw zs (prefix_len (is_plain q) body) e n (closing zs e) broken
+      where
+        next : (zs : List ℕ) → body ≡ raw ++ zs → AsciiNext zs
+        next [] e = tt
+        next (z ∷ zs) e = stop_low q z h (stops (is_plain q) body raw z zs e a n)
+
+        broken : (bytes ts : List ℕ) → raw ≡ bytes ++ ts → IsUtf8 bytes → NoCharacter ts → S (Err (NotUtf8 (line + feeds bytes)))
+        broken bytes ts i v n =
+            let k = plain_text q bytes h (all_parts (is_plain q) bytes ts (subst (λ us. list_all (is_plain q) us ≡ true) i a)).0 v in
+            subst (λ o. S (Err (lexing.broken p bytes o))) k.shut (spoilt k.codes bytes (ts ++ zs) (e ∙ ap (λ us. us ++ zs) i ∙ append_assoc bytes ts zs) k.text k.inside (more_bytes ts zs n (next zs e)))
+
+        closing : (zs : List ℕ) → body ≡ raw ++ zs → IsUtf8 raw → S (closing_at q p body (length raw) zs)
+        closing [] e v = let k = plain_text q raw h a v in subst (λ o. S (Err (cut p body o))) k.shut (none_closes raw k.codes e k.text k.inside)
+        closing (z ∷ zs) e v =
+            cond_both (eqb z 92) _ _ S (λ _. escapes (body_split q body))
+            (λ s. let k = plain_text q raw h a v in
+            let text : body ≡ raw ++ q ∷ zs = e ∙ ap (λ z. raw ++ z ∷ zs) (not_slash q z (stops (is_plain q) body raw z zs e a n) s) in
+            subst (λ w. S (Ok (token.plain w, behind p body (length raw)))) (sym (front raw (z ∷ zs) e))
+            (subst (λ o. S (cond (is_whole o) (Ok (token.plain raw, behind p body (length raw))) (Err (BadToken line)))) k.shut
+            (closed k.codes raw zs (token.plain raw) text (ap (body_len q) text ∙ body_of q (quote_slash q h) raw zs (plainly q raw a).1) k.text k.inside (sym k.text.1 ∙ ap encode_utf8_all (sym k.means)))))
+
+-- just these bytes are taken, as t
+abbrev pub Exactly : List ℕ → Token → List ℕ → Type 0
+Exactly bytes t rest = (at line : ℕ) → (u : Token) × (q : Place) × (token_at (on (bytes ++ rest) at line) ≡ Ok (u, q)) × (q.rest ≡ rest) × (meant u ≡ t)
 
 -- a token between quotes
-record Quoting (q : ℕ) (make : Body → Token) : Type 0 where
+pub record Quoting (q : ℕ) (make : Body → Token) : Type 0 where
   quote : IsQuote q
+  first : (bs : List ℕ) (at line : ℕ) → token_at (on (q ∷ bs) at line) ≡ (quoted_at q (on (q ∷ bs) at line) >>= λ y. Ok (make y.0, y.1))
   means : (b : Body) → meant (make b) ≡ make (token.plain (spelled b))
   spells : (cs vs bytes : List ℕ) → Quoted q cs vs → InUtf8 cs bytes → Spelling (q ∷ (bytes ++ q ∷ [])) (make (token.plain (encode_utf8_all vs)))
   follows : (b : Body) (rest : List ℕ) → MayFollow (make b) rest
 
-spelled_quote : (q : ℕ) (make : Body → Token) → Quoting q make → (body : List ℕ) (at line : ℕ) (y : Body × Place) → Taken q body at line y → Spelled (on (q ∷ body) at line) (make y.0, y.1)
-spelled_quote q make k body at line y (cs, vs, bytes, zs, e, u, r, m, w) =
-    subst (λ body. y.1 ≡ behind (on (q ∷ body) at line) body (length bytes) → Spelled (on (q ∷ body) at line) (make y.0, y.1)) (sym e) whole w
+spelled_quote : (q : ℕ) (make : Body → Token) → Quoting q make → (body : List ℕ) (at line : ℕ) (y : Body × Place) → quoted_at q (on (q ∷ body) at line) ≡ Ok y → Spelled (on (q ∷ body) at line) (make y.0, y.1)
+spelled_quote q make k body at line y g = by (scan q body at line k.quote) g
   where
-    B : List ℕ
-    B = bytes ++ q ∷ zs
-
-    is : meant (make y.0) ≡ make (token.plain (encode_utf8_all vs))
-    is = k.means y.0 ∙ ap (λ w. make (token.plain w)) m
-
-    long : length bytes + 2 ≡ length (q ∷ (bytes ++ q ∷ []))
-    long = omega (arith, length-append bytes (q ∷ []))
-
-    fed : feeds (take (length bytes) B) ≡ lines (q ∷ (bytes ++ q ∷ []))
-    fed = ap feeds (take_at bytes (q ∷ zs) (length bytes) refl) ∙ sym (feeds_lines bytes) ∙ sym (all_lines q bytes k.quote)
-
-    whole : y.1 ≡ behind (on (q ∷ B) at line) B (length bytes) → Spelled (on (q ∷ B) at line) (make y.0, y.1)
-    whole w =
-        let rest : y.1.rest ≡ zs = ap (λ (p : Place). p.rest) w ∙ behind_rest q bytes zs in (
-          q ∷ (bytes ++ q ∷ []),
-          (sym (grouped q bytes zs) ∙ ap (λ us. (q ∷ (bytes ++ q ∷ [])) ++ us) (sym rest), subst (λ t. Spelling (q ∷ (bytes ++ q ∷ [])) t) (sym is) (k.spells cs vs bytes r u), subst (λ t. MayFollow t y.1.rest) (sym is) (k.follows (token.plain (encode_utf8_all vs)) y.1.rest)),
-          (ap (λ (p : Place). p.at) w ∙ ap (λ n. at + n) long, ap (λ (p : Place). p.line) w ∙ ap (λ n. line + n) fed),
+    made : (cs vs raw zs : List ℕ) → body ≡ raw ++ q ∷ zs → InUtf8 cs raw → Quoted q cs vs → spelled y.0 ≡ encode_utf8_all (run named.nothing cs) → y.1 ≡ behind (on (q ∷ body) at line) body (length raw) → Spelled (on (q ∷ body) at line) (make y.0, y.1)
+    made cs vs raw zs e u r s w =
+        let is : meant (make y.0) ≡ make (token.plain (encode_utf8_all vs)) = k.means y.0 ∙ ap (λ w. make (token.plain w)) (s ∙ ap encode_utf8_all (means r).0) in
+        let rest : y.1.rest ≡ zs = ap (λ (p : Place). p.rest) w ∙ ap (λ us. drop (length raw + 2) (q ∷ us)) e ∙ behind_rest q raw zs in
+        let fed : feeds (take (length raw) body) ≡ lines (q ∷ (raw ++ q ∷ [])) = ap feeds (ap (λ us. take (length raw) us) e ∙ take_at raw (q ∷ zs) (length raw) refl) ∙ sym (feeds_lines raw) ∙ sym (all_lines q raw k.quote) in (
+          q ∷ (raw ++ q ∷ []),
+          (ap (λ us. q ∷ us) e ∙ sym (grouped q raw zs) ∙ ap (λ us. (q ∷ (raw ++ q ∷ [])) ++ us) (sym rest), subst (λ t. Spelling (q ∷ (raw ++ q ∷ [])) t) (sym is) (k.spells cs vs raw r u), subst (λ t. MayFollow t y.1.rest) (sym is) (k.follows (token.plain (encode_utf8_all vs)) y.1.rest)),
+          (ap (λ (p : Place). p.at) w ∙ ap (λ n. at + n) (omega (arith, length-append raw (q ∷ []))), ap (λ (p : Place). p.line) w ∙ ap (λ n. line + n) fed),
         )
+
+    by : {r : Parsed} → Scan q body at line r → r ≡ Ok y → Spelled (on (q ∷ body) at line) (make y.0, y.1)
+    by (closed cs raw zs b e n u f s) g =
+        cond_both (whole named.nothing cs) _ _ (λ (r : Parsed). r ≡ Ok y → Spelled (on (q ∷ body) at line) (make y.0, y.1))
+        (λ w g. let r = all_quoted q cs k.quote (sym (open_text q cs raw k.quote u) ∙ f) w in
+        let is : y ≡ (b, behind (on (q ∷ body) at line) body (length raw)) = sym (ok_same (b, behind (on (q ∷ body) at line) body (length raw)) y g) in
+        made cs r.0 raw zs e u r.1 (ap (λ (y : Body × Place). spelled y.0) is ∙ s) (ap (λ (y : Body × Place). y.1) is)) (λ _ g. cc) g
+    by (unclosed cs u f) g = cc
+    by (spoilt cs bytes rest e u f n) g = cc
 
 a_quote : (q : ℕ) (make : Body → Token) → Quoting q make → (b : ℕ) (bs : List ℕ) (at line : ℕ) (x : Token × Place) → eqb b q ≡ true
     → (quoted_at q (on (b ∷ bs) at line) >>= λ y. Ok (make y.0, y.1)) ≡ Ok x → Spelled (on (b ∷ bs) at line) x
@@ -251,13 +272,13 @@ a_quote q make k b bs at line x e h =
     first h =
         let y = bind_ok (quoted_at q (on (q ∷ bs) at line)) (λ y. Ok (make y.0, y.1)) x h in
         subst (Spelled (on (q ∷ bs) at line)) (ok_same (make y.0.0, y.0.1) x y.2)
-        (spelled_quote q make k bs at line y.0 (taken q bs at line y.0 k.quote y.1))
+        (spelled_quote q make k bs at line y.0 y.1)
 
-atom_quoting : Quoting 39 token.atom
-atom_quoting = record { quote = inl refl; means = λ b. refl; spells = λ cs vs bytes r u. quoted_atom r u; follows = λ b rest e. cc }
+pub atom_quoting : Quoting 39 token.atom
+atom_quoting = record { quote = inl refl; first = λ bs at line. refl; means = λ b. refl; spells = λ cs vs bytes r u. quoted_atom r u; follows = λ b rest e. cc }
 
 text_quoting : Quoting 34 token.text
-text_quoting = record { quote = inr refl; means = λ b. refl; spells = λ cs vs bytes r u. string r u; follows = λ b rest e. cc }
+text_quoting = record { quote = inr refl; first = λ bs at line. refl; means = λ b. refl; spells = λ cs vs bytes r u. string r u; follows = λ b rest e. cc }
 
 pub a_quoted_atom : (b : ℕ) (bs : List ℕ) (at line : ℕ) (x : Token × Place) → eqb b 39 ≡ true → (quoted_at 39 (on (b ∷ bs) at line) >>= λ y. Ok (token.atom y.0, y.1)) ≡ Ok x → Spelled (on (b ∷ bs) at line) x
 a_quoted_atom = a_quote 39 token.atom atom_quoting
@@ -270,164 +291,8 @@ abbrev pub Gives : ℕ → List ℕ → List ℕ → ℕ → ℕ → List ℕ �
 Gives q bytes rest at line vs =
     (b : Body) × (quoted_at q (on (q ∷ (bytes ++ q ∷ rest)) at line) ≡ Ok (b, behind (on (q ∷ (bytes ++ q ∷ rest)) at line) (bytes ++ q ∷ rest) (length bytes))) × (spelled b ≡ encode_utf8_all vs)
 
-valid_text : (cs bytes : List ℕ) → InUtf8 cs bytes → utf8_valid_len bytes ≡ length bytes
-valid_text cs bytes (s, t) = utf8_valid_len-IsUtf8 bytes (cs, (s, t))
-
-quote_not_plain : (q : ℕ) → is_plain q q ≡ false
-quote_not_plain q = grind (arith, nat_tests)
-
-not_plain : (p : ℕ → Bool) (z : ℕ) (zs : List ℕ) → p z ≡ false → prefix_len p (z ∷ zs) ≡ 0
-not_plain p z zs e = ap (λ (t : Bool). cond t (1 + prefix_len p zs) 0) e
-
-run_plain : (q : ℕ) (cs : List ℕ) → list_all (is_plain q) cs ≡ true → run named.nothing cs ≡ cs
-run_plain q [] a = refl
-run_plain q (c ∷ cs) a =
-    let both = and_parts (is_plain q c) (list_all (is_plain q) cs) a in
-    (over_itself c cs (unequal c (plain_parts q c both.0).1)).means ∙ ap (λ us. c ∷ us) (run_plain q cs both.1)
-  where
-    unequal : (c : ℕ) → c ≢ 92 → eqb c 92 ≡ false
-    unequal c n = grind (arith, nat_tests)
-
-plain_found : (q : ℕ) (cs vs bytes rest : List ℕ) (at line : ℕ) → IsQuote q → Quoted q cs vs → InUtf8 cs bytes → list_all (is_plain q) bytes ≡ true → Gives q bytes rest at line vs
-plain_found q cs vs bytes rest at line h r u a =
-    (token.plain bytes, here, sym u.1 ∙ ap encode_utf8_all (sym (run_plain q cs (plain_chars q (quote_low q h) cs (subst (λ us. list_all (is_plain q) us ≡ true) (sym u.1) a))) ∙ (means r).0))
-  where
-    B : List ℕ
-    B = bytes ++ q ∷ rest
-
-    p : Place
-    p = on (q ∷ B) at line
-
-    count : prefix_len (is_plain q) B ≡ length bytes
-    count = run_append (is_plain q) bytes (q ∷ rest) a ∙ omega (arith, not_plain (is_plain q) q rest (quote_not_plain q))
-
-    front : take (length bytes) B ≡ bytes
-    front = take_at bytes (q ∷ rest) (length bytes) refl
-
-    valid : eqb (utf8_valid_len (take (length bytes) B)) (length bytes) ≡ true
-    valid = eq-eqb (utf8_valid_len (take (length bytes) B)) (length bytes) (ap utf8_valid_len front ∙ valid_text cs bytes u)
-
-    here : quoted_at q p ≡ Ok (token.plain bytes, behind p B (length bytes))
-    here =
-        ap (λ n. body_at q p B n) count
-        ∙ ap (λ (t : Bool). cond t (closing_at q p B (length bytes) (drop (length bytes) B)) (Err (NotUtf8 (line + feeds (lexing.valid_front (take (length bytes) B)))))) valid
-        ∙ ap (λ us. closing_at q p B (length bytes) us) (drop_at bytes (q ∷ rest) (length bytes) refl)
-        ∙ ap (λ (t : Bool). cond t (escaped_at p B (body_len q B)) (Ok (token.plain (take (length bytes) B), behind p B (length bytes)))) (quote_slash_test q h)
-        ∙ ap (λ us. Ok (token.plain us, behind p B (length bytes))) front
-
-escapes_found : (q : ℕ) (cs vs bytes rest : List ℕ) (at line : ℕ) → IsQuote q → free q bytes ≡ true → Quoted q cs vs → InUtf8 cs bytes
-    → escaped_at (on (q ∷ (bytes ++ q ∷ rest)) at line) (bytes ++ q ∷ rest) (body_len q (bytes ++ q ∷ rest)) ≡ Ok (token.escaped bytes, behind (on (q ∷ (bytes ++ q ∷ rest)) at line) (bytes ++ q ∷ rest) (length bytes))
-escapes_found q cs vs bytes rest at line h is_free r u =
-    ap (λ n. escaped_at p B n) count
-    ∙ ap (λ (t : Bool). cond t (ended_at p B (length bytes) (drop (length bytes) B)) (Err (broken p (lexing.valid_front (take (length bytes) B)) (open_in (lexing.valid_front (take (length bytes) B)))))) valid
-    ∙ ap (λ us. ended_at p B (length bytes) us) (drop_at bytes (q ∷ rest) (length bytes) refl)
-    ∙ ap (λ (t : Bool). cond t (Ok (token.escaped (take (length bytes) B), behind p B (length bytes))) (Err (BadToken line))) closed
-    ∙ ap (λ us. Ok (token.escaped us, behind p B (length bytes))) front
-  where
-    B : List ℕ
-    B = bytes ++ q ∷ rest
-
-    p : Place
-    p = on (q ∷ B) at line
-
-    count : body_len q B ≡ length bytes
-    count = body_of q (quote_slash q h) bytes rest is_free
-
-    front : take (length bytes) B ≡ bytes
-    front = take_at bytes (q ∷ rest) (length bytes) refl
-
-    valid : eqb (utf8_valid_len (take (length bytes) B)) (length bytes) ≡ true
-    valid = eq-eqb (utf8_valid_len (take (length bytes) B)) (length bytes) (ap utf8_valid_len front ∙ valid_text cs bytes u)
-
-    closed : is_whole (open_in (take (length bytes) B)) ≡ true
-    closed = ap (λ us. is_whole (open_in us)) front ∙ opens cs bytes u ∙ (means r).1
-
-pub free_next : (q : ℕ) (raw : List ℕ) (z : ℕ) (zs : List ℕ) → list_all (is_plain q) raw ≡ true → is_plain q z ≡ false → free q (raw ++ z ∷ zs) ≡ true → eqb z 92 ≡ true
-free_next q [] z zs a n f = by (eqb z 92) (eqb z q) refl refl f
-  where
-    by : (t u : Bool) → eqb z 92 ≡ t → eqb z q ≡ u → cond t (freed q zs) (not u && free q zs) ≡ true → eqb z 92 ≡ true
-    by true u s e f = s
-    by false true s e f = cc
-    by false false s e f = absurd (plain_is (plainly q z s e))
-      where
-        plainly : (q z : ℕ) → eqb z 92 ≡ false → eqb z q ≡ false → is_plain q z ≡ true
-        plainly q z s e = grind (arith, nat_tests)
-
-        plain_is : is_plain q z ≡ true → ⊥
-        plain_is e = let both = sym n ∙ e in cc
-free_next q (b ∷ raw) z zs a n f =
-    let both = and_parts (is_plain q b) (list_all (is_plain q) raw) a in
-    let parts = plain_parts q b both.0 in
-    free_next q raw z zs both.1 n (past q b (raw ++ z ∷ zs) parts.1 f)
-  where
-    past : (q b : ℕ) (bs : List ℕ) → b ≢ 92 → free q (b ∷ bs) ≡ true → free q bs ≡ true
-    past q b bs n f = by (eqb b 92) refl f
-      where
-        by : (t : Bool) → eqb b 92 ≡ t → cond t (freed q bs) (not (eqb b q) && free q bs) ≡ true → free q bs ≡ true
-        by true e f = absurd (n (eqb-true b 92 e))
-        by false e f = (and_parts (not (eqb b q)) (free q bs) f).1
-
-slashed_found : (q : ℕ) (cs vs raw zs rest : List ℕ) (z at line : ℕ) → IsQuote q → free q (raw ++ z ∷ zs) ≡ true → Quoted q cs vs → InUtf8 cs (raw ++ z ∷ zs) → list_all (is_plain q) raw ≡ true → is_plain q z ≡ false
-    → Gives q (raw ++ z ∷ zs) rest at line vs
-slashed_found q cs vs raw zs rest z at line h is_free r u a n =
-    (token.escaped bytes, here, decodes cs bytes u ∙ ap encode_utf8_all (means r).0)
-  where
-    bytes : List ℕ
-    bytes = raw ++ z ∷ zs
-
-    B : List ℕ
-    B = bytes ++ q ∷ rest
-
-    p : Place
-    p = on (q ∷ B) at line
-
-    slash : eqb z 92 ≡ true
-    slash = free_next q raw z zs a n is_free
-
-    parted : B ≡ raw ++ z ∷ (zs ++ q ∷ rest)
-    parted = append_assoc raw (z ∷ zs) (q ∷ rest)
-
-    count : prefix_len (is_plain q) B ≡ length raw
-    count = ap (λ us. prefix_len (is_plain q) us) parted ∙ run_append (is_plain q) raw (z ∷ (zs ++ q ∷ rest)) a ∙ omega (arith, not_plain (is_plain q) z (zs ++ q ∷ rest) n)
-
-    front : take (length raw) B ≡ raw
-    front = ap (λ us. take (length raw) us) parted ∙ take_at raw (z ∷ (zs ++ q ∷ rest)) (length raw) refl
-
-    inner : take (length raw) bytes ≡ raw
-    inner = take_at raw (z ∷ zs) (length raw) refl
-
-    low : get_or bytes (length raw) 0 < 128
-    low = omega (arith, get_or_at raw z zs 0 (length raw) refl, eqb-true z 92 slash)
-
-    text : IsUtf8 raw
-    text = subst IsUtf8 inner (IsUtf8-take bytes (length raw) (cs, (u.0, u.1)) (IsCharBoundary-before_ascii bytes (length raw) (omega (arith, length-append raw (z ∷ zs))) low))
-
-    valid : eqb (utf8_valid_len (take (length raw) B)) (length raw) ≡ true
-    valid = eq-eqb (utf8_valid_len (take (length raw) B)) (length raw) (ap utf8_valid_len front ∙ utf8_valid_len-IsUtf8 raw text)
-
-    here : quoted_at q p ≡ Ok (token.escaped bytes, behind p B (length bytes))
-    here =
-        ap (λ n. body_at q p B n) count
-        ∙ ap (λ (t : Bool). cond t (closing_at q p B (length raw) (drop (length raw) B)) (Err (NotUtf8 (line + feeds (lexing.valid_front (take (length raw) B)))))) valid
-        ∙ ap (λ us. closing_at q p B (length raw) us) (ap (λ us. drop (length raw) us) parted ∙ drop_at raw (z ∷ (zs ++ q ∷ rest)) (length raw) refl)
-        ∙ ap (λ (t : Bool). cond t (escaped_at p B (body_len q B)) (Ok (token.plain (take (length raw) B), behind p B (length raw)))) slash
-        ∙ escapes_found q cs vs bytes rest at line h is_free r u
-
 pub gives : (q : ℕ) (cs vs bytes rest : List ℕ) (at line : ℕ) → IsQuote q → free q bytes ≡ true → Quoted q cs vs → InUtf8 cs bytes → Gives q bytes rest at line vs
-gives q cs vs bytes rest at line h f r u = by_run (run_split (is_plain q) bytes)
-  where
-    by_rest : (raw zs : List ℕ) → bytes ≡ raw ++ zs → list_all (is_plain q) raw ≡ true → prefix_len (is_plain q) bytes ≡ length raw → Gives q bytes rest at line vs
-    by_rest raw [] e a n = plain_found q cs vs bytes rest at line h r u (subst (λ us. list_all (is_plain q) us ≡ true) (sym (e ∙ append-nil raw)) a)
-    by_rest raw (z ∷ zs) e a n =
-        subst (λ bytes. Gives q bytes rest at line vs) (sym e)
-        (slashed_found q cs vs raw zs rest z at line h (subst (λ us. free q us ≡ true) e f) r (subst (InUtf8 cs) e u) a (stop_at (is_plain q) raw z zs a (sym (ap (λ us. prefix_len (is_plain q) us) e) ∙ n)))
-
-    by_run : ((raw zs : List ℕ) × (bytes ≡ raw ++ zs) × (list_all (is_plain q) raw ≡ true) × (prefix_len (is_plain q) bytes ≡ length raw)) → Gives q bytes rest at line vs
-    by_run (raw, zs, e, a, n) = by_rest raw zs e a n
-
-quote_found : (q : ℕ) (make : Body → Token) → Quoting q make → ((bs : List ℕ) (at line : ℕ) → token_at (on (q ∷ bs) at line) ≡ (quoted_at q (on (q ∷ bs) at line) >>= λ y. Ok (make y.0, y.1)))
-    → (cs vs bytes rest : List ℕ) (at line : ℕ) → Quoted q cs vs → InUtf8 cs bytes → Found (on ((q ∷ (bytes ++ q ∷ [])) ++ rest) at line) (make (token.plain (encode_utf8_all vs))) rest
-quote_found q make k first cs vs bytes rest at line r u = by_gives (gives q cs vs bytes rest at line k.quote is_free r u)
+gives q cs vs bytes rest at line h f r u = by (scan q B at line h) refl
   where
     B : List ℕ
     B = bytes ++ q ∷ rest
@@ -435,17 +300,37 @@ quote_found q make k first cs vs bytes rest at line r u = by_gives (gives q cs v
     p : Place
     p = on (q ∷ B) at line
 
-    is_free : free q bytes ≡ true
-    is_free = ap (free q) (sym u.1) ∙ free_text q cs (quote_low q k.quote) ∙ quoted_free r k.quote
+    size : body_len q B ≡ length bytes
+    size = body_of q (quote_slash q h) bytes rest f
 
-    by_gives : Gives q bytes rest at line vs → Found (on ((q ∷ (bytes ++ q ∷ [])) ++ rest) at line) (make (token.plain (encode_utf8_all vs))) rest
-    by_gives (b, e, m) =
-        subst (λ text. Found (on text at line) (make (token.plain (encode_utf8_all vs))) rest) (sym (grouped q bytes rest))
-        (found_exact p (behind p B (length bytes)) (make b) (make (token.plain (encode_utf8_all vs))) rest
-        (first B at line ∙ ap (λ r. r >>= λ y. Ok (make y.0, y.1)) e) (behind_rest q bytes rest) (k.means b ∙ ap (λ w. make (token.plain w)) m))
+    by : {x : Parsed} → Scan q B at line x → quoted_at q p ≡ x → Gives q bytes rest at line vs
+    by (closed ds raw zs b e n v g s) i =
+        let text : raw ≡ bytes = sym (take_at raw (q ∷ zs) (length bytes) (sym n ∙ size)) ∙ ap (λ us. take (length bytes) us) (sym e) ∙ take_at bytes (q ∷ rest) (length bytes) refl in
+        let codes : ds ≡ cs = codes_same ds cs raw bytes v u text in (
+          b,
+          i ∙ cond-true (whole named.nothing ds) (Ok (b, behind p B (length raw))) (Err (BadToken line)) (ap (λ us. whole named.nothing us) codes ∙ (means r).1) ∙ ap (λ us. Ok (b, behind p B (length us))) text,
+          s ∙ ap (λ us. encode_utf8_all (run named.nothing us)) codes ∙ ap encode_utf8_all (means r).0,
+        )
+    by (unclosed ds v g) i = absurd (omega (arith, size, reaches q (quote_slash q h) B [] g, ap (body_len q) (append-nil B), length-append bytes (q ∷ rest)))
+    by (spoilt ds front zs e v g n) i = by_seam (seam front zs bytes (q ∷ rest) (sym e) (omega (arith, size, ap (body_len q) e, reaches q (quote_slash q h) front zs g)))
+      where
+        by_seam : ((ts : List ℕ) × (bytes ≡ front ++ ts) × (zs ≡ ts ++ q ∷ rest)) → Gives q bytes rest at line vs
+        by_seam (ts, a, b) = absurd (no_mark front ts q rest (ds, (v.0, v.1)) (subst IsUtf8 a (cs, (u.0, u.1))) (quote_low q h) (subst NoCharacter b n))
+
+pub quote_exact : (q : ℕ) (make : Body → Token) → Quoting q make → (cs vs bytes rest : List ℕ) → Quoted q cs vs → InUtf8 cs bytes → Exactly (q ∷ (bytes ++ q ∷ [])) (make (token.plain (encode_utf8_all vs))) rest
+quote_exact q make k cs vs bytes rest r u at line =
+    let B : List ℕ = bytes ++ q ∷ rest in
+    let g = gives q cs vs bytes rest at line k.quote (ap (free q) (sym u.1) ∙ free_text q cs (quote_low q k.quote) ∙ quoted_free r k.quote) r u in
+    subst (λ text. (w : Token) × (p : Place) × (token_at (on text at line) ≡ Ok (w, p)) × (p.rest ≡ rest) × (meant w ≡ make (token.plain (encode_utf8_all vs)))) (sym (grouped q bytes rest))
+    (make g.0, behind (on (q ∷ B) at line) B (length bytes), k.first B at line ∙ ap (λ r. r >>= λ y. Ok (make y.0, y.1)) g.1, behind_rest q bytes rest, k.means g.0 ∙ ap (λ w. make (token.plain w)) g.2)
+
+quote_found : (q : ℕ) (make : Body → Token) → Quoting q make → (cs vs bytes rest : List ℕ) (at line : ℕ) → Quoted q cs vs → InUtf8 cs bytes → Found (on ((q ∷ (bytes ++ q ∷ [])) ++ rest) at line) (make (token.plain (encode_utf8_all vs))) rest
+quote_found q make k cs vs bytes rest at line r u =
+    let x = quote_exact q make k cs vs bytes rest r u at line in
+    found_exact (on ((q ∷ (bytes ++ q ∷ [])) ++ rest) at line) x.1 x.0 (make (token.plain (encode_utf8_all vs))) rest x.2 x.3 x.4
 
 pub quoted_found : (cs vs bytes rest : List ℕ) (at line : ℕ) → Quoted 39 cs vs → InUtf8 cs bytes → Found (on ((39 ∷ (bytes ++ 39 ∷ [])) ++ rest) at line) (token.atom (token.plain (encode_utf8_all vs))) rest
-quoted_found = quote_found 39 token.atom atom_quoting (λ bs at line. refl)
+quoted_found = quote_found 39 token.atom atom_quoting
 
 pub string_found : (cs vs bytes rest : List ℕ) (at line : ℕ) → Quoted 34 cs vs → InUtf8 cs bytes → Found (on ((34 ∷ (bytes ++ 34 ∷ [])) ++ rest) at line) (token.text (token.plain (encode_utf8_all vs))) rest
-string_found = quote_found 34 token.text text_quoting (λ bs at line. refl)
+string_found = quote_found 34 token.text text_quoting
