@@ -30,8 +30,7 @@ use Rattle.bx_text_laws.proofs.Moving.{Stepped, stepped}
 use Rattle.bx_text_laws.proofs.Sentences.{step, plainly}
 use Rattle.bx_text_laws.proofs.Between.{Clean, clean_here, clean_on, clean_le, clean_token, token_less, kept_is}
 use Rattle.bx_text_laws.proofs.Goings.{Full, Going, goes, fails, Nothing, Here, Ends, Next, by_token, its_own, next_fault, both_ways, as_is, then, then_last, then_place, then_end, untrim, done, done_place, passed_goes, next_at, from_token, taking, again, misplaces, nests}
-use Rattle.bx_text_laws.proofs.Tells.{Seen, a_mark, seen, closed_goes, want_goes, arrow_tells, colon_tells, slash_tells, list_close_tells, utf8_tells, name_tells, number_tells, closes, at_once, first_part, NotMore, close_tells, comma_does, bar_does, colon_does, no_colon_does, slash_does, no_slash_does, Mark, mark_does, IsHeld, not_held}
-use Rattle.bx_text_laws.proofs.Tells as tells
+use Rattle.bx_text_laws.proofs.Tells.{closed_goes, want_goes, arrow_tells, colon_tells, slash_tells, list_close_tells, utf8_tells, name_tells, number_tells, closes, at_once, first_part, NotMore, close_tells, comma_does, bar_does, colon_does, no_colon_does, slash_does, no_slash_does, IsMark, mark_does, IsHeld, not_held}
 
 -- strings
 abbrev IsText : Token → Type 0
@@ -138,7 +137,7 @@ FollowAt (end m) r = (lexeme_at r ≡ Ok m) × (is_comma m.token ≡ false)
 behind_goes : (k : Bracket) (d : ℕ) (p : Place) (m : Lexeme) → lexeme_at p ≡ Ok m → Going (FollowLeft k d) FollowAt (more_in k d ∷ []) p p (behind_token m)
 behind_goes k d p m n =
     cond_both (is_comma m.token) _ _ (Going (FollowLeft k d) FollowAt (more_in k d ∷ []) p p)
-    (λ e. from_token p m n (taking (more_in k d) (parts k d) [] p m n (comma_does k d m.token (seen p m n) e) (untrim further)))
+    (λ e. from_token p m n (taking (more_in k d) (parts k d) [] p m n (comma_does k d m.token e) (untrim further)))
     (λ e. goes p (n, e) (clean_here p) (λ us full f. as_is))
   where
     further : Going (FollowLeft k d) FollowAt (parts k d) m.after m.after (lexeme_at m.after >>= λ l. Ok (next l))
@@ -211,7 +210,7 @@ tuple_goes d term h l = then (first_in a_tuple d ∷ []) (tuple_on term l) (next
     on m q n = by (closes_tuple m.token) refl
       where
         by : (b : Bool) → closes_tuple m.token ≡ b → Going Nothing Ends (first_in a_tuple d ∷ []) q q (cond b (Ok (tuple (span l m.after) nil, m.after)) (elements_at term m >>= made))
-        by true e = from_token q m n (taking (first_in a_tuple d) [] [] q m n (at_once a_tuple d m.token (seen q m n) e) (done (tuple (span l m.after) nil, m.after)))
+        by true e = from_token q m n (taking (first_in a_tuple d) [] [] q m n (at_once a_tuple d m.token e) (done (tuple (span l m.after) nil, m.after)))
         by false e =
             again (first_in a_tuple d) (parts a_tuple d) [] q m n (first_part a_tuple d m.token e)
             (then_last made (elements_go a_tuple d term h refl q m n)
@@ -231,7 +230,7 @@ end_goes d term h p m n no_comma = by (is_bar m.token) refl
 
     by : (b : Bool) → is_bar m.token ≡ b → Going Nothing Ends (more_in a_list d ∷ []) p p (cond b (lexeme_at m.after >>= tail_at term >>= shut) (closed closes_list m >>= λ q. Ok (nil, q)))
     by true e =
-        from_token p m n (taking (more_in a_list d) (a_term d ∷ the named.close_list ∷ []) [] p m n (bar_does d m.token (seen p m n) e)
+        from_token p m n (taking (more_in a_list d) (a_term d ∷ the named.close_list ∷ []) [] p m n (bar_does d m.token e)
         (then_end (the named.close_list ∷ []) shut (tail_goes d term h m.after)
         (λ x c. then_place [] (λ q. Ok (x.0, q)) (want_goes (the named.close_list) closes_list list_close_tells x.1) (λ q c. done (x.0, q)))))
     by false e = then_place [] (λ q. Ok (nil, q)) (close_goes a_list d p m n (no_comma, λ l. e)) (λ q c. done (nil, q))
@@ -246,7 +245,7 @@ list_goes d term h l = then_end [] (λ x. Ok (list (span l x.1) x.0, x.1)) (then
     on m q n = by (closes_list m.token) refl
       where
         by : (b : Bool) → closes_list m.token ≡ b → Going Nothing Ends (first_in a_list d ∷ []) q q (cond b (Ok (nil, m.after)) (elements_at term m >>= made))
-        by true e = from_token q m n (taking (first_in a_list d) [] [] q m n (at_once a_list d m.token (seen q m n) e) (done (nil, m.after)))
+        by true e = from_token q m n (taking (first_in a_list d) [] [] q m n (at_once a_list d m.token e) (done (nil, m.after)))
         by false e =
             again (first_in a_list d) (parts a_list d) [] q m n (first_part a_list d m.token e)
             (then_last made (elements_go a_list d term h refl q m n)
@@ -279,7 +278,7 @@ held_goes : (k : Bracket) (d : ℕ) (s : Sort) (part : Lexeme → Result Follow 
 held_goes k d s part h no_list p q l m n c e = by (closes k m.token) refl
   where
     by : (b : Bool) → closes k m.token ≡ b → Going Nothing Ends (first_in k d ∷ []) q q (cond b (kept_at s l m.after) (parts_at part m >>= closed (closes k) >>= kept_at s l))
-    by true i = from_token q m e (taking (first_in k d) [] [] q m e (at_once k d m.token (seen q m e) i) (kept_goes s p m.after l n (clean_on c (clean_token q m e))))
+    by true i = from_token q m e (taking (first_in k d) [] [] q m e (at_once k d m.token i) (kept_goes s p m.after l n (clean_on c (clean_token q m e))))
     by false i =
         again (first_in k d) (parts k d) [] q m e (first_part k d m.token i)
         (then_place [] (kept_at s l) (rows_go k d part h no_list q m e) (λ r b. kept_goes s p r l n (clean_on c b)))
@@ -310,14 +309,14 @@ content_goes d p l n = by l.token refl
 sized_goes : (p : Place) (m : Lexeme) → lexeme_at p ≡ Ok m → Going Nothing Next (a_size ∷ []) p p (sized m)
 sized_goes p m n =
     cond_both (is_colon m.token) _ _ (Going Nothing Next (a_size ∷ []) p p)
-    (λ e. from_token p m n (taking a_size (a_number ∷ []) [] p m n (colon_does m.token (seen p m n) e)
+    (λ e. from_token p m n (taking a_size (a_number ∷ []) [] p m n (colon_does m.token e)
     (then_place [] lexeme_at (want_goes a_number is_integer number_tells m.after) (λ q c. next_at q))))
     (λ e. again a_size [] [] p m n (no_colon_does m.token e) (goes p n (clean_here p) (λ us full f. as_is)))
 
 encoded_goes : (p : Place) (m : Lexeme) → lexeme_at p ≡ Ok m → Going Nothing Next (an_encoding ∷ []) p p (encoded m)
 encoded_goes p m n =
     cond_both (is_slash m.token) _ _ (Going Nothing Next (an_encoding ∷ []) p p)
-    (λ e. from_token p m n (taking an_encoding _ [] p m n (slash_does m.token (seen p m n) e)
+    (λ e. from_token p m n (taking an_encoding _ [] p m n (slash_does m.token e)
     (then_place [] lexeme_at (want_goes _ is_utf8_name utf8_tells m.after) (λ q c. next_at q))))
     (λ e. again an_encoding [] [] p m n (no_slash_does m.token e) (goes p n (clean_here p) (λ us full f. as_is)))
 
@@ -368,33 +367,31 @@ group_does d t i = absurd i
 abbrev GroupsGo : ℕ → Reading → Type 0
 GroupsGo d group = (p : Place) (l : Lexeme) → lexeme_at p ≡ Ok l → IsGroup l.token → Going Nothing Ends (a_term d ∷ []) p l.after (group l)
 
+fun_or : (t : Token) → IsMark t → (t ≡ named.the_word_fun) ⊎ (t ≡ named.the_word_fun → ⊥)
+fun_or t i = grind arith
+
+no_term : (group : Reading) (l : Lexeme) (t : Token) → IsMark t → (t ≡ named.the_word_fun → ⊥) → begin_by group l t ≡ Err (BadTerm l.line)
+no_term group l t i n = grind arith
+
 terms_begin : (d : ℕ) (group : Reading) → GroupsGo d group → TermsGo d (begin group)
-terms_begin d group h p l n = by l.token (seen p l n) refl
+terms_begin d group h p l n = by l.token refl
   where
     at : (t : Token) {m : Move} → l.token ≡ t → Meets (a_term d) (meant t) m → Does (a_term d) (meant l.token) m
     at t {m} e k = inl (subst (λ t. Meets (a_term d) (meant t) m) (sym e) k)
 
-    misses : (t : Token) → Mark t → l.token ≡ t → Going {A = Tree × Place} Nothing Ends (a_term d ∷ []) p l.after (Err (BadTerm l.line))
-    misses t k e = misplaces (a_term d) [] p l n (subst (λ t. Does (a_term d) (meant t) misplaced) (sym e) (mark_does d t k))
-
-    by_mark : (t : Token) → Mark t → l.token ≡ t → Going {A = Tree × Place} Nothing Ends (a_term d ∷ []) p l.after (begin_by group l t)
-    by_mark t tells.close_tuple e = misses named.close_tuple tells.close_tuple e
-    by_mark t k e = misses t k e
-
     grouped : (t : Token) → IsGroup t → l.token ≡ t → Going {A = Tree × Place} Nothing Ends (a_term d ∷ []) p l.after (group l)
     grouped t i e = h p l n (subst IsGroup (sym e) i)
 
-    by : (t : Token) → Seen t → l.token ≡ t → Going {A = Tree × Place} Nothing Ends (a_term d ∷ []) p l.after (begin_by group l t)
-    by t (tells.integer i) e = taking (a_term d) [] [] p l n (at (token.integer i) e faults.an_integer) (done (integer (span l l.after) i, l.after))
-    by t tells.float e = taking (a_term d) [] [] p l n (at token.float e faults.a_float) (kept_goes sort.Float p l.after l n (clean_here l.after))
-    by t (tells.atom b) e = taking (a_term d) [] [] p l n (at (token.atom b) e faults.an_atom) (done (atom_by l b, l.after))
-    by t (tells.text b) e = grouped (token.text b) tt e
-    by t tells.open_tuple e = grouped token.open_tuple tt e
-    by t tells.open_list e = grouped token.open_list tt e
-    by t tells.open_map e = grouped token.open_map tt e
-    by t tells.open_binary e = grouped token.open_binary tt e
-    by t tells.the_word_fun e = taking (a_term d) _ [] p l n (at named.the_word_fun e faults.a_fun) (fun_goes p l n)
-    by t (a_mark k) e = by_mark t k e
+    by : (t : Token) → l.token ≡ t → Going {A = Tree × Place} Nothing Ends (a_term d ∷ []) p l.after (begin_by group l t)
+    by (token.integer i) e = taking (a_term d) [] [] p l n (at (token.integer i) e faults.an_integer) (done (integer (span l l.after) i, l.after))
+    by token.float e = taking (a_term d) [] [] p l n (at token.float e faults.a_float) (kept_goes sort.Float p l.after l n (clean_here l.after))
+    by (token.atom b) e = taking (a_term d) [] [] p l n (at (token.atom b) e faults.an_atom) (done (atom_by l b, l.after))
+    by (token.mark m) e =
+        elim (fun_or (token.mark m) tt) [
+          | inl f ↦ subst (λ t. Going {A = Tree × Place} Nothing Ends (a_term d ∷ []) p l.after (begin_by group l t)) (sym f) (taking (a_term d) _ [] p l n (at named.the_word_fun (e ∙ f) faults.a_fun) (fun_goes p l n))
+          | inr o ↦ subst (Going {A = Tree × Place} Nothing Ends (a_term d ∷ []) p l.after) (sym (no_term group l (token.mark m) tt o)) (misplaces (a_term d) [] p l n (subst (λ t. Does (a_term d) (meant t) misplaced) (sym e) (mark_does d (token.mark m) tt o)))
+        ]
+    by t e = grouped t tt e
 
 groups_begin : (d : ℕ) → TermsGo d (term_at d) → GroupsGo (suc d) (group_at (suc d))
 groups_begin d h p l n g = by l.token refl g

@@ -15,7 +15,7 @@ use Rattle.bx_text_laws.specs.Terms.{OnlyBlanks}
 use Rattle.bx_text_laws.specs.Faults.{Wanted, a_term, the, misplaced, taken, Refused, FormFails}
 use Rattle.bx_text_laws.proofs.Sentences.{none_is_blank}
 use Rattle.bx_text_laws.proofs.Goings.{Going, goes, fails, Nothing, Ends, by_token, its_own, both_ways, then, next_at, from_token}
-use Rattle.bx_text_laws.proofs.Tells.{seen, stop_tells}
+use Rattle.bx_text_laws.proofs.Tells.{stop_tells}
 use Rattle.bx_text_laws.proofs.FirstFaults.{terms_go}
 
 -- an answer of one fault
@@ -36,10 +36,10 @@ stop_goes : (t : Tree) (p : Place) (f : Fault) → ((lexeme_at p >>= stopped t) 
 stop_goes t p f = by (lexeme_at p) refl
   where
     by_stop : (m : Lexeme) (b : Bool) → lexeme_at p ≡ Ok m → is_stop m.token ≡ b → (cond {A = Result (Option (Tree × Place)) Fault} b (Ok (Some (t, m.after))) (Err (BadTerm m.line)) ≡ Err f) ↔ Refused (the named.full_stop ∷ []) p f
-    by_stop m true n e = (λ h. cc, λ r. absurd (nothing_wanted ((by_token (the named.full_stop) [] p f m (taken []) n (stop_tells.yes m.token (seen p m n) e)).0 r)))
+    by_stop m true n e = (λ h. cc, λ r. absurd (nothing_wanted ((by_token (the named.full_stop) [] p f m (taken []) n (stop_tells.yes m.token e)).0 r)))
     by_stop m false n e =
         both_ways (one_fault (Err (BadTerm m.line)) (BadTerm m.line) f refl)
-        (turned (by_token (the named.full_stop) [] p f m misplaced n (stop_tells.other m.token (seen p m n) tt e)))
+        (turned (by_token (the named.full_stop) [] p f m misplaced n (stop_tells.other m.token tt e)))
 
     by : (r : Result Lexeme Fault) → lexeme_at p ≡ r → ((r >>= stopped t) ≡ Err f) ↔ Refused (the named.full_stop ∷ []) p f
     by (Err g) e = both_ways (one_fault (Err g) g f refl) (turned (its_own (the named.full_stop) [] p g f e))
