@@ -1,5 +1,5 @@
 -- What is printed is read as the same term.
-use Rattle.std.proofs.Common.{◌≡◌, ◌<◌, arith, ℕ, suc, ◌+◌, false, eqb, ℤ, List, [], ◌∷◌, ◌++◌, Ok, refl, sym, ap, ◌∙◌, subst, codes, append_assoc, ◌⊎◌, inl, inr, IsUtf8}
+use Rattle.std.proofs.Common.{◌≡◌, ◌<◌, arith, ℕ, suc, ◌+◌, Bool, true, false, cond, eqb, ℤ, List, [], ◌∷◌, ◌++◌, Ok, refl, sym, ap, ◌∙◌, subst, codes, append_assoc, ◌⊎◌, inl, inr, IsUtf8}
 use Rattle.bx_terms.specs.Outcomes.{◌>>=◌}
 use Rattle.bx_terms.specs.AtomText.{printed_atom}
 use Rattle.bx_text.specs.declared.node.Span.{Span}
@@ -106,95 +106,41 @@ delimits s X d = bar_at _
 pub ended : {d : ℕ} {p : Place} {rest : List ℕ} {t : Tree} → (r : Read d p rest t) → Spells d r.first r.tree (on rest r.end.at r.end.line)
 ended {d = d} {rest = rest} r = subst (Spells d r.first r.tree) (same_place r.end (on rest r.end.at r.end.line) r.left refl refl) r.spells
 
--- the elements that follow one, up to a mark, which are those of u up to its tail
+-- the elements that follow one, up to a mark
 record Follow (d : ℕ) (p : Place) : Type 0 where
   mark : Lexeme
   trees : List Tree
   row : (l : Lexeme) (t : Tree) → Spells d l t p → Row d l (t ∷ trees) mark
 
-record Closed (d : ℕ) (p : Place) (rest : List ℕ) (u : Tree) : Type 0 where
-  row : Follow d p
-  closes : row.mark.token ≡ named.close_tuple
-  left : row.mark.after.rest ≡ rest
-  same : unplaced (chain row.trees nil) ≡ unplaced u
-
--- one element more, behind a comma
-abbrev follow_more : (d : ℕ) (bytes X : List ℕ) (b : Tree) (at line : ℕ) → (r : Read d (on (bytes ++ X) (at + 1) line) X b) → Follow d (on X r.end.at r.end.line) → Follow d (on (44 ∷ (bytes ++ X)) at line)
-follow_more d bytes X b at line r f =
-    record {
-      mark = f.mark;
-      trees = r.tree ∷ f.trees;
-      row = λ l t s. more s (next_by 44 (bytes ++ X) at line named.comma (on (bytes ++ X) (at + 1) line) refl refl refl) refl r.next (f.row r.first r.tree (ended r));
-    }
-
 same_cons : (a b u v : Tree) → unplaced a ≡ unplaced b → unplaced u ≡ unplaced v → unplaced (cons a u) ≡ unplaced (cons b v)
 same_cons a b u v e f = ap (λ x. cons x (unplaced u)) e ∙ ap (λ x. cons (unplaced b) x) f
 
-abbrev Ends : ℕ → List ℕ → Tree → Type 0
-Ends d rest u = (at line : ℕ) → Closed d (on (rest_text u ++ 125 ∷ rest) at line) rest u
+-- a list where k is true, and a tuple else
+abbrev opens : Bool → ℕ
+opens k = cond k 91 123
 
-closed_end : (d : ℕ) (rest : List ℕ) → Ends d rest nil
-closed_end d rest at line =
-    let m : Lexeme = standing (on (125 ∷ rest) at line) (named.close_tuple, on rest (at + 1) line) in
-    record { row = record { mark = m; trees = []; row = λ l t s. one s (next_by 125 rest at line named.close_tuple (on rest (at + 1) line) refl refl refl) }; closes = refl; left = refl; same = refl }
+abbrev shuts : Bool → ℕ
+shuts k = cond k 93 125
 
-closed_more : (d : ℕ) (rest : List ℕ) (b v : Tree) → Reads d (node_text b) (rest_text v ++ 125 ∷ rest) b → Ends d rest v → Ends d rest (cons b v)
-closed_more d rest b v reads ends at line =
-    let X : List ℕ = rest_text v ++ 125 ∷ rest in
-    let r = reads (at + 1) line in
-    let c = ends r.end.at r.end.line in
-    subst (λ us. Closed d (on (44 ∷ us) at line) rest (cons b v)) (sym (append_assoc (node_text b) (rest_text v) (125 ∷ rest)))
-    (record { row = follow_more d (node_text b) X b at line r c.row; closes = c.closes; left = c.left; same = same_cons r.tree b (chain c.row.trees nil) v r.same c.same })
+abbrev opening : Bool → Token
+opening k = cond k token.open_list token.open_tuple
 
--- a tuple behind its opening mark
-record Whole (d : ℕ) (l : Lexeme) (rest : List ℕ) (t : Tree) : Type 0 where
-  tree : Tree
-  end : Place
-  spells : Spells d l tree end
-  left : end.rest ≡ rest
-  same : unplaced tree ≡ t
+abbrev closing : Bool → Token
+closing k = cond k named.close_list named.close_tuple
 
-abbrev Tupled : ℕ → List ℕ → Tree → Type 0
-Tupled d rest t = (at line : ℕ) (p : Place) → Whole (suc d) (standing p (token.open_tuple, on (row_text t ++ 125 ∷ rest) at line)) rest (tuple nowhere (unplaced t))
+abbrev made : Bool → Span → Tree → Tree
+made true s t = list s t
+made false s t = tuple s t
 
-tupled_none : (d : ℕ) (rest : List ℕ) → Tupled d rest nil
-tupled_none d rest at line p =
-    let l : Lexeme = standing p (token.open_tuple, on (125 ∷ rest) at line) in
-    record {
-      tree = tuple (span l (on rest (at + 1) line)) nil;
-      end = on rest (at + 1) line;
-      spells = empty_tuple {m = standing (on (125 ∷ rest) at line) (named.close_tuple, on rest (at + 1) line)} refl (next_by 125 rest at line named.close_tuple (on rest (at + 1) line) refl refl refl) refl;
-      left = refl;
-      same = refl;
-    }
+open_next : (k : Bool) (X : List ℕ) (at line : ℕ) → lexeme_at (on (opens k ∷ X) at line) ≡ Ok (standing (on (opens k ∷ X) at line) (opening k, on X (at + 1) line))
+open_next true X at line = next_by 91 X at line token.open_list (on X (at + 1) line) refl refl refl
+open_next false X at line = next_by 123 X at line token.open_tuple (on X (at + 1) line) refl refl refl
 
-tupled_some : (d : ℕ) (rest : List ℕ) (a u : Tree) → Reads d (node_text a) (rest_text u ++ 125 ∷ rest) a → Ends d rest u → Tupled d rest (cons a u)
-tupled_some d rest a u reads ends at line p =
-    let X : List ℕ = rest_text u ++ 125 ∷ rest in
-    let r = reads at line in
-    let c = ends r.end.at r.end.line in
-    let l : Lexeme = standing p (token.open_tuple, on (node_text a ++ X) at line) in
-    subst (λ us. Whole (suc d) (standing p (token.open_tuple, on us at line)) rest (tuple nowhere (unplaced (cons a u)))) (sym (append_assoc (node_text a) (rest_text u) (125 ∷ rest)))
-    (record {
-      tree = tuple (span l c.row.mark.after) (chain (r.tree ∷ c.row.trees) nil);
-      end = c.row.mark.after;
-      spells = a_tuple refl r.next (c.row.row r.first r.tree (ended r)) c.closes;
-      left = c.left;
-      same = ap (λ x. tuple nowhere x) (same_cons r.tree a (chain c.row.trees nil) u r.same c.same);
-    })
+close_next : (k : Bool) (X : List ℕ) (at line : ℕ) → lexeme_at (on (shuts k ∷ X) at line) ≡ Ok (standing (on (shuts k ∷ X) at line) (closing k, on X (at + 1) line))
+close_next true X at line = next_by 93 X at line named.close_list (on X (at + 1) line) refl refl refl
+close_next false X at line = next_by 125 X at line named.close_tuple (on X (at + 1) line) refl refl refl
 
-opened : (b c : ℕ) (body rest : List ℕ) → ((b ∷ body) ++ c ∷ []) ++ rest ≡ b ∷ (body ++ c ∷ rest)
-opened b c body rest = ap (λ us. b ∷ us) (append_assoc body (c ∷ []) rest)
-
-tuple_read : (d : ℕ) (s : Tree) (t : Tree) (rest : List ℕ) → unplaced s ≡ tuple nowhere (unplaced t) → Tupled d rest t → Reads (suc d) ((123 ∷ row_text t) ++ 125 ∷ []) rest s
-tuple_read d s t rest e tupled at line =
-    let p : Place = on (123 ∷ (row_text t ++ 125 ∷ rest)) at line in
-    let q : Place = on (row_text t ++ 125 ∷ rest) (at + 1) line in
-    let w = tupled (at + 1) line p in
-    subst (λ us. Read (suc d) (on us at line) rest s) (sym (opened 123 125 (row_text t) rest))
-    (record { first = standing p (token.open_tuple, q); tree = w.tree; end = w.end; next = next_by 123 (row_text t ++ 125 ∷ rest) at line token.open_tuple q refl refl refl; spells = w.spells; left = w.left; same = w.same ∙ sym e })
-
--- a list: up to its closing mark, or to the bar before its tail
+-- up to the closing mark, or in a list to the bar before its tail
 record Tailed (d : ℕ) (bar : Lexeme) (rest : List ℕ) (tail : Tree) : Type 0 where
   is_bar : bar.token ≡ named.bar
   start : Lexeme
@@ -208,37 +154,45 @@ record Tailed (d : ℕ) (bar : Lexeme) (rest : List ℕ) (tail : Tree) : Type 0 
   left : close.after.rest ≡ rest
   same : tail_of tree ≡ tail
 
-record Proper (mark : Lexeme) (rest : List ℕ) (tail : Tree) : Type 0 where
-  closes : mark.token ≡ named.close_list
+record Proper (k : Bool) (mark : Lexeme) (rest : List ℕ) (tail : Tree) : Type 0 where
+  closes : mark.token ≡ closing k
   left : mark.after.rest ≡ rest
   none : nil ≡ tail
 
-record Listed (d : ℕ) (p : Place) (rest : List ℕ) (u : Tree) : Type 0 where
+abbrev Ending : Bool → ℕ → Lexeme → List ℕ → Tree → Type 0
+Ending k d mark rest tail = Proper k mark rest tail ⊎ ((k ≡ true) × Tailed d mark rest tail)
+
+record Rows (k : Bool) (d : ℕ) (p : Place) (rest : List ℕ) (u : Tree) : Type 0 where
   row : Follow d p
   tail : Tree
-  ends : Proper row.mark rest tail ⊎ Tailed d row.mark rest tail
+  ends : Ending k d row.mark rest tail
   same : unplaced (chain row.trees tail) ≡ unplaced u
 
-abbrev Tails : ℕ → List ℕ → Tree → Type 0
-Tails d rest u = (at line : ℕ) → Listed d (on (rest_text u ++ 93 ∷ rest) at line) rest u
+abbrev Tails : Bool → ℕ → List ℕ → Tree → Type 0
+Tails k d rest u = (at line : ℕ) → Rows k d (on (rest_text u ++ shuts k ∷ rest) at line) rest u
 
-listed_end : (d : ℕ) (rest : List ℕ) → Tails d rest nil
-listed_end d rest at line =
-    let m : Lexeme = standing (on (93 ∷ rest) at line) (named.close_list, on rest (at + 1) line) in
+tails_end : (k : Bool) (d : ℕ) (rest : List ℕ) → Tails k d rest nil
+tails_end k d rest at line =
     record {
-      row = record { mark = m; trees = []; row = λ l t s. one s (next_by 93 rest at line named.close_list (on rest (at + 1) line) refl refl refl) };
+      row = record { mark = standing (on (shuts k ∷ rest) at line) (closing k, on rest (at + 1) line); trees = []; row = λ l t s. one s (close_next k rest at line) };
       tail = nil;
       ends = inl (record { closes = refl; left = refl; none = refl });
       same = refl;
     }
 
-listed_more : (d : ℕ) (rest : List ℕ) (b v : Tree) → Reads d (node_text b) (rest_text v ++ 93 ∷ rest) b → Tails d rest v → Tails d rest (cons b v)
-listed_more d rest b v reads tails at line =
-    let X : List ℕ = rest_text v ++ 93 ∷ rest in
+-- one element more, behind a comma
+tails_more : (k : Bool) (d : ℕ) (rest : List ℕ) (b v : Tree) → Reads d (node_text b) (rest_text v ++ shuts k ∷ rest) b → Tails k d rest v → Tails k d rest (cons b v)
+tails_more k d rest b v reads tails at line =
+    let X : List ℕ = node_text b ++ (rest_text v ++ shuts k ∷ rest) in
     let r = reads (at + 1) line in
     let c = tails r.end.at r.end.line in
-    subst (λ us. Listed d (on (44 ∷ us) at line) rest (cons b v)) (sym (append_assoc (node_text b) (rest_text v) (93 ∷ rest)))
-    (record { row = follow_more d (node_text b) X b at line r c.row; tail = c.tail; ends = c.ends; same = same_cons r.tree b (chain c.row.trees c.tail) v r.same c.same })
+    subst (λ us. Rows k d (on (44 ∷ us) at line) rest (cons b v)) (sym (append_assoc (node_text b) (rest_text v) (shuts k ∷ rest)))
+    (record {
+      row = record { mark = c.row.mark; trees = r.tree ∷ c.row.trees; row = λ l t s. more s (next_by 44 X at line named.comma (on X (at + 1) line) refl refl refl) refl r.next (c.row.row r.first r.tree (ended r)) };
+      tail = c.tail;
+      ends = c.ends;
+      same = same_cons r.tree b (chain c.row.trees c.tail) v r.same c.same;
+    })
 
 abbrev IsTail : Tree → Type 0
 IsTail (list s t) = ⊥
@@ -256,13 +210,13 @@ untailed : (v u : Tree) → IsTail u → unplaced v ≡ unplaced u → tail_of v
 untailed (list s t) u k e = absurd (no_list nowhere (unplaced t) u k e)
 untailed s u k e = refl
 
-listed_tail : (d : ℕ) (rest : List ℕ) (u : Tree) → IsTail u → rest_text u ≡ 124 ∷ node_text u → Reads d (node_text u) (93 ∷ rest) u → Tails d rest u
+listed_tail : (d : ℕ) (rest : List ℕ) (u : Tree) → IsTail u → rest_text u ≡ 124 ∷ node_text u → Reads d (node_text u) (93 ∷ rest) u → Tails true d rest u
 listed_tail d rest u k text reads at line =
-    subst (λ us. Listed d (on (us ++ 93 ∷ rest) at line) rest u) (sym text)
+    subst (λ us. Rows true d (on (us ++ 93 ∷ rest) at line) rest u) (sym text)
     (record {
       row = record { mark = bar; trees = []; row = λ l t s. one s (next_by 124 (node_text u ++ 93 ∷ rest) at line named.bar (on (node_text u ++ 93 ∷ rest) (at + 1) line) refl refl refl) };
       tail = r.tree;
-      ends = inr (record {
+      ends = inr (refl, record {
         is_bar = refl;
         start = r.first;
         tree = r.tree;
@@ -284,25 +238,40 @@ listed_tail d rest u k text reads at line =
     r : Read d (on (node_text u ++ 93 ∷ rest) (at + 1) line) (93 ∷ rest) u
     r = reads (at + 1) line
 
-abbrev Bracketed : ℕ → List ℕ → Tree → Type 0
-Bracketed d rest t = (at line : ℕ) (p : Place) → Whole (suc d) (standing p (token.open_list, on (row_text t ++ 93 ∷ rest) at line)) rest (list nowhere (unplaced t))
+-- behind its opening mark
+record Whole (d : ℕ) (l : Lexeme) (rest : List ℕ) (t : Tree) : Type 0 where
+  tree : Tree
+  end : Place
+  spells : Spells d l tree end
+  left : end.rest ≡ rest
+  same : unplaced tree ≡ t
 
-bracketed_none : (d : ℕ) (rest : List ℕ) → Bracketed d rest nil
-bracketed_none d rest at line p =
-    let l : Lexeme = standing p (token.open_list, on (93 ∷ rest) at line) in
-    record {
-      tree = list (span l (on rest (at + 1) line)) nil;
-      end = on rest (at + 1) line;
-      spells = empty_list {m = standing (on (93 ∷ rest) at line) (named.close_list, on rest (at + 1) line)} refl (next_by 93 rest at line named.close_list (on rest (at + 1) line) refl refl refl) refl;
-      left = refl;
-      same = refl;
-    }
+whole_is : {d : ℕ} {l : Lexeme} {rest : List ℕ} {t u : Tree} → t ≡ u → Whole d l rest t → Whole d l rest u
+whole_is {d = d} {l = l} {rest = rest} e w = subst (λ t. Whole d l rest t) e w
 
-by_ends : (d : ℕ) (rest : List ℕ) (l : Lexeme) (first m : Lexeme) (ts : List Tree) (tail : Tree) → l.token ≡ token.open_list → lexeme_at l.after ≡ Ok first → Row d first ts m → Proper m rest tail ⊎ Tailed d m rest tail
-    → Whole (suc d) l rest (list nowhere (unplaced (chain ts tail)))
-by_ends d rest l first m ts tail o n row (inl k) =
+abbrev Bracketed : Bool → ℕ → List ℕ → Tree → Type 0
+Bracketed k d rest t = (at line : ℕ) (p : Place) → Whole (suc d) (standing p (opening k, on (row_text t ++ shuts k ∷ rest) at line)) rest (made k nowhere (unplaced t))
+
+by_mark : (k : Bool) {d : ℕ} {l m : Lexeme} → l.token ≡ opening k → lexeme_at l.after ≡ Ok m → m.token ≡ closing k → Spells (suc d) l (made k (span l m.after) nil) m.after
+by_mark true o n c = empty_list o n c
+by_mark false o n c = empty_tuple o n c
+
+bracketed_none : (k : Bool) (d : ℕ) (rest : List ℕ) → Bracketed k d rest nil
+bracketed_none k d rest at line p =
+    let l : Lexeme = standing p (opening k, on (shuts k ∷ rest) at line) in
+    record { tree = made k (span l (on rest (at + 1) line)) nil; end = on rest (at + 1) line; spells = by_mark k refl (close_next k rest at line) refl; left = refl; same = made_nil k (span l (on rest (at + 1) line)) }
+  where
+    made_nil : (k : Bool) (s : Span) → unplaced (made k s nil) ≡ made k nowhere nil
+    made_nil true s = refl
+    made_nil false s = refl
+
+by_ends : (k : Bool) (d : ℕ) (rest : List ℕ) (l first m : Lexeme) (ts : List Tree) (tail : Tree) → l.token ≡ opening k → lexeme_at l.after ≡ Ok first → Row d first ts m → Ending k d m rest tail
+    → Whole (suc d) l rest (made k nowhere (unplaced (chain ts tail)))
+by_ends true d rest l first m ts tail o n row (inl k) =
     record { tree = list (span l m.after) (chain ts nil); end = m.after; spells = a_list o n row k.closes; left = k.left; same = ap (λ u. list nowhere (unplaced (chain ts u))) k.none }
-by_ends d rest l first m ts tail o n row (inr k) =
+by_ends false d rest l first m ts tail o n row (inl k) =
+    record { tree = tuple (span l m.after) (chain ts nil); end = m.after; spells = a_tuple o n row k.closes; left = k.left; same = ap (λ u. tuple nowhere (unplaced (chain ts u))) k.none }
+by_ends true d rest l first m ts tail o n row (inr (e, k)) =
     record {
       tree = list (span l k.close.after) (chain ts (tail_of k.tree));
       end = k.close.after;
@@ -310,33 +279,30 @@ by_ends d rest l first m ts tail o n row (inr k) =
       left = k.left;
       same = ap (λ u. list nowhere (unplaced (chain ts u))) k.same;
     }
+by_ends false d rest l first m ts tail o n row (inr (e, k)) = cc
 
-whole_is : {d : ℕ} {l : Lexeme} {rest : List ℕ} {t u : Tree} → t ≡ u → Whole d l rest t → Whole d l rest u
-whole_is {d = d} {l = l} {rest = rest} e w = subst (λ t. Whole d l rest t) e w
-
-bracketed_some : (d : ℕ) (rest : List ℕ) (a u : Tree) → Reads d (node_text a) (rest_text u ++ 93 ∷ rest) a → Tails d rest u → Bracketed d rest (cons a u)
-bracketed_some d rest a u reads tails at line p =
-    let X : List ℕ = rest_text u ++ 93 ∷ rest in
+bracketed_some : (k : Bool) (d : ℕ) (rest : List ℕ) (a u : Tree) → Reads d (node_text a) (rest_text u ++ shuts k ∷ rest) a → Tails k d rest u → Bracketed k d rest (cons a u)
+bracketed_some k d rest a u reads tails at line p =
     let r = reads at line in
     let c = tails r.end.at r.end.line in
-    let l : Lexeme = standing p (token.open_list, on (node_text a ++ X) at line) in
-    subst (λ us. Whole (suc d) (standing p (token.open_list, on us at line)) rest (list nowhere (unplaced (cons a u)))) (sym (append_assoc (node_text a) (rest_text u) (93 ∷ rest)))
-    (whole_is (ap (λ x. list nowhere x) (same_cons r.tree a (chain c.row.trees c.tail) u r.same c.same))
-    (by_ends d rest l r.first c.row.mark (r.tree ∷ c.row.trees) c.tail refl r.next (c.row.row r.first r.tree (ended r)) c.ends))
+    let l : Lexeme = standing p (opening k, on (node_text a ++ (rest_text u ++ shuts k ∷ rest)) at line) in
+    subst (λ us. Whole (suc d) (standing p (opening k, on us at line)) rest (made k nowhere (unplaced (cons a u)))) (sym (append_assoc (node_text a) (rest_text u) (shuts k ∷ rest)))
+    (whole_is (ap (λ x. made k nowhere x) (same_cons r.tree a (chain c.row.trees c.tail) u r.same c.same))
+    (by_ends k d rest l r.first c.row.mark (r.tree ∷ c.row.trees) c.tail refl r.next (c.row.row r.first r.tree (ended r)) c.ends))
 
-list_read : (d : ℕ) (s : Tree) (t : Tree) (rest : List ℕ) → unplaced s ≡ list nowhere (unplaced t) → Bracketed d rest t → Reads (suc d) ((91 ∷ row_text t) ++ 93 ∷ []) rest s
-list_read d s t rest e bracketed at line =
-    let p : Place = on (91 ∷ (row_text t ++ 93 ∷ rest)) at line in
-    let q : Place = on (row_text t ++ 93 ∷ rest) (at + 1) line in
-    let w = bracketed (at + 1) line p in
-    subst (λ us. Read (suc d) (on us at line) rest s) (sym (opened 91 93 (row_text t) rest))
-    (record { first = standing p (token.open_list, q); tree = w.tree; end = w.end; next = next_by 91 (row_text t ++ 93 ∷ rest) at line token.open_list q refl refl refl; spells = w.spells; left = w.left; same = w.same ∙ sym e })
+bracket_read : (k : Bool) (d : ℕ) (s t : Tree) (rest : List ℕ) → unplaced s ≡ made k nowhere (unplaced t) → Bracketed k d rest t → Reads (suc d) ((opens k ∷ row_text t) ++ shuts k ∷ []) rest s
+bracket_read k d s t rest e bracketed at line =
+    let X : List ℕ = row_text t ++ shuts k ∷ rest in
+    let w = bracketed (at + 1) line (on (opens k ∷ X) at line) in
+    subst (λ us. Read (suc d) (on us at line) rest s) (sym (ap (λ us. opens k ∷ us) (append_assoc (row_text t) (shuts k ∷ []) rest)))
+    (record { first = standing (on (opens k ∷ X) at line) (opening k, on X (at + 1) line); tree = w.tree; end = w.end; next = open_next k X at line; spells = w.spells; left = w.left; same = w.same ∙ sym e })
 
-tuple_end : (X : List ℕ) → Closes (125 ∷ X)
-tuple_end X = mark_closes 125 X (record { digits = refl; fraction = refl; name = refl }) (omega arith)
+close_closes : (k : Bool) (X : List ℕ) → Closes (shuts k ∷ X)
+close_closes true X = mark_closes 93 X (record { digits = refl; fraction = refl; name = refl }) (omega arith)
+close_closes false X = mark_closes 125 X (record { digits = refl; fraction = refl; name = refl }) (omega arith)
 
-list_end : (X : List ℕ) → Closes (93 ∷ X)
-list_end X = mark_closes 93 X (record { digits = refl; fraction = refl; name = refl }) (omega arith)
+row_closes : (k : Bool) (u : Tree) (rest : List ℕ) → Closes (rest_text u ++ shuts k ∷ rest)
+row_closes k u rest = delimits u (shuts k ∷ rest) (close_closes k rest)
 
 -- all of it, by the term: what is printed is read, where a delimiter follows
 mutual
@@ -344,32 +310,32 @@ mutual
   printed_read (integer s n) d rest h k = integer_read d n (integer s n) rest refl k
   printed_read (atom s w) d rest h k = atom_read d w (atom s w) rest refl h k
   printed_read (other s k w) d rest h c = other_read d k w (other s k w) rest refl h c
-  printed_read (tuple s t) (suc d) rest h k = tuple_read d (tuple s t) t rest refl (inside t d rest h)
-  printed_read (list s t) (suc d) rest h k = list_read d (list s t) t rest refl (listed t d rest h)
+  printed_read (tuple s t) (suc d) rest h k = bracket_read false d (tuple s t) t rest refl (in_tuple t d rest h)
+  printed_read (list s t) (suc d) rest h k = bracket_read true d (list s t) t rest refl (in_list t d rest h)
   printed_read t d rest h k = absurd h
 
-  inside : (t : Tree) (d : ℕ) (rest : List ℕ) → ShownRow d t → Tupled d rest t
-  inside nil d rest h = tupled_none d rest
-  inside (cons a u) d rest h = tupled_some d rest a u (printed_read a d (rest_text u ++ 125 ∷ rest) h.0 (delimits u (125 ∷ rest) (tuple_end rest))) (ends u d rest h.1)
-  inside t d rest h = absurd h
+  in_tuple : (t : Tree) (d : ℕ) (rest : List ℕ) → ShownRow d t → Bracketed false d rest t
+  in_tuple nil d rest h = bracketed_none false d rest
+  in_tuple (cons a u) d rest h = bracketed_some false d rest a u (printed_read a d (rest_text u ++ shuts false ∷ rest) h.0 (row_closes false u rest)) (further u d rest h.1)
+  in_tuple t d rest h = absurd h
 
-  ends : (t : Tree) (d : ℕ) (rest : List ℕ) → ShownRow d t → Ends d rest t
-  ends nil d rest h = closed_end d rest
-  ends (cons a u) d rest h = closed_more d rest a u (printed_read a d (rest_text u ++ 125 ∷ rest) h.0 (delimits u (125 ∷ rest) (tuple_end rest))) (ends u d rest h.1)
-  ends t d rest h = absurd h
+  further : (t : Tree) (d : ℕ) (rest : List ℕ) → ShownRow d t → Tails false d rest t
+  further nil d rest h = tails_end false d rest
+  further (cons a u) d rest h = tails_more false d rest a u (printed_read a d (rest_text u ++ shuts false ∷ rest) h.0 (row_closes false u rest)) (further u d rest h.1)
+  further t d rest h = absurd h
 
-  listed : (t : Tree) (d : ℕ) (rest : List ℕ) → ShownList d t → Bracketed d rest t
-  listed nil d rest h = bracketed_none d rest
-  listed (cons a u) d rest h = bracketed_some d rest a u (printed_read a d (rest_text u ++ 93 ∷ rest) h.0 (delimits u (93 ∷ rest) (list_end rest))) (tails u d rest h.1)
-  listed t d rest h = absurd h
+  in_list : (t : Tree) (d : ℕ) (rest : List ℕ) → ShownList d t → Bracketed true d rest t
+  in_list nil d rest h = bracketed_none true d rest
+  in_list (cons a u) d rest h = bracketed_some true d rest a u (printed_read a d (rest_text u ++ shuts true ∷ rest) h.0 (row_closes true u rest)) (tails u d rest h.1)
+  in_list t d rest h = absurd h
 
-  tails : (t : Tree) (d : ℕ) (rest : List ℕ) → ShownRest d t → Tails d rest t
-  tails nil d rest h = listed_end d rest
-  tails (cons a u) d rest h = listed_more d rest a u (printed_read a d (rest_text u ++ 93 ∷ rest) h.0 (delimits u (93 ∷ rest) (list_end rest))) (tails u d rest h.1)
-  tails (integer s n) d rest h = listed_tail d rest (integer s n) tt refl (integer_read d n (integer s n) (93 ∷ rest) refl (list_end rest))
-  tails (atom s w) d rest h = listed_tail d rest (atom s w) tt refl (atom_read d w (atom s w) (93 ∷ rest) refl h (list_end rest))
-  tails (other s k w) d rest h = listed_tail d rest (other s k w) tt refl (other_read d k w (other s k w) (93 ∷ rest) refl h (list_end rest))
-  tails (tuple s t) (suc d) rest h = listed_tail (suc d) rest (tuple s t) tt refl (tuple_read d (tuple s t) t (93 ∷ rest) refl (inside t d (93 ∷ rest) h))
+  tails : (t : Tree) (d : ℕ) (rest : List ℕ) → ShownRest d t → Tails true d rest t
+  tails nil d rest h = tails_end true d rest
+  tails (cons a u) d rest h = tails_more true d rest a u (printed_read a d (rest_text u ++ shuts true ∷ rest) h.0 (row_closes true u rest)) (tails u d rest h.1)
+  tails (integer s n) d rest h = listed_tail d rest (integer s n) tt refl (integer_read d n (integer s n) (93 ∷ rest) refl (close_closes true rest))
+  tails (atom s w) d rest h = listed_tail d rest (atom s w) tt refl (atom_read d w (atom s w) (93 ∷ rest) refl h (close_closes true rest))
+  tails (other s k w) d rest h = listed_tail d rest (other s k w) tt refl (other_read d k w (other s k w) (93 ∷ rest) refl h (close_closes true rest))
+  tails (tuple s t) (suc d) rest h = listed_tail (suc d) rest (tuple s t) tt refl (bracket_read false d (tuple s t) t (93 ∷ rest) refl (in_tuple t d (93 ∷ rest) h))
   tails t d rest h = absurd h
 
 -- a full stop that ends its line
