@@ -16,7 +16,6 @@ use Rattle.bx_text.specs.Tree.{Tree, integer, atom, tuple, list, other, nil, con
 use Rattle.bx_text.proofs.Grammatical.{forms_are}
 use Rattle.bx_text.specs.declared.node.Sort.{Sort}
 use Rattle.bx_text_laws.specs.Shown.{IsReadBack, StandsAs, Shown, ShownRow, ShownList, ShownRest, nowhere, unplaced}
-use Rattle.bx_text_laws.specs.Terms.{Stood, Term}
 use Rattle.bx_text_laws.specs.Tokens.{meant}
 use Rattle.bx_text_laws.proofs.Frame.{on}
 use Rattle.bx_text_laws.proofs.Longest.{same_place}
@@ -35,12 +34,6 @@ next_by b bs at line u q s c h =
     ap (λ r. r >>= lexeme_from) (tests_by b bs at line false false c (not_line b s) s)
     ∙ ap (λ r. r >>= λ x. Ok (standing (on (b ∷ bs) at line) x)) h
 
-next_is : (bytes rest : List ℕ) (at line : ℕ) (u : Token) (q : Place) → Starts bytes → token_at (on (bytes ++ rest) at line) ≡ Ok (u, q)
-    → lexeme_at (on (bytes ++ rest) at line) ≡ Ok (standing (on (bytes ++ rest) at line) (u, q))
-next_is bytes rest at line u q s h =
-    subst (λ bs. token_at (on (bs ++ rest) at line) ≡ Ok (u, q) → lexeme_at (on (bs ++ rest) at line) ≡ Ok (standing (on (bs ++ rest) at line) (u, q))) (sym s.is)
-    (next_by s.first (s.more ++ rest) at line u q s.space s.percent) h
-
 -- a term is read from p on, up to this rest
 pub record Read (d : ℕ) (p : Place) (rest : List ℕ) (t : Tree) : Type 0 where
   pub first : Lexeme
@@ -52,40 +45,39 @@ pub record Read (d : ℕ) (p : Place) (rest : List ℕ) (t : Tree) : Type 0 wher
   pub same : unplaced tree ≡ unplaced t
 
 integer_meant : (u : Token) (n : ℤ) → meant u ≡ token.integer n → u ≡ token.integer n
-integer_meant (token.integer m) n e = e
-integer_meant s n e = cc
+integer_meant u n e = grind arith
 
 -- from each place
 abbrev pub Reads : ℕ → List ℕ → List ℕ → Tree → Type 0
 Reads d bytes rest t = (at line : ℕ) → Read d (on (bytes ++ rest) at line) rest t
 
-integer_read : (d : ℕ) (n : ℤ) (t : Tree) (rest : List ℕ) → unplaced t ≡ integer nowhere n → Closes rest → Reads d (integer_text n) rest t
-integer_read d n t rest e k at line = by_token (integer_exact n rest k.delimits at line)
+token_read : (d : ℕ) (bytes rest : List ℕ) (t tree : Tree) (at line : ℕ) (u : Token) (q : Place) → Starts bytes → token_at (on (bytes ++ rest) at line) ≡ Ok (u, q) → q.rest ≡ rest
+    → Spells d (standing (on (bytes ++ rest) at line) (u, q)) tree q → unplaced tree ≡ unplaced t → Read d (on (bytes ++ rest) at line) rest t
+token_read d bytes rest t tree at line u q s h r k e = record { first = standing (on (bytes ++ rest) at line) (u, q); tree = tree; end = q; next = next; spells = k; left = r; same = e }
   where
-    by_token : ((u : Token) × (q : Place) × (token_at (on (integer_text n ++ rest) at line) ≡ Ok (u, q)) × (q.rest ≡ rest) × (meant u ≡ token.integer n)) → Read d (on (integer_text n ++ rest) at line) rest t
-    by_token (u, q, h, r, m) =
-        let l : Lexeme = standing (on (integer_text n ++ rest) at line) (u, q) in
-        record { first = l; tree = integer (span l q) n; end = q; next = next_is (integer_text n) rest at line u q (integer_starts n) h; spells = an_integer (integer_meant u n m); left = r; same = sym e }
+    next : lexeme_at (on (bytes ++ rest) at line) ≡ Ok (standing (on (bytes ++ rest) at line) (u, q))
+    next =
+        subst (λ bs. token_at (on (bs ++ rest) at line) ≡ Ok (u, q) → lexeme_at (on (bs ++ rest) at line) ≡ Ok (standing (on (bs ++ rest) at line) (u, q))) (sym s.is)
+        (next_by s.first (s.more ++ rest) at line u q s.space s.percent) h
+
+integer_read : (d : ℕ) (n : ℤ) (t : Tree) (rest : List ℕ) → unplaced t ≡ integer nowhere n → Closes rest → Reads d (integer_text n) rest t
+integer_read d n t rest e k at line =
+    let x = integer_exact n rest k.delimits at line in
+    let l : Lexeme = standing (on (integer_text n ++ rest) at line) (x.0, x.1) in
+    token_read d (integer_text n) rest t (integer (span l x.1) n) at line x.0 x.1 (integer_starts n) x.2 x.3 (an_integer (integer_meant x.0 n x.4)) (sym e)
 
 atom_read : (d : ℕ) (w : List ℕ) (t : Tree) (rest : List ℕ) → unplaced t ≡ atom nowhere w → IsUtf8 w → Closes rest → Reads d (printed_atom w) rest t
-atom_read d w t rest e utf8 k at line = by_token (atom_exact w rest utf8 k.delimits at line)
-  where
-    by_token : ((u : Token) × (q : Place) × (token_at (on (printed_atom w ++ rest) at line) ≡ Ok (u, q)) × (q.rest ≡ rest) × (meant u ≡ token.atom (token.plain w))) → Read d (on (printed_atom w ++ rest) at line) rest t
-    by_token (u, q, h, r, m) =
-        let l : Lexeme = standing (on (printed_atom w ++ rest) at line) (u, q) in
-        let a = atom_meant u w m in
-        record { first = l; tree = atom (span l q) (spelled a.0); end = q; next = next_is (printed_atom w) rest at line u q (atom_starts w) h; spells = an_atom a.1; left = r; same = ap (λ w. atom nowhere w) a.2 ∙ sym e }
+atom_read d w t rest e utf8 k at line =
+    let x = atom_exact w rest utf8 k.delimits at line in
+    let a = atom_meant x.0 w x.4 in
+    let l : Lexeme = standing (on (printed_atom w ++ rest) at line) (x.0, x.1) in
+    token_read d (printed_atom w) rest t (atom (span l x.1) (spelled a.0)) at line x.0 x.1 (atom_starts w) x.2 x.3 (an_atom a.1) (ap (λ w. atom nowhere w) a.2 ∙ sym e)
 
 other_read : (d : ℕ) (k : Sort) (w : List ℕ) (t : Tree) (rest : List ℕ) → unplaced t ≡ other nowhere k w → StandsAs d k w → Closes rest → Reads d w rest t
-other_read d k w t rest e h c at line = by_term (kept_moves d k w h rest c at line)
-  where
-    p : Place
-    p = on (w ++ rest) at line
-
-    by_term : ((m : Lexeme) × (s : Span) × (q : Place) × Stood p m × Term d m (other s k w) q × (q.rest ≡ rest)) → Read d p rest t
-    by_term (m, s, q, stood, term, r) =
-        let b = back p m stood in
-        record { first = b.lexeme; tree = other s k w; end = q; next = b.next; spells = term_back term b.lexeme b.plain; left = r; same = sym e }
+other_read d k w t rest e h c at line =
+    let x = kept_moves d k w h rest c at line in
+    let b = back (on (w ++ rest) at line) x.0 x.3 in
+    record { first = b.lexeme; tree = other x.1 k w; end = x.2; next = b.next; spells = term_back x.4 b.lexeme b.plain; left = x.5; same = sym e }
 
 -- what follows an element never goes on in it
 mark_closes : (b : ℕ) (Y : List ℕ) → Delimits (b ∷ Y) → 37 < b → Closes (b ∷ Y)
@@ -200,15 +192,8 @@ IsTail nil = ⊥
 IsTail (cons t u) = ⊥
 IsTail t = Unit {0}
 
-no_list : (s : Span) (t u : Tree) → IsTail u → list s t ≡ unplaced u → ⊥
-no_list s t (list x v) k e = k
-no_list s t nil k e = k
-no_list s t (cons v w) k e = k
-no_list s t u k e = cc
-
 untailed : (v u : Tree) → IsTail u → unplaced v ≡ unplaced u → tail_of v ≡ v
-untailed (list s t) u k e = absurd (no_list nowhere (unplaced t) u k e)
-untailed s u k e = refl
+untailed v u k e = grind arith
 
 listed_tail : (d : ℕ) (rest : List ℕ) (u : Tree) → IsTail u → rest_text u ≡ 124 ∷ node_text u → Reads d (node_text u) (93 ∷ rest) u → Tails true d rest u
 listed_tail d rest u k text reads at line =
@@ -216,19 +201,22 @@ listed_tail d rest u k text reads at line =
     (record {
       row = record { mark = bar; trees = []; row = λ l t s. one s (next_by 124 (node_text u ++ 93 ∷ rest) at line named.bar (on (node_text u ++ 93 ∷ rest) (at + 1) line) refl refl refl) };
       tail = r.tree;
-      ends = inr (refl, record {
-        is_bar = refl;
-        start = r.first;
-        tree = r.tree;
-        end = on (93 ∷ rest) r.end.at r.end.line;
-        close = standing (on (93 ∷ rest) r.end.at r.end.line) (named.close_list, on rest (r.end.at + 1) r.end.line);
-        begins = r.next;
-        spells = ended r;
-        closing = next_by 93 rest r.end.at r.end.line named.close_list (on rest (r.end.at + 1) r.end.line) refl refl refl;
-        closes = refl;
-        left = refl;
-        same = untailed r.tree u k r.same;
-      });
+      ends = inr (
+        refl,
+        record {
+          is_bar = refl;
+          start = r.first;
+          tree = r.tree;
+          end = on (93 ∷ rest) r.end.at r.end.line;
+          close = standing (on (93 ∷ rest) r.end.at r.end.line) (named.close_list, on rest (r.end.at + 1) r.end.line);
+          begins = r.next;
+          spells = ended r;
+          closing = next_by 93 rest r.end.at r.end.line named.close_list (on rest (r.end.at + 1) r.end.line) refl refl refl;
+          closes = refl;
+          left = refl;
+          same = untailed r.tree u k r.same;
+        },
+      );
       same = r.same;
     })
   where
@@ -343,11 +331,7 @@ pub stop_at : (X : List ℕ) → Closes (46 ∷ 10 ∷ X)
 stop_at X = mark_closes 46 (10 ∷ X) (record { digits = refl; fraction = refl; name = refl }) (omega arith)
 
 pub read_back : (t : Tree) → Shown 256 t → IsReadBack t
-read_back t h = by_read (printed_read t 256 (46 ∷ []) h (mark_closes 46 [] (record { digits = refl; fraction = refl; name = refl }) (omega arith)) 0 1)
-  where
-    by_read : Read 256 (on (node_text t ++ 46 ∷ []) 0 1) (46 ∷ []) t → IsReadBack t
-    by_read r =
-        let p : Place = on (46 ∷ []) r.end.at r.end.line in
-        let q : Place = on [] (r.end.at + 1) r.end.line in
-        let m : Lexeme = standing p (named.full_stop, q) in
-        (r.tree, q, (forms_are (place_in (node_text t ++ codes ".") 0) r.tree q).1 (a_form r.next (ended r) (next_by 46 [] r.end.at r.end.line named.full_stop q refl refl refl) refl), refl, r.same)
+read_back t h =
+    let r = printed_read t 256 (46 ∷ []) h (mark_closes 46 [] (record { digits = refl; fraction = refl; name = refl }) (omega arith)) 0 1 in
+    let q : Place = on [] (r.end.at + 1) r.end.line in
+    (r.tree, q, (forms_are (place_in (node_text t ++ codes ".") 0) r.tree q).1 (a_form r.next (ended r) (next_by 46 [] r.end.at r.end.line named.full_stop q refl refl refl) refl), refl, r.same)
