@@ -145,20 +145,6 @@ numeral_value (digit_more {base = b} {n = n} {c = c} {x = x} {cs = cs} k (l, h))
     let front = numeral_value k in
     (push_all (is_base b) cs c front.0 (in_base b c x l is), fold-append (with_digit b) 0 cs (c ∷ []) ∙ ap (λ m. b * m + digit c) front.1 ∙ ap (λ y. b * n + y) is, omega (arith, length-append cs (c ∷ [])))
 
-more_value : (b : ℕ) (front ds : List ℕ) (n : ℕ) → b ≤ 16 → Numeral b front n → list_all (is_base b) ds ≡ true → Numeral b (front ++ ds) (fold (with_digit b) n ds)
-more_value b front [] n l k a = subst (λ cs. Numeral b cs n) (sym (append-nil front)) k
-more_value b front (d ∷ ds) n l k a =
-    let both = and_parts (is_base b d) (list_all (is_base b) ds) a in
-    let small : digit d < b = below b d both.0 in
-    subst (λ cs. Numeral b cs (fold (with_digit b) (with_digit b n d) ds)) (append_assoc front (d ∷ []) ds)
-    (more_value b (front ++ d ∷ []) ds (with_digit b n d) l (digit_more k (small, counts d (omega arith))) both.1)
-
-pub value_from : (b d : ℕ) (ds : List ℕ) → b ≤ 16 → list_all (is_base b) (d ∷ ds) ≡ true → Numeral b (d ∷ ds) (fold (with_digit b) (digit d) ds)
-value_from b d ds l a =
-    let both = and_parts (is_base b d) (list_all (is_base b) ds) a in
-    let small : digit d < b = below b d both.0 in
-    more_value b (d ∷ []) ds (digit d) l (one_digit (small, counts d (omega arith))) both.1
-
 -- the code of many digits, which stays where no character's code is
 abbrev pub Same : ℕ → ℕ → Type 0
 Same w n = (w ≡ n) ⊎ ((0x110000 ≤ w) × (0x110000 ≤ n))

@@ -1,5 +1,5 @@
 -- The readers of terms go on where a token may stand, and refuse the first one that may not.
-use Rattle.std.proofs.Common.{◌≡◌, ℕ, zero, suc, ◌+◌, ◌<◌, Bool, true, false, cond, List, [], ◌∷◌, ◌++◌, length, Option, Some, None, Result, Ok, Err, refl, sym, ap, ◌∙◌, subst, arith, ◌⊎◌, inl, inr, ◌↔◌}
+use Rattle.std.proofs.Common.{◌≡◌, ℕ, zero, suc, ◌+◌, ◌<◌, true, false, cond, List, [], ◌∷◌, ◌++◌, length, Option, Some, None, Result, Ok, Err, refl, sym, ap, ◌∙◌, subst, arith, ◌⊎◌, inl, inr, ◌↔◌}
 use Rattle.std.proofs.lemmas.Bool.{cond_both}
 use Rattle.bx_terms.specs.Outcomes.{◌>>=◌}
 use Rattle.bx_terms.specs.declared.faults.Fault.{Fault}
@@ -12,7 +12,7 @@ use Rattle.bx_text.specs.Blank.{skip}
 use Rattle.bx_text.specs.Named as named
 use Rattle.bx_text.specs.Token as token
 use Rattle.bx_text.specs.Token.{Body, Token, Lexeme}
-use Rattle.bx_text.specs.Lexing.{token_at, lexeme_from, lexeme_at}
+use Rattle.bx_text.specs.Lexing.{lexeme_from, lexeme_at}
 use Rattle.bx_text.specs.Tree.{Tree, integer, tuple, list, other, nil, chain}
 use Rattle.bx_text.specs.Terms.{Reading, span, taken, is_quote, is_comma, is_bar, is_colon, is_slash, is_arrow, is_atom, is_integer, is_utf8_name, closes_tuple, closes_list, closed, want, letters_of, text_next, texts_on, texts, strings_at, string_at, Follow, next, end, behind_token, follow_at, element_at, go_on, many, elements_at, tuple_on, tuple_at, tail_of, tail_at, end_at, rest_on, list_at, kept_at, value_at, pair_at, go_through, parts_at, map_on, map_at, content_text, content_by, sized, encoded, segment_at, binary_on, binary_at, fun_at, bracket_by, atom_by, begin_by, begin, group_at, term_at}
 use Rattle.bx_text.specs.Terms as reader
@@ -26,10 +26,10 @@ use Rattle.bx_text_laws.specs.Faults as faults
 use Rattle.bx_text_laws.specs.Faults.{Bracket, a_tuple, a_list, a_map, a_binary, Wanted, a_term, more_strings, first_in, more_in, a_value, a_size, an_encoding, a_name, a_number, the, parts, inside, Move, misplaced, Meets, Does, Refused}
 use Rattle.bx_text_laws.proofs.Finding.{standing}
 use Rattle.bx_text_laws.proofs.Finding as finding
-use Rattle.bx_text_laws.proofs.Moving.{Stepped, stepped}
-use Rattle.bx_text_laws.proofs.Sentences.{step, plainly}
+use Rattle.bx_text_laws.proofs.Longest.{sound}
+use Rattle.bx_text_laws.proofs.Failing.{err_from}
 use Rattle.bx_text_laws.proofs.Between.{Clean, clean_here, clean_on, clean_le, clean_token, token_less, kept_is}
-use Rattle.bx_text_laws.proofs.Goings.{Full, Going, goes, fails, Nothing, Here, Ends, Next, by_token, its_own, next_fault, both_ways, as_is, then, then_last, then_place, then_end, untrim, done, done_place, passed_goes, next_at, from_token, taking, again, misplaces, nests}
+use Rattle.bx_text_laws.proofs.Goings.{trim, Full, Going, goes, fails, Nothing, Here, Ends, Next, by_token, its_own, next_fault, both_ways, as_is, then, then_last, then_place, then_end, untrim, done, done_place, passed_goes, next_at, from_token, taking, again, misplaces, nests}
 use Rattle.bx_text_laws.proofs.Tells.{closed_goes, want_goes, arrow_tells, colon_tells, slash_tells, list_close_tells, utf8_tells, name_tells, number_tells, closes, at_once, first_part, NotMore, close_tells, comma_does, bar_does, colon_does, no_colon_does, slash_does, no_slash_does, IsMark, mark_does, IsHeld, not_held}
 
 -- strings
@@ -42,21 +42,13 @@ text_begins (spelling.string {bytes = bytes} r u) i = (bytes ++ 34 ∷ [], refl)
 text_begins s i = absurd i
 
 no_text : (p : Place) (l : Lexeme) → NoString p → lexeme_at p ≡ Ok l → IsText (meant l.token) → ⊥
-no_text p l (q, s, none) n i = by_parts (finding.parts p l n)
-  where
-    steps : Stepped p (plainly l)
-    steps = stepped p (plainly l) (step p l n)
-
-    no_quote : (bytes rest cs : List ℕ) → begins is_quote (bytes ++ rest) ≡ false → bytes ≡ 34 ∷ cs → ⊥
-    no_quote bytes rest cs e is = let no : true ≡ false = ap (λ bs. begins is_quote (bs ++ rest)) (sym is) ∙ e in cc
-
-    by_begin : ((cs : List ℕ) × (steps.bytes ≡ 34 ∷ cs)) → begins is_quote l.begin ≡ false → ⊥
-    by_begin (cs, is) e = no_quote steps.bytes l.after.rest cs (ap (λ bs. begins is_quote bs) (sym steps.begin) ∙ e) is
-
-    by_parts : ((r : Place) × (x : Token × Place) × (skip p ≡ Ok r) × (token_at r ≡ Ok x) × (standing r x ≡ l)) → ⊥
-    by_parts (r, x, e, k, is) =
-        let there : q ≡ r = ok_same q r (sym s ∙ e) in
-        by_begin (text_begins steps.spells i) (ap (λ (l : Lexeme). begins is_quote l.begin) (sym is) ∙ ap (λ (r : Place). begins is_quote r.rest) (sym there) ∙ none)
+no_text p l (q, s, none) n i =
+    let x = finding.parts p l n in
+    let k = sound x.0 x.1 x.3 in
+    let t = text_begins k.1.1 (subst (λ (l : Lexeme). IsText (meant l.token)) (sym x.4) i) in
+    let same : q ≡ x.0 = ok_same q x.0 (sym s ∙ x.2) in
+    let no : false ≡ true = sym none ∙ ap (λ (r : Place). begins is_quote r.rest) same ∙ ap (λ bs. begins is_quote bs) (k.1.0 ∙ ap (λ bs. bs ++ x.1.1.rest) t.1) in
+    cc
 
 is_string : {t : Token} {m : Move} → Meets more_strings t m → IsText t
 is_string faults.another_string = tt
@@ -70,20 +62,11 @@ strings_end p none us full f = by (lexeme_at p) refl
     by (Ok l) e = by_token more_strings us p f l (faults.instead []) e (inr (λ m u. no_text p l none e (is_string u), refl))
 
 text_fault : (p : Place) (g : Fault) → text_next p ≡ Err g → lexeme_at p ≡ Err g
-text_fault p g h = by (skip p) refl
+text_fault p g = by (skip p)
   where
-    by_quote : (q : Place) (b : Bool) (r : Result Lexeme Fault) → lexeme_from q ≡ r → ◌≡◌ {A = Result (Option Lexeme) Fault} (cond b (r >>= λ l. Ok (Some l)) (Ok None)) (Err g) → lexeme_from q ≡ Err g
-    by_quote q true (Err e) k h = let same : e ≡ g = cc in k ∙ ap (λ e. Err e) same
-    by_quote q s t k h = cc
-
-    by : (r : Result Place Fault) → skip p ≡ r → lexeme_at p ≡ Err g
-    by (Err e) s =
-        let there : ◌≡◌ {A = Result (Option Lexeme) Fault} (Err e) (Err g) = sym (ap (λ r. r >>= λ q. cond (begins is_quote q.rest) (lexeme_from q >>= λ l. Ok (Some l)) (Ok None)) s) ∙ h in
-        let same : e ≡ g = cc in
-        ap (λ r. r >>= lexeme_from) s ∙ ap (λ e. Err e) same
-    by (Ok q) s =
-        ap (λ r. r >>= lexeme_from) s
-        ∙ by_quote q (begins is_quote q.rest) (lexeme_from q) refl (sym (ap (λ r. r >>= λ q. cond (begins is_quote q.rest) (lexeme_from q >>= λ l. Ok (Some l)) (Ok None)) s) ∙ h)
+    by : (r : Result Place Fault) → (r >>= λ q. cond {A = Result (Option Lexeme) Fault} (begins is_quote q.rest) (lexeme_from q >>= λ l. Ok (Some l)) (Ok None)) ≡ Err g → (r >>= lexeme_from) ≡ Err g
+    by (Err e) h = let same : e ≡ g = cc in ap (λ e. Err e) same
+    by (Ok q) h = cond_both (begins is_quote q.rest) _ _ (λ (r : Result (Option Lexeme) Fault). r ≡ Err g → lexeme_from q ≡ Err g) (λ _ h. err_from (lexeme_from q) (λ l. Some l) g h) (λ _ h. cc) h
 
 abbrev StringLeft : Option Lexeme → List Wanted
 StringLeft None = []
@@ -200,21 +183,18 @@ elements_go k d term h is p l n = from_token p l n (row_goes k d term h is (leng
 close_goes : (k : Bracket) (d : ℕ) (p : Place) (m : Lexeme) → lexeme_at p ≡ Ok m → NotMore k m.token → Going Nothing Here (more_in k d ∷ []) p p (closed (closes k) m)
 close_goes k d p m n may = from_token p m n (closed_goes (more_in k d) (closes k) (close_tells k d) p m n may)
 
-tuple_goes : (d : ℕ) (term : Reading) → TermsGo d term → (l : Lexeme) → Going Nothing Ends (first_in a_tuple d ∷ []) l.after l.after (tuple_at term l)
-tuple_goes d term h l = then (first_in a_tuple d ∷ []) (tuple_on term l) (next_at l.after) (λ m q n c. on m q n)
-  where
-    made : List Tree × Lexeme → Result (Tree × Place) Fault
-    made x = closed closes_tuple x.1 >>= λ q. Ok (tuple (span l q) (chain x.0 nil), q)
+first_goes : {A : Type 0} {Left : A → List Wanted} {At : A → Place → Type 0} {once more : Result A Fault} (k : Bracket) (d : ℕ) (q : Place) (m : Lexeme) → lexeme_at q ≡ Ok m
+    → Going Left At [] m.after m.after once → Going Left At (parts k d) q q more → Going Left At (first_in k d ∷ []) q q (cond (closes k m.token) once more)
+first_goes {Left = Left} {At = At} k d q m n g h =
+    cond_both (closes k m.token) _ _ (Going Left At (first_in k d ∷ []) q q) (λ e. from_token q m n (taking (first_in k d) [] [] q m n (at_once k d m.token e) g))
+    (λ e. again (first_in k d) (parts k d) [] q m n (first_part k d m.token e) (untrim h))
 
-    on : (m : Lexeme) (q : Place) → lexeme_at q ≡ Ok m → Going Nothing Ends (first_in a_tuple d ∷ []) q q (tuple_on term l m)
-    on m q n = by (closes_tuple m.token) refl
-      where
-        by : (b : Bool) → closes_tuple m.token ≡ b → Going Nothing Ends (first_in a_tuple d ∷ []) q q (cond b (Ok (tuple (span l m.after) nil, m.after)) (elements_at term m >>= made))
-        by true e = from_token q m n (taking (first_in a_tuple d) [] [] q m n (at_once a_tuple d m.token e) (done (tuple (span l m.after) nil, m.after)))
-        by false e =
-            again (first_in a_tuple d) (parts a_tuple d) [] q m n (first_part a_tuple d m.token e)
-            (then_last made (elements_go a_tuple d term h refl q m n)
-            (λ x r a c. then_place [] (λ q. Ok (tuple (span l q) (chain x.0 nil), q)) (close_goes a_tuple d r x.1 a.0 (a.1, λ e. cc)) (λ q c. done (tuple (span l q) (chain x.0 nil), q))))
+tuple_goes : (d : ℕ) (term : Reading) → TermsGo d term → (l : Lexeme) → Going Nothing Ends (first_in a_tuple d ∷ []) l.after l.after (tuple_at term l)
+tuple_goes d term h l =
+    then (first_in a_tuple d ∷ []) (tuple_on term l) (next_at l.after)
+    (λ m q n c. first_goes a_tuple d q m n (done (tuple (span l m.after) nil, m.after))
+    (then_last (λ (x : List Tree × Lexeme). closed closes_tuple x.1 >>= λ q. Ok (tuple (span l q) (chain x.0 nil), q)) (elements_go a_tuple d term h refl q m n)
+    (λ x r a c. then_place [] (λ q. Ok (tuple (span l q) (chain x.0 nil), q)) (close_goes a_tuple d r x.1 a.0 (a.1, λ e. cc)) (λ q c. done (tuple (span l q) (chain x.0 nil), q)))))
 
 -- lists
 tail_goes : (d : ℕ) (term : Reading) → TermsGo d term → (p : Place) → Going Nothing Ends (a_term d ∷ []) p p (lexeme_at p >>= tail_at term)
@@ -223,33 +203,21 @@ tail_goes d term h p =
     (λ l q n c. from_token q l n (then_end [] (λ x. Ok (tail_of x.0, x.1)) (h q l n) (λ x c. done (tail_of x.0, x.1))))
 
 end_goes : (d : ℕ) (term : Reading) → TermsGo d term → (p : Place) (m : Lexeme) → lexeme_at p ≡ Ok m → is_comma m.token ≡ false → Going Nothing Ends (more_in a_list d ∷ []) p p (end_at term m)
-end_goes d term h p m n no_comma = by (is_bar m.token) refl
-  where
-    shut : Tree × Place → Result (Tree × Place) Fault
-    shut x = lexeme_at x.1 >>= closed closes_list >>= λ q. Ok (x.0, q)
-
-    by : (b : Bool) → is_bar m.token ≡ b → Going Nothing Ends (more_in a_list d ∷ []) p p (cond b (lexeme_at m.after >>= tail_at term >>= shut) (closed closes_list m >>= λ q. Ok (nil, q)))
-    by true e =
-        from_token p m n (taking (more_in a_list d) (a_term d ∷ the named.close_list ∷ []) [] p m n (bar_does d m.token e)
-        (then_end (the named.close_list ∷ []) shut (tail_goes d term h m.after)
-        (λ x c. then_place [] (λ q. Ok (x.0, q)) (want_goes (the named.close_list) closes_list list_close_tells x.1) (λ q c. done (x.0, q)))))
-    by false e = then_place [] (λ q. Ok (nil, q)) (close_goes a_list d p m n (no_comma, λ l. e)) (λ q c. done (nil, q))
+end_goes d term h p m n no_comma =
+    cond_both (is_bar m.token) _ _ (Going Nothing Ends (more_in a_list d ∷ []) p p)
+    (λ e. from_token p m n (taking (more_in a_list d) (a_term d ∷ the named.close_list ∷ []) [] p m n (bar_does d m.token e)
+    (then_end (the named.close_list ∷ []) (λ x. lexeme_at x.1 >>= closed closes_list >>= λ q. Ok (x.0, q)) (tail_goes d term h m.after)
+    (λ x c. then_place [] (λ q. Ok (x.0, q)) (want_goes (the named.close_list) closes_list list_close_tells x.1) (λ q c. done (x.0, q))))))
+    (λ e. then_place [] (λ q. Ok (nil, q)) (close_goes a_list d p m n (no_comma, λ l. e)) (λ q c. done (nil, q)))
 
 list_goes : (d : ℕ) (term : Reading) → TermsGo d term → (l : Lexeme) → Going Nothing Ends (first_in a_list d ∷ []) l.after l.after (list_at term l)
-list_goes d term h l = then_end [] (λ x. Ok (list (span l x.1) x.0, x.1)) (then (first_in a_list d ∷ []) (rest_on term) (next_at l.after) (λ m q n c. on m q n)) (λ x c. done (list (span l x.1) x.0, x.1))
-  where
-    made : List Tree × Lexeme → Result (Tree × Place) Fault
-    made x = end_at term x.1 >>= λ y. Ok (chain x.0 y.0, y.1)
-
-    on : (m : Lexeme) (q : Place) → lexeme_at q ≡ Ok m → Going Nothing Ends (first_in a_list d ∷ []) q q (rest_on term m)
-    on m q n = by (closes_list m.token) refl
-      where
-        by : (b : Bool) → closes_list m.token ≡ b → Going Nothing Ends (first_in a_list d ∷ []) q q (cond b (Ok (nil, m.after)) (elements_at term m >>= made))
-        by true e = from_token q m n (taking (first_in a_list d) [] [] q m n (at_once a_list d m.token e) (done (nil, m.after)))
-        by false e =
-            again (first_in a_list d) (parts a_list d) [] q m n (first_part a_list d m.token e)
-            (then_last made (elements_go a_list d term h refl q m n)
-            (λ x r a c. then_end [] (λ y. Ok (chain x.0 y.0, y.1)) (end_goes d term h r x.1 a.0 a.1) (λ y c. done (chain x.0 y.0, y.1))))
+list_goes d term h l =
+    then_end [] (λ x. Ok (list (span l x.1) x.0, x.1))
+    (then (first_in a_list d ∷ []) (rest_on term) (next_at l.after)
+    (λ m q n c. first_goes a_list d q m n (done (nil, m.after))
+    (then_last (λ (x : List Tree × Lexeme). end_at term x.1 >>= λ y. Ok (chain x.0 y.0, y.1)) (elements_go a_list d term h refl q m n)
+    (λ x r a c. then_end [] (λ y. Ok (chain x.0 y.0, y.1)) (end_goes d term h r x.1 a.0 a.1) (λ y c. done (chain x.0 y.0, y.1))))))
+    (λ x c. done (list (span l x.1) x.0, x.1))
 
 -- what is kept as it is written
 kept_goes : (k : Sort) (p q : Place) (l : Lexeme) → lexeme_at p ≡ Ok l → Clean l.after q → Going Nothing Ends [] q q (kept_at k l q)
@@ -275,13 +243,8 @@ rows_go k d part h no_list p m n =
 
 held_goes : (k : Bracket) (d : ℕ) (s : Sort) (part : Lexeme → Result Follow Fault) → PartGoes k d part → (k ≡ a_list → ⊥) → (p q : Place) (l m : Lexeme) → lexeme_at p ≡ Ok l → Clean l.after q → lexeme_at q ≡ Ok m
     → Going Nothing Ends (first_in k d ∷ []) q q (cond (closes k m.token) (kept_at s l m.after) (parts_at part m >>= closed (closes k) >>= kept_at s l))
-held_goes k d s part h no_list p q l m n c e = by (closes k m.token) refl
-  where
-    by : (b : Bool) → closes k m.token ≡ b → Going Nothing Ends (first_in k d ∷ []) q q (cond b (kept_at s l m.after) (parts_at part m >>= closed (closes k) >>= kept_at s l))
-    by true i = from_token q m e (taking (first_in k d) [] [] q m e (at_once k d m.token i) (kept_goes s p m.after l n (clean_on c (clean_token q m e))))
-    by false i =
-        again (first_in k d) (parts k d) [] q m e (first_part k d m.token i)
-        (then_place [] (kept_at s l) (rows_go k d part h no_list q m e) (λ r b. kept_goes s p r l n (clean_on c b)))
+held_goes k d s part h no_list p q l m n c e =
+    first_goes k d q m e (kept_goes s p m.after l n (clean_on c (clean_token q m e))) (trim (then_place [] (kept_at s l) (rows_go k d part h no_list q m e) (λ r b. kept_goes s p r l n (clean_on c b))))
 
 map_goes : (d : ℕ) (term : Reading) → TermsGo d term → (p : Place) (l : Lexeme) → lexeme_at p ≡ Ok l → Going Nothing Ends (first_in a_map d ∷ []) l.after l.after (map_at term l)
 map_goes d term h p l n = then (first_in a_map d ∷ []) (map_on term l) (next_at l.after) (λ m q e c. held_goes a_map d sort.Map (pair_at term) (pair_goes d term h) (λ i. cc) p q l m n c e)
