@@ -1,5 +1,6 @@
 -- Which form is refused, and with which fault.
-use Rattle.std.proofs.Common.{◌≡◌, ℕ, Bool, true, false, cond, List, [], ◌∷◌, Option, Some, Result, Ok, Err, refl, sym, ap, ◌∙◌, subst, ◌↔◌}
+use Rattle.std.proofs.Common.{◌≡◌, ℕ, List, [], ◌∷◌, Option, Result, Ok, Err, refl, sym, ap, ◌∙◌, subst, ◌↔◌}
+use Rattle.std.proofs.lemmas.Bool.{cond_both}
 use Rattle.bx_terms.specs.Outcomes.{◌>>=◌}
 use Rattle.bx_terms.specs.declared.faults.Fault.{Fault}
 use Rattle.bx_terms.specs.declared.faults.Fault.TheVariants.{BadTerm}
@@ -35,15 +36,14 @@ nothing_wanted r = elim r [ ]
 stop_goes : (t : Tree) (p : Place) (f : Fault) → ((lexeme_at p >>= stopped t) ≡ Err f) ↔ Refused (the named.full_stop ∷ []) p f
 stop_goes t p f = by (lexeme_at p) refl
   where
-    by_stop : (m : Lexeme) (b : Bool) → lexeme_at p ≡ Ok m → is_stop m.token ≡ b → (cond {A = Result (Option (Tree × Place)) Fault} b (Ok (Some (t, m.after))) (Err (BadTerm m.line)) ≡ Err f) ↔ Refused (the named.full_stop ∷ []) p f
-    by_stop m true n e = (λ h. cc, λ r. absurd (nothing_wanted ((by_token (the named.full_stop) [] p f m (taken []) n (stop_tells.yes m.token e)).0 r)))
-    by_stop m false n e =
-        both_ways (one_fault (Err (BadTerm m.line)) (BadTerm m.line) f refl)
-        (turned (by_token (the named.full_stop) [] p f m misplaced n (stop_tells.other m.token tt e)))
+    Goes : Result (Option (Tree × Place)) Fault → Type 0
+    Goes r = (r ≡ Err f) ↔ Refused (the named.full_stop ∷ []) p f
 
-    by : (r : Result Lexeme Fault) → lexeme_at p ≡ r → ((r >>= stopped t) ≡ Err f) ↔ Refused (the named.full_stop ∷ []) p f
+    by : (r : Result Lexeme Fault) → lexeme_at p ≡ r → Goes (r >>= stopped t)
     by (Err g) e = both_ways (one_fault (Err g) g f refl) (turned (its_own (the named.full_stop) [] p g f e))
-    by (Ok m) e = by_stop m (is_stop m.token) e refl
+    by (Ok m) n =
+        cond_both (is_stop m.token) _ _ Goes (λ e. (λ h. cc, λ r. absurd (nothing_wanted ((by_token (the named.full_stop) [] p f m (taken []) n (stop_tells.yes m.token e)).0 r))))
+        (λ e. both_ways (one_fault (Err (BadTerm m.line)) (BadTerm m.line) f refl) (turned (by_token (the named.full_stop) [] p f m misplaced n (stop_tells.other m.token tt e))))
 
 -- a term and its full stop
 abbrev Sentence : ℕ → List Wanted
@@ -81,10 +81,4 @@ at_once p f some = by (skip p) refl
     by (Ok q) s = by_rest q q.rest s refl
 
 pub forms_fail : (p : Place) (f : Fault) → (form_at p ≡ Err f) ↔ FormFails p f
-forms_fail p f = (out, back)
-  where
-    out : form_at p ≡ Err f → FormFails p f
-    out h = let some = blank_or p f h in (some, (sentence_goes 256 p f).0 ((at_once p f some).0 h))
-
-    back : FormFails p f → form_at p ≡ Err f
-    back (some, r) = (at_once p f some).1 ((sentence_goes 256 p f).1 r)
+forms_fail p f = (λ h. let some = blank_or p f h in (some, (sentence_goes 256 p f).0 ((at_once p f some).0 h)), λ x. (at_once p f x.0).1 ((sentence_goes 256 p f).1 x.1))

@@ -1,5 +1,5 @@
 -- Bare atoms, and the word `fun`.
-use Rattle.std.proofs.Common.{◌≡◌, ◌≢◌, ℕ, ◌+◌, ◌-◌, ◌/◌, ◌%◌, ◌≤◌, ◌<◌, Bool, true, false, cond, eqb, ltb, List, [], ◌∷◌, ◌++◌, take, drop, length, Result, Ok, Err, refl, sym, ap, ◌∙◌, subst, arith, codes, append_assoc, take_at, length-append, length-drop, ◌⊎◌, inl, inr, bytes_eq, encode_utf8_all, IsUtf8}
+use Rattle.std.proofs.Common.{◌≡◌, ◌≢◌, ℕ, ◌+◌, ◌-◌, ◌/◌, ◌%◌, ◌≤◌, ◌<◌, Bool, true, false, cond, eqb, ltb, List, [], ◌∷◌, ◌++◌, take, drop, length, Result, Ok, Err, refl, sym, ap, ◌∙◌, subst, arith, codes, append_assoc, take_at, length-append, length-drop, inl, inr, bytes_eq, encode_utf8_all, IsUtf8}
 use Rattle.std.specs.List.{AllByRecursion}
 use Rattle.std.specs.Str.{all_scalars}
 use Rattle.std.specs.Char.{encode_utf8, IsScalar}
@@ -121,44 +121,33 @@ mutual
       (λ _. no_name (195 ∷ b ∷ bs))
 
 name_le : (bs : List ℕ) → name_len bs ≤ length bs
-name_le bs = by_split (name_split bs)
-  where
-    by_split : NameSplit bs (name_len bs) → name_len bs ≤ length bs
-    by_split (cs, zs, e, a, s, m, l) = omega (arith, m, ap length e, length-append (encode_utf8_all cs) zs)
+name_le bs = let s = name_split bs in omega (arith, s.5, ap length s.2, length-append (encode_utf8_all s.0) s.1)
 
 -- what is taken as a word is one
 a_word : (c : ℕ) (cs bytes zs : List ℕ) (at line : ℕ) (x : Token × Place) → IsSmall c → AllByRecursion IsNameCharacter cs → InUtf8 (c ∷ cs) bytes → lines bytes ≡ 0 → name_len (bytes ++ zs) ≡ length bytes
     → word_at (on (bytes ++ zs) at line) ≡ Ok x → Spelled (on (bytes ++ zs) at line) x
 a_word c cs bytes zs at line x small a utf8 l e h =
-    by_fun (bytes_eq bytes (codes "fun")) refl
+    cond_both (bytes_eq bytes (codes "fun")) _ _ (λ (t : Token). ◌≡◌ {A = Result (Token × Place) Fault} (Ok (t, after (on (bytes ++ zs) at line) n)) (Ok x) → Spelled (on (bytes ++ zs) at line) x)
+    (λ is. spelled_on bytes zs at line n named.the_word_fun x (subst (λ ws. Spelling ws named.the_word_fun) (sym ((bytes_eq-Decides bytes (codes "fun")).0 is)) the_word_fun) (λ e. cc) l e)
+    (λ is. spelled_on bytes zs at line n (token.atom (token.plain bytes)) x (bare_atom c cs small a utf8 (λ same. both_ways (bytes_eq bytes (codes "fun")) is ((bytes_eq-Decides bytes (codes "fun")).1 same))) (λ e. cc) l e)
     (subst (λ w. ◌≡◌ {A = Result (Token × Place) Fault} (Ok (word w, after (on (bytes ++ zs) at line) n)) (Ok x)) (take_at bytes zs n (sym e)) h)
   where
     n : ℕ
     n = name_len (bytes ++ zs)
 
-    by_fun : (t : Bool) → bytes_eq bytes (codes "fun") ≡ t → ◌≡◌ {A = Result (Token × Place) Fault} (Ok (cond t named.the_word_fun (token.atom (token.plain bytes)), after (on (bytes ++ zs) at line) n)) (Ok x)
-        → Spelled (on (bytes ++ zs) at line) x
-    by_fun true is g =
-        let same : bytes ≡ codes "fun" = (bytes_eq-Decides bytes (codes "fun")).0 is in
-        spelled_on bytes zs at line n named.the_word_fun x (subst (λ ws. Spelling ws named.the_word_fun) (sym same) the_word_fun) (λ e. cc) l e g
-    by_fun false is g = spelled_on bytes zs at line n (token.atom (token.plain bytes)) x (bare_atom c cs small a utf8 (λ same. both_ways (bytes_eq bytes (codes "fun")) is ((bytes_eq-Decides bytes (codes "fun")).1 same))) (λ e. cc) l e g
-
 pub small_name : (c : ℕ) → IsSmall c → IsNameCharacter c
 small_name c h = grind arith
 
 small_word : (c : ℕ) (bs : List ℕ) (at line : ℕ) (x : Token × Place) → IsSmall c → word_at (on (encode_utf8 c ++ bs) at line) ≡ Ok x → Spelled (on (encode_utf8 c ++ bs) at line) x
-small_word c bs at line x small = by_split (name_split bs)
-  where
-    first : Letters (encode_utf8 c)
-    first = letters c (small_name c small)
-
-    by_split : NameSplit bs (name_len bs) → word_at (on (encode_utf8 c ++ bs) at line) ≡ Ok x → Spelled (on (encode_utf8 c ++ bs) at line) x
-    by_split (cs, zs, e, a, s, m, l) =
-        let more : List ℕ = encode_utf8_all cs in
-        let text : encode_utf8 c ++ bs ≡ (encode_utf8 c ++ more) ++ zs = ap (λ us. encode_utf8 c ++ us) e ∙ sym (append_assoc (encode_utf8 c) more zs) in
-        let count : name_len ((encode_utf8 c ++ more) ++ zs) ≡ length (encode_utf8 c ++ more) = ap (λ us. name_len us) (sym text) ∙ omega (arith, first.0 bs, m, length-append (encode_utf8 c) more) in
-        subst (λ us. word_at (on us at line) ≡ Ok x → Spelled (on us at line) x) (sym text)
-        (a_word c cs (encode_utf8 c ++ more) zs at line x small a (and_from _ _ (low_scalar c (omega (arith, name_most c (small_name c small)))) s, refl) (omega (arith, first.1, l, lines-append (encode_utf8 c) more)) count)
+small_word c bs at line x small =
+    let s = name_split bs in
+    let name = small_name c small in
+    let first = letters c name in
+    let more : List ℕ = encode_utf8_all s.0 in
+    let text : encode_utf8 c ++ bs ≡ (encode_utf8 c ++ more) ++ s.1 = ap (λ us. encode_utf8 c ++ us) s.2 ∙ sym (append_assoc (encode_utf8 c) more s.1) in
+    let count : name_len ((encode_utf8 c ++ more) ++ s.1) ≡ length (encode_utf8 c ++ more) = ap (λ us. name_len us) (sym text) ∙ omega (arith, first.0 bs, s.5, length-append (encode_utf8 c) more) in
+    subst (λ us. word_at (on us at line) ≡ Ok x → Spelled (on us at line) x) (sym text)
+    (a_word c s.0 (encode_utf8 c ++ more) s.1 at line x small s.3 (and_from _ _ (low_scalar c (omega (arith, name_most c name))) s.4, refl) (omega (arith, first.1, s.6, lines-append (encode_utf8 c) more)) count)
 
 small_letter : (b : ℕ) → is_lower b ≡ true → IsSmall b
 small_letter b e = inl (grind (arith, nat_tests), grind (arith, nat_tests))
@@ -184,15 +173,11 @@ an_accent b (d ∷ ds) at line x is h =
     (λ _ g. absurd (no_foreign (eqb (utf8_valid_len (b ∷ d ∷ ds)) 0) line x g)) h
 
 -- what is spelled as a word is taken
-small_class : (c : ℕ) → IsSmall c → ((is_lower c ≡ true) × (c < 128)) ⊎ ((is_accented_lower (c - 64) ≡ true) × (192 ≤ c) × (c ≤ 255))
-small_class c (inl h) = inl (lower_one c h, omega arith)
-  where
-    lower_one : (c : ℕ) → (97 ≤ c) × (c ≤ 122) → is_lower c ≡ true
-    lower_one c h = grind (arith, nat_tests)
-small_class c (inr (h, n)) = inr (accent_one c h n, omega arith, h.1)
-  where
-    accent_one : (c : ℕ) → (223 ≤ c) × (c ≤ 255) → c ≢ 247 → is_accented_lower (c - 64) ≡ true
-    accent_one c h n = grind (arith, nat_tests)
+small_lower : (c : ℕ) → c < 192 → IsSmall c → is_lower c ≡ true
+small_lower c l h = grind (arith, nat_tests)
+
+small_accented : (c : ℕ) → 192 ≤ c → IsSmall c → is_accented_lower (c - 64) ≡ true
+small_accented c l h = grind (arith, nat_tests)
 
 letter_first : (c : ℕ) (p : Place) → is_lower c ≡ true → token_by (kind_of c) p ≡ word_at p
 letter_first c p is = rw is refl
@@ -201,30 +186,23 @@ accent_first : (p : Place) (b : ℕ) (bs : List ℕ) → is_accented_lower b ≡
 accent_first p b bs is e = ap (λ (t : Bool). cond t (word_at p) (foreign_at p)) (ap (λ ws. begins is_accented_lower ws) e ∙ is)
 
 pub first_small : (c : ℕ) (X : List ℕ) (at line : ℕ) → IsSmall c → token_at (on (encode_utf8 c ++ X) at line) ≡ word_at (on (encode_utf8 c ++ X) at line)
-first_small c X at line h = by_class (small_class c h)
-  where
-    by_class : ((is_lower c ≡ true) × (c < 128)) ⊎ ((is_accented_lower (c - 64) ≡ true) × (192 ≤ c) × (c ≤ 255)) → token_at (on (encode_utf8 c ++ X) at line) ≡ word_at (on (encode_utf8 c ++ X) at line)
-    by_class (inl (is, low)) =
-        subst (λ ws. token_at (on (ws ++ X) at line) ≡ word_at (on (ws ++ X) at line)) (sym (encode_ascii c low)) (letter_first c (on (c ∷ X) at line) is)
-    by_class (inr (is, l, h)) =
-        subst (λ ws. token_at (on (ws ++ X) at line) ≡ word_at (on (ws ++ X) at line)) (sym (accent_bytes c l h)) (accent_first (on (195 ∷ (c - 64) ∷ X) at line) (c - 64) X is refl)
+first_small c X at line h =
+    elim (cases_lt c 192) [
+      | inl l ↦
+          let is = small_lower c l h in
+          subst (λ ws. token_at (on (ws ++ X) at line) ≡ word_at (on (ws ++ X) at line)) (sym (encode_ascii c (name_low c (lower_name c is)))) (letter_first c (on (c ∷ X) at line) is)
+      | inr l ↦
+          subst (λ ws. token_at (on (ws ++ X) at line) ≡ word_at (on (ws ++ X) at line)) (sym (accent_bytes c l (name_most c (small_name c h))))
+          (accent_first (on (195 ∷ (c - 64) ∷ X) at line) (c - 64) X (small_accented c l h) refl)
+    ]
 
 word_found : (bytes rest : List ℕ) (at line : ℕ) (t : Token) → token_at (on (bytes ++ rest) at line) ≡ word_at (on (bytes ++ rest) at line) → name_len (bytes ++ rest) ≡ length bytes + name_len rest → meant (word bytes) ≡ t
     → Found (on (bytes ++ rest) at line) t rest
 word_found bytes rest at line t is count m =
-    ((word (take n text), after (on text at line) n), is, omega (arith, count, length-drop n text, length-append bytes rest), λ e. same (long e))
-  where
-    text : List ℕ
-    text = bytes ++ rest
-
-    n : ℕ
-    n = name_len text
-
-    long : length (drop n text) ≡ length rest → n ≡ length bytes
-    long e = omega (arith, count, e, length-drop n text, length-append bytes rest, name_le rest)
-
-    same : n ≡ length bytes → meant (word (take n text)) ≡ t
-    same e = ap (λ w. meant (word w)) (take_at bytes rest n (sym e)) ∙ m
+    let text : List ℕ = bytes ++ rest in
+    let n : ℕ = name_len text in
+    let all : length text ≡ length bytes + length rest = length-append bytes rest in
+    ((word (take n text), after (on text at line) n), is, omega (arith, count, all, length-drop n text), λ e. ap (λ w. meant (word w)) (take_at bytes rest n (omega (arith, count, e, all, length-drop n text, name_le rest))) ∙ m)
 
 pub word_taken : (c : ℕ) (cs bytes rest : List ℕ) (at line : ℕ) → IsSmall c → AllByRecursion IsNameCharacter cs → InUtf8 (c ∷ cs) bytes
     → (token_at (on (bytes ++ rest) at line) ≡ word_at (on (bytes ++ rest) at line)) × (name_len (bytes ++ rest) ≡ length bytes + name_len rest)
