@@ -1,4 +1,4 @@
--- Which fault comes where no token begins a text.
+-- A token is refused where none is spelled, with the fault that the bytes say.
 use Rattle.std.proofs.Common.{◌≡◌, ℕ, ◌+◌, ◌≤◌, Bool, true, false, cond, eqb, leb, ◌||◌, ◌↔◌, List, [], ◌∷◌, ◌++◌, drop, length, Result, Ok, Err, refl, sym, ap, ◌∙◌, subst, arith, inl, inr, IsUtf8}
 use Rattle.std.specs.List.{prefix_len}
 use Rattle.std.specs.Str.Lossy.{utf8_valid_len}
@@ -13,19 +13,45 @@ use Rattle.bx_text.specs.Place.{Place}
 use Rattle.bx_text.specs.Named as named
 use Rattle.bx_text.specs.Token as token
 use Rattle.bx_text.specs.Token.{Token, Body}
-use Rattle.bx_text.specs.Lexing.{token_at, token_by, kind_of, foreign_at, word_at, number_at, number_by, fraction_len, ends, pair_on, quoted_at}
+use Rattle.bx_text.specs.Lexing.{lexeme_at, lexeme_from, token_at, token_by, kind_of, foreign_at, word_at, number_at, number_by, fraction_len, ends, pair_on, quoted_at}
 use Rattle.bx_text_laws.specs.Quoted.{IsQuote}
+use Rattle.bx_text_laws.specs.Lexemes.{NoNext}
 use Rattle.bx_text_laws.specs.Spelling.{NoToken}
 use Rattle.bx_text_laws.specs.Tokens.{lines}
 use Rattle.bx_text_laws.specs.Refusals.{Unclosed, Cut, minus, hash, less, equals, greater, quoted, escape, Awaits, slash, NoCharacter, Breaks, Fails, truncated, not_utf8, bad_token}
 use Rattle.bx_text_laws.specs.Refusals as refusals
 use Rattle.bx_text_laws.proofs.Frame.{on}
-use Rattle.bx_text_laws.proofs.Refusing.{no_token_is_refused}
+use Rattle.bx_text_laws.proofs.Blanking.{skipped_is_blank}
+use Rattle.bx_text_laws.proofs.Finding.{standing, parts}
+use Rattle.bx_text_laws.proofs.Longest.{sound, found}
 use Rattle.bx_text_laws.proofs.Seams.{Seam, to_seam, ascii}
 use Rattle.bx_text_laws.proofs.Unclosed.{Left}
 use Rattle.bx_text_laws.proofs.Leftover.{Slash}
 use Rattle.bx_text_laws.proofs.Words.{accent_utf8}
 use Rattle.bx_text_laws.proofs.Faulty.{Says, says, open_lines, cut_found, break_found}
+
+abbrev IsRefused : {A : Type 0} → Result A Fault → Type 0
+IsRefused r = (f : Fault) × (r ≡ Err f)
+
+both : {A : Type 0} (r : Result A Fault) (x : A) → IsRefused r → r ≡ Ok x → ⊥
+both r x (f, e) h = cc
+
+unless : {A : Type 0} (r : Result A Fault) → ((x : A) → r ≡ Ok x → ⊥) → IsRefused r
+unless (Ok x) n = absurd (n x refl)
+unless (Err f) n = (f, refl)
+
+none : (p : Place) → IsRefused (token_at p) → NoToken p.rest
+none p r bytes t rest b = let x = found p bytes t rest b in both (token_at p) x.0 r x.1
+
+pub no_token_is_refused : (p : Place) → ((f : Fault) × (token_at p ≡ Err f)) ↔ NoToken p.rest
+no_token_is_refused p = (none p, λ n. unless (token_at p) (λ x e. let s = sound p x e in n s.0 _ x.1.rest s.1))
+
+-- and so behind blanks
+pub no_next_is_refused : (p : Place) → ((f : Fault) × (lexeme_at p ≡ Err f)) ↔ NoNext p
+no_next_is_refused p = (no_next, λ n. unless (lexeme_at p) (λ l e. let x = parts p l e in both (token_at x.0) x.1 ((no_token_is_refused x.0).1 (n x.0 ((skipped_is_blank p x.0).0 x.2))) x.3))
+  where
+    no_next : IsRefused (lexeme_at p) → NoNext p
+    no_next r q passed = none q (unless (token_at q) (λ x e. both (lexeme_at p) (standing q x) r (ap (λ s. s >>= lexeme_from) ((skipped_is_blank p q).1 passed) ∙ ap (λ s. s >>= λ x. Ok (standing q x)) e)))
 
 abbrev Read : Type 0
 Read = Result (Token × Place) Fault

@@ -28,7 +28,6 @@ pub mod Printing
 pub mod Quotes
 pub mod ReadBack
 pub mod Readings
-pub mod Refusing
 pub mod Runs
 pub mod Seams
 pub mod Sentences

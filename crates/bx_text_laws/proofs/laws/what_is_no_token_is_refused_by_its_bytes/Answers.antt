@@ -1,4 +1,4 @@
-use Rattle.bx_text_laws.proofs.Refusing.{no_token_is_refused}
+use Rattle.bx_text_laws.proofs.Failing.{no_token_is_refused}
 use Rattle.bx_text_laws.proofs.laws.what_is_no_token_is_refused_by_its_bytes.Goals as goal
 
 pub returns : goal.returns
