@@ -10,7 +10,7 @@ use Rattle.bx_text.specs.Tree.{Tree}
 use Rattle.bx_text_laws.specs.Shown.{Shown, unplaced}
 use Rattle.bx_text_laws.proofs.Frame.{on}
 use Rattle.bx_text_laws.proofs.Finding.{standing}
-use Rattle.bx_text_laws.proofs.ReadBack.{Read, ended, next_by, printed_read, stop_at}
+use Rattle.bx_text_laws.proofs.ReadBack.{Read, ended, next_of, printed_read, stop_at}
 
 -- a form is read from p on, up to the end of a line, behind which this rest stands
 pub record FormRead (p : Place) (rest : List ℕ) (t : Tree) : Type 0 where
@@ -29,7 +29,7 @@ ended_by rest t p q same r =
       tree = r.tree;
       at = r.end.at + 1;
       line = r.end.line;
-      form = a_form (same ∙ r.next) (ended r) (next_by 46 (10 ∷ rest) r.end.at r.end.line named.full_stop left refl refl refl) refl;
+      form = a_form (same ∙ r.next) (ended r) (next_of (46 ∷ 10 ∷ rest) r.end.at r.end.line named.full_stop left refl) refl;
       same = r.same;
     }
 

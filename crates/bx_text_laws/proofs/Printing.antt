@@ -1,19 +1,19 @@
 -- What is printed of an integer or an atom is taken as the same one, where a delimiter follows.
-use Rattle.std.proofs.Common.{◌≡◌, ◌≢◌, ℕ, zero, suc, ◌+◌, ◌*◌, ◌/◌, ◌%◌, ◌≤◌, ◌<◌, Bool, true, false, cond, not, eqb, ◌&&◌, ◌||◌, ℤ, pos, negsuc, neg_ℤ, List, [], ◌∷◌, ◌++◌, take, drop, length, Ok, refl, sym, ap, ◌∙◌, subst, arith, codes, append_assoc, append-nil, drop_at, take_at, length-append, ◌⊎◌, inl, inr, chars, IsUtf8, encode_utf8_all}
+use Rattle.std.proofs.Common.{◌≡◌, ◌≢◌, ℕ, zero, suc, ◌+◌, ◌*◌, ◌/◌, ◌%◌, ◌≤◌, ◌<◌, Bool, true, false, cond, not, eqb, ◌&&◌, ◌||◌, ℤ, pos, negsuc, neg_ℤ, List, [], ◌∷◌, ◌++◌, take, drop, length, refl, sym, ap, ◌∙◌, subst, arith, codes, append_assoc, append-nil, drop_at, take_at, length-append, ◌⊎◌, inl, inr, chars, IsUtf8, encode_utf8_all}
 use Rattle.std.specs.Prelude.{nat_lt}
 use Rattle.std.specs.List.{list_all, prefix_len, flat_map, AllByRecursion}
 use Rattle.std.specs.Char.{encode_utf8}
 use Rattle.std.specs.Fmt.{digits, digits_onto, digit_glyph}
 use Rattle.std.specs.Str.{all_scalars}
-use Rattle.std.proofs.lemmas.Bool.{eqb-true, eqb-false, and_parts, and_from, not-true, both_ways, cond_both}
+use Rattle.std.proofs.lemmas.Bool.{eqb-true, eqb-false, ltb-true, ltb-false, and_parts, and_from, not-true, both_ways, cond_both}
 use Rattle.std.proofs.lemmas.Bool.Decides.{nat_tests}
 use Rattle.std.proofs.lemmas.Str.{encode_ascii, encodes-append, encodes-chars, scalars-chars}
 use Rattle.std.proofs.Math.Utf8.{low_scalar}
 use Rattle.bx_terms.specs.AtomText.{is_name_byte, is_reserved, is_bare, by_code, printed_atom}
 use Rattle.bx_terms.specs.AtomText as atoms
-use Rattle.bx_text.specs.Bytes.{is_digit, is_space}
+use Rattle.bx_text.specs.Bytes.{is_digit}
 use Rattle.bx_text.specs.Number.{number}
-use Rattle.bx_text.specs.Place.{Place, after}
+use Rattle.bx_text.specs.Place.{after}
 use Rattle.bx_text.specs.Token as token
 use Rattle.bx_text.specs.Token.{Token}
 use Rattle.bx_text.specs.Lexing.{token_at, number_by, fraction_len, name_len, word}
@@ -53,49 +53,26 @@ decimal_is (suc k) n h = by (nat_lt n 10) refl (λ low. decimal_is k (n / 10) lo
 
     by : (t : Bool) → nat_lt n 10 ≡ t → (n / 10 < k → Numeral 10 (digits_within k (n / 10)) (n / 10))
         → Numeral 10 (elim t [ true ↦ (48 + n) ∷ [] | false ↦ digits_within k (n / 10) ++ (48 + n % 10) ∷ [] ]) n
-    by true e more = one_digit (digit_is n (small n e))
-      where
-        small : (n : ℕ) → nat_lt n 10 ≡ true → n < 10
-        small n e = grind (arith, nat_tests)
+    by true e more = one_digit (digit_is n (ltb-true n 10 e))
     by false e more =
+        let long : 10 ≤ n = ltb-false n 10 e in
         let left : n % 10 < 10 = omega arith in
-        subst (Numeral 10 (digits_within k (n / 10) ++ (48 + n % 10) ∷ [])) tens (digit_more (more (shorter n k e h)) (digit_is (n % 10) left))
-      where
-        large : (n : ℕ) → nat_lt n 10 ≡ false → 10 ≤ n
-        large n e = grind (arith, nat_tests)
-
-        shorter : (n k : ℕ) → nat_lt n 10 ≡ false → n < suc k → n / 10 < k
-        shorter n k e h = let long : 10 ≤ n = large n e in omega arith
+        subst (Numeral 10 (digits_within k (n / 10) ++ (48 + n % 10) ∷ [])) tens (digit_more (more (omega arith)) (digit_is (n % 10) left))
 
 pub numeral_exact : {front : List ℕ} → Minus front → (ds rest : List ℕ) → list_all is_digit ds ≡ true → 0 < length ds → Delimits rest → Exactly (front ++ ds) (token.integer (number (front ++ ds))) rest
 numeral_exact {front} mi ds rest a l d at line =
-    (token.integer (number (take (length front + length ds) text)), after p (length front + length ds), here, left, ap (λ w. token.integer (number w)) front_is)
-  where
-    text : List ℕ
-    text = (front ++ ds) ++ rest
-
-    p : Place
-    p = on text at line
-
-    same : text ≡ front ++ (ds ++ rest)
-    same = append_assoc front ds rest
-
-    count : length ds ≡ prefix_len is_digit (ds ++ rest)
-    count = omega (arith, run_append is_digit ds rest a, d.digits)
-
-    front_is : take (length front + length ds) text ≡ front ++ ds
-    front_is = take_at (front ++ ds) rest (length front + length ds) (length-append front ds)
-
-    left : drop (length front + length ds) text ≡ rest
-    left = drop_at (front ++ ds) rest (length front + length ds) (length-append front ds)
-
-    begun : token_at p ≡ number_by p (length front + length ds) (fraction_len (drop (length front + length ds) text))
-    begun =
-        subst (λ text. token_at (on text at line) ≡ number_by (on text at line) (length front + length ds) (fraction_len (drop (length front + length ds) text))) (sym same)
-        (first_number mi ds rest at line a l ∙ digits_on front (ds ++ rest) at line (length ds) count l)
-
-    here : token_at p ≡ Ok (token.integer (number (take (length front + length ds) text)), after p (length front + length ds))
-    here = begun ∙ ap (λ f. number_by p (length front + length ds) f) (ap fraction_len left ∙ d.fraction)
+    let text : List ℕ = (front ++ ds) ++ rest in
+    let n : ℕ = length front + length ds in
+    let left : drop n text ≡ rest = drop_at (front ++ ds) rest n (length-append front ds) in
+    let begun : token_at (on text at line) ≡ number_by (on text at line) n (fraction_len (drop n text)) =
+    subst (λ text. token_at (on text at line) ≡ number_by (on text at line) n (fraction_len (drop n text))) (sym (append_assoc front ds rest))
+    (first_number mi ds rest at line a l ∙ digits_on front (ds ++ rest) at line (length ds) (omega (arith, run_append is_digit ds rest a, d.digits)) l) in (
+      token.integer (number (take n text)),
+      after (on text at line) n,
+      begun ∙ ap (λ f. number_by (on text at line) n f) (ap fraction_len left ∙ d.fraction),
+      left,
+      ap (λ w. token.integer (number w)) (take_at (front ++ ds) rest n (length-append front ds)),
+    )
 
 pub exactly_is : (bytes rest : List ℕ) (t u : Token) → t ≡ u → Exactly bytes t rest → Exactly bytes u rest
 exactly_is bytes rest t u e x = subst (λ t. Exactly bytes t rest) e x
@@ -267,44 +244,3 @@ quoted_exact w rest utf8 =
 
 pub atom_exact : (w rest : List ℕ) → IsUtf8 w → Delimits rest → Exactly (printed_atom w) (token.atom (token.plain w)) rest
 atom_exact w rest utf8 d = cond_both (is_bare w) w (atoms.quoted w) (λ bytes. Exactly bytes (token.atom (token.plain w)) rest) (λ e. bare_exact w rest e d) (λ _. quoted_exact w rest utf8)
-
--- neither begins with a space or a comment
-pub record Starts (bytes : List ℕ) : Type 0 where
-  pub first : ℕ
-  pub more : List ℕ
-  pub is : bytes ≡ first ∷ more
-  pub space : is_space first ≡ false
-  pub percent : eqb first 37 ≡ false
-
-digit_starts : (ds : List ℕ) → list_all is_digit ds ≡ true → 0 < length ds → Starts ds
-digit_starts [] a l = absurd (omega arith)
-digit_starts (d ∷ ds) a l =
-    let digit = (and_parts (is_digit d) (list_all is_digit ds) a).0 in
-    record { first = d; more = ds; is = refl; space = no_space d digit; percent = no_percent d digit }
-  where
-    no_space : (d : ℕ) → is_digit d ≡ true → is_space d ≡ false
-    no_space d e = grind (arith, nat_tests)
-
-    no_percent : (d : ℕ) → is_digit d ≡ true → eqb d 37 ≡ false
-    no_percent d e = grind (arith, nat_tests)
-
-pub integer_starts : (n : ℤ) → Starts (integer_text n)
-unfolding integer_text whole_decimal
-integer_starts (pos n) = let k = digits_of (decimal_is (suc n) n (omega arith)) refl in digit_starts (digits_within (suc n) n) k.0 k.2
-integer_starts (negsuc n) = record { first = 45; more = digits_within (suc (suc n)) (suc n); is = refl; space = refl; percent = refl }
-
-pub atom_starts : (w : List ℕ) → Starts (printed_atom w)
-atom_starts w =
-    cond_both (is_bare w) w (atoms.quoted w) Starts (bare w) (λ _. record { first = 39; more = flat_map atoms.escaped (chars w) ++ 39 ∷ []; is = refl; space = refl; percent = refl })
-  where
-    no_space : (d : ℕ) → atoms.is_lower d ≡ true → is_space d ≡ false
-    no_space d e = grind (arith, nat_tests)
-
-    no_percent : (d : ℕ) → atoms.is_lower d ≡ true → eqb d 37 ≡ false
-    no_percent d e = grind (arith, nat_tests)
-
-    bare : (w : List ℕ) → is_bare w ≡ true → Starts w
-    bare [] e = cc
-    bare (b ∷ bs) e =
-        let lower = (and_parts (atoms.is_lower b) (list_all is_name_byte (b ∷ bs)) (and_parts (atoms.is_lower b && list_all is_name_byte (b ∷ bs)) (not (is_reserved (b ∷ bs))) e).0).0 in
-        record { first = b; more = bs; is = refl; space = no_space b lower; percent = no_percent b lower }

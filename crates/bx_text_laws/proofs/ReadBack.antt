@@ -1,6 +1,10 @@
 -- What is printed is read as the same term.
-use Rattle.std.proofs.Common.{◌≡◌, ◌<◌, arith, ℕ, suc, ◌+◌, Bool, true, false, cond, eqb, ℤ, List, [], ◌∷◌, ◌++◌, Ok, refl, sym, ap, ◌∙◌, subst, codes, append_assoc, ◌⊎◌, inl, inr, IsUtf8}
+use Rattle.std.proofs.Common.{◌≡◌, ◌<◌, arith, ℕ, suc, ◌+◌, Bool, true, false, cond, eqb, ℤ, List, [], ◌∷◌, ◌++◌, Result, Ok, Err, refl, sym, ap, ◌∙◌, subst, codes, append_assoc, ◌⊎◌, inl, inr, IsUtf8}
+use Rattle.std.proofs.lemmas.Bool.{eqb-true, false_from_ne_true}
+use Rattle.std.proofs.lemmas.Bool.Decides.{nat_tests}
 use Rattle.bx_terms.specs.Outcomes.{◌>>=◌}
+use Rattle.bx_terms.specs.declared.faults.Fault.{Fault}
+use Rattle.bx_terms.specs.declared.faults.Fault.TheVariants.{BadToken}
 use Rattle.bx_terms.specs.AtomText.{printed_atom}
 use Rattle.bx_text.specs.declared.node.Span.{Span}
 use Rattle.bx_text.specs.Bytes.{is_space}
@@ -8,7 +12,7 @@ use Rattle.bx_text.specs.Place.{Place, place_in}
 use Rattle.bx_text.specs.Named as named
 use Rattle.bx_text.specs.Token as token
 use Rattle.bx_text.specs.Token.{Token, Lexeme, spelled}
-use Rattle.bx_text.specs.Lexing.{token_at, lexeme_from, lexeme_at}
+use Rattle.bx_text.specs.Lexing.{kind_of, token_by, token_at, lexeme_from, lexeme_at}
 use Rattle.bx_text.specs.Terms.{span, tail_of}
 use Rattle.bx_text.specs.Grammar.{Spells, an_integer, an_atom, empty_tuple, a_tuple, empty_list, a_list, a_list_with_tail, Row, one, more, a_form}
 use Rattle.bx_text.specs.Printed.{integer_text, node_text, row_text, rest_text}
@@ -25,14 +29,27 @@ use Rattle.bx_text_laws.proofs.Meant.{atom_meant}
 use Rattle.bx_text_laws.proofs.Sentences.{back, term_back}
 use Rattle.bx_text_laws.proofs.Moving.{Closes, closes_by}
 use Rattle.bx_text_laws.proofs.Kept.{kept_moves}
-use Rattle.bx_text_laws.proofs.Printing.{Delimits, Starts, integer_exact, atom_exact, integer_starts, atom_starts}
+use Rattle.bx_text_laws.proofs.Printing.{Delimits, integer_exact, atom_exact}
 
--- the next token, where no blank stands before it
-pub next_by : (b : ℕ) (bs : List ℕ) (at line : ℕ) (u : Token) (q : Place) → is_space b ≡ false → eqb b 37 ≡ false → token_at (on (b ∷ bs) at line) ≡ Ok (u, q)
-    → lexeme_at (on (b ∷ bs) at line) ≡ Ok (standing (on (b ∷ bs) at line) (u, q))
-next_by b bs at line u q s c h =
-    ap (λ r. r >>= lexeme_from) (tests_by b bs at line false false c (not_line b s) s)
-    ∙ ap (λ r. r >>= λ x. Ok (standing (on (b ∷ bs) at line) x)) h
+-- the next token, where one begins
+blank_kind : (b : ℕ) → is_space b ≡ true → kind_of b ≡ kind_of 32
+blank_kind b e = grind (arith, nat_tests)
+
+pub next_of : (bs : List ℕ) (at line : ℕ) (u : Token) (q : Place) → token_at (on bs at line) ≡ Ok (u, q) → lexeme_at (on bs at line) ≡ Ok (standing (on bs at line) (u, q))
+next_of [] at line u q h = cc
+next_of (b ∷ bs) at line u q h = ap (λ r. r >>= lexeme_from) (tests_by b bs at line false false percent (not_line b space) space) ∙ ap (λ r. r >>= λ x. Ok (standing p x)) h
+  where
+    p : Place
+    p = on (b ∷ bs) at line
+
+    none : ◌≡◌ {A = Result (Token × Place) Fault} (Err (BadToken line)) (Ok (u, q)) → ⊥
+    none e = cc
+
+    space : is_space b ≡ false
+    space = false_from_ne_true (is_space b) (λ e. none (sym (ap (λ k. token_by k p) (blank_kind b e)) ∙ h))
+
+    percent : eqb b 37 ≡ false
+    percent = false_from_ne_true (eqb b 37) (λ e. none (sym (ap (λ b. token_by (kind_of b) p) (eqb-true b 37 e)) ∙ h))
 
 -- a term is read from p on, up to this rest
 pub record Read (d : ℕ) (p : Place) (rest : List ℕ) (t : Tree) : Type 0 where
@@ -51,27 +68,22 @@ integer_meant u n e = grind arith
 abbrev pub Reads : ℕ → List ℕ → List ℕ → Tree → Type 0
 Reads d bytes rest t = (at line : ℕ) → Read d (on (bytes ++ rest) at line) rest t
 
-token_read : (d : ℕ) (bytes rest : List ℕ) (t tree : Tree) (at line : ℕ) (u : Token) (q : Place) → Starts bytes → token_at (on (bytes ++ rest) at line) ≡ Ok (u, q) → q.rest ≡ rest
+token_read : (d : ℕ) (bytes rest : List ℕ) (t tree : Tree) (at line : ℕ) (u : Token) (q : Place) → token_at (on (bytes ++ rest) at line) ≡ Ok (u, q) → q.rest ≡ rest
     → Spells d (standing (on (bytes ++ rest) at line) (u, q)) tree q → unplaced tree ≡ unplaced t → Read d (on (bytes ++ rest) at line) rest t
-token_read d bytes rest t tree at line u q s h r k e = record { first = standing (on (bytes ++ rest) at line) (u, q); tree = tree; end = q; next = next; spells = k; left = r; same = e }
-  where
-    next : lexeme_at (on (bytes ++ rest) at line) ≡ Ok (standing (on (bytes ++ rest) at line) (u, q))
-    next =
-        subst (λ bs. token_at (on (bs ++ rest) at line) ≡ Ok (u, q) → lexeme_at (on (bs ++ rest) at line) ≡ Ok (standing (on (bs ++ rest) at line) (u, q))) (sym s.is)
-        (next_by s.first (s.more ++ rest) at line u q s.space s.percent) h
+token_read d bytes rest t tree at line u q h r k e = record { first = standing (on (bytes ++ rest) at line) (u, q); tree = tree; end = q; next = next_of (bytes ++ rest) at line u q h; spells = k; left = r; same = e }
 
 integer_read : (d : ℕ) (n : ℤ) (t : Tree) (rest : List ℕ) → unplaced t ≡ integer nowhere n → Closes rest → Reads d (integer_text n) rest t
 integer_read d n t rest e k at line =
     let x = integer_exact n rest k.delimits at line in
     let l : Lexeme = standing (on (integer_text n ++ rest) at line) (x.0, x.1) in
-    token_read d (integer_text n) rest t (integer (span l x.1) n) at line x.0 x.1 (integer_starts n) x.2 x.3 (an_integer (integer_meant x.0 n x.4)) (sym e)
+    token_read d (integer_text n) rest t (integer (span l x.1) n) at line x.0 x.1 x.2 x.3 (an_integer (integer_meant x.0 n x.4)) (sym e)
 
 atom_read : (d : ℕ) (w : List ℕ) (t : Tree) (rest : List ℕ) → unplaced t ≡ atom nowhere w → IsUtf8 w → Closes rest → Reads d (printed_atom w) rest t
 atom_read d w t rest e utf8 k at line =
     let x = atom_exact w rest utf8 k.delimits at line in
     let a = atom_meant x.0 w x.4 in
     let l : Lexeme = standing (on (printed_atom w ++ rest) at line) (x.0, x.1) in
-    token_read d (printed_atom w) rest t (atom (span l x.1) (spelled a.0)) at line x.0 x.1 (atom_starts w) x.2 x.3 (an_atom a.1) (ap (λ w. atom nowhere w) a.2 ∙ sym e)
+    token_read d (printed_atom w) rest t (atom (span l x.1) (spelled a.0)) at line x.0 x.1 x.2 x.3 (an_atom a.1) (ap (λ w. atom nowhere w) a.2 ∙ sym e)
 
 other_read : (d : ℕ) (k : Sort) (w : List ℕ) (t : Tree) (rest : List ℕ) → unplaced t ≡ other nowhere k w → StandsAs d k w → Closes rest → Reads d w rest t
 other_read d k w t rest e h c at line =
@@ -125,12 +137,12 @@ made true s t = list s t
 made false s t = tuple s t
 
 open_next : (k : Bool) (X : List ℕ) (at line : ℕ) → lexeme_at (on (opens k ∷ X) at line) ≡ Ok (standing (on (opens k ∷ X) at line) (opening k, on X (at + 1) line))
-open_next true X at line = next_by 91 X at line token.open_list (on X (at + 1) line) refl refl refl
-open_next false X at line = next_by 123 X at line token.open_tuple (on X (at + 1) line) refl refl refl
+open_next true X at line = next_of (91 ∷ X) at line token.open_list (on X (at + 1) line) refl
+open_next false X at line = next_of (123 ∷ X) at line token.open_tuple (on X (at + 1) line) refl
 
 close_next : (k : Bool) (X : List ℕ) (at line : ℕ) → lexeme_at (on (shuts k ∷ X) at line) ≡ Ok (standing (on (shuts k ∷ X) at line) (closing k, on X (at + 1) line))
-close_next true X at line = next_by 93 X at line named.close_list (on X (at + 1) line) refl refl refl
-close_next false X at line = next_by 125 X at line named.close_tuple (on X (at + 1) line) refl refl refl
+close_next true X at line = next_of (93 ∷ X) at line named.close_list (on X (at + 1) line) refl
+close_next false X at line = next_of (125 ∷ X) at line named.close_tuple (on X (at + 1) line) refl
 
 -- up to the closing mark, or in a list to the bar before its tail
 record Tailed (d : ℕ) (bar : Lexeme) (rest : List ℕ) (tail : Tree) : Type 0 where
@@ -180,7 +192,7 @@ tails_more k d rest b v reads tails at line =
     let c = tails r.end.at r.end.line in
     subst (λ us. Rows k d (on (44 ∷ us) at line) rest (cons b v)) (sym (append_assoc (node_text b) (rest_text v) (shuts k ∷ rest)))
     (record {
-      row = record { mark = c.row.mark; trees = r.tree ∷ c.row.trees; row = λ l t s. more s (next_by 44 X at line named.comma (on X (at + 1) line) refl refl refl) refl r.next (c.row.row r.first r.tree (ended r)) };
+      row = record { mark = c.row.mark; trees = r.tree ∷ c.row.trees; row = λ l t s. more s (next_of (44 ∷ X) at line named.comma (on X (at + 1) line) refl) refl r.next (c.row.row r.first r.tree (ended r)) };
       tail = c.tail;
       ends = c.ends;
       same = same_cons r.tree b (chain c.row.trees c.tail) v r.same c.same;
@@ -199,7 +211,7 @@ listed_tail : (d : ℕ) (rest : List ℕ) (u : Tree) → IsTail u → rest_text 
 listed_tail d rest u k text reads at line =
     subst (λ us. Rows true d (on (us ++ 93 ∷ rest) at line) rest u) (sym text)
     (record {
-      row = record { mark = bar; trees = []; row = λ l t s. one s (next_by 124 (node_text u ++ 93 ∷ rest) at line named.bar (on (node_text u ++ 93 ∷ rest) (at + 1) line) refl refl refl) };
+      row = record { mark = bar; trees = []; row = λ l t s. one s (next_of (124 ∷ (node_text u ++ 93 ∷ rest)) at line named.bar (on (node_text u ++ 93 ∷ rest) (at + 1) line) refl) };
       tail = r.tree;
       ends = inr (
         refl,
@@ -211,7 +223,7 @@ listed_tail d rest u k text reads at line =
           close = standing (on (93 ∷ rest) r.end.at r.end.line) (named.close_list, on rest (r.end.at + 1) r.end.line);
           begins = r.next;
           spells = ended r;
-          closing = next_by 93 rest r.end.at r.end.line named.close_list (on rest (r.end.at + 1) r.end.line) refl refl refl;
+          closing = next_of (93 ∷ rest) r.end.at r.end.line named.close_list (on rest (r.end.at + 1) r.end.line) refl;
           closes = refl;
           left = refl;
           same = untailed r.tree u k r.same;
@@ -334,4 +346,4 @@ pub read_back : (t : Tree) → Shown 256 t → IsReadBack t
 read_back t h =
     let r = printed_read t 256 (46 ∷ []) h (mark_closes 46 [] (record { digits = refl; fraction = refl; name = refl }) (omega arith)) 0 1 in
     let q : Place = on [] (r.end.at + 1) r.end.line in
-    (r.tree, q, (forms_are (place_in (node_text t ++ codes ".") 0) r.tree q).1 (a_form r.next (ended r) (next_by 46 [] r.end.at r.end.line named.full_stop q refl refl refl) refl), refl, r.same)
+    (r.tree, q, (forms_are (place_in (node_text t ++ codes ".") 0) r.tree q).1 (a_form r.next (ended r) (next_of (46 ∷ []) r.end.at r.end.line named.full_stop q refl) refl), refl, r.same)
