@@ -1,5 +1,5 @@
 -- What is printed is read as the same term.
-use Rattle.std.proofs.Common.{◌≡◌, ◌<◌, arith, ℕ, suc, ◌+◌, Bool, true, false, cond, eqb, ℤ, List, [], ◌∷◌, ◌++◌, Result, Ok, Err, refl, sym, ap, ◌∙◌, subst, codes, append_assoc, ◌⊎◌, inl, inr, IsUtf8}
+use Rattle.std.proofs.Common.{◌≡◌, ◌<◌, arith, ℕ, suc, ◌+◌, Bool, true, false, cond, eqb, ℤ, List, [], ◌∷◌, ◌++◌, Result, Ok, Err, refl, sym, ap, ◌∙◌, subst, codes, append_assoc, IsUtf8}
 use Rattle.std.proofs.lemmas.Bool.{eqb-true, false_from_ne_true}
 use Rattle.std.proofs.lemmas.Bool.Decides.{nat_tests}
 use Rattle.bx_terms.specs.Outcomes.{◌>>=◌}
@@ -95,26 +95,14 @@ other_read d k w t rest e h c at line =
 mark_closes : (b : ℕ) (Y : List ℕ) → Delimits (b ∷ Y) → 37 < b → Closes (b ∷ Y)
 mark_closes b Y d l = closes_by b Y d (λ s. omega (arith, l, s)) (λ e. omega (arith, l, e)) (λ e. omega (arith, l, e))
 
-bar_at : (X : List ℕ) → Closes (124 ∷ X)
-bar_at X = mark_closes 124 X (record { digits = refl; fraction = refl; name = refl }) (omega arith)
-
-comma_at : (X : List ℕ) → Closes (44 ∷ X)
-comma_at X = mark_closes 44 X (record { digits = refl; fraction = refl; name = refl }) (omega arith)
-
 delimits : (u : Tree) (X : List ℕ) → Closes X → Closes (rest_text u ++ X)
 delimits nil X d = d
-delimits (cons t u) X d = comma_at _
-delimits s X d = bar_at _
+delimits (cons t u) X d = mark_closes 44 _ (record { digits = refl; fraction = refl; name = refl }) (omega arith)
+delimits s X d = mark_closes 124 _ (record { digits = refl; fraction = refl; name = refl }) (omega arith)
 
 -- at the place where a term ended
 pub ended : {d : ℕ} {p : Place} {rest : List ℕ} {t : Tree} → (r : Read d p rest t) → Spells d r.first r.tree (on rest r.end.at r.end.line)
 ended {d = d} {rest = rest} r = subst (Spells d r.first r.tree) (same_place r.end (on rest r.end.at r.end.line) r.left refl refl) r.spells
-
--- the elements that follow one, up to a mark
-record Follow (d : ℕ) (p : Place) : Type 0 where
-  mark : Lexeme
-  trees : List Tree
-  row : (l : Lexeme) (t : Tree) → Spells d l t p → Row d l (t ∷ trees) mark
 
 same_cons : (a b u v : Tree) → unplaced a ≡ unplaced b → unplaced u ≡ unplaced v → unplaced (cons a u) ≡ unplaced (cons b v)
 same_cons a b u v e f = ap (λ x. cons x (unplaced u)) e ∙ ap (λ x. cons (unplaced b) x) f
@@ -144,45 +132,35 @@ close_next : (k : Bool) (X : List ℕ) (at line : ℕ) → lexeme_at (on (shuts 
 close_next true X at line = next_of (93 ∷ X) at line named.close_list (on X (at + 1) line) refl
 close_next false X at line = next_of (125 ∷ X) at line named.close_tuple (on X (at + 1) line) refl
 
--- up to the closing mark, or in a list to the bar before its tail
-record Tailed (d : ℕ) (bar : Lexeme) (rest : List ℕ) (tail : Tree) : Type 0 where
-  is_bar : bar.token ≡ named.bar
-  start : Lexeme
+-- behind its opening mark
+record Whole (d : ℕ) (l : Lexeme) (rest : List ℕ) (t : Tree) : Type 0 where
   tree : Tree
   end : Place
-  close : Lexeme
-  begins : lexeme_at bar.after ≡ Ok start
-  spells : Spells d start tree end
-  closing : lexeme_at end ≡ Ok close
-  closes : close.token ≡ named.close_list
-  left : close.after.rest ≡ rest
-  same : tail_of tree ≡ tail
+  spells : Spells d l tree end
+  left : end.rest ≡ rest
+  same : unplaced tree ≡ t
 
-record Proper (k : Bool) (mark : Lexeme) (rest : List ℕ) (tail : Tree) : Type 0 where
-  closes : mark.token ≡ closing k
-  left : mark.after.rest ≡ rest
-  none : nil ≡ tail
-
-abbrev Ending : Bool → ℕ → Lexeme → List ℕ → Tree → Type 0
-Ending k d mark rest tail = Proper k mark rest tail ⊎ ((k ≡ true) × Tailed d mark rest tail)
-
+-- the elements that follow one, up to a mark, and how the mark and what stands behind it close them
 record Rows (k : Bool) (d : ℕ) (p : Place) (rest : List ℕ) (u : Tree) : Type 0 where
-  row : Follow d p
+  mark : Lexeme
+  trees : List Tree
   tail : Tree
-  ends : Ending k d row.mark rest tail
-  same : unplaced (chain row.trees tail) ≡ unplaced u
+  row : (l : Lexeme) (t : Tree) → Spells d l t p → Row d l (t ∷ trees) mark
+  close : (l first : Lexeme) (ts : List Tree) → l.token ≡ opening k → lexeme_at l.after ≡ Ok first → Row d first ts mark → Whole (suc d) l rest (made k nowhere (unplaced (chain ts tail)))
+  same : unplaced (chain trees tail) ≡ unplaced u
 
 abbrev Tails : Bool → ℕ → List ℕ → Tree → Type 0
 Tails k d rest u = (at line : ℕ) → Rows k d (on (rest_text u ++ shuts k ∷ rest) at line) rest u
 
+shut : (k : Bool) (d : ℕ) (rest : List ℕ) (m l first : Lexeme) (ts : List Tree) → m.token ≡ closing k → m.after.rest ≡ rest → l.token ≡ opening k → lexeme_at l.after ≡ Ok first → Row d first ts m
+    → Whole (suc d) l rest (made k nowhere (unplaced (chain ts nil)))
+shut true d rest m l first ts c e o n row = record { tree = list (span l m.after) (chain ts nil); end = m.after; spells = a_list o n row c; left = e; same = refl }
+shut false d rest m l first ts c e o n row = record { tree = tuple (span l m.after) (chain ts nil); end = m.after; spells = a_tuple o n row c; left = e; same = refl }
+
 tails_end : (k : Bool) (d : ℕ) (rest : List ℕ) → Tails k d rest nil
 tails_end k d rest at line =
-    record {
-      row = record { mark = standing (on (shuts k ∷ rest) at line) (closing k, on rest (at + 1) line); trees = []; row = λ l t s. one s (close_next k rest at line) };
-      tail = nil;
-      ends = inl (record { closes = refl; left = refl; none = refl });
-      same = refl;
-    }
+    let m : Lexeme = standing (on (shuts k ∷ rest) at line) (closing k, on rest (at + 1) line) in
+    record { mark = m; trees = []; tail = nil; row = λ l t s. one s (close_next k rest at line); close = λ l first ts. shut k d rest m l first ts refl refl; same = refl }
 
 -- one element more, behind a comma
 tails_more : (k : Bool) (d : ℕ) (rest : List ℕ) (b v : Tree) → Reads d (node_text b) (rest_text v ++ shuts k ∷ rest) b → Tails k d rest v → Tails k d rest (cons b v)
@@ -192,10 +170,12 @@ tails_more k d rest b v reads tails at line =
     let c = tails r.end.at r.end.line in
     subst (λ us. Rows k d (on (44 ∷ us) at line) rest (cons b v)) (sym (append_assoc (node_text b) (rest_text v) (shuts k ∷ rest)))
     (record {
-      row = record { mark = c.row.mark; trees = r.tree ∷ c.row.trees; row = λ l t s. more s (next_of (44 ∷ X) at line named.comma (on X (at + 1) line) refl) refl r.next (c.row.row r.first r.tree (ended r)) };
+      mark = c.mark;
+      trees = r.tree ∷ c.trees;
       tail = c.tail;
-      ends = c.ends;
-      same = same_cons r.tree b (chain c.row.trees c.tail) v r.same c.same;
+      row = λ l t s. more s (next_of (44 ∷ X) at line named.comma (on X (at + 1) line) refl) refl r.next (c.row r.first r.tree (ended r));
+      close = c.close;
+      same = same_cons r.tree b (chain c.trees c.tail) v r.same c.same;
     })
 
 abbrev IsTail : Tree → Type 0
@@ -209,45 +189,24 @@ untailed v u k e = grind arith
 
 listed_tail : (d : ℕ) (rest : List ℕ) (u : Tree) → IsTail u → rest_text u ≡ 124 ∷ node_text u → Reads d (node_text u) (93 ∷ rest) u → Tails true d rest u
 listed_tail d rest u k text reads at line =
+    let X : List ℕ = node_text u ++ 93 ∷ rest in
+    let r = reads (at + 1) line in
+    let q : Place = on rest (r.end.at + 1) r.end.line in
     subst (λ us. Rows true d (on (us ++ 93 ∷ rest) at line) rest u) (sym text)
     (record {
-      row = record { mark = bar; trees = []; row = λ l t s. one s (next_of (124 ∷ (node_text u ++ 93 ∷ rest)) at line named.bar (on (node_text u ++ 93 ∷ rest) (at + 1) line) refl) };
+      mark = standing (on (124 ∷ X) at line) (named.bar, on X (at + 1) line);
+      trees = [];
       tail = r.tree;
-      ends = inr (
-        refl,
-        record {
-          is_bar = refl;
-          start = r.first;
-          tree = r.tree;
-          end = on (93 ∷ rest) r.end.at r.end.line;
-          close = standing (on (93 ∷ rest) r.end.at r.end.line) (named.close_list, on rest (r.end.at + 1) r.end.line);
-          begins = r.next;
-          spells = ended r;
-          closing = next_of (93 ∷ rest) r.end.at r.end.line named.close_list (on rest (r.end.at + 1) r.end.line) refl;
-          closes = refl;
-          left = refl;
-          same = untailed r.tree u k r.same;
-        },
-      );
+      row = λ l t s. one s (next_of (124 ∷ X) at line named.bar (on X (at + 1) line) refl);
+      close = λ l first ts o n row. record {
+        tree = list (span l q) (chain ts (tail_of r.tree));
+        end = q;
+        spells = a_list_with_tail o n row refl r.next (ended r) (next_of (93 ∷ rest) r.end.at r.end.line named.close_list q refl) refl;
+        left = refl;
+        same = ap (λ u. list nowhere (unplaced (chain ts u))) (untailed r.tree u k r.same);
+      };
       same = r.same;
     })
-  where
-    bar : Lexeme
-    bar = standing (on (124 ∷ (node_text u ++ 93 ∷ rest)) at line) (named.bar, on (node_text u ++ 93 ∷ rest) (at + 1) line)
-
-    r : Read d (on (node_text u ++ 93 ∷ rest) (at + 1) line) (93 ∷ rest) u
-    r = reads (at + 1) line
-
--- behind its opening mark
-record Whole (d : ℕ) (l : Lexeme) (rest : List ℕ) (t : Tree) : Type 0 where
-  tree : Tree
-  end : Place
-  spells : Spells d l tree end
-  left : end.rest ≡ rest
-  same : unplaced tree ≡ t
-
-whole_is : {d : ℕ} {l : Lexeme} {rest : List ℕ} {t u : Tree} → t ≡ u → Whole d l rest t → Whole d l rest u
-whole_is {d = d} {l = l} {rest = rest} e w = subst (λ t. Whole d l rest t) e w
 
 abbrev Bracketed : Bool → ℕ → List ℕ → Tree → Type 0
 Bracketed k d rest t = (at line : ℕ) (p : Place) → Whole (suc d) (standing p (opening k, on (row_text t ++ shuts k ∷ rest) at line)) rest (made k nowhere (unplaced t))
@@ -265,30 +224,14 @@ bracketed_none k d rest at line p =
     made_nil true s = refl
     made_nil false s = refl
 
-by_ends : (k : Bool) (d : ℕ) (rest : List ℕ) (l first m : Lexeme) (ts : List Tree) (tail : Tree) → l.token ≡ opening k → lexeme_at l.after ≡ Ok first → Row d first ts m → Ending k d m rest tail
-    → Whole (suc d) l rest (made k nowhere (unplaced (chain ts tail)))
-by_ends true d rest l first m ts tail o n row (inl k) =
-    record { tree = list (span l m.after) (chain ts nil); end = m.after; spells = a_list o n row k.closes; left = k.left; same = ap (λ u. list nowhere (unplaced (chain ts u))) k.none }
-by_ends false d rest l first m ts tail o n row (inl k) =
-    record { tree = tuple (span l m.after) (chain ts nil); end = m.after; spells = a_tuple o n row k.closes; left = k.left; same = ap (λ u. tuple nowhere (unplaced (chain ts u))) k.none }
-by_ends true d rest l first m ts tail o n row (inr (e, k)) =
-    record {
-      tree = list (span l k.close.after) (chain ts (tail_of k.tree));
-      end = k.close.after;
-      spells = a_list_with_tail o n row k.is_bar k.begins k.spells k.closing k.closes;
-      left = k.left;
-      same = ap (λ u. list nowhere (unplaced (chain ts u))) k.same;
-    }
-by_ends false d rest l first m ts tail o n row (inr (e, k)) = cc
-
 bracketed_some : (k : Bool) (d : ℕ) (rest : List ℕ) (a u : Tree) → Reads d (node_text a) (rest_text u ++ shuts k ∷ rest) a → Tails k d rest u → Bracketed k d rest (cons a u)
 bracketed_some k d rest a u reads tails at line p =
     let r = reads at line in
     let c = tails r.end.at r.end.line in
     let l : Lexeme = standing p (opening k, on (node_text a ++ (rest_text u ++ shuts k ∷ rest)) at line) in
     subst (λ us. Whole (suc d) (standing p (opening k, on us at line)) rest (made k nowhere (unplaced (cons a u)))) (sym (append_assoc (node_text a) (rest_text u) (shuts k ∷ rest)))
-    (whole_is (ap (λ x. made k nowhere x) (same_cons r.tree a (chain c.row.trees c.tail) u r.same c.same))
-    (by_ends k d rest l r.first c.row.mark (r.tree ∷ c.row.trees) c.tail refl r.next (c.row.row r.first r.tree (ended r)) c.ends))
+    (subst (Whole (suc d) l rest) (ap (λ x. made k nowhere x) (same_cons r.tree a (chain c.trees c.tail) u r.same c.same))
+    (c.close l r.first (r.tree ∷ c.trees) refl r.next (c.row r.first r.tree (ended r))))
 
 bracket_read : (k : Bool) (d : ℕ) (s t : Tree) (rest : List ℕ) → unplaced s ≡ made k nowhere (unplaced t) → Bracketed k d rest t → Reads (suc d) ((opens k ∷ row_text t) ++ shuts k ∷ []) rest s
 bracket_read k d s t rest e bracketed at line =
