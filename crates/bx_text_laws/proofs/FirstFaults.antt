@@ -342,9 +342,6 @@ terms_begin d group h p l n = by l.token refl
     at : (t : Token) {m : Move} → l.token ≡ t → Meets (a_term d) (meant t) m → Does (a_term d) (meant l.token) m
     at t {m} e k = inl (subst (λ t. Meets (a_term d) (meant t) m) (sym e) k)
 
-    grouped : (t : Token) → IsGroup t → l.token ≡ t → Going {A = Tree × Place} Nothing Ends (a_term d ∷ []) p l.after (group l)
-    grouped t i e = h p l n (subst IsGroup (sym e) i)
-
     by : (t : Token) → l.token ≡ t → Going {A = Tree × Place} Nothing Ends (a_term d ∷ []) p l.after (begin_by group l t)
     by (token.integer i) e = taking (a_term d) [] [] p l n (at (token.integer i) e faults.an_integer) (done (integer (span l l.after) i, l.after))
     by token.float e = taking (a_term d) [] [] p l n (at token.float e faults.a_float) (kept_goes sort.Float p l.after l n (clean_here l.after))
@@ -354,10 +351,10 @@ terms_begin d group h p l n = by l.token refl
           | inl f ↦ subst (λ t. Going {A = Tree × Place} Nothing Ends (a_term d ∷ []) p l.after (begin_by group l t)) (sym f) (taking (a_term d) _ [] p l n (at named.the_word_fun (e ∙ f) faults.a_fun) (fun_goes p l n))
           | inr o ↦ subst (Going {A = Tree × Place} Nothing Ends (a_term d ∷ []) p l.after) (sym (no_term group l (token.mark m) tt o)) (misplaces (a_term d) [] p l n (subst (λ t. Does (a_term d) (meant t) misplaced) (sym e) (mark_does d (token.mark m) tt o)))
         ]
-    by t e = grouped t tt e
+    by t e = h p l n (subst IsGroup (sym e) tt)
 
 groups_begin : (d : ℕ) → TermsGo d (term_at d) → GroupsGo (suc d) (group_at (suc d))
-groups_begin d h p l n g = by l.token refl g
+groups_begin d h p l n g = taking (a_term (suc d)) (first_of l.token d ∷ []) [] p l n (group_does (suc d) l.token g) (held l.token g)
   where
     held : (t : Token) → IsGroup t → Going Nothing Ends (first_of t d ∷ []) l.after l.after (bracket_by d (term_at d) l t)
     held (token.text b) i = string_goes l
@@ -366,10 +363,6 @@ groups_begin d h p l n g = by l.token refl g
     held token.open_map i = map_goes d (term_at d) h p l n
     held token.open_binary i = binary_goes d p l n
     held t i = absurd i
-
-    by : (t : Token) → l.token ≡ t → IsGroup t → Going Nothing Ends (a_term (suc d) ∷ []) p l.after (bracket_by d (term_at d) l t)
-    by t e i =
-        taking (a_term (suc d)) (first_of t d ∷ []) [] p l n (subst (λ u. Does (a_term (suc d)) (meant u) (faults.taken (first_of t d ∷ []))) (sym e) (group_does (suc d) t i)) (held t i)
 
 groups_go : (d : ℕ) → GroupsGo d (group_at d)
 groups_go zero p l n g = nests (a_term zero) [] p l n (group_does zero l.token g)
