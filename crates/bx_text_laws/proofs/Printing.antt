@@ -1,12 +1,13 @@
 -- What is printed of an integer or an atom is taken as the same one, where a delimiter follows.
-use Rattle.std.proofs.Common.{◌≡◌, ◌≢◌, ℕ, zero, suc, ◌+◌, ◌*◌, ◌/◌, ◌%◌, ◌≤◌, ◌<◌, Bool, true, false, cond, not, eqb, ◌&&◌, ◌||◌, ℤ, pos, negsuc, neg_ℤ, List, [], ◌∷◌, ◌++◌, take, drop, length, refl, sym, ap, ◌∙◌, subst, arith, codes, append_assoc, append-nil, drop_at, take_at, length-append, ◌⊎◌, inl, inr, chars, IsUtf8, encode_utf8_all}
+use Rattle.std.proofs.Common.{◌≡◌, ◌≢◌, ℕ, zero, suc, ◌+◌, ◌*◌, ◌/◌, ◌%◌, ◌≤◌, ◌<◌, Bool, true, false, not, eqb, ◌&&◌, ◌||◌, ℤ, pos, negsuc, neg_ℤ, List, [], ◌∷◌, ◌++◌, take, drop, length, refl, sym, ap, ◌∙◌, subst, arith, codes, append_assoc, append-nil, drop_at, take_at, length-append, ◌⊎◌, inl, inr, chars, IsUtf8, encode_utf8_all}
 use Rattle.std.specs.Prelude.{nat_lt}
 use Rattle.std.specs.List.{list_all, prefix_len, flat_map, AllByRecursion}
 use Rattle.std.specs.Char.{encode_utf8}
-use Rattle.std.specs.Fmt.{digits, digits_onto, digit_glyph}
+use Rattle.std.specs.Fmt.{digits, digit_glyph}
 use Rattle.std.specs.Str.{all_scalars}
-use Rattle.std.proofs.lemmas.Bool.{eqb-true, eqb-false, ltb-true, ltb-false, and_parts, and_from, not-true, both_ways, cond_both}
+use Rattle.std.proofs.lemmas.Bool.{cases_lt, eqb-true, eqb-false, ltb-true, ltb-false, and_parts, and_from, not-true, both_ways, cond_both}
 use Rattle.std.proofs.lemmas.Bool.Decides.{nat_tests}
+use Rattle.std.proofs.lemmas.Fmt.{hex_one_digit, hex_two_digits}
 use Rattle.std.proofs.lemmas.Str.{encode_ascii, encodes-append, encodes-chars, scalars-chars}
 use Rattle.std.proofs.Math.Utf8.{low_scalar}
 use Rattle.bx_terms.specs.AtomText.{is_name_byte, is_reserved, is_bare, by_code, printed_atom}
@@ -166,29 +167,16 @@ abbrev Code : ℕ → List ℕ → Type 0
 Code c ds = Numeral 16 ds c × AllByRecursion (λ b. b < 128) ds
 
 code_written : (c : ℕ) → c < 256 → Code c (digits 16 false c)
-unfolding digits
-code_written c h = by (eqb (c / 16) 0) (eqb (c / 16 / 16) 0) refl refl
-  where
-    low : c % 16 < 16
-    low = omega arith
-
-    high : (c / 16) % 16 < 16
-    high = omega arith
-
-    value : 16 * ((c / 16) % 16) + c % 16 ≡ c
-    value = omega arith
-
-    by : (t u : Bool) → eqb (c / 16) 0 ≡ t → eqb (c / 16 / 16) 0 ≡ u
-        → Code c (cond t (digit_glyph false (c % 16) ∷ []) (cond u (digit_glyph false ((c / 16) % 16) ∷ digit_glyph false (c % 16) ∷ []) (digits_onto 62 16 false (c / 16 / 16) (digit_glyph false ((c / 16) % 16) ∷ digit_glyph false (c % 16) ∷ []))))
-    by true u e f =
-        let none : c / 16 ≡ 0 = eqb-true (c / 16) 0 e in
-        let all : c % 16 ≡ c = omega arith in
-        (subst (Numeral 16 (digit_glyph false (c % 16) ∷ [])) all (one_digit (glyph_digit (c % 16) low)), (glyph_low (c % 16) low, tt))
-    by false true e f = (
-      subst (Numeral 16 (digit_glyph false ((c / 16) % 16) ∷ digit_glyph false (c % 16) ∷ [])) value (digit_more (one_digit (glyph_digit ((c / 16) % 16) high)) (glyph_digit (c % 16) low)),
-      (glyph_low ((c / 16) % 16) high, (glyph_low (c % 16) low, tt)),
-    )
-    by false false e f = absurd (eqb-false (c / 16 / 16) 0 f (omega arith))
+code_written c h =
+    let low : c % 16 < 16 = omega arith in
+    let high : c / 16 < 16 = omega arith in
+    let value : 16 * (c / 16) + c % 16 ≡ c = omega arith in
+    elim (cases_lt c 16) [
+      | inl l ↦ subst (Code c) (sym (hex_one_digit false c l)) (one_digit (glyph_digit c l), (glyph_low c l, tt))
+      | inr l ↦
+          subst (Code c) (sym (hex_two_digits false c l h))
+          (subst (Numeral 16 (digit_glyph false (c / 16) ∷ digit_glyph false (c % 16) ∷ [])) value (digit_more (one_digit (glyph_digit (c / 16) high)) (glyph_digit (c % 16) low)), (glyph_low (c / 16) high, (glyph_low (c % 16) low, tt)))
+    ]
 
 all_low_append : (xs ys : List ℕ) → AllByRecursion (λ b. b < 128) xs → AllByRecursion (λ b. b < 128) ys → AllByRecursion (λ b. b < 128) (xs ++ ys)
 all_low_append [] ys a b = b
