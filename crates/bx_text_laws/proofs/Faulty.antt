@@ -17,9 +17,9 @@ use Rattle.bx_text_laws.specs.Refusals as refusals
 use Rattle.bx_text_laws.specs.Refusals.{Unclosed, Cut, Awaits, NoCharacter, Breaks, Unfinished}
 use Rattle.bx_text_laws.proofs.Frame.{on}
 use Rattle.bx_text_laws.proofs.Escapes.{whole}
-use Rattle.bx_text_laws.proofs.Quotes.{feeds_lines, quote_line, quote_low, quote_slash, open_text, codes_same, no_seam, no_mark, Parsed, Scan, closed, unclosed, spoilt, scan}
+use Rattle.bx_text_laws.proofs.Quotes.{feeds_lines, quote_line, quote_low, open_text, codes_same, no_seam, no_mark, Parsed, Scan, closed, unclosed, spoilt, scan}
 use Rattle.bx_text_laws.proofs.Seams.{seam, from_seam}
-use Rattle.bx_text_laws.proofs.Unclosed.{reaches, Left, Parts, parts}
+use Rattle.bx_text_laws.proofs.Unclosed.{spans, Left, Parts, parts}
 use Rattle.bx_text_laws.proofs.Leftover.{leaves, left_good, Slash, slash_left, slash_goes, quoted_open}
 
 -- lines
@@ -74,7 +74,7 @@ cut_found q xs es vs body at line h k l u = by (scan q body at line h) refl
     p = on (q ∷ body) at line
 
     long : length body ≤ body_len q body
-    long = omega (arith, reaches q (quote_slash q h) body [] (open_text q (xs ++ es) body h u ∙ quoted_open k h es l), ap (body_len q) (append-nil body))
+    long = omega (arith, (spans q h body []).0 (open_text q (xs ++ es) body h u ∙ quoted_open k h es l), ap (body_len q) (append-nil body))
 
     by : {r : Parsed} → Scan q body at line r → quoted_at q p ≡ r → quoted_at q p ≡ Err (Truncated (line + feeds body))
     by (closed cs raw zs b e n v o s) i = absurd (omega (arith, long, n, ap length e, length-append raw (q ∷ zs)))
@@ -101,7 +101,7 @@ break_found q xs es vs bytes rest at line h k slash u none = by (scan q body at 
     text = (xs ++ es, (u.0, u.1))
 
     long : length bytes ≤ body_len q body
-    long = reaches q (quote_slash q h) bytes rest (open_text q (xs ++ es) bytes h u ∙ quoted_open k h es l)
+    long = (spans q h bytes rest).0 (open_text q (xs ++ es) bytes h u ∙ quoted_open k h es l)
 
     by : {r : Parsed} → Scan q body at line r → quoted_at q p ≡ r → quoted_at q p ≡ Err (NotUtf8 (line + feeds bytes))
     by (closed cs raw zs b e n v o s) i = by_seam (seam bytes rest raw (q ∷ zs) e (omega (arith, long, n)))

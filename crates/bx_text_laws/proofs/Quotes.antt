@@ -32,7 +32,7 @@ use Rattle.bx_text_laws.proofs.Escapes.{run, whole}
 use Rattle.bx_text_laws.proofs.Means.{means}
 use Rattle.bx_text_laws.proofs.Seams.{valid_front, Seam, seam, to_seam, from_seam, AsciiNext, ascii, more_bytes, fewer_bytes}
 use Rattle.bx_text_laws.proofs.Readings.{quoted_free}
-use Rattle.bx_text_laws.proofs.Unclosed.{then_letter, inside, reaches, all_quoted}
+use Rattle.bx_text_laws.proofs.Unclosed.{then_letter, quote_slash, spans, all_quoted}
 
 -- UTF-8
 pub valid_is : (bs : List ℕ) → utf8_valid_len bs ≡ length bs → IsUtf8 bs
@@ -47,9 +47,6 @@ quote_line q h = grind (arith, nat_tests)
 
 pub quote_low : (q : ℕ) → IsQuote q → q < 128
 quote_low q h = grind arith
-
-pub quote_slash : (q : ℕ) → IsQuote q → q ≢ 92
-quote_slash q h e = grind arith
 
 all_lines : (q : ℕ) (bytes : List ℕ) → IsQuote q → lines (q ∷ (bytes ++ q ∷ [])) ≡ lines bytes
 all_lines q bytes h =
@@ -183,12 +180,12 @@ scan q body at line h = by_run (run_split (is_plain q) body)
 
     ended : (raw zs : List ℕ) → body ≡ raw ++ zs → body_len q body ≡ length raw → Ended q (free q) raw zs → IsUtf8 raw → S (ended_at p body (length raw) zs)
     ended raw [] e l d (cs, (s, t)) =
-        subst (λ o. S (Err (cut p body o))) (sym (ap open_in (front raw [] e) ∙ opened cs raw (s, t))) (none_closes raw cs e (s, t) (inside q h raw [] (omega (arith, l, ap (body_len q) e))))
+        subst (λ o. S (Err (cut p body o))) (sym (ap open_in (front raw [] e) ∙ opened cs raw (s, t))) (none_closes raw cs e (s, t) ((spans q h raw []).1 (omega (arith, l, ap (body_len q) e))))
     ended raw (z ∷ zs) e l (inl d) v = cc
     ended raw (z ∷ zs) e l (inr (f, (us, d))) (cs, (s, t)) =
         subst (λ w. S (cond (is_whole (open_in w)) (Ok (token.escaped w, behind p body (length raw))) (Err (BadToken line)))) (sym (front raw (z ∷ zs) e))
         (subst (λ o. S (cond (is_whole o) (Ok (token.escaped raw, behind p body (length raw))) (Err (BadToken line)))) (sym (opened cs raw (s, t)))
-        (closed cs raw us (token.escaped raw) (e ∙ ap (λ zs. raw ++ zs) d) l (s, t) (inside q h raw (z ∷ zs) (omega (arith, l, ap (body_len q) e))) (decodes cs raw (s, t))))
+        (closed cs raw us (token.escaped raw) (e ∙ ap (λ zs. raw ++ zs) d) l (s, t) ((spans q h raw (z ∷ zs)).1 (omega (arith, l, ap (body_len q) e))) (decodes cs raw (s, t))))
 
     escapes : Split q (free q) body (body_len q body) → S (escaped_at p body (body_len q body))
     escapes (raw, zs, e, l, d) =
@@ -203,7 +200,7 @@ scan q body at line h = by_run (run_split (is_plain q) body)
         broken bytes ts i (cs, (s, t)) n =
             let parted : body ≡ bytes ++ (ts ++ zs) = e ∙ ap (λ us. us ++ zs) i ∙ append_assoc bytes ts zs in
             subst (λ o. S (Err (lexing.broken p bytes o))) (sym (opened cs bytes (s, t)))
-            (spoilt cs bytes (ts ++ zs) parted (s, t) (inside q h bytes (ts ++ zs) (omega (arith, l, ap (body_len q) parted, ap length i, length-append bytes ts))) (more_bytes ts zs n (next zs d)))
+            (spoilt cs bytes (ts ++ zs) parted (s, t) ((spans q h bytes (ts ++ zs)).1 (omega (arith, l, ap (body_len q) parted, ap length i, length-append bytes ts))) (more_bytes ts zs n (next zs d)))
 
     by_run : ((raw zs : List ℕ) × (body ≡ raw ++ zs) × (list_all (is_plain q) raw ≡ true) × (prefix_len (is_plain q) body ≡ length raw)) → S (quoted_at q p)
     by_run (raw, zs, e, a, n) =
@@ -311,8 +308,8 @@ gives q cs vs bytes rest at line h f r u = by (scan q B at line h) refl
           i ∙ cond-true (whole named.nothing ds) (Ok (b, behind p B (length raw))) (Err (BadToken line)) (ap (λ us. whole named.nothing us) codes ∙ (means r).1) ∙ ap (λ us. Ok (b, behind p B (length us))) text,
           s ∙ ap (λ us. encode_utf8_all (run named.nothing us)) codes ∙ ap encode_utf8_all (means r).0,
         )
-    by (unclosed ds v g) i = absurd (omega (arith, size, reaches q (quote_slash q h) B [] g, ap (body_len q) (append-nil B), length-append bytes (q ∷ rest)))
-    by (spoilt ds front zs e v g n) i = by_seam (seam front zs bytes (q ∷ rest) (sym e) (omega (arith, size, ap (body_len q) e, reaches q (quote_slash q h) front zs g)))
+    by (unclosed ds v g) i = absurd (omega (arith, size, (spans q h B []).0 g, ap (body_len q) (append-nil B), length-append bytes (q ∷ rest)))
+    by (spoilt ds front zs e v g n) i = by_seam (seam front zs bytes (q ∷ rest) (sym e) (omega (arith, size, ap (body_len q) e, (spans q h front zs).0 g)))
       where
         by_seam : ((ts : List ℕ) × (bytes ≡ front ++ ts) × (zs ≡ ts ++ q ∷ rest)) → Gives q bytes rest at line vs
         by_seam (ts, a, b) = absurd (no_mark front ts q rest (ds, (v.0, v.1)) (subst IsUtf8 a (cs, (u.0, u.1))) (quote_low q h) (subst NoCharacter b n))

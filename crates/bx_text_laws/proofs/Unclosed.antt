@@ -1,5 +1,5 @@
 -- Quotes that are not closed: what is quoted behind one, and what is left of an escape.
-use Rattle.std.proofs.Common.{◌≡◌, ◌≢◌, ℕ, suc, ◌+◌, ◌*◌, ◌%◌, ◌≤◌, Bool, true, false, not, eqb, ◌&&◌, List, [], ◌∷◌, ◌++◌, length, refl, sym, ap, ◌∙◌, subst, arith, append_assoc, append-nil, ◌⊎◌, inl, inr}
+use Rattle.std.proofs.Common.{◌≡◌, ◌≢◌, ◌↔◌, ℕ, suc, ◌+◌, ◌*◌, ◌%◌, ◌≤◌, Bool, true, false, not, eqb, ◌&&◌, List, [], ◌∷◌, ◌++◌, length, refl, sym, ap, ◌∙◌, subst, arith, append_assoc, append-nil, ◌⊎◌, inl, inr}
 use Rattle.std.specs.List.{fold}
 use Rattle.std.specs.Char.{IsScalar}
 use Rattle.std.proofs.lemmas.Bool.{eqb-true, eqb-false, and_parts, and_from, not-true, both_ways, cases_eq, cond-true, cond-false, cond_both}
@@ -14,7 +14,7 @@ use Rattle.bx_text_laws.specs.Numerals.{Digit, Numeral, one_digit, digit_more}
 use Rattle.bx_text_laws.specs.Quoted as quoted
 use Rattle.bx_text_laws.specs.Quoted.{IsQuote, Quoted, Named, IsNamed, NoOctal, backspace, delete, escape, form_feed, line_feed, carriage_return, space, tab, vertical_tab}
 use Rattle.bx_text_laws.specs.Refusals.{Unfinished, slash, hex, hex_digit, brace, braced, control}
-use Rattle.bx_text_laws.proofs.Free.{free, freed, capped, free_slash, free_plain, past_cap, len_cond, slash_quote}
+use Rattle.bx_text_laws.proofs.Free.{free, freed, capped, past_cap}
 use Rattle.bx_text_laws.proofs.Escapes.{is_base, counts, below, Same, same_more, scalar_same, scalar_from}
 use Rattle.bx_text_laws.proofs.Readings.{hex_plain, hex_uncapped, no_octal_is}
 
@@ -25,44 +25,42 @@ then_letter bs = bs ++ 97 ∷ []
 pub letter : (q : ℕ) → IsQuote q → free q (97 ∷ []) ≡ true
 letter q h = and_from (not (eqb 97 q)) true (grind (arith, nat_tests)) refl
 
+pub quote_slash : (q : ℕ) → IsQuote q → q ≢ 92
+quote_slash q h e = grind arith
+
+free_past : (q c : ℕ) → eqb c 92 ≡ false → (zs : List ℕ) → free q (c ∷ zs) ≡ (not (eqb c q) && free q zs)
+free_past q c e zs = cond-false (eqb c 92) _ _ e
+
+free_escape : (q c : ℕ) → eqb c 92 ≡ true → (zs : List ℕ) → free q (c ∷ zs) ≡ freed q zs
+free_escape q c e zs = cond-true (eqb c 92) _ _ e
+
+no_slash : (c d : ℕ) → d ≢ 92 → eqb c d ≡ true → eqb c 92 ≡ false
+no_slash c d n e = grind (arith, nat_tests)
+
+one_more : {x y : Bool} {k n : ℕ} → x ≡ y → (y ≡ true) ↔ (k ≤ n) → (x ≡ true) ↔ (suc k ≤ 1 + n)
+one_more e h = (λ f. let l = h.0 (sym e ∙ f) in omega (arith, l), λ l. e ∙ h.1 (omega (arith, l)))
+
+no_more : {x : Bool} {k : ℕ} → x ≡ false → (x ≡ true) ↔ (suc k ≤ 0)
+no_more {x = x} e = (λ f. absurd (both_ways x e f), λ l. absurd (omega (arith, l)))
+
 mutual
-  pub reaches : (q : ℕ) → q ≢ 92 → (bs zs : List ℕ) → free q (then_letter bs) ≡ true → length bs ≤ body_len q (bs ++ zs)
-  reaches q n [] zs f = omega arith
-  reaches q n (b ∷ bs) zs f =
-      cond_both (eqb b 92) _ _ (λ t. t ≡ true → suc (length bs) ≤ body_len q (b ∷ (bs ++ zs))) (λ e g. omega (arith, len_cond q b (bs ++ zs) false true (slash_quote q b n e) e, reaches_slash q n bs zs g))
-      (λ e g. let both = and_parts (not (eqb b q)) (free q (then_letter bs)) g in omega (arith, len_cond q b (bs ++ zs) false false (not-true (eqb b q) both.0) e, reaches q n bs zs both.1)) f
+  pub spans : (q : ℕ) → IsQuote q → (bs zs : List ℕ) → (free q (then_letter bs) ≡ true) ↔ (length bs ≤ body_len q (bs ++ zs))
+  spans q h [] zs = (λ f. omega arith, λ l. letter q h)
+  spans q h (b ∷ bs) zs =
+      cond_both (eqb b q) _ _ (λ m. (free q (b ∷ then_letter bs) ≡ true) ↔ (suc (length bs) ≤ m)) (λ e. no_more (free_past q b (no_slash b q (quote_slash q h) e) (then_letter bs) ∙ ap (λ t. not t && free q (then_letter bs)) e))
+      (λ e. cond_both (eqb b 92) _ _ (λ m. (free q (b ∷ then_letter bs) ≡ true) ↔ (suc (length bs) ≤ m)) (λ i. one_more (free_escape q b i (then_letter bs)) (spans_slash q h bs zs))
+      (λ i. one_more (free_past q b i (then_letter bs) ∙ ap (λ t. not t && free q (then_letter bs)) e) (spans q h bs zs)))
 
-  reaches_slash : (q : ℕ) → q ≢ 92 → (bs zs : List ℕ) → freed q (then_letter bs) ≡ true → length bs ≤ escaped_len q (bs ++ zs)
-  reaches_slash q n [] zs f = omega arith
-  reaches_slash q n (b ∷ bs) zs f =
-      cond_both (eqb b 94) _ _ (λ m. suc (length bs) ≤ m) (λ e. omega (arith, reaches_control q n bs zs (sym (cond-true (eqb b 94) _ _ e) ∙ f)))
-      (λ e. omega (arith, reaches q n bs zs (sym (cond-false (eqb b 94) _ _ e) ∙ f)))
+  spans_slash : (q : ℕ) → IsQuote q → (bs zs : List ℕ) → (freed q (then_letter bs) ≡ true) ↔ (length bs ≤ escaped_len q (bs ++ zs))
+  spans_slash q h [] zs = (λ f. omega arith, λ l. refl)
+  spans_slash q h (b ∷ bs) zs =
+      cond_both (eqb b 94) _ _ (λ m. (freed q (b ∷ then_letter bs) ≡ true) ↔ (suc (length bs) ≤ m)) (λ e. one_more (cond-true (eqb b 94) _ _ e) (spans_control q h bs zs)) (λ e. one_more (past_cap q b (then_letter bs) e) (spans q h bs zs))
 
-  reaches_control : (q : ℕ) → q ≢ 92 → (bs zs : List ℕ) → capped q (then_letter bs) ≡ true → length bs ≤ control_len q (bs ++ zs)
-  reaches_control q n [] zs f = omega arith
-  reaches_control q n (b ∷ bs) zs f =
-      let both = and_parts (not (eqb b q)) (free q (then_letter bs)) f in
-      cond_both (eqb b q) _ _ (λ m. suc (length bs) ≤ m) (λ e. absurd (both_ways (eqb b q) (not-true (eqb b q) both.0) e)) (λ e. omega (arith, reaches q n bs zs both.1))
-
-mutual
-  pub inside : (q : ℕ) → IsQuote q → (bs zs : List ℕ) → length bs ≤ body_len q (bs ++ zs) → free q (then_letter bs) ≡ true
-  inside q h [] zs l = letter q h
-  inside q h (b ∷ bs) zs l =
-      cond_both (eqb b q) _ _ (λ m. suc (length bs) ≤ m → free q (b ∷ then_letter bs) ≡ true) (λ e l. absurd (omega (arith, l)))
-      (λ e. cond_both (eqb b 92) _ _ (λ m. suc (length bs) ≤ m → free q (b ∷ then_letter bs) ≡ true) (λ f l. free_slash q b (then_letter bs) f (inside_slash q h bs zs (omega (arith, l))))
-      (λ f l. free_plain q b (then_letter bs) f e (inside q h bs zs (omega (arith, l))))) l
-
-  inside_slash : (q : ℕ) → IsQuote q → (bs zs : List ℕ) → length bs ≤ escaped_len q (bs ++ zs) → freed q (then_letter bs) ≡ true
-  inside_slash q h [] zs l = refl
-  inside_slash q h (b ∷ bs) zs l =
-      cond_both (eqb b 94) _ _ (λ m. suc (length bs) ≤ m → freed q (b ∷ then_letter bs) ≡ true) (λ e l. cond-true (eqb b 94) _ _ e ∙ inside_control q h bs zs (omega (arith, l)))
-      (λ e l. past_cap q b (then_letter bs) e ∙ inside q h bs zs (omega (arith, l))) l
-
-  inside_control : (q : ℕ) → IsQuote q → (bs zs : List ℕ) → length bs ≤ control_len q (bs ++ zs) → capped q (then_letter bs) ≡ true
-  inside_control q h [] zs l = letter q h
-  inside_control q h (b ∷ bs) zs l =
-      cond_both (eqb b q) _ _ (λ m. suc (length bs) ≤ m → capped q (b ∷ then_letter bs) ≡ true) (λ e l. absurd (omega (arith, l)))
-      (λ e l. and_from (not (eqb b q)) (free q (then_letter bs)) (ap not e) (inside q h bs zs (omega (arith, l)))) l
+  spans_control : (q : ℕ) → IsQuote q → (bs zs : List ℕ) → (capped q (then_letter bs) ≡ true) ↔ (length bs ≤ control_len q (bs ++ zs))
+  spans_control q h [] zs = (λ f. omega arith, λ l. letter q h)
+  spans_control q h (b ∷ bs) zs =
+      cond_both (eqb b q) _ _ (λ m. (capped q (b ∷ then_letter bs) ≡ true) ↔ (suc (length bs) ≤ m)) (λ e. no_more (ap (λ t. not t && free q (then_letter bs)) e))
+      (λ e. one_more (ap (λ t. not t && free q (then_letter bs)) e) (spans q h bs zs))
 
 -- what is left of an escape
 abbrev pub Left : List ℕ → Type 0
@@ -124,15 +122,6 @@ a_digit b c l e = let small = below b c e in (small, counts c (omega arith))
 
 octal_hex : (c : ℕ) → is_octal c ≡ true → is_hex c ≡ true
 octal_hex c e = grind (arith, nat_tests)
-
-free_past : (q c : ℕ) → eqb c 92 ≡ false → (zs : List ℕ) → free q (c ∷ zs) ≡ (not (eqb c q) && free q zs)
-free_past q c e zs = cond-false (eqb c 92) _ _ e
-
-free_escape : (q c : ℕ) → eqb c 92 ≡ true → (zs : List ℕ) → free q (c ∷ zs) ≡ freed q zs
-free_escape q c e zs = cond-true (eqb c 92) _ _ e
-
-no_slash : (c d : ℕ) → d ≢ 92 → eqb c d ≡ true → eqb c 92 ≡ false
-no_slash c d n e = grind (arith, nat_tests)
 
 no_cap : (c : ℕ) → eqb c 120 ≡ true → eqb c 94 ≡ false
 no_cap c e = grind (arith, nat_tests)
