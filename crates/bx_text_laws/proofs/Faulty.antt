@@ -104,10 +104,9 @@ break_found q xs es vs bytes rest at line h k slash u none = by (scan q body at 
     long = (spans q h bytes rest).0 (open_text q (xs ++ es) bytes h u ∙ quoted_open k h es l)
 
     by : {r : Parsed} → Scan q body at line r → quoted_at q p ≡ r → quoted_at q p ≡ Err (NotUtf8 (line + feeds bytes))
-    by (closed cs raw zs b e n v o s) i = by_seam (seam bytes rest raw (q ∷ zs) e (omega (arith, long, n)))
-      where
-        by_seam : ((ts : List ℕ) × (raw ≡ bytes ++ ts) × (rest ≡ ts ++ q ∷ zs)) → quoted_at q p ≡ Err (NotUtf8 (line + feeds bytes))
-        by_seam (ts, a, b) = absurd (no_mark bytes ts q zs text (subst IsUtf8 a (cs, (v.0, v.1))) (quote_low q h) (subst NoCharacter b none))
+    by (closed cs raw zs b e n v o s) i =
+        let x = seam bytes rest raw (q ∷ zs) e (omega (arith, long, n)) in
+        absurd (no_mark bytes x.0 q zs text (subst IsUtf8 x.1 (cs, (v.0, v.1))) (quote_low q h) (subst NoCharacter x.2 none))
     by (unclosed cs v o) i = absurd (no_seam bytes rest text none (cs, (v.0, v.1)))
     by (spoilt cs front zs e v o n) i =
         let size : length front ≡ length bytes = omega (arith, from_seam front zs (cs, (v.0, v.1)) n, from_seam bytes rest text none, ap utf8_valid_len e) in

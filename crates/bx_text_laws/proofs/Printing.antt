@@ -183,13 +183,12 @@ all_low_append [] ys a b = b
 all_low_append (x ∷ xs) ys (l, a) b = (l, all_low_append xs ys a b)
 
 braced_written : (c : ℕ) → c < 128 → Written c (by_code c)
-braced_written c h = by_digits (digits 16 false c) (code_written c (omega arith))
-  where
-    by_digits : (ds : List ℕ) → Code c ds → Written c ((codes "\\x{" ++ ds) ++ codes "}")
-    by_digits ds (n, a) = (
+braced_written c h =
+    let ds : List ℕ = digits 16 false c in
+    let code = code_written c (omega arith) in (
       92 ∷ 120 ∷ 123 ∷ (ds ++ 125 ∷ []),
-      ascii_utf8 (92 ∷ 120 ∷ 123 ∷ (ds ++ 125 ∷ [])) (omega arith, (omega arith, (omega arith, all_low_append ds (125 ∷ []) a (omega arith, tt)))),
-      (λ cs vs k. subst (λ us. Quoted 39 (92 ∷ 120 ∷ 123 ∷ us) (c ∷ vs)) (sym (append_assoc ds (125 ∷ []) cs)) (quoted.braced n (low_scalar c (omega arith)) k)),
+      ascii_utf8 (92 ∷ 120 ∷ 123 ∷ (ds ++ 125 ∷ [])) (omega arith, (omega arith, (omega arith, all_low_append ds (125 ∷ []) code.1 (omega arith, tt)))),
+      λ cs vs k. subst (λ us. Quoted 39 (92 ∷ 120 ∷ 123 ∷ us) (c ∷ vs)) (sym (append_assoc ds (125 ∷ []) cs)) (quoted.braced code.0 (low_scalar c (omega arith)) k),
     )
 
 plain_written : (c : ℕ) → all_scalars (c ∷ []) ≡ true → eqb c 39 ≡ false → eqb c 92 ≡ false → Written c (encode_utf8 c)
@@ -219,11 +218,11 @@ scalars_append (x ∷ xs) ys a b = let both = and_parts _ (all_scalars xs) a in 
 
 all_written : (cs : List ℕ) → all_scalars cs ≡ true → AllWritten cs (flat_map atoms.escaped cs)
 all_written [] s = ([], (refl, refl), quoted.none)
-all_written (c ∷ cs) s = let both = and_parts _ (all_scalars cs) s in join (written c (and_from _ true both.0 refl)) (all_written cs both.1)
-  where
-    join : Written c (atoms.escaped c) → AllWritten cs (flat_map atoms.escaped cs) → AllWritten (c ∷ cs) (atoms.escaped c ++ flat_map atoms.escaped cs)
-    join (src, u, k) (rest, w, r) =
-        (src ++ rest, (scalars_append src rest u.0 w.0, encodes-append src rest ∙ ap (λ us. us ++ encode_utf8_all rest) u.1 ∙ ap (λ us. atoms.escaped c ++ us) w.1), k rest cs r)
+all_written (c ∷ cs) s =
+    let both = and_parts _ (all_scalars cs) s in
+    let x = written c (and_from _ true both.0 refl) in
+    let y = all_written cs both.1 in
+    (x.0 ++ y.0, (scalars_append x.0 y.0 x.1.0 y.1.0, encodes-append x.0 y.0 ∙ ap (λ us. us ++ encode_utf8_all y.0) x.1.1 ∙ ap (λ us. atoms.escaped c ++ us) y.1.1), x.2 y.0 cs y.2)
 
 quoted_exact : (w rest : List ℕ) → IsUtf8 w → Exactly (atoms.quoted w) (token.atom (token.plain w)) rest
 quoted_exact w rest utf8 =

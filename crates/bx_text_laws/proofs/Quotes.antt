@@ -30,7 +30,7 @@ use Rattle.bx_text_laws.proofs.Runs.{run_split, run_append, push_all}
 use Rattle.bx_text_laws.proofs.Free.{free, free_plain, shape, Shape, free_text, body_of, body_split, Split, Ended}
 use Rattle.bx_text_laws.proofs.Escapes.{run, whole}
 use Rattle.bx_text_laws.proofs.Means.{means}
-use Rattle.bx_text_laws.proofs.Seams.{valid_front, Seam, seam, to_seam, from_seam, AsciiNext, ascii, more_bytes, fewer_bytes}
+use Rattle.bx_text_laws.proofs.Seams.{valid_front, seam, to_seam, from_seam, AsciiNext, ascii, more_bytes, fewer_bytes}
 use Rattle.bx_text_laws.proofs.Readings.{quoted_free}
 use Rattle.bx_text_laws.proofs.Unclosed.{then_letter, quote_slash, spans, all_quoted}
 
@@ -155,13 +155,12 @@ by_valid P good bad body raw zs n e l valid broken =
     subst (λ n. P (cond (eqb (utf8_valid_len (take n body)) n) (good n (drop n body)) (bad (lexing.valid_front (take n body))))) (sym l)
     (subst (λ us. P (cond (eqb (utf8_valid_len us) m) (good m (drop m body)) (bad (lexing.valid_front us)))) (sym (ap (λ us. take m us) e ∙ take_at raw zs m refl))
     (subst (λ us. P (cond (eqb (utf8_valid_len raw) m) (good m us) (bad (lexing.valid_front raw)))) (sym (ap (λ us. drop m us) e ∙ drop_at raw zs m refl))
-    (cond_both (eqb (utf8_valid_len raw) m) _ _ P (λ i. valid (valid_is raw (eqb-true (utf8_valid_len raw) m i))) (λ i. by_seam (to_seam raw (eqb-false (utf8_valid_len raw) m i))))))
+    (cond_both (eqb (utf8_valid_len raw) m) _ _ P (λ i. valid (valid_is raw (eqb-true (utf8_valid_len raw) m i)))
+    (λ i. let x = to_seam raw (eqb-false (utf8_valid_len raw) m i) in
+    subst (λ us. P (bad us)) (sym (ap (λ n. take n raw) x.5 ∙ ap (λ us. take (length x.0) us) x.2 ∙ take_at x.0 x.1 (length x.0) refl)) (broken x.0 x.1 x.2 x.3 x.4)))))
   where
     m : ℕ
     m = length raw
-
-    by_seam : Seam raw → P (bad (lexing.valid_front raw))
-    by_seam (bytes, ts, i, v, n, k) = subst (λ us. P (bad us)) (sym (ap (λ n. take n raw) k ∙ ap (λ us. take (length bytes) us) i ∙ take_at bytes ts (length bytes) refl)) (broken bytes ts i v n)
 
 pub scan : (q : ℕ) (body : List ℕ) (at line : ℕ) → IsQuote q → Scan q body at line (quoted_at q (on (q ∷ body) at line))
 scan q body at line h = by_run (run_split (is_plain q) body)
@@ -262,14 +261,9 @@ spelled_quote q make k body at line y g = by (scan q body at line k.quote) g
 a_quote : (q : ℕ) (make : Body → Token) → Quoting q make → (b : ℕ) (bs : List ℕ) (at line : ℕ) (x : Token × Place) → eqb b q ≡ true
     → (quoted_at q (on (b ∷ bs) at line) >>= λ y. Ok (make y.0, y.1)) ≡ Ok x → Spelled (on (b ∷ bs) at line) x
 a_quote q make k b bs at line x e h =
-    let is : q ≡ b = sym (eqb-true b q e) in
-    subst (λ b. (quoted_at q (on (b ∷ bs) at line) >>= λ y. Ok (make y.0, y.1)) ≡ Ok x → Spelled (on (b ∷ bs) at line) x) is first h
-  where
-    first : (quoted_at q (on (q ∷ bs) at line) >>= λ y. Ok (make y.0, y.1)) ≡ Ok x → Spelled (on (q ∷ bs) at line) x
-    first h =
-        let y = bind_ok (quoted_at q (on (q ∷ bs) at line)) (λ y. Ok (make y.0, y.1)) x h in
-        subst (Spelled (on (q ∷ bs) at line)) (ok_same (make y.0.0, y.0.1) x y.2)
-        (spelled_quote q make k bs at line y.0 y.1)
+    subst (λ b. (quoted_at q (on (b ∷ bs) at line) >>= λ y. Ok (make y.0, y.1)) ≡ Ok x → Spelled (on (b ∷ bs) at line) x) (sym (eqb-true b q e))
+    (λ h. let y = bind_ok (quoted_at q (on (q ∷ bs) at line)) (λ y. Ok (make y.0, y.1)) x h in
+    subst (Spelled (on (q ∷ bs) at line)) (ok_same (make y.0.0, y.0.1) x y.2) (spelled_quote q make k bs at line y.0 y.1)) h
 
 pub atom_quoting : Quoting 39 token.atom
 atom_quoting = record { quote = inl refl; first = λ bs at line. refl; means = λ b. refl; spells = λ cs vs bytes r u. quoted_atom r u; follows = λ b rest e. cc }
@@ -309,10 +303,9 @@ gives q cs vs bytes rest at line h f r u = by (scan q B at line h) refl
           s ∙ ap (λ us. encode_utf8_all (run named.nothing us)) codes ∙ ap encode_utf8_all (means r).0,
         )
     by (unclosed ds v g) i = absurd (omega (arith, size, (spans q h B []).0 g, ap (body_len q) (append-nil B), length-append bytes (q ∷ rest)))
-    by (spoilt ds front zs e v g n) i = by_seam (seam front zs bytes (q ∷ rest) (sym e) (omega (arith, size, ap (body_len q) e, (spans q h front zs).0 g)))
-      where
-        by_seam : ((ts : List ℕ) × (bytes ≡ front ++ ts) × (zs ≡ ts ++ q ∷ rest)) → Gives q bytes rest at line vs
-        by_seam (ts, a, b) = absurd (no_mark front ts q rest (ds, (v.0, v.1)) (subst IsUtf8 a (cs, (u.0, u.1))) (quote_low q h) (subst NoCharacter b n))
+    by (spoilt ds front zs e v g n) i =
+        let x = seam front zs bytes (q ∷ rest) (sym e) (omega (arith, size, ap (body_len q) e, (spans q h front zs).0 g)) in
+        absurd (no_mark front x.0 q rest (ds, (v.0, v.1)) (subst IsUtf8 x.1 (cs, (u.0, u.1))) (quote_low q h) (subst NoCharacter x.2 n))
 
 pub quote_exact : (q : ℕ) (make : Body → Token) → Quoting q make → (cs vs bytes rest : List ℕ) → Quoted q cs vs → InUtf8 cs bytes → Exactly (q ∷ (bytes ++ q ∷ [])) (make (token.plain (encode_utf8_all vs))) rest
 quote_exact q make k cs vs bytes rest r u at line =
