@@ -61,10 +61,12 @@ pub first_octal : (a : ℕ) (cs : List ℕ) → is_octal a ≡ true → Turn nam
 first_octal a cs e = one_is named.backslash (named.octal_digit (digit a)) a cs [] (rw e refl) (rw e refl)
 
 pub second_octal : (v a : ℕ) (cs : List ℕ) → is_octal a ≡ true → Turn (named.octal_digit v) (a ∷ cs) [] (named.octal_digits (8 * v + digit a)) cs
-second_octal v a cs e = one_is (named.octal_digit v) (named.octal_digits (8 * v + digit a)) a cs [] (ap (λ (t : Bool). cond t [] (coded v ++ itself a)) e) (ap (λ (t : Bool). cond t (named.octal_digits (8 * v + digit a)) (begins_with a)) e)
+second_octal v a cs e =
+    one_is (named.octal_digit v) (named.octal_digits (8 * v + digit a)) a cs [] (ap (λ (t : Bool). cond t [] (coded v ++ itself a)) e) (ap (λ (t : Bool). cond t (named.octal_digits (8 * v + digit a)) (begins_with a)) e)
 
 pub third_octal : (v a : ℕ) (cs : List ℕ) → is_octal a ≡ true → Turn (named.octal_digits v) (a ∷ cs) (coded (8 * v + digit a)) named.nothing cs
-third_octal v a cs e = one_is (named.octal_digits v) named.nothing a cs (coded (8 * v + digit a)) (ap (λ (t : Bool). cond t (coded (8 * v + digit a)) (coded v ++ itself a)) e) (ap (λ (t : Bool). cond t named.nothing (begins_with a)) e)
+third_octal v a cs e =
+    one_is (named.octal_digits v) named.nothing a cs (coded (8 * v + digit a)) (ap (λ (t : Bool). cond t (coded (8 * v + digit a)) (coded v ++ itself a)) e) (ap (λ (t : Bool). cond t named.nothing (begins_with a)) e)
 
 -- no octal digit comes next
 abbrev pub no_octal : List ℕ → Bool

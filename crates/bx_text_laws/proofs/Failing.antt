@@ -156,7 +156,8 @@ a_digit : (b : ℕ) (bs : List ℕ) (at line : ℕ) (f : Fault) → is_digit b �
 a_digit b bs at line f e =
     let p = on (b ∷ bs) at line in
     let n = prefix_len is_digit (b ∷ bs) in
-    cond_both (eqb n 0) _ _ (Told p.rest line f) (λ i. absurd (omega (arith, cond-true (is_digit b) (1 + prefix_len is_digit bs) 0 e, eqb-true n 0 i))) (λ _. no_number p (0 + n) (fraction_len (drop (0 + n) p.rest)) p.rest line f)
+    cond_both (eqb n 0) _ _ (Told p.rest line f) (λ i. absurd (omega (arith, cond-true (is_digit b) (1 + prefix_len is_digit bs) 0 e, eqb-true n 0 i)))
+    (λ _. no_number p (0 + n) (fraction_len (drop (0 + n) p.rest)) p.rest line f)
 
 none_valid : (b : ℕ) (bs : List ℕ) → utf8_valid_len (b ∷ bs) ≡ 0 → NoCharacter (b ∷ bs)
 none_valid b bs e = by (to_seam (b ∷ bs) (λ i. absurd (omega (arith, e, i))))
@@ -193,7 +194,8 @@ by_byte b bs at line f =
     (pick (eqb b 35) _ _ (a_pair b 35 123 bs at line _ f hash refl) (pick (eqb b 60) _ _ (a_pair b 60 60 bs at line _ f less refl)
     (pick (eqb b 61) _ _ (a_pair b 61 62 bs at line _ f equals refl) (pick (eqb b 62) _ _ (a_pair b 62 62 bs at line _ f greater refl) (other (b ∷ bs) line f)))))))))))))))))))))
   where
-    pick : (t : Bool) (k l : named.Beginning) → (t ≡ true → Told (b ∷ bs) line f (token_by k (on (b ∷ bs) at line))) → Told (b ∷ bs) line f (token_by l (on (b ∷ bs) at line)) → Told (b ∷ bs) line f (token_by (cond t k l) (on (b ∷ bs) at line))
+    pick : (t : Bool) (k l : named.Beginning) → (t ≡ true → Told (b ∷ bs) line f (token_by k (on (b ∷ bs) at line)))
+        → Told (b ∷ bs) line f (token_by l (on (b ∷ bs) at line)) → Told (b ∷ bs) line f (token_by (cond t k l) (on (b ∷ bs) at line))
     pick t k l g h = cond_both t k l (λ k. Told (b ∷ bs) line f (token_by k (on (b ∷ bs) at line))) g (λ _. h)
 
 fails : (text : List ℕ) (at line : ℕ) (f : Fault) → token_at (on text at line) ≡ Err f → Fails text line f

@@ -60,10 +60,17 @@ says q body at line f h g = by (scan q body at line h) g
     by (closed cs raw zs b e n u o s) = cond_both (whole named.nothing cs) _ _ (λ (r : Parsed). r ≡ Err f → Says (q ∷ body) line f) (λ _ g. cc) (λ _ g. bad g)
     by (unclosed cs u o) =
         cond_both (is_bad (fold step named.nothing cs)) _ _ (λ (x : Fault). ◌≡◌ {A = Parsed} (Err x) (Err f) → Says (q ∷ body) line f) (λ _ g. bad g)
-        (λ i g. inl (same (Truncated (line + feeds body)) g ∙ ap (λ n. Truncated (line + n)) (sym (open_lines q body h)), cut cs u (parts (λ s. not (is_bad s)) q h refl cs (sym (open_text q cs body h u) ∙ o) (ap not i))))
+        (λ i g. inl (
+          same (Truncated (line + feeds body)) g ∙ ap (λ n. Truncated (line + n)) (sym (open_lines q body h)),
+          cut cs u (parts (λ s. not (is_bad s)) q h refl cs (sym (open_text q cs body h u) ∙ o) (ap not i)),
+        ))
     by (spoilt cs bytes rest e u o n) =
         cond_both (may_go_on (fold step named.nothing cs)) _ _ (λ (x : Fault). ◌≡◌ {A = Parsed} (Err x) (Err f) → Says (q ∷ body) line f)
-        (λ m g. inr (inl (q ∷ bytes, same (NotUtf8 (line + feeds bytes)) g ∙ ap (λ n. NotUtf8 (line + n)) (sym (open_lines q bytes h)), (rest, ap (λ us. q ∷ us) e, awaits cs bytes u m (parts may_go_on q h refl cs (sym (open_text q cs bytes h u) ∙ o) m), n))))
+        (λ m g. inr (inl (
+          q ∷ bytes,
+          same (NotUtf8 (line + feeds bytes)) g ∙ ap (λ n. NotUtf8 (line + n)) (sym (open_lines q bytes h)),
+          (rest, ap (λ us. q ∷ us) e, awaits cs bytes u m (parts may_go_on q h refl cs (sym (open_text q cs bytes h u) ∙ o) m), n),
+        )))
         (λ _ g. bad g)
 
 -- and what the bytes say is the fault: the text ends

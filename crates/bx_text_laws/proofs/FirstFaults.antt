@@ -82,7 +82,8 @@ string_meets t b e = inl (subst (λ t. Meets more_strings (meant t) (faults.take
 text_next_goes : (p : Place) → Going StringLeft (StringAt p) (more_strings ∷ []) p p (text_next p)
 text_next_goes p = by (text_next p) refl
   where
-    by_text : (o : Option Lexeme) → ((o ≡ None) × NoString p) ⊎ ((l : Lexeme) × (o ≡ Some l) × (lexeme_at p ≡ Ok l) × ((w : Body) × (l.token ≡ token.text w))) → Going StringLeft (StringAt p) (more_strings ∷ []) p p (Ok o)
+    by_text : (o : Option Lexeme) → ((o ≡ None) × NoString p) ⊎ ((l : Lexeme) × (o ≡ Some l) × (lexeme_at p ≡ Ok l) × ((w : Body) × (l.token ≡ token.text w)))
+        → Going StringLeft (StringAt p) (more_strings ∷ []) p p (Ok o)
     by_text o (inl (e, none)) = subst (λ o. Going StringLeft (StringAt p) (more_strings ∷ []) p p (Ok o)) (sym e) (goes p refl (clean_here p) (λ us full f. strings_end p none us full f))
     by_text o (inr (l, e, n, (w, t))) =
         subst (λ o. Going StringLeft (StringAt p) (more_strings ∷ []) p p (Ok o)) (sym e)
@@ -96,7 +97,8 @@ texts_goes : (k : ℕ) (p : Place) → length p.rest < k → Going Nothing Ends 
 texts_goes zero p lt = absurd (omega arith)
 texts_goes (suc k) p lt = then_last (texts_on (texts k) p) (text_next_goes p) (on (λ q l. texts_goes k q l))
   where
-    on : ((q : Place) → length q.rest < k → Going {A = List Tree × Place} Nothing Ends (more_strings ∷ []) q q (texts k q)) → (o : Option Lexeme) (q : Place) → StringAt p o q → Clean p q → Going {A = List Tree × Place} Nothing Ends (StringLeft o) q q (texts_on (texts k) p o)
+    on : ((q : Place) → length q.rest < k → Going {A = List Tree × Place} Nothing Ends (more_strings ∷ []) q q (texts k q))
+        → (o : Option Lexeme) (q : Place) → StringAt p o q → Clean p q → Going {A = List Tree × Place} Nothing Ends (StringLeft o) q q (texts_on (texts k) p o)
     on more None q e c = subst (λ q. Going {A = List Tree × Place} Nothing Ends [] q q (Ok ([], p))) e (done ([], p))
     on more (Some l) q (e, n) c =
         subst (λ q. Going {A = List Tree × Place} Nothing Ends (more_strings ∷ []) q q (texts_on (texts k) p (Some l))) e
@@ -141,7 +143,8 @@ parts_go : (k : Bracket) (d : ℕ) (part : Lexeme → Result Follow Fault) → P
 parts_go k d part h zero p l n lt = absurd (omega arith)
 parts_go k d part h (suc i) p l n lt = then_last (go_through (reader.parts part i)) (h p l n) (on (λ q m a s. parts_go k d part h i q m a s))
   where
-    on : ((q : Place) (m : Lexeme) → lexeme_at q ≡ Ok m → length m.after.rest < i → Going (λ m. more_in k d ∷ []) EndAt (parts k d) q m.after (reader.parts part i m)) → (x : Follow) (q : Place) → FollowAt x q → Clean l.after q → Going (λ m. more_in k d ∷ []) EndAt (FollowLeft k d x) q q (go_through (reader.parts part i) x)
+    on : ((q : Place) (m : Lexeme) → lexeme_at q ≡ Ok m → length m.after.rest < i → Going (λ m. more_in k d ∷ []) EndAt (parts k d) q m.after (reader.parts part i m))
+        → (x : Follow) (q : Place) → FollowAt x q → Clean l.after q → Going (λ m. more_in k d ∷ []) EndAt (FollowLeft k d x) q q (go_through (reader.parts part i) x)
     on more (next m) q a c = from_token q m a (more q m a (omega (arith, lt, token_less q m a, clean_le c)))
     on more (end m) q a c = goes q a (clean_here q) (λ us full f. as_is)
 
@@ -169,7 +172,8 @@ row_goes : (k : Bracket) (d : ℕ) (term : Reading) → TermsGo d term → parts
 row_goes k d term h is zero p l n lt = absurd (omega arith)
 row_goes k d term h is (suc i) p l n lt = then_last (λ x. go_on (many term i) x.0 x.1) (element_goes k d term h p l n) (λ x q a c. on (λ q m a s. row_goes k d term h is i q m a s) x.0 x.1 q a c)
   where
-    on : ((q : Place) (m : Lexeme) → lexeme_at q ≡ Ok m → length m.after.rest < i → Going (RowLeft k d) RowAt (Elements k d) q m.after (many term i m)) → (t : Tree) (x : Follow) (q : Place) → FollowAt x q → Clean l.after q → Going (RowLeft k d) RowAt (FollowLeft k d x) q q (go_on (many term i) t x)
+    on : ((q : Place) (m : Lexeme) → lexeme_at q ≡ Ok m → length m.after.rest < i → Going (RowLeft k d) RowAt (Elements k d) q m.after (many term i m))
+        → (t : Tree) (x : Follow) (q : Place) → FollowAt x q → Clean l.after q → Going (RowLeft k d) RowAt (FollowLeft k d x) q q (go_on (many term i) t x)
     on more t (next m) q a c =
         subst (λ ws. Going (RowLeft k d) RowAt ws q q (go_on (many term i) t (next m))) (sym is)
         (then_last (λ x. Ok (t ∷ x.0, x.1)) (from_token q m a (more q m a (omega (arith, lt, token_less q m a, clean_le c))))
@@ -349,7 +353,9 @@ terms_begin d group h p l n = by l.token refl
     by (token.mark m) e =
         elim (fun_or (token.mark m) tt) [
           | inl f ↦ subst (λ t. Going {A = Tree × Place} Nothing Ends (a_term d ∷ []) p l.after (begin_by group l t)) (sym f) (taking (a_term d) _ [] p l n (at named.the_word_fun (e ∙ f) faults.a_fun) (fun_goes p l n))
-          | inr o ↦ subst (Going {A = Tree × Place} Nothing Ends (a_term d ∷ []) p l.after) (sym (no_term group l (token.mark m) tt o)) (misplaces (a_term d) [] p l n (subst (λ t. Does (a_term d) (meant t) misplaced) (sym e) (mark_does d (token.mark m) tt o)))
+          | inr o ↦
+              subst (Going {A = Tree × Place} Nothing Ends (a_term d ∷ []) p l.after) (sym (no_term group l (token.mark m) tt o))
+              (misplaces (a_term d) [] p l n (subst (λ t. Does (a_term d) (meant t) misplaced) (sym e) (mark_does d (token.mark m) tt o)))
         ]
     by t e = h p l n (subst IsGroup (sym e) tt)
 

@@ -174,8 +174,10 @@ code_written c h =
     elim (cases_lt c 16) [
       | inl l ↦ subst (Code c) (sym (hex_one_digit false c l)) (one_digit (glyph_digit c l), (glyph_low c l, tt))
       | inr l ↦
-          subst (Code c) (sym (hex_two_digits false c l h))
-          (subst (Numeral 16 (digit_glyph false (c / 16) ∷ digit_glyph false (c % 16) ∷ [])) value (digit_more (one_digit (glyph_digit (c / 16) high)) (glyph_digit (c % 16) low)), (glyph_low (c / 16) high, (glyph_low (c % 16) low, tt)))
+          subst (Code c) (sym (hex_two_digits false c l h)) (
+            subst (Numeral 16 (digit_glyph false (c / 16) ∷ digit_glyph false (c % 16) ∷ [])) value (digit_more (one_digit (glyph_digit (c / 16) high)) (glyph_digit (c % 16) low)),
+            (glyph_low (c / 16) high, (glyph_low (c % 16) low, tt)),
+          )
     ]
 
 all_low_append : (xs ys : List ℕ) → AllByRecursion (λ b. b < 128) xs → AllByRecursion (λ b. b < 128) ys → AllByRecursion (λ b. b < 128) (xs ++ ys)

@@ -126,7 +126,9 @@ pub codes_same : (cs ds bytes others : List ℕ) → InUtf8 cs bytes → InUtf8 
 codes_same cs ds bytes others (s, t) (u, v) e = sym (chars-encodes cs s) ∙ ap chars (t ∙ e ∙ sym v) ∙ chars-encodes ds u
 
 pub open_text : (q : ℕ) (cs bytes : List ℕ) → IsQuote q → InUtf8 cs bytes → free q (then_letter bytes) ≡ free q (then_letter cs)
-open_text q cs bytes h (s, t) = ap (free q) (sym (encodes-append cs (97 ∷ []) ∙ ap (λ us. encode_utf8_all cs ++ us) (ap (λ us. us ++ []) (encode_ascii 97 (omega arith))) ∙ ap then_letter t)) ∙ free_text q (then_letter cs) (quote_low q h)
+open_text q cs bytes h (s, t) =
+    ap (free q) (sym (encodes-append cs (97 ∷ []) ∙ ap (λ us. encode_utf8_all cs ++ us) (ap (λ us. us ++ []) (encode_ascii 97 (omega arith))) ∙ ap then_letter t))
+    ∙ free_text q (then_letter cs) (quote_low q h)
 
 -- bytes that are UTF-8, and behind which no character follows
 pub no_seam : (bytes rest : List ℕ) → IsUtf8 bytes → NoCharacter rest → IsUtf8 (bytes ++ rest) → ⊥
@@ -239,13 +241,19 @@ pub record Quoting (q : ℕ) (make : Body → Token) : Type 0 where
 spelled_quote : (q : ℕ) (make : Body → Token) → Quoting q make → (body : List ℕ) (at line : ℕ) (y : Body × Place) → quoted_at q (on (q ∷ body) at line) ≡ Ok y → Spelled (on (q ∷ body) at line) (make y.0, y.1)
 spelled_quote q make k body at line y g = by (scan q body at line k.quote) g
   where
-    made : (cs vs raw zs : List ℕ) → body ≡ raw ++ q ∷ zs → InUtf8 cs raw → Quoted q cs vs → spelled y.0 ≡ encode_utf8_all (run named.nothing cs) → y.1 ≡ behind (on (q ∷ body) at line) body (length raw) → Spelled (on (q ∷ body) at line) (make y.0, y.1)
+    made : (cs vs raw zs : List ℕ) → body ≡ raw ++ q ∷ zs → InUtf8 cs raw → Quoted q cs vs → spelled y.0 ≡ encode_utf8_all (run named.nothing cs)
+        → y.1 ≡ behind (on (q ∷ body) at line) body (length raw) → Spelled (on (q ∷ body) at line) (make y.0, y.1)
     made cs vs raw zs e u r s w =
         let is : meant (make y.0) ≡ make (token.plain (encode_utf8_all vs)) = k.means y.0 ∙ ap (λ w. make (token.plain w)) (s ∙ ap encode_utf8_all (means r).0) in
         let rest : y.1.rest ≡ zs = ap (λ (p : Place). p.rest) w ∙ ap (λ us. drop (length raw + 2) (q ∷ us)) e ∙ behind_rest q raw zs in
-        let fed : feeds (take (length raw) body) ≡ lines (q ∷ (raw ++ q ∷ [])) = ap feeds (ap (λ us. take (length raw) us) e ∙ take_at raw (q ∷ zs) (length raw) refl) ∙ sym (feeds_lines raw) ∙ sym (all_lines q raw k.quote) in (
+        let fed : feeds (take (length raw) body) ≡ lines (q ∷ (raw ++ q ∷ [])) =
+        ap feeds (ap (λ us. take (length raw) us) e ∙ take_at raw (q ∷ zs) (length raw) refl) ∙ sym (feeds_lines raw) ∙ sym (all_lines q raw k.quote) in (
           q ∷ (raw ++ q ∷ []),
-          (ap (λ us. q ∷ us) e ∙ sym (grouped q raw zs) ∙ ap (λ us. (q ∷ (raw ++ q ∷ [])) ++ us) (sym rest), subst (λ t. Spelling (q ∷ (raw ++ q ∷ [])) t) (sym is) (k.spells cs vs raw r u), subst (λ t. MayFollow t y.1.rest) (sym is) (k.follows (token.plain (encode_utf8_all vs)) y.1.rest)),
+          (
+            ap (λ us. q ∷ us) e ∙ sym (grouped q raw zs) ∙ ap (λ us. (q ∷ (raw ++ q ∷ [])) ++ us) (sym rest),
+            subst (λ t. Spelling (q ∷ (raw ++ q ∷ [])) t) (sym is) (k.spells cs vs raw r u),
+            subst (λ t. MayFollow t y.1.rest) (sym is) (k.follows (token.plain (encode_utf8_all vs)) y.1.rest),
+          ),
           (ap (λ (p : Place). p.at) w ∙ ap (λ n. at + n) (omega (arith, length-append raw (q ∷ []))), ap (λ (p : Place). p.line) w ∙ ap (λ n. line + n) fed),
         )
 
@@ -314,7 +322,8 @@ quote_exact q make k cs vs bytes rest r u at line =
     subst (λ text. (w : Token) × (p : Place) × (token_at (on text at line) ≡ Ok (w, p)) × (p.rest ≡ rest) × (meant w ≡ make (token.plain (encode_utf8_all vs)))) (sym (grouped q bytes rest))
     (make g.0, behind (on (q ∷ B) at line) B (length bytes), k.first B at line ∙ ap (λ r. r >>= λ y. Ok (make y.0, y.1)) g.1, behind_rest q bytes rest, k.means g.0 ∙ ap (λ w. make (token.plain w)) g.2)
 
-quote_found : (q : ℕ) (make : Body → Token) → Quoting q make → (cs vs bytes rest : List ℕ) (at line : ℕ) → Quoted q cs vs → InUtf8 cs bytes → Found (on ((q ∷ (bytes ++ q ∷ [])) ++ rest) at line) (make (token.plain (encode_utf8_all vs))) rest
+quote_found : (q : ℕ) (make : Body → Token) → Quoting q make → (cs vs bytes rest : List ℕ) (at line : ℕ) → Quoted q cs vs → InUtf8 cs bytes
+    → Found (on ((q ∷ (bytes ++ q ∷ [])) ++ rest) at line) (make (token.plain (encode_utf8_all vs))) rest
 quote_found q make k cs vs bytes rest at line r u =
     let x = quote_exact q make k cs vs bytes rest r u at line in
     found_exact (on ((q ∷ (bytes ++ q ∷ [])) ++ rest) at line) x.1 x.0 (make (token.plain (encode_utf8_all vs))) rest x.2 x.3 x.4

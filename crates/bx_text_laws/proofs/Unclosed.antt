@@ -47,14 +47,16 @@ mutual
   pub spans : (q : ℕ) → IsQuote q → (bs zs : List ℕ) → (free q (then_letter bs) ≡ true) ↔ (length bs ≤ body_len q (bs ++ zs))
   spans q h [] zs = (λ f. omega arith, λ l. letter q h)
   spans q h (b ∷ bs) zs =
-      cond_both (eqb b q) _ _ (λ m. (free q (b ∷ then_letter bs) ≡ true) ↔ (suc (length bs) ≤ m)) (λ e. no_more (free_past q b (no_slash b q (quote_slash q h) e) (then_letter bs) ∙ ap (λ t. not t && free q (then_letter bs)) e))
+      cond_both (eqb b q) _ _ (λ m. (free q (b ∷ then_letter bs) ≡ true) ↔ (suc (length bs) ≤ m))
+      (λ e. no_more (free_past q b (no_slash b q (quote_slash q h) e) (then_letter bs) ∙ ap (λ t. not t && free q (then_letter bs)) e))
       (λ e. cond_both (eqb b 92) _ _ (λ m. (free q (b ∷ then_letter bs) ≡ true) ↔ (suc (length bs) ≤ m)) (λ i. one_more (free_escape q b i (then_letter bs)) (spans_slash q h bs zs))
       (λ i. one_more (free_past q b i (then_letter bs) ∙ ap (λ t. not t && free q (then_letter bs)) e) (spans q h bs zs)))
 
   spans_slash : (q : ℕ) → IsQuote q → (bs zs : List ℕ) → (freed q (then_letter bs) ≡ true) ↔ (length bs ≤ escaped_len q (bs ++ zs))
   spans_slash q h [] zs = (λ f. omega arith, λ l. refl)
   spans_slash q h (b ∷ bs) zs =
-      cond_both (eqb b 94) _ _ (λ m. (freed q (b ∷ then_letter bs) ≡ true) ↔ (suc (length bs) ≤ m)) (λ e. one_more (cond-true (eqb b 94) _ _ e) (spans_control q h bs zs)) (λ e. one_more (past_cap q b (then_letter bs) e) (spans q h bs zs))
+      cond_both (eqb b 94) _ _ (λ m. (freed q (b ∷ then_letter bs) ≡ true) ↔ (suc (length bs) ≤ m)) (λ e. one_more (cond-true (eqb b 94) _ _ e) (spans_control q h bs zs))
+      (λ e. one_more (past_cap q b (then_letter bs) e) (spans q h bs zs))
 
   spans_control : (q : ℕ) → IsQuote q → (bs zs : List ℕ) → (capped q (then_letter bs) ≡ true) ↔ (length bs ≤ control_len q (bs ++ zs))
   spans_control q h [] zs = (λ f. omega arith, λ l. letter q h)
@@ -83,7 +85,8 @@ some_left : {q : ℕ} {e : Open} {es : List ℕ} → Unfinished es → is_whole 
 some_left {es = es} u w m = record { front = []; rest = es; codes = []; is = refl; quoted = quoted.none; left = inr (u, w, m) }
 
 -- what stands for one character, before them
-before : {q : ℕ} {e : Open} {cs : List ℕ} (v : ℕ) (g : List ℕ → List ℕ) → ((xs es : List ℕ) → g (xs ++ es) ≡ g xs ++ es) → ((xs es vs : List ℕ) → cs ≡ xs ++ es → Quoted q xs vs → Quoted q (g xs) (v ∷ vs)) → Parts q e cs → Parts q e (g cs)
+before : {q : ℕ} {e : Open} {cs : List ℕ} (v : ℕ) (g : List ℕ → List ℕ) → ((xs es : List ℕ) → g (xs ++ es) ≡ g xs ++ es)
+    → ((xs es vs : List ℕ) → cs ≡ xs ++ es → Quoted q xs vs → Quoted q (g xs) (v ∷ vs)) → Parts q e cs → Parts q e (g cs)
 before v g over make k = record { front = g k.front; rest = k.rest; codes = v ∷ k.codes; is = ap g k.is ∙ over k.front k.rest; quoted = make k.front k.rest k.codes k.is k.quoted; left = k.left }
 
 octal_before : {q : ℕ} {e : Open} {cs : List ℕ} (ds : List ℕ) (v : ℕ) → Numeral 8 ds v → length ds ≤ 3 → (length ds ≡ 3) ⊎ NoOctal cs → Parts q e cs → Parts q e (92 ∷ (ds ++ cs))
@@ -182,16 +185,19 @@ ways_on good q h n c cs ways =
           (λ i. over (no_slash c 123 (λ e. omega (arith, e)) i) (subst (λ c. Way good q (free q) named.brace cs (92 ∷ 120 ∷ c ∷ cs)) (sym (eqb-true c 123 i)) ways.brace))
           (λ _. cond_both (is_hex c) _ _ (Led (free q) named.hex (92 ∷ 120 ∷ c ∷ cs)) (λ i. over_hex i (ways.one c (digit c) (a_digit 16 c (omega arith) i))) (λ _. off)) refl;
       one = λ a v d. cond_both (is_hex c) _ _ (Led (free q) (named.hex_digit v) (92 ∷ 120 ∷ a ∷ c ∷ cs))
-          (λ i. over_hex i (further (before (16 * v + digit c) (λ xs. 92 ∷ 120 ∷ a ∷ c ∷ xs) (λ xs es. refl) (λ xs es vs x k. quoted.hex {ds = a ∷ c ∷ []} (digit_more (one_digit d) (a_digit 16 c (omega arith) i)) refl k))))
+          (λ i. over_hex i (further (before (16 * v + digit c) (λ xs. 92 ∷ 120 ∷ a ∷ c ∷ xs) (λ xs es. refl)
+          (λ xs es vs x k. quoted.hex {ds = a ∷ c ∷ []} (digit_more (one_digit d) (a_digit 16 c (omega arith) i)) refl k))))
           (λ _. off) refl;
-      brace = cond_both (is_hex c) _ _ (Led (free q) named.brace (92 ∷ 120 ∷ 123 ∷ c ∷ cs)) (λ i. over_hex i (ways.braced (c ∷ []) (digit c) (digit c) (one_digit (a_digit 16 c (omega arith) i)) (inl refl))) (λ _. off) refl;
+      brace = cond_both (is_hex c) _ _ (Led (free q) named.brace (92 ∷ 120 ∷ 123 ∷ c ∷ cs))
+          (λ i. over_hex i (ways.braced (c ∷ []) (digit c) (digit c) (one_digit (a_digit 16 c (omega arith) i)) (inl refl))) (λ _. off) refl;
       braced = λ ds v n k s. cond_both (is_hex c) _ _ (Led (free q) (named.braced v) (92 ∷ 120 ∷ 123 ∷ (ds ++ c ∷ cs)))
           (λ i. over_hex i (subst (λ us. Way good q (free q) (named.braced (escapes.braced v (digit c))) cs (92 ∷ 120 ∷ 123 ∷ us)) (append_assoc ds (c ∷ []) cs)
           (ways.braced (ds ++ c ∷ []) (escapes.braced v (digit c)) (16 * n + digit c) (digit_more k (a_digit 16 c (omega arith) i)) (same_more v n (digit c) (below 16 c i) s))))
           (λ _. cond_both (eqb c 125 && is_scalar v) _ _ (Led (free q) (named.braced v) (92 ∷ 120 ∷ 123 ∷ (ds ++ c ∷ cs)))
           (λ i. let both = and_parts (eqb c 125) (is_scalar v) i in
           over (no_slash c 125 (λ e. omega (arith, e)) both.0)
-          (subst (λ c. Way good q (free q) named.nothing cs (92 ∷ 120 ∷ 123 ∷ (ds ++ c ∷ cs))) (sym (eqb-true c 125 both.0)) (further (braced_before ds n k (subst IsScalar (scalar_same v n s both.1) (scalar_from v both.1))))))
+          (subst (λ c. Way good q (free q) named.nothing cs (92 ∷ 120 ∷ 123 ∷ (ds ++ c ∷ cs))) (sym (eqb-true c 125 both.0))
+          (further (braced_before ds n k (subst IsScalar (scalar_same v n s both.1) (scalar_from v both.1))))))
           (λ _. off)) refl;
       control = cond_both (is_control c) _ _ (Led (capped q) named.control (92 ∷ 94 ∷ c ∷ cs))
           (λ i. on (not (eqb c q)) (λ zs. refl) (λ _. further (before (c % 32) (λ xs. 92 ∷ 94 ∷ c ∷ xs) (λ xs es. refl) (λ xs es vs x k. quoted.control (control_from c i) k))))
@@ -202,7 +208,8 @@ ways_on good q h n c cs ways =
     Led : (List ℕ → Bool) → Open → List ℕ → Open → Type 0
     Led within s text t = step s c ≡ t → Way good q within s (c ∷ cs) text
 
-    on : {within behind : List ℕ → Bool} {s t : Open} {text : List ℕ} (ok : Bool) → ((zs : List ℕ) → within (c ∷ zs) ≡ (ok && behind zs)) → (ok ≡ true → Way good q behind t cs text) → step s c ≡ t → Way good q within s (c ∷ cs) text
+    on : {within behind : List ℕ → Bool} {s t : Open} {text : List ℕ} (ok : Bool) → ((zs : List ℕ) → within (c ∷ zs) ≡ (ok && behind zs))
+        → (ok ≡ true → Way good q behind t cs text) → step s c ≡ t → Way good q within s (c ∷ cs) text
     on {behind = behind} {text = text} ok same way e =
         record {
           go = λ f g. let both = and_parts ok (behind (then_letter cs)) (sym (same (then_letter cs)) ∙ f) in

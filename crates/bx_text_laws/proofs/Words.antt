@@ -129,7 +129,8 @@ a_word : (c : ℕ) (cs bytes zs : List ℕ) (at line : ℕ) (x : Token × Place)
 a_word c cs bytes zs at line x small a utf8 l e h =
     cond_both (bytes_eq bytes (codes "fun")) _ _ (λ (t : Token). ◌≡◌ {A = Result (Token × Place) Fault} (Ok (t, after (on (bytes ++ zs) at line) n)) (Ok x) → Spelled (on (bytes ++ zs) at line) x)
     (λ is. spelled_on bytes zs at line n named.the_word_fun x (subst (λ ws. Spelling ws named.the_word_fun) (sym ((bytes_eq-Decides bytes (codes "fun")).0 is)) the_word_fun) (λ e. cc) l e)
-    (λ is. spelled_on bytes zs at line n (token.atom (token.plain bytes)) x (bare_atom c cs small a utf8 (λ same. both_ways (bytes_eq bytes (codes "fun")) is ((bytes_eq-Decides bytes (codes "fun")).1 same))) (λ e. cc) l e)
+    (λ is. spelled_on bytes zs at line n (token.atom (token.plain bytes)) x
+    (bare_atom c cs small a utf8 (λ same. both_ways (bytes_eq bytes (codes "fun")) is ((bytes_eq-Decides bytes (codes "fun")).1 same))) (λ e. cc) l e)
     (subst (λ w. ◌≡◌ {A = Result (Token × Place) Fault} (Ok (word w, after (on (bytes ++ zs) at line) n)) (Ok x)) (take_at bytes zs n (sym e)) h)
   where
     n : ℕ
@@ -169,7 +170,8 @@ pub an_accent : (b : ℕ) (bs : List ℕ) (at line : ℕ) (x : Token × Place) �
 an_accent b [] at line x is h = absurd (no_foreign (eqb (utf8_valid_len (b ∷ [])) 0) line x h)
 an_accent b (d ∷ ds) at line x is h =
     cond_both (is_accented_lower d) _ _ (λ (r : Result (Token × Place) Fault). r ≡ Ok x → Spelled (on (b ∷ d ∷ ds) at line) x)
-    (λ e. subst (λ ws. word_at (on (ws ++ ds) at line) ≡ Ok x → Spelled (on (ws ++ ds) at line) x) (accented d (lower_accent d e) ∙ ap (λ b. b ∷ d ∷ []) (sym (eqb-true b 195 is))) (small_word (d + 64) ds at line x (small_accent d e)))
+    (λ e. subst (λ ws. word_at (on (ws ++ ds) at line) ≡ Ok x → Spelled (on (ws ++ ds) at line) x) (accented d (lower_accent d e) ∙ ap (λ b. b ∷ d ∷ []) (sym (eqb-true b 195 is)))
+    (small_word (d + 64) ds at line x (small_accent d e)))
     (λ _ g. absurd (no_foreign (eqb (utf8_valid_len (b ∷ d ∷ ds)) 0) line x g)) h
 
 -- what is spelled as a word is taken
@@ -196,13 +198,17 @@ first_small c X at line h =
           (accent_first (on (195 ∷ (c - 64) ∷ X) at line) (c - 64) X (small_accented c l h) refl)
     ]
 
-word_found : (bytes rest : List ℕ) (at line : ℕ) (t : Token) → token_at (on (bytes ++ rest) at line) ≡ word_at (on (bytes ++ rest) at line) → name_len (bytes ++ rest) ≡ length bytes + name_len rest → meant (word bytes) ≡ t
-    → Found (on (bytes ++ rest) at line) t rest
+word_found : (bytes rest : List ℕ) (at line : ℕ) (t : Token) → token_at (on (bytes ++ rest) at line) ≡ word_at (on (bytes ++ rest) at line) → name_len (bytes ++ rest) ≡ length bytes + name_len rest
+    → meant (word bytes) ≡ t → Found (on (bytes ++ rest) at line) t rest
 word_found bytes rest at line t is count m =
     let text : List ℕ = bytes ++ rest in
     let n : ℕ = name_len text in
-    let all : length text ≡ length bytes + length rest = length-append bytes rest in
-    ((word (take n text), after (on text at line) n), is, omega (arith, count, all, length-drop n text), λ e. ap (λ w. meant (word w)) (take_at bytes rest n (omega (arith, count, e, all, length-drop n text, name_le rest))) ∙ m)
+    let all : length text ≡ length bytes + length rest = length-append bytes rest in (
+      (word (take n text), after (on text at line) n),
+      is,
+      omega (arith, count, all, length-drop n text),
+      λ e. ap (λ w. meant (word w)) (take_at bytes rest n (omega (arith, count, e, all, length-drop n text, name_le rest))) ∙ m,
+    )
 
 pub word_taken : (c : ℕ) (cs bytes rest : List ℕ) (at line : ℕ) → IsSmall c → AllByRecursion IsNameCharacter cs → InUtf8 (c ∷ cs) bytes
     → (token_at (on (bytes ++ rest) at line) ≡ word_at (on (bytes ++ rest) at line)) × (name_len (bytes ++ rest) ≡ length bytes + name_len rest)
