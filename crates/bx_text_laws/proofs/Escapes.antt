@@ -1,10 +1,10 @@
 -- What the reader makes of characters with escapes is what they stand for.
-use Rattle.std.proofs.Common.{◌≡◌, ℕ, ◌+◌, ◌*◌, ◌%◌, ◌≤◌, ◌<◌, Bool, true, false, cond, not, eqb, ◌&&◌, List, [], ◌∷◌, ◌++◌, length, refl, sym, ap, ◌∙◌, subst, arith, append_assoc, append-nil, ◌⊎◌}
+use Rattle.std.proofs.Common.{◌≡◌, ℕ, ◌+◌, ◌*◌, ◌%◌, ◌≤◌, ◌<◌, Bool, true, false, not, eqb, List, [], ◌∷◌, ◌++◌, length, refl, sym, ap, ◌∙◌, subst, arith, append_assoc, append-nil, ◌⊎◌}
 use Rattle.std.specs.List.{fold, list_all}
 use Rattle.std.specs.Char.{IsScalar}
 use Rattle.std.specs.Prelude.{nat_lt}
 use Rattle.std.proofs.lemmas.List.Sums.{fold-append}
-use Rattle.std.proofs.lemmas.Bool.{and_parts, and_from, not-true}
+use Rattle.std.proofs.lemmas.Bool.{cond-true, cond-false, and_parts, and_from, not-true}
 use Rattle.std.proofs.lemmas.List.{length-append}
 use Rattle.std.proofs.lemmas.Bool.Decides.{nat_tests}
 use Rattle.bx_text.specs.Named as named
@@ -52,21 +52,19 @@ hex_close c e = grind (arith, nat_tests)
 
 -- single turns
 pub over_itself : (c : ℕ) (cs : List ℕ) → eqb c 92 ≡ false → Turn named.nothing (c ∷ cs) (c ∷ []) named.nothing cs
-over_itself c cs e = one_is named.nothing named.nothing c cs (c ∷ []) (ap (λ (t : Bool). cond t [] (c ∷ [])) e) (ap (λ (t : Bool). cond t named.backslash named.nothing) e)
+over_itself c cs e = one_is _ _ c cs _ (cond-false (eqb c 92) _ _ e) (cond-false (eqb c 92) _ _ e)
 
 pub over_slash : (cs : List ℕ) → Turn named.nothing (92 ∷ cs) [] named.backslash cs
 over_slash cs = one named.nothing 92 cs
 
 pub first_octal : (a : ℕ) (cs : List ℕ) → is_octal a ≡ true → Turn named.backslash (a ∷ cs) [] (named.octal_digit (digit a)) cs
-first_octal a cs e = one_is named.backslash (named.octal_digit (digit a)) a cs [] (rw e refl) (rw e refl)
+first_octal a cs e = one_is _ _ a cs _ (rw e refl) (cond-true (is_octal a) _ _ e)
 
 pub second_octal : (v a : ℕ) (cs : List ℕ) → is_octal a ≡ true → Turn (named.octal_digit v) (a ∷ cs) [] (named.octal_digits (8 * v + digit a)) cs
-second_octal v a cs e =
-    one_is (named.octal_digit v) (named.octal_digits (8 * v + digit a)) a cs [] (ap (λ (t : Bool). cond t [] (coded v ++ itself a)) e) (ap (λ (t : Bool). cond t (named.octal_digits (8 * v + digit a)) (begins_with a)) e)
+second_octal v a cs e = one_is _ _ a cs _ (cond-true (is_octal a) _ _ e) (cond-true (is_octal a) _ _ e)
 
 pub third_octal : (v a : ℕ) (cs : List ℕ) → is_octal a ≡ true → Turn (named.octal_digits v) (a ∷ cs) (coded (8 * v + digit a)) named.nothing cs
-third_octal v a cs e =
-    one_is (named.octal_digits v) named.nothing a cs (coded (8 * v + digit a)) (ap (λ (t : Bool). cond t (coded (8 * v + digit a)) (coded v ++ itself a)) e) (ap (λ (t : Bool). cond t named.nothing (begins_with a)) e)
+third_octal v a cs e = one_is _ _ a cs _ (cond-true (is_octal a) _ _ e) (cond-true (is_octal a) _ _ e)
 
 -- no octal digit comes next
 abbrev pub no_octal : List ℕ → Bool
@@ -85,33 +83,28 @@ octal_ends s v (c ∷ cs) ends e =
     record { means = turned.means ∙ append_assoc (coded v) (itself c) (run (begins_with c) cs) ∙ ap (λ us. coded v ++ us) (sym plain.means); tests = λ p o. turned.tests p o ∙ sym (plain.tests p o) }
 
 pub octal_one : (v : ℕ) → Ends (named.octal_digit v) v
-octal_one v = (refl, λ p o. o.0 v, λ c e. (ap (λ (t : Bool). cond t [] (coded v ++ itself c)) e, ap (λ (t : Bool). cond t (named.octal_digits (8 * v + digit c)) (begins_with c)) e))
+octal_one v = (refl, λ p o. o.0 v, λ c e. (cond-false (is_octal c) _ _ e, cond-false (is_octal c) _ _ e))
 
 pub octal_two : (v : ℕ) → Ends (named.octal_digits v) v
-octal_two v = (refl, λ p o. o.1 v, λ c e. (ap (λ (t : Bool). cond t (coded (8 * v + digit c)) (coded v ++ itself c)) e, ap (λ (t : Bool). cond t named.nothing (begins_with c)) e))
+octal_two v = (refl, λ p o. o.1 v, λ c e. (cond-false (is_octal c) _ _ e, cond-false (is_octal c) _ _ e))
 
 pub first_hex : (a : ℕ) (cs : List ℕ) → is_hex a ≡ true → Turn named.hex (a ∷ cs) [] (named.hex_digit (digit a)) cs
-first_hex a cs e =
-    one_is named.hex (named.hex_digit (digit a)) a cs [] refl
-    (ap (λ (t : Bool). cond t named.brace (cond (is_hex a) (named.hex_digit (digit a)) named.bad)) (hex_brace a e) ∙ ap (λ (t : Bool). cond t (named.hex_digit (digit a)) named.bad) e)
+first_hex a cs e = one_is _ _ a cs _ refl (cond-false (eqb a 123) _ _ (hex_brace a e) ∙ cond-true (is_hex a) _ _ e)
 
 pub second_hex : (v a : ℕ) (cs : List ℕ) → is_hex a ≡ true → Turn (named.hex_digit v) (a ∷ cs) (coded (16 * v + digit a)) named.nothing cs
-second_hex v a cs e =
-    one_is (named.hex_digit v) named.nothing a cs (coded (16 * v + digit a)) (ap (λ (t : Bool). cond t (coded (16 * v + digit a)) []) e) (ap (λ (t : Bool). cond t named.nothing named.bad) e)
+second_hex v a cs e = one_is _ _ a cs _ (cond-true (is_hex a) _ _ e) (cond-true (is_hex a) _ _ e)
 
 pub first_braced : (a : ℕ) (cs : List ℕ) → is_hex a ≡ true → Turn named.brace (a ∷ cs) [] (named.braced (digit a)) cs
-first_braced a cs e = one_is named.brace (named.braced (digit a)) a cs [] refl (ap (λ (t : Bool). cond t (named.braced (digit a)) named.bad) e)
+first_braced a cs e = one_is _ _ a cs _ refl (cond-true (is_hex a) _ _ e)
 
 next_braced : (v a : ℕ) (cs : List ℕ) → is_hex a ≡ true → Turn (named.braced v) (a ∷ cs) [] (named.braced (escapes.braced v (digit a))) cs
-next_braced v a cs e =
-    one_is (named.braced v) (named.braced (escapes.braced v (digit a))) a cs [] (ap (λ (t : Bool). cond t (coded v) []) (hex_close a e))
-    (ap (λ (t : Bool). cond t (named.braced (escapes.braced v (digit a))) (cond (eqb a 125 && is_scalar v) named.nothing named.bad)) e)
+next_braced v a cs e = one_is _ _ a cs _ (cond-false (eqb a 125) _ _ (hex_close a e)) (cond-true (is_hex a) _ _ e)
 
 pub close_braced : (v : ℕ) (cs : List ℕ) → is_scalar v ≡ true → Turn (named.braced v) (125 ∷ cs) (coded v) named.nothing cs
-close_braced v cs e = one_is (named.braced v) named.nothing 125 cs (coded v) refl (ap (λ (t : Bool). cond t named.nothing named.bad) e)
+close_braced v cs e = one_is _ _ 125 cs _ refl (cond-true (is_scalar v) _ _ e)
 
 pub over_control : (c : ℕ) (cs : List ℕ) → is_control c ≡ true → Turn named.control (c ∷ cs) (coded (c % 32)) named.nothing cs
-over_control c cs e = one_is named.control named.nothing c cs (coded (c % 32)) (ap (λ (t : Bool). cond t (coded (c % 32)) []) e) (ap (λ (t : Bool). cond t named.nothing named.bad) e)
+over_control c cs e = one_is _ _ c cs _ (cond-true (is_control c) _ _ e) (cond-true (is_control c) _ _ e)
 
 pub over_named : (c : ℕ) (cs : List ℕ) → is_octal c ≡ false → eqb c 120 ≡ false → eqb c 94 ≡ false → Turn named.backslash (c ∷ cs) (escapes.named c ∷ []) named.nothing cs
 over_named c cs o x k = one_is named.backslash named.nothing c cs (escapes.named c ∷ []) (rw (o, x, k) refl) (rw (o, x, k) refl)
@@ -183,4 +176,4 @@ over_braced (d ∷ ds) w cs a =
     then (next_braced w d (ds ++ cs) both.0) (over_braced ds (saturated w d) cs both.1)
 
 pub coded_is : (v : ℕ) → is_scalar v ≡ true → coded v ≡ v ∷ []
-coded_is v e = ap (λ (t : Bool). cond t (v ∷ []) []) e
+coded_is v e = cond-true (is_scalar v) _ _ e
