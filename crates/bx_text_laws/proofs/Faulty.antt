@@ -1,8 +1,8 @@
 -- The faults of what stands between quotes, and a quote that is not closed.
-use Rattle.std.proofs.Common.{◌≡◌, ℕ, ◌+◌, ◌≤◌, true, cond, not, List, [], ◌∷◌, ◌++◌, take, length, Err, refl, sym, ap, ◌∙◌, subst, arith, append-nil, take_at, length-append, IsUtf8, ◌⊎◌, inl, inr}
+use Rattle.std.proofs.Common.{◌≡◌, ℕ, ◌+◌, ◌≤◌, true, cond, not, eqb, List, [], ◌∷◌, ◌++◌, take, length, Err, refl, sym, ap, ◌∙◌, subst, arith, append-nil, take_at, length-append, IsUtf8, ◌⊎◌, inl, inr}
 use Rattle.std.specs.List.{fold}
 use Rattle.std.specs.Str.Lossy.{utf8_valid_len}
-use Rattle.std.proofs.lemmas.Bool.{cond_both}
+use Rattle.std.proofs.lemmas.Bool.{cond-false, cond_both}
 use Rattle.bx_terms.specs.declared.faults.Fault.{Fault}
 use Rattle.bx_terms.specs.declared.faults.Fault.TheVariants.{BadToken, Truncated, NotUtf8}
 use Rattle.bx_text.specs.Escapes.{step, is_bad, may_go_on}
@@ -24,7 +24,7 @@ use Rattle.bx_text_laws.proofs.Leftover.{leaves, left_good, Slash, slash_left, s
 
 -- lines
 pub open_lines : (q : ℕ) (bytes : List ℕ) → IsQuote q → lines (q ∷ bytes) ≡ feeds bytes
-open_lines q bytes h = ap (λ t. cond t (1 + lines bytes) (lines bytes)) (quote_line q h) ∙ feeds_lines bytes
+open_lines q bytes h = cond-false (eqb q 10) _ _ (quote_line q h) ∙ feeds_lines bytes
 
 -- what a fault says of a text's bytes
 abbrev pub Says : List ℕ → ℕ → Fault → Type 0

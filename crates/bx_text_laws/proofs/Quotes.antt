@@ -49,9 +49,7 @@ pub quote_low : (q : ℕ) → IsQuote q → q < 128
 quote_low q h = grind arith
 
 all_lines : (q : ℕ) (bytes : List ℕ) → IsQuote q → lines (q ∷ (bytes ++ q ∷ [])) ≡ lines bytes
-all_lines q bytes h =
-    let last : lines (q ∷ []) ≡ 0 = ap (λ (t : Bool). cond t (1 + 0) 0) (quote_line q h) in
-    ap (λ (t : Bool). cond t (1 + lines (bytes ++ q ∷ [])) (lines (bytes ++ q ∷ []))) (quote_line q h) ∙ omega (arith, last, lines-append bytes (q ∷ []))
+all_lines q bytes h = cond-false (eqb q 10) _ _ (quote_line q h) ∙ omega (arith, cond-false {A = ℕ} (eqb q 10) 1 0 (quote_line q h), lines-append bytes (q ∷ []))
 
 pub grouped : (q : ℕ) (bytes zs : List ℕ) → (q ∷ (bytes ++ q ∷ [])) ++ zs ≡ q ∷ (bytes ++ q ∷ zs)
 grouped q bytes zs = ap (λ us. q ∷ us) (append_assoc bytes (q ∷ []) zs)
