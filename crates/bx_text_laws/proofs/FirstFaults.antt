@@ -33,25 +33,18 @@ use Rattle.bx_text_laws.proofs.Goings.{trim, Full, Going, goes, fails, Nothing, 
 use Rattle.bx_text_laws.proofs.Tells.{closed_goes, want_goes, arrow_tells, colon_tells, slash_tells, list_close_tells, utf8_tells, name_tells, number_tells, closes, at_once, first_part, NotMore, close_tells, comma_does, bar_does, colon_does, no_colon_does, slash_does, no_slash_does, IsMark, mark_does, IsHeld, not_held}
 
 -- strings
-abbrev IsText : Token → Type 0
-IsText (token.text b) = Unit {0}
-IsText t = ⊥
+text_begins : {bytes : List ℕ} {t : Token} {m : Move} → Spelling bytes t → Meets more_strings t m → (cs : List ℕ) × (bytes ≡ 34 ∷ cs)
+text_begins (spelling.string {bytes = bytes} r u) k = (bytes ++ 34 ∷ [], refl)
+text_begins s k = elim k [ ]
 
-text_begins : {bytes : List ℕ} {t : Token} → Spelling bytes t → IsText t → (cs : List ℕ) × (bytes ≡ 34 ∷ cs)
-text_begins (spelling.string {bytes = bytes} r u) i = (bytes ++ 34 ∷ [], refl)
-text_begins s i = absurd i
-
-no_text : (p : Place) (l : Lexeme) → NoString p → lexeme_at p ≡ Ok l → IsText (meant l.token) → ⊥
-no_text p l (q, s, none) n i =
+no_text : (p : Place) (l : Lexeme) (m : Move) → NoString p → lexeme_at p ≡ Ok l → Meets more_strings (meant l.token) m → ⊥
+no_text p l m (q, s, none) n i =
     let x = finding.parts p l n in
     let k = sound x.0 x.1 x.3 in
-    let t = text_begins k.1.1 (subst (λ (l : Lexeme). IsText (meant l.token)) (sym x.4) i) in
+    let t = text_begins k.1.1 (subst (λ (l : Lexeme). Meets more_strings (meant l.token) m) (sym x.4) i) in
     let same : q ≡ x.0 = ok_same q x.0 (sym s ∙ x.2) in
     let no : false ≡ true = sym none ∙ ap (λ (r : Place). begins is_quote r.rest) same ∙ ap (λ bs. begins is_quote bs) (k.1.0 ∙ ap (λ bs. bs ++ x.1.1.rest) t.1) in
     cc
-
-is_string : {t : Token} {m : Move} → Meets more_strings t m → IsText t
-is_string faults.another_string = tt
 
 -- where no string follows, what is wanted behind is wanted there
 strings_end : (p : Place) → NoString p → (us : List Wanted) → Full us → (f : Fault) → Refused (more_strings ∷ us) p f ↔ Refused us p f
@@ -59,7 +52,7 @@ strings_end p none us full f = by (lexeme_at p) refl
   where
     by : (r : Result Lexeme Fault) → lexeme_at p ≡ r → Refused (more_strings ∷ us) p f ↔ Refused us p f
     by (Err g) e = let there = next_fault p g e us full f in both_ways (its_own more_strings us p g f e) (there.1, there.0)
-    by (Ok l) e = by_token more_strings us p f l (faults.instead []) e (inr (λ m u. no_text p l none e (is_string u), refl))
+    by (Ok l) e = by_token more_strings us p f l (faults.instead []) e (inr (λ m u. no_text p l m none e u, refl))
 
 text_fault : (p : Place) (g : Fault) → text_next p ≡ Err g → lexeme_at p ≡ Err g
 text_fault p g = by (skip p)
@@ -76,22 +69,24 @@ abbrev StringAt : Place → Option Lexeme → Place → Type 0
 StringAt p None r = p ≡ r
 StringAt p (Some l) r = (l.after ≡ r) × (lexeme_at p ≡ Ok l)
 
-string_meets : (t : Token) (b : Body) → t ≡ token.text b → Does more_strings (meant t) (faults.taken (more_strings ∷ []))
-string_meets t b e = inl (subst (λ t. Meets more_strings (meant t) (faults.taken (more_strings ∷ []))) (sym e) faults.another_string)
-
 text_next_goes : (p : Place) → Going StringLeft (StringAt p) (more_strings ∷ []) p p (text_next p)
 text_next_goes p = by (text_next p) refl
   where
-    by_text : (o : Option Lexeme) → ((o ≡ None) × NoString p) ⊎ ((l : Lexeme) × (o ≡ Some l) × (lexeme_at p ≡ Ok l) × ((w : Body) × (l.token ≡ token.text w)))
-        → Going StringLeft (StringAt p) (more_strings ∷ []) p p (Ok o)
-    by_text o (inl (e, none)) = subst (λ o. Going StringLeft (StringAt p) (more_strings ∷ []) p p (Ok o)) (sym e) (goes p refl (clean_here p) (λ us full f. strings_end p none us full f))
-    by_text o (inr (l, e, n, (w, t))) =
-        subst (λ o. Going StringLeft (StringAt p) (more_strings ∷ []) p p (Ok o)) (sym e)
-        (goes l.after (refl, n) (clean_token p l n) (λ us full f. by_token more_strings us p f l (faults.taken (more_strings ∷ [])) n (string_meets l.token w t)))
+    Goes : Option Lexeme → Type 0
+    Goes o = Going StringLeft (StringAt p) (more_strings ∷ []) p p (Ok o)
+
+    text : (l : Lexeme) (w : Body) → lexeme_at p ≡ Ok l → l.token ≡ token.text w → Goes (Some l)
+    text l w n t =
+        goes l.after (refl, n) (clean_token p l n)
+        (λ us full f. by_token more_strings us p f l (faults.taken (more_strings ∷ [])) n (inl (subst (λ t. Meets more_strings (meant t) (faults.taken (more_strings ∷ []))) (sym t) faults.another_string)))
 
     by : (r : Result (Option Lexeme) Fault) → text_next p ≡ r → Going StringLeft (StringAt p) (more_strings ∷ []) p p r
     by (Err g) e = fails (λ us full f. its_own more_strings us p g f (text_fault p g e))
-    by (Ok o) e = by_text o (text_is p o e)
+    by (Ok o) e =
+        elim (text_is p o e) [
+          | inl x ↦ subst Goes (sym x.0) (goes p refl (clean_here p) (λ us full f. strings_end p x.1 us full f))
+          | inr x ↦ subst Goes (sym x.1) (text x.0 x.3.0 x.2 x.3.1)
+        ]
 
 texts_goes : (k : ℕ) (p : Place) → length p.rest < k → Going Nothing Ends (more_strings ∷ []) p p (texts k p)
 texts_goes zero p lt = absurd (omega arith)
