@@ -15,19 +15,16 @@ use Rattle.bx_text.specs.Forms.{stopped, form_by, form_on, form_at}
 use Rattle.bx_text_laws.specs.Terms.{OnlyBlanks}
 use Rattle.bx_text_laws.specs.Faults.{Wanted, a_term, the, misplaced, taken, Refused, FormFails}
 use Rattle.bx_text_laws.proofs.Sentences.{none_is_blank}
-use Rattle.bx_text_laws.proofs.Goings.{Going, goes, fails, Nothing, Ends, by_token, its_own, both_ways, then, next_at, from_token}
+use Rattle.bx_text_laws.proofs.Goings.{as_is, Going, goes, fails, Nothing, Ends, by_token, its_own, both_ways, then, next_at, from_token}
 use Rattle.bx_text_laws.proofs.Tells.{stop_tells}
 use Rattle.bx_text_laws.proofs.FirstFaults.{terms_go}
 
 -- an answer of one fault
-one_fault : {A : Type 0} (r : Result A Fault) (g f : Fault) → r ≡ Err g → (r ≡ Err f) ↔ (f ≡ g)
-one_fault {A = A} r g f e = (λ h. same (sym h ∙ e), λ s. e ∙ ap (λ g. Err g) (sym s))
+only : {A R : Type 0} (g f : Fault) → R ↔ (f ≡ g) → ◌≡◌ {A = Result A Fault} (Err g) (Err f) ↔ R
+only {A} g f h = (λ e. h.1 (same e), λ r. ap (λ g. Err g) (sym (h.0 r)))
   where
-    same : ◌≡◌ {A = Result A Fault} (Err f) (Err g) → f ≡ g
-    same h = cc
-
-turned : {A B : Type 0} → A ↔ B → B ↔ A
-turned h = (h.1, h.0)
+    same : ◌≡◌ {A = Result A Fault} (Err g) (Err f) → f ≡ g
+    same e = cc
 
 nothing_wanted : {p : Place} {f : Fault} → Refused [] p f → ⊥
 nothing_wanted r = elim r [ ]
@@ -40,10 +37,10 @@ stop_goes t p f = by (lexeme_at p) refl
     Goes r = (r ≡ Err f) ↔ Refused (the named.full_stop ∷ []) p f
 
     by : (r : Result Lexeme Fault) → lexeme_at p ≡ r → Goes (r >>= stopped t)
-    by (Err g) e = both_ways (one_fault (Err g) g f refl) (turned (its_own (the named.full_stop) [] p g f e))
+    by (Err g) e = only g f (its_own (the named.full_stop) [] p g f e)
     by (Ok m) n =
         cond_both (is_stop m.token) _ _ Goes (λ e. (λ h. cc, λ r. absurd (nothing_wanted ((by_token (the named.full_stop) [] p f m (taken []) n (stop_tells.yes m.token e)).0 r))))
-        (λ e. both_ways (one_fault (Err (BadTerm m.line)) (BadTerm m.line) f refl) (turned (by_token (the named.full_stop) [] p f m misplaced n (stop_tells.other m.token tt e))))
+        (λ e. only (BadTerm m.line) f (by_token (the named.full_stop) [] p f m misplaced n (stop_tells.other m.token tt e)))
 
 -- a term and its full stop
 abbrev Sentence : ℕ → List Wanted
@@ -52,8 +49,9 @@ Sentence d = a_term d ∷ the named.full_stop ∷ []
 by_term : (d : ℕ) (p : Place) (f : Fault) {r : Result (Tree × Place) Fault} → Going Nothing Ends (a_term d ∷ []) p p r → ((r >>= λ x. lexeme_at x.1 >>= stopped x.0) ≡ Err f) ↔ Refused (Sentence d) p f
 by_term d p f (goes {x = x} q a c h) =
     let there = h (the named.full_stop ∷ []) tt f in
-    both_ways (stop_goes x.0 x.1 f) (turned (subst (λ q. Refused (Sentence d) p f ↔ Refused (the named.full_stop ∷ []) q f) (sym a) there))
-by_term d p f (fails {g = g} h) = both_ways (one_fault (Err g) g f refl) (turned (h (the named.full_stop ∷ []) tt f))
+    let stop = subst (λ q. ((lexeme_at x.1 >>= stopped x.0) ≡ Err f) ↔ Refused (the named.full_stop ∷ []) q f) a (stop_goes x.0 x.1 f) in
+    both_ways stop (there.1, there.0)
+by_term d p f (fails {g = g} h) = only g f (h (the named.full_stop ∷ []) tt f)
 
 sentence_goes : (d : ℕ) (p : Place) (f : Fault) → ((lexeme_at p >>= form_by d) ≡ Err f) ↔ Refused (Sentence d) p f
 sentence_goes d p f = subst (λ r. (r ≡ Err f) ↔ Refused (Sentence d) p f) (sym (split (lexeme_at p))) (by_term d p f first)
@@ -77,7 +75,7 @@ at_once p f some = by (skip p) refl
     by_rest q (c ∷ cs) s e = (λ h. h, λ h. h)
 
     by : (r : Result Place Fault) → skip p ≡ r → ((r >>= λ q. form_on 256 q.rest q) ≡ Err f) ↔ ((r >>= lexeme_from >>= form_by 256) ≡ Err f)
-    by (Err g) s = both_ways (one_fault (Err g) g f refl) (turned (one_fault (Err g) g f refl))
+    by (Err g) s = only g f (only g f as_is)
     by (Ok q) s = by_rest q q.rest s refl
 
 pub forms_fail : (p : Place) (f : Fault) → (form_at p ≡ Err f) ↔ FormFails p f
