@@ -4,7 +4,6 @@ pub mod Commons
 pub mod Escapes
 pub mod Exact
 pub mod Failing
-pub mod Faulty
 pub mod Finding
 pub mod FirstFaults
 pub mod FormsBack
