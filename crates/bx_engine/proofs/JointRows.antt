@@ -1,13 +1,14 @@
 -- One part more behind those of a plan's text that are joined.
-use Rattle.std.proofs.Common.{◌≡◌, ◌∙◌, ◌⊎◌, inl, inr, ℕ, ◌+◌, ◌-◌, ◌<◌, ◌≤◌, Bool, true, false, cond, ◌||◌, List, [], ◌∷◌, ◌++◌, length, drop, get_or, map, take, Option, None, Some, Result, Ok, Err, append_assoc, refl, sym, ap, subst, arith, string_bytes, Bor, length-take}
-use Rattle.std.specs.Prelude.{IsOk, option_map, slice_get}
+use Rattle.std.proofs.Common.{◌≡◌, ◌∙◌, ◌⊎◌, inl, inr, ℕ, ◌+◌, ◌-◌, ◌<◌, ◌≤◌, Bool, true, false, cond, ◌||◌, List, [], ◌∷◌, ◌++◌, length, drop, get_or, map, take, Option, None, Some, Result, Ok, Err, append_assoc, refl, sym, ap, subst, arith, string_bytes, Bor, Global, Vec, length-take}
+use Rattle.std.specs.Prelude.{IfSome, IsOk, option_map, slice_get}
 use Rattle.std.specs.BTreeSet.{BTreeSet, Updates, contains}
-use Rattle.std.specs.List.{list_any}
+use Rattle.std.specs.List.{All, list_any}
 use Rattle.std.specs.Str.{bytes_eq}
 use Rattle.std.proofs.Math.Seq.{take-add}
 use Rattle.std.proofs.lemmas.Bool.{or_parts}
 use Rattle.std.proofs.lemmas.Bool.Decides.{same_from_decides}
 use Rattle.std.proofs.lemmas.List.{map-append, take_all, take_more}
+use Rattle.std.proofs.lemmas.List.Elements.{All-append, All-head, All-tail}
 use Rattle.std.proofs.lemmas.List.Folds.{list_any-append}
 use Rattle.std.proofs.lemmas.Map.Text.{is_eq-slice_cmp}
 use Rattle.std.proofs.lemmas.Option.{get_or_from_slice_get, slice_get_within}
@@ -102,6 +103,19 @@ told_again image start plan good = one (started image start.0 start.1) good wher
   one (Err fault) h = cc
 
 -- ---- parts
+
+-- what a worker made, if it did, are parts
+abbrev pub AreMade : Task → Option (Vec Part Global) → Type 0
+AreMade task row = IfSome row (λ parts. All (IsPart task) parts.items)
+
+-- the parts of one worker more
+pub one_row : (task : Task) (rows rest : List (Option (Vec Part Global))) (parts : Vec Part Global) (made more : List Part)
+    → All (AreMade task) rows → rows ≡ Some parts ∷ rest → All (IsPart task) made → more ≡ made ++ parts.items → All (IsPart task) more × All (AreMade task) rest
+one_row task rows rest parts made more all e here items =
+    let now : All (AreMade task) (Some parts ∷ rest) = subst (All (AreMade task)) e all in (
+      subst (All (IsPart task)) (sym items) (All-append (IsPart task) made parts.items here (All-head (AreMade task) (Some parts) rest now)),
+      All-tail (AreMade task) (Some parts) rest now,
+    )
 
 pub joint_next : (task : Task) (joint next : Joint) (part : Part) → IsJoint task joint → IsPart task part
     → part.first ≡ joint.past → AreWhole (take joint.past task.text.now) → next.past ≡ part.past → AreAdded joint.names next.names part.plan

@@ -191,7 +191,10 @@ impl<'a> Task<'a> {
         let own = self.image.deep_copy(alloc, MOST_COPIED).ok();
         let code = own.as_ref().unwrap_or(self.image);
         let mut made = Vec::new(alloc);
-        while let Some(number) = turns.take() {
+        for _ in 0..turns.parts {
+            let Some(number) = turns.take() else {
+                break;
+            };
             let Some(part) = self.part(alloc, code, turns.parts, number) else {
                 turns.end();
                 return None;
