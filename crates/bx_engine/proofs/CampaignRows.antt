@@ -1,5 +1,5 @@
 -- A plan's text behind listings that load is told of as the definitions say.
-use Rattle.std.proofs.Common.{◌≡◌, ◌∙◌, ◌⊎◌, inr, ℕ, List, length, None, Some, Result, Ok, Err, refl, sym, ap, subst}
+use Rattle.std.proofs.Common.{◌≡◌, ◌∙◌, inr, ℕ, List, length, Result, Ok, Err, refl, sym, ap, subst}
 use Rattle.std.specs.Prelude.{IsOk}
 use Rattle.bx_terms.specs.declared.faults.Fault.TheVariants.{Memory}
 use Rattle.bx_load.specs.Image.{Loaded}

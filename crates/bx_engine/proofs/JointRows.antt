@@ -1,5 +1,5 @@
 -- One part more behind those of a plan's text that are joined.
-use Rattle.std.proofs.Common.{◌≡◌, ◌∙◌, ◌⊎◌, inl, inr, ℕ, ◌+◌, ◌-◌, ◌<◌, ◌≤◌, Bool, true, false, cond, ◌||◌, List, [], ◌∷◌, ◌++◌, length, drop, get_or, map, take, Option, None, Some, Result, Ok, Err, append_assoc, refl, sym, ap, subst, arith, string_bytes, Bor, Global, Vec, length-take}
+use Rattle.std.proofs.Common.{◌≡◌, ◌∙◌, ℕ, ◌+◌, ◌-◌, ◌≤◌, Bool, true, false, cond, ◌||◌, List, [], ◌∷◌, ◌++◌, length, take, Option, None, Some, Result, Ok, Err, append_assoc, refl, sym, ap, subst, arith, string_bytes, Bor, Global, Vec}
 use Rattle.std.specs.Prelude.{IfSome, IsOk, option_map, slice_get}
 use Rattle.std.specs.BTreeSet.{BTreeSet, Updates, contains}
 use Rattle.std.specs.List.{All, list_any}

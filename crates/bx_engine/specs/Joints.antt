@@ -1,5 +1,5 @@
 -- The report of a plan whose text is cut into parts, each read and run as a plan of its own.
-use Rattle.std.specs.Prelude.{◌≡◌, ◌⊎◌, ℕ, zero, suc, ◌+◌, ◌-◌, ◌≤◌, false, List, [], ◌∷◌, ◌++◌, Result, Ok, IsOk, codes, drop, length, string_bytes, take}
+use Rattle.std.specs.Prelude.{◌≡◌, ◌⊎◌, ℕ, zero, suc, ◌+◌, ◌-◌, ◌≤◌, false, List, [], ◌++◌, Result, Ok, codes, drop, length, string_bytes, take}
 use Rattle.std.specs.Borrow.{Bor}
 use Rattle.std.specs.BTreeSet.{BTreeSet, contains}
 use Rattle.std.specs.Cmp.Lexicographic.{slice_cmp}
@@ -9,7 +9,6 @@ use Rattle.std.specs.declared.cmp.Ordering.{Ordering}
 use Rattle.bx_terms.specs.Outcomes.{◌>>=◌}
 use Rattle.bx_terms.specs.declared.faults.Fault.{Fault}
 use Rattle.bx_load.specs.Image.{Loaded}
-use Rattle.bx_world.specs.World.{started}
 use Rattle.bx_plan.specs.Chains.{Chained, chain_length}
 use Rattle.bx_plan.specs.Nodes.{nodes_of}
 use Rattle.bx_plan.specs.Plans.{Named, choices_of, has_name, plan_of}

@@ -7,7 +7,7 @@ use Rattle.bx_listing.specs.Code.{Code}
 use Rattle.bx_listing.specs.Forms.{forms, last_line}
 use Rattle.bx_listing.specs.ListedCode.{ListedModule}
 use Rattle.bx_listing.specs.Listing.{listing}
-use Rattle.bx_listing.specs.Reading.{Table, Outcome, Reading, read, refused}
+use Rattle.bx_listing.specs.Reading.{Table, Outcome, read, refused}
 use Rattle.bx_asm.specs.Limits.{assembled}
 use Rattle.bx_engine.specs.Inputs.{input_limit}
 use Rattle.bx_engine.specs.declared.failures.Failure.{Failure}

@@ -1,4 +1,4 @@
-use Rattle.std.proofs.Common.{◌∙◌, ℕ, List, ap, arith, subst, sym, take, Bor}
+use Rattle.std.proofs.Common.{◌∙◌, ℕ, List, ap, arith, subst, sym, Bor}
 use Rattle.std.specs.Prelude.{option_map}
 use Rattle.std.proofs.lemmas.Bool.{not-true}
 use Rattle.std.proofs.lemmas.List.{take_all}

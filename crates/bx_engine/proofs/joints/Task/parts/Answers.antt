@@ -10,7 +10,9 @@ use Rattle.bx_engine.proofs.joints.Task.parts.Goals as goal
 
 -- threads may share a task and turns
 pub map_indices-requires-sync-F : goal.map_indices-requires-sync-F
-map_indices-requires-sync-F g c κs within = search (crosses, sendable, owned.crosses, maps.crosses) depth 60 fits 20000
+map_indices-requires-sync-F g c κs within =
+    let gate = c.type_bounds.sync-G in
+    search (crosses, sendable, owned.crosses, maps.crosses) depth 60 fits 20000
 
 -- the parts of one worker more
 pub loop-row-preserved : goal.loop-row-preserved
