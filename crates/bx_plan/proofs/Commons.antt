@@ -1,7 +1,8 @@
 -- How many choices two schedules begin with alike.
-use Rattle.std.proofs.Common.{◌≡◌, ◌≢◌, ◌⊎◌, inl, inr, ℕ, zero, suc, ◌+◌, ◌≤◌, true, false, List, [], ◌∷◌, ◌++◌, length, take, refl, sym, ap, ◌∙◌, arith, Decides, length-append}
+use Rattle.std.proofs.Common.{◌≡◌, ◌≢◌, ◌⊎◌, ⊎_elim, inl, inr, ℕ, zero, suc, ◌+◌, ◌≤◌, true, false, List, [], ◌∷◌, ◌++◌, length, take, refl, sym, ap, ◌∙◌, arith, Decides, length-append}
 use Rattle.std.specs.Prelude.{nat_eq}
-use Rattle.std.proofs.lemmas.Bool.{and_from, and_parts, cases_Bool, cond_both, cond-false, cond-true, eqb-true, eq-eqb, false_from_ne_true}
+use Rattle.std.proofs.lemmas.Bool.{and_from, and_parts, both_ways, cases_Bool, cond_both, cond-false, cond-true, eqb-true, eq-eqb, false_from_ne_true}
+use Rattle.std.proofs.lemmas.Bool.Decides.{nat_tests}
 use Rattle.std.proofs.lemmas.List.{length-take-le, take_all, take_at}
 use Rattle.bx_world.specs.declared.choices.Choice.{Choice}
 use Rattle.bx_world.specs.declared.choices.Choice.TheVariants.{Run, Deliver, Expire}
@@ -9,25 +10,11 @@ use Rattle.bx_plan.specs.Gathered.{common}
 use Rattle.bx_plan.specs.Nodes.{choice_eq}
 
 pub choice_decides : (a b : Choice) → Decides (choice_eq a b) (a ≡ b)
-choice_decides (Run p) (Run q) = (λ h. ap (λ n. Run n) (eqb-true p q h), λ e. let same : p ≡ q = cc in eq-eqb p q same)
-choice_decides (Deliver p q) (Deliver r s) = (
-  λ h. let parts = and_parts (nat_eq p r) (nat_eq q s) h in ap (λ n. Deliver n q) (eqb-true p r parts.0) ∙ ap (λ n. Deliver r n) (eqb-true q s parts.1),
-  λ e. let first : p ≡ r = cc in let second : q ≡ s = cc in and_from (nat_eq p r) (nat_eq q s) (eq-eqb p r first) (eq-eqb q s second),
-)
-choice_decides (Expire p) (Expire q) = (λ h. ap (λ n. Expire n) (eqb-true p q h), λ e. let same : p ≡ q = cc in eq-eqb p q same)
-choice_decides (Run p) (Deliver r s) = (λ h. cc, λ e. cc)
-choice_decides (Run p) (Expire r) = (λ h. cc, λ e. cc)
-choice_decides (Deliver p q) (Run r) = (λ h. cc, λ e. cc)
-choice_decides (Deliver p q) (Expire r) = (λ h. cc, λ e. cc)
-choice_decides (Expire p) (Run r) = (λ h. cc, λ e. cc)
-choice_decides (Expire p) (Deliver r s) = (λ h. cc, λ e. cc)
+choice_decides a b = (λ h. grind (arith, nat_tests), λ e. grind (arith, nat_tests))
 
 -- two choices are the same, or not
 pub same_or_not : (x y : Choice) → (x ≡ y) ⊎ (x ≢ y)
-same_or_not x y = one (cases_Bool (choice_eq x y)) where
-  one : (choice_eq x y ≡ true) ⊎ (choice_eq x y ≡ false) → (x ≡ y) ⊎ (x ≢ y)
-  one (inl t) = inl ((choice_decides x y).0 t)
-  one (inr f) = inr (λ e. let t = (choice_decides x y).1 e in cc)
+same_or_not x y = ⊎_elim (λ t. inl ((choice_decides x y).0 t)) (λ f. inr (λ e. both_ways _ f ((choice_decides x y).1 e))) (cases_Bool (choice_eq x y))
 
 pub common_here : (x y : Choice) (xs ys : List Choice) → x ≡ y → common (x ∷ xs) (y ∷ ys) ≡ suc (common xs ys)
 common_here x y xs ys e = cond-true (choice_eq x y) (suc (common xs ys)) 0 ((choice_decides x y).1 e)

@@ -5,6 +5,7 @@ use Rattle.std.specs.declared.cmp.Ordering.TheVariants.{Less, Equal, Greater}
 use Rattle.std.specs.Ordering.{nat_cmp, ordering_then, ordering_reverse, is_gt}
 use Rattle.std.specs.Cmp.{IsTotalOrder}
 use Rattle.std.proofs.lemmas.Bool.{cases_Bool, cases_lt}
+use Rattle.std.proofs.lemmas.Bool.Decides.{nat_tests}
 use Rattle.std.proofs.lemmas.Cmp.{lists_total, nat_cmp_total, on_total, then_total, tied_itself}
 use Rattle.std.proofs.lemmas.Map.Lookups.{exact_unsigned}
 use Rattle.bx_world.specs.declared.choices.Choice.{Choice}
@@ -15,52 +16,16 @@ use Rattle.bx_plan.proofs.Commons.{common_apart, common_here, common_least, comm
 pub choice_total : IsTotalOrder choice_cmp
 choice_total = then_total (on_total (λ c. (rank c).0) nat_cmp_total) (then_total (on_total (λ c. (rank c).1) nat_cmp_total) (on_total (λ c. (rank c).2) nat_cmp_total))
 
-first_equal : (o p : Ordering) → ordering_then o p ≡ Equal → o ≡ Equal
-first_equal Less p h = cc
-first_equal Equal p h = refl
-first_equal Greater p h = cc
-
-then_equal : (o p : Ordering) → ordering_then o p ≡ Equal → p ≡ Equal
-then_equal Less p h = cc
-then_equal Equal p h = h
-then_equal Greater p h = cc
-
-same_rank : (a b : Choice) → (rank a).0 ≡ (rank b).0 → (rank a).1 ≡ (rank b).1 → (rank a).2 ≡ (rank b).2 → a ≡ b
-same_rank (Run p) (Run q) e f g = ap (λ n. Run n) f
-same_rank (Deliver p q) (Deliver r s) e f g = ap (λ n. Deliver n q) f ∙ ap (λ n. Deliver r n) g
-same_rank (Expire p) (Expire q) e f g = ap (λ n. Expire n) f
-same_rank (Run p) (Deliver r s) e f g = absurd (omega (arith, e))
-same_rank (Run p) (Expire r) e f g = absurd (omega (arith, e))
-same_rank (Deliver p q) (Run r) e f g = absurd (omega (arith, e))
-same_rank (Deliver p q) (Expire r) e f g = absurd (omega (arith, e))
-same_rank (Expire p) (Run r) e f g = absurd (omega (arith, e))
-same_rank (Expire p) (Deliver r s) e f g = absurd (omega (arith, e))
-
 equal_choices : (a b : Choice) → choice_cmp a b ≡ Equal → a ≡ b
-equal_choices a b h =
-    let more = then_equal (nat_cmp (rank a).0 (rank b).0) (ordering_then (nat_cmp (rank a).1 (rank b).1) (nat_cmp (rank a).2 (rank b).2)) h in
-    same_rank a b (exact_unsigned (rank a).0 (rank b).0 (first_equal (nat_cmp (rank a).0 (rank b).0) (ordering_then (nat_cmp (rank a).1 (rank b).1) (nat_cmp (rank a).2 (rank b).2)) h))
-    (exact_unsigned (rank a).1 (rank b).1 (first_equal (nat_cmp (rank a).1 (rank b).1) (nat_cmp (rank a).2 (rank b).2) more))
-    (exact_unsigned (rank a).2 (rank b).2 (then_equal (nat_cmp (rank a).1 (rank b).1) (nat_cmp (rank a).2 (rank b).2) more))
+equal_choices a b h = grind (arith, nat_tests)
 
 -- a choice that is behind neither of two that are the same is that one
-abbrev Level : Ordering → Ordering → Ordering → Ordering → Type 0
-Level o p q r = (o ≡ Equal) × (p ≡ Equal) × (is_gt q ≡ false) × (is_gt r ≡ false)
-
-level : (o p q r : Ordering) → o ≡ ordering_reverse p → is_gt (ordering_then o q) ≡ false → is_gt (ordering_then p r) ≡ false → Level o p q r
-level Less Less q r e h k = cc
-level Less Equal q r e h k = cc
-level Less Greater q r e h k = cc
-level Equal Less q r e h k = cc
-level Equal Equal q r e h k = (refl, refl, h, k)
-level Equal Greater q r e h k = cc
-level Greater p q r e h k = cc
+level : (o p q r : Ordering) → o ≡ ordering_reverse p → is_gt (ordering_then o q) ≡ false → is_gt (ordering_then p r) ≡ false → (o ≡ Equal) × (p ≡ Equal) × (is_gt q ≡ false) × (is_gt r ≡ false)
+level o p q r e h k = grind arith
 
 -- of two, one does not stand behind the other
 turned : (o p : Ordering) → o ≡ ordering_reverse p → is_gt p ≡ true → is_gt o ≡ false
-turned o Less e h = cc
-turned o Equal e h = cc
-turned o Greater e h = ap is_gt e
+turned o p e h = grind arith
 
 pub turned_back : (a b : List Choice) → is_gt (choices_cmp a b) ≡ true → is_gt (choices_cmp b a) ≡ false
 turned_back a b h = turned (choices_cmp b a) (choices_cmp a b) ((lists_total choice_total).antisymm b a) h
@@ -92,18 +57,12 @@ more_first a b c h k less = one (cases_Bool (is_gt (choices_cmp b c))) (cases_lt
 
 -- the order of two that begin alike or do not
 pub cmp_here : (x y : Choice) (xs ys : List Choice) → x ≡ y → choices_cmp (x ∷ xs) (y ∷ ys) ≡ choices_cmp xs ys
-cmp_here x y xs ys e = go_on (choice_cmp x y) (choices_cmp xs ys) (ap (choice_cmp x) (sym e) ∙ tied_itself choice_total x) where
-  go_on : (o p : Ordering) → o ≡ Equal → ordering_then o p ≡ p
-  go_on Less p e = cc
-  go_on Equal p e = refl
-  go_on Greater p e = cc
+cmp_here x y xs ys e = ap (λ o. ordering_then o (choices_cmp xs ys)) (ap (choice_cmp x) (sym e) ∙ tied_itself choice_total x)
 
 pub cmp_apart : (x y : Choice) (xs ys : List Choice) → x ≢ y → choices_cmp (x ∷ xs) (y ∷ ys) ≡ choice_cmp x y
 cmp_apart x y xs ys n = decided (choice_cmp x y) (choices_cmp xs ys) (λ s. n (equal_choices x y s)) where
   decided : (o p : Ordering) → (o ≡ Equal → ⊥) → ordering_then o p ≡ o
-  decided Less p n = refl
-  decided Equal p n = absurd (n refl)
-  decided Greater p n = refl
+  decided o p n = grind arith
 
 pub cmp_append : (front xs ys : List Choice) → choices_cmp (front ++ xs) (front ++ ys) ≡ choices_cmp xs ys
 cmp_append [] xs ys = refl

@@ -172,14 +172,10 @@ module _ (schedules : List (List Choice)) where
   ranked = ranks_by (lists_total choice_total) (at_row schedules)
 
   flipped : (o p : Ordering) → o ≡ ordering_reverse p → is_gt p ≡ false → is_lt o ≡ false
-  flipped o Less e h = ap is_lt e
-  flipped o Equal e h = ap is_lt e
-  flipped o Greater e h = cc
+  flipped o p e h = grind arith
 
   flipped_back : (o p : Ordering) → o ≡ ordering_reverse p → is_lt p ≡ false → is_gt o ≡ false
-  flipped_back o Less e h = cc
-  flipped_back o Equal e h = ap is_gt e
-  flipped_back o Greater e h = ap is_gt e
+  flipped_back o p e h = grind arith
 
   pub stands_at : (last : List Choice) (rows : List Row) → AreFrom schedules last rows → (k : ℕ) (d : Row) → k < length rows → (get_or rows k d).line < length schedules
   stands_at last [] are k d h = absurd (omega (arith, h))
