@@ -1,11 +1,12 @@
 -- A text is read where it is a plan's, and refused by its first fault.
-use Rattle.std.proofs.Common.{◌≡◌, ◌≢◌, ◌⊎◌, inl, inr, ℕ, ◌+◌, ◌<◌, Bool, true, false, cond, List, [], ◌∷◌, ◌++◌, Option, Some, None, Result, Ok, Err, length, refl, sym, ap, ◌∙◌, arith, subst}
+use Rattle.std.proofs.Common.{◌≡◌, ◌≢◌, ◌⊎◌, inl, inr, ℕ, suc, ◌+◌, ◌<◌, Bool, true, false, cond, List, [], ◌∷◌, ◌++◌, Option, Some, None, Result, Ok, Err, length, refl, sym, ap, ◌∙◌, arith, subst, append-nil, Decides}
 use Rattle.std.specs.Prelude.{nat_eq, nat_lt, ◌↔◌}
 use Rattle.std.specs.List.{AllByRecursion, join_with_byte, onto_first}
 use Rattle.std.proofs.lemmas.List.Splits.{length-slice_split, join_with_byte-slice_split}
 use Rattle.bx_plan.proofs.Marks.{Lacks, parts_lacks, parts_at}
 use Rattle.std.specs.Str.{bytes_eq}
-use Rattle.std.proofs.lemmas.Bool.{ltb-true, lt-ltb, ne_eqb, eqb-false, both_ways, false_from_ne_true, or_cases, or_left, or_right}
+use Rattle.std.proofs.lemmas.Bool.{ne_eqb, eqb-false, both_ways, cond_both, false_from_ne_true}
+use Rattle.std.proofs.lemmas.Bool.Decides.{Decides-ltb, Decides-or}
 use Rattle.std.proofs.lemmas.Slice.Eq.{bytes_eq-Decides}
 use Rattle.bx_terms.specs.Outcomes.{◌>>=◌}
 use Rattle.bx_terms.specs.declared.faults.Fault.{Fault}
@@ -20,27 +21,14 @@ use Rattle.bx_plan.proofs.Headings.{nothing_spelled, nothing_again, line_spelled
 
 -- ---- the two tests
 
-has_name_is : (name : List ℕ) (plan : List Named) → has_name name plan ≡ true → HasName plan name
-has_name_is name [] h = cc
-has_name_is name (schedule ∷ plan) h = one (or_cases (bytes_eq name schedule.0) (has_name name plan) h) (has_name_is name plan) where
-  one : (bytes_eq name schedule.0 ≡ true) ⊎ (has_name name plan ≡ true) → (has_name name plan ≡ true → HasName plan name) → HasName (schedule ∷ plan) name
-  one (inl e) later = inl ((bytes_eq-Decides name schedule.0).0 e)
-  one (inr e) later = inr (later e)
+has_name_decides : (name : List ℕ) (plan : List Named) → Decides (has_name name plan) (HasName plan name)
+has_name_decides name [] = (λ h. cc, λ h. absurd h)
+has_name_decides name (schedule ∷ plan) = Decides-or (bytes_eq name schedule.0) (has_name name plan) (bytes_eq-Decides name schedule.0) (has_name_decides name plan)
 
-has_name_from : (name : List ℕ) (plan : List Named) → HasName plan name → has_name name plan ≡ true
-has_name_from name [] h = absurd h
-has_name_from name (schedule ∷ plan) (inl e) = or_left (bytes_eq name schedule.0) (has_name name plan) ((bytes_eq-Decides name schedule.0).1 e)
-has_name_from name (schedule ∷ plan) (inr h) = or_right (bytes_eq name schedule.0) (has_name name plan) (has_name_from name plan h)
-
-too_long_is : (plan : List Named) (schedule : Named) → is_too_long plan schedule ≡ true → IsTooLong plan schedule
-too_long_is plan schedule h = one (or_cases (nat_lt 100000 (length schedule.1)) (nat_lt 1000000 (node_count (choices_of (plan ++ schedule ∷ [])))) h) where
-  one : (nat_lt 100000 (length schedule.1) ≡ true) ⊎ (nat_lt 1000000 (node_count (choices_of (plan ++ schedule ∷ []))) ≡ true) → IsTooLong plan schedule
-  one (inl e) = inl (ltb-true _ _ e)
-  one (inr e) = inr (ltb-true _ _ e)
-
-too_long_from : (plan : List Named) (schedule : Named) → IsTooLong plan schedule → is_too_long plan schedule ≡ true
-too_long_from plan schedule (inl h) = or_left (nat_lt 100000 (length schedule.1)) (nat_lt 1000000 (node_count (choices_of (plan ++ schedule ∷ [])))) (lt-ltb _ _ h)
-too_long_from plan schedule (inr h) = or_right (nat_lt 100000 (length schedule.1)) (nat_lt 1000000 (node_count (choices_of (plan ++ schedule ∷ [])))) (lt-ltb _ _ h)
+too_long_decides : (plan : List Named) (schedule : Named) → Decides (is_too_long plan schedule) (IsTooLong plan schedule)
+too_long_decides plan schedule =
+    let count = node_count (choices_of (plan ++ schedule ∷ [])) in
+    Decides-or (nat_lt 100000 (length schedule.1)) (nat_lt 1000000 count) (Decides-ltb 100000 (length schedule.1)) (Decides-ltb 1000000 count)
 
 -- ---- one line
 
@@ -53,100 +41,43 @@ Reads plan line more =
 abbrev Answer : Type 0
 Answer = Result (List Named) Fault
 
-ok_is : (x y : List Named) → ◌≡◌ {A = Answer} (Ok x) (Ok y) → x ≡ y
-ok_is x y h = ap (λ (r : Answer). elim r [ Ok v ↦ v | Err e ↦ x ]) h
-
-err_is : (x y : Fault) → ◌≡◌ {A = Answer} (Err x) (Err y) → x ≡ y
-err_is x y h = ap (λ (r : Answer). elim r [ Ok v ↦ x | Err e ↦ e ]) h
+abbrev LineSays : ℕ → List Named → List ℕ → Answer → Type 0
+LineSays n plan line (Ok more) = Reads plan line more
+LineSays n plan line (Err fault) = IsFault plan n line fault
 
 module _ (n : ℕ) (plan : List Named) (line : List ℕ) where
-  schedule_read : (read : List ℕ × List Entry) (more : List Named) → line_of line ≡ Some (Some read) → with_schedule n plan (named read) ≡ Ok more → Reads plan line more
-  schedule_read read more spelled h = one (has_name read.0 plan) (is_too_long plan (named read)) refl refl h where
-    one : (twice long : Bool) → has_name read.0 plan ≡ twice → is_too_long plan (named read) ≡ long → cond twice (Err (NameTwice n)) (cond long (Err (TooLong n)) (Ok (plan ++ named read ∷ []))) ≡ Ok more → Reads plan line more
-    one true long p q r = cc
-    one false true p q r = cc
-    one false false p q r = inr (read, line_spelled line read spelled, λ k. both_ways _ p (has_name_from read.0 plan k), λ k. both_ways _ q (too_long_from plan (named read) k), sym (ok_is (plan ++ named read ∷ []) more r))
+  line_says : LineSays n plan line (with_read n plan (line_of line))
+  line_says = one (line_of line) refl where
+    one : (read : Option (Option (List ℕ × List Entry))) → line_of line ≡ read → LineSays n plan line (with_read n plan read)
+    one None p = (refl, λ k. let q = nothing_again line k in cc, λ read k. let q = line_again line read k in cc)
+    one (Some None) p = inl (nothing_spelled line p, refl)
+    one (Some (Some read)) p =
+        let is = line_spelled line read p in
+        let twice = has_name_decides read.0 plan in
+        let long = too_long_decides plan (named read) in
+        cond_both (has_name read.0 plan) _ _ (LineSays n plan line) (λ t. (refl, read, is, twice.0 t))
+        (λ f. cond_both (is_too_long plan (named read)) _ _ (LineSays n plan line) (λ t. (refl, read, is, λ k. both_ways _ f (twice.1 k), long.0 t))
+        (λ g. inr (read, is, λ k. both_ways _ f (twice.1 k), λ k. both_ways _ g (long.1 k), refl)))
 
-  schedule_refused : (read : List ℕ × List Entry) (fault : Fault) → line_of line ≡ Some (Some read) → with_schedule n plan (named read) ≡ Err fault → IsFault plan n line fault
-  schedule_refused read fault spelled h = one (has_name read.0 plan) (is_too_long plan (named read)) refl refl h where
-    one : (twice long : Bool) → has_name read.0 plan ≡ twice → is_too_long plan (named read) ≡ long → cond twice (Err (NameTwice n)) (cond long (Err (TooLong n)) (Ok (plan ++ named read ∷ []))) ≡ Err fault → IsFault plan n line fault
-    one true long p q r = subst (IsFault plan n line) (err_is (NameTwice n) fault r) (refl, read, line_spelled line read spelled, has_name_is read.0 plan p)
-    one false true p q r = subst (IsFault plan n line) (err_is (TooLong n) fault r) (refl, read, line_spelled line read spelled, λ k. both_ways _ p (has_name_from read.0 plan k), too_long_is plan (named read) q)
-    one false false p q r = cc
-
-  line_read : (more : List Named) → with_read n plan (line_of line) ≡ Ok more → Reads plan line more
-  line_read more h = one (line_of line) refl h where
-    one : (read : Option (Option (List ℕ × List Entry))) → line_of line ≡ read → with_read n plan read ≡ Ok more → Reads plan line more
-    one None p r = cc
-    one (Some None) p r = inl (nothing_spelled line p, sym (ok_is plan more r))
-    one (Some (Some read)) p r = schedule_read read more p r
-
-  line_refused : (fault : Fault) → with_read n plan (line_of line) ≡ Err fault → IsFault plan n line fault
-  line_refused fault h = one (line_of line) refl h where
-    one : (read : Option (Option (List ℕ × List Entry))) → line_of line ≡ read → with_read n plan read ≡ Err fault → IsFault plan n line fault
-    one None p r = subst (IsFault plan n line) (err_is (BadLine n) fault r) (refl, λ k. let q = nothing_again line k in cc, λ read k. let q = line_again line read k in cc)
-    one (Some None) p r = cc
-    one (Some (Some read)) p r = schedule_refused read fault p r
-
-  -- a schedule's line, by the two tests
-  schedule_by : (read : List ℕ × List Entry) (twice long : Bool) → IsSchedule line read → has_name read.0 plan ≡ twice → is_too_long plan (named read) ≡ long → with_read n plan (line_of line) ≡ cond twice (Err (NameTwice n)) (cond long (Err (TooLong n)) (Ok (plan ++ named read ∷ [])))
-  schedule_by read twice long k p q =
-      ap (with_read n plan) (line_again line read k)
-      ∙ ap (λ t. cond t (Err (NameTwice n)) (cond (is_too_long plan (named read)) (Err (TooLong n)) (Ok (plan ++ named read ∷ [])))) p
-      ∙ ap (λ t. cond twice (Err (NameTwice n)) (cond t (Err (TooLong n)) (Ok (plan ++ named read ∷ [])))) q
-
-  not_named : (read : List ℕ × List Entry) → (HasName plan read.0 → ⊥) → has_name read.0 plan ≡ false
-  not_named read h = false_from_ne_true (has_name read.0 plan) (λ e. h (has_name_is read.0 plan e))
-
-  line_again_ok : (more : List Named) → Reads plan line more → with_read n plan (line_of line) ≡ Ok more
-  line_again_ok more (inl (k, e)) = ap (with_read n plan) (nothing_again line k) ∙ ap (λ p. Ok p) (sym e)
-  line_again_ok more (inr (read, k, fresh, short, e)) =
-      schedule_by read false false k (not_named read fresh) (false_from_ne_true (is_too_long plan (named read)) (λ e. short (too_long_is plan (named read) e)))
-      ∙ ap (λ p. Ok p) (sym e)
-
-  line_again_err : (fault : Fault) → IsFault plan n line fault → with_read n plan (line_of line) ≡ Err fault
-  line_again_err (BadLine m) (e, nothing, schedule) = one (line_of line) refl where
+  -- and what it says is read
+  line_reads : (answer : Answer) → LineSays n plan line answer → with_read n plan (line_of line) ≡ answer
+  line_reads (Ok more) (inl (k, e)) = ap (with_read n plan) (nothing_again line k) ∙ ap (λ p. Ok p) (sym e)
+  line_reads (Ok more) (inr (read, k, fresh, short, e)) =
+      let once = false_from_ne_true (has_name read.0 plan) (λ t. fresh ((has_name_decides read.0 plan).0 t)) in
+      let fits = false_from_ne_true (is_too_long plan (named read)) (λ t. short ((too_long_decides plan (named read)).0 t)) in
+      rw (line_again line read k) (rw (once, fits) (ap (λ p. Ok p) (sym e)))
+  line_reads (Err (BadLine m)) (e, nothing, schedule) = one (line_of line) refl where
     one : (read : Option (Option (List ℕ × List Entry))) → line_of line ≡ read → with_read n plan read ≡ Err (BadLine m)
     one None p = ap (λ i. Err (BadLine i)) (sym e)
     one (Some None) p = absurd (nothing (nothing_spelled line p))
     one (Some (Some read)) p = absurd (schedule read (line_spelled line read p))
-  line_again_err (NameTwice m) (e, read, k, twice) =
-      schedule_by read true (is_too_long plan (named read)) k (has_name_from read.0 plan twice) refl ∙ ap (λ i. Err (NameTwice i)) (sym e)
-  line_again_err (TooLong m) (e, read, k, fresh, long) =
-      schedule_by read false true k (not_named read fresh) (too_long_from plan (named read) long) ∙ ap (λ i. Err (TooLong i)) (sym e)
-  line_again_err fault h = absurd h
+  line_reads (Err (NameTwice m)) (e, read, k, twice) = rw (line_again line read k) (rw ((has_name_decides read.0 plan).1 twice) (ap (λ i. Err (NameTwice i)) (sym e)))
+  line_reads (Err (TooLong m)) (e, read, k, fresh, long) =
+      let once = false_from_ne_true (has_name read.0 plan) (λ t. fresh ((has_name_decides read.0 plan).0 t)) in
+      rw (line_again line read k) (rw (once, (too_long_decides plan (named read)).1 long) (ap (λ i. Err (TooLong i)) (sym e)))
+  line_reads (Err fault) h = absurd h
 
 -- ---- all lines
-
--- a line that is read and the lines behind it
-abbrev Follows : ℕ → List Named → List ℕ → List (List ℕ) → List Named → Type 0
-Follows n plan line lines after = (more : List Named) × (with_read n plan (line_of line) ≡ Ok more) × (with_lines (n + 1) more lines ≡ Ok after)
-
-follows : (n : ℕ) (plan : List Named) (line : List ℕ) (lines : List (List ℕ)) (after : List Named) → with_lines n plan (line ∷ lines) ≡ Ok after → Follows n plan line lines after
-follows n plan line lines after h = one (with_read n plan (line_of line)) refl h where
-  one : (read : Result (List Named) Fault) → with_read n plan (line_of line) ≡ read → read >>= (λ more. with_lines (n + 1) more lines) ≡ Ok after → Follows n plan line lines after
-  one (Ok more) p r = (more, p, r)
-  one (Err fault) p r = cc
-
-leads_more : (n : ℕ) (plan : List Named) (line : List ℕ) (lines : List (List ℕ)) (more after : List Named) → with_read n plan (line_of line) ≡ Ok more → Leads more lines after → Leads plan (line ∷ lines) after
-leads_more n plan line lines more after h rest = one (line_read n plan line more h) where
-  one : Reads plan line more → Leads plan (line ∷ lines) after
-  one (inl (k, e)) = inl (k, subst (λ p. Leads p lines after) e rest)
-  one (inr (read, k, fresh, short, e)) = inr (read, k, fresh, short, subst (λ p. Leads p lines after) e rest)
-
-leads_read : (n : ℕ) (plan : List Named) (lines : List (List ℕ)) (after : List Named) → with_lines n plan lines ≡ Ok after → Leads plan lines after
-leads_read n plan [] after h = sym (ok_is plan after h)
-leads_read n plan (line ∷ lines) after h =
-    let step = follows n plan line lines after h in
-    leads_more n plan line lines step.0 after step.1 (leads_read (n + 1) step.0 lines after step.2)
-
-leads_again : (n : ℕ) (plan : List Named) (lines : List (List ℕ)) (after : List Named) → Leads plan lines after → with_lines n plan lines ≡ Ok after
-leads_again n plan [] after h = ap (λ p. Ok p) (sym h)
-leads_again n plan (line ∷ lines) after (inl (k, rest)) =
-    ap (λ r. r >>= λ more. with_lines (n + 1) more lines) (line_again_ok n plan line plan (inl (k, refl))) ∙ leads_again (n + 1) plan lines after rest
-leads_again n plan (line ∷ lines) after (inr (read, k, fresh, short, rest)) =
-    let more = plan ++ named read ∷ [] in
-    ap (λ r. r >>= λ more. with_lines (n + 1) more lines) (line_again_ok n plan line more (inr (read, k, fresh, short, refl))) ∙ leads_again (n + 1) more lines after rest
 
 -- the first fault from line n on
 abbrev FaultIn : ℕ → List Named → List (List ℕ) → Fault → Type 0
@@ -154,27 +85,36 @@ FaultIn n plan lines fault =
     (before : List (List ℕ)) × (line : List ℕ) × (after : List (List ℕ)) × (more : List Named)
     × (lines ≡ before ++ line ∷ after) × Leads plan before more × IsFault more (n + length before) line fault
 
-fault_read : (n : ℕ) (plan : List Named) (lines : List (List ℕ)) (fault : Fault) → with_lines n plan lines ≡ Err fault → FaultIn n plan lines fault
-fault_read n plan [] fault h = cc
-fault_read n plan (line ∷ lines) fault h = one (with_read n plan (line_of line)) refl h (λ more. fault_read (n + 1) more lines fault) where
-  one : (read : Result (List Named) Fault) → with_read n plan (line_of line) ≡ read → read >>= (λ more. with_lines (n + 1) more lines) ≡ Err fault
-      → ((more : List Named) → with_lines (n + 1) more lines ≡ Err fault → FaultIn (n + 1) more lines fault) → FaultIn n plan (line ∷ lines) fault
-  one (Ok more) p r later = two (later more r) where
-    two : FaultIn (n + 1) more lines fault → FaultIn n plan (line ∷ lines) fault
-    two (before, at, after, last, whole, leads, is) = (line ∷ before, at, after, last, ap (λ t. line ∷ t) whole, leads_more n plan line before more last p leads, subst (λ m. IsFault last m at fault) (omega arith) is)
-  one (Err other) p r later = ([], line, lines, plan, refl, refl, subst (λ m. IsFault plan m line fault) (omega arith) (line_refused n plan line fault (p ∙ ap (λ e. Err e) (err_is other fault r))))
+abbrev LinesSay : ℕ → List Named → List (List ℕ) → Answer → Type 0
+LinesSay n plan lines (Ok after) = Leads plan lines after
+LinesSay n plan lines (Err fault) = FaultIn n plan lines fault
 
-fault_again : (n : ℕ) (plan : List Named) (before : List (List ℕ)) (line : List ℕ) (after : List (List ℕ)) (more : List Named) (fault : Fault) → Leads plan before more → IsFault more (n + length before) line fault → with_lines n plan (before ++ line ∷ after) ≡ Err fault
-fault_again n plan [] line after more fault leads is =
-    let here : IsFault plan n line fault = subst (λ p. IsFault p n line fault) leads (subst (λ m. IsFault more m line fault) (omega arith) is) in
-    ap (λ r. r >>= λ p. with_lines (n + 1) p after) (line_again_err n plan line fault here)
-fault_again n plan (first ∷ before) line after more fault (inl (k, rest)) is =
-    ap (λ r. r >>= λ p. with_lines (n + 1) p (before ++ line ∷ after)) (line_again_ok n plan first plan (inl (k, refl)))
-    ∙ fault_again (n + 1) plan before line after more fault rest (subst (λ m. IsFault more m line fault) (omega arith) is)
-fault_again n plan (first ∷ before) line after more fault (inr (read, k, fresh, short, rest)) is =
-    let next = plan ++ named read ∷ [] in
-    ap (λ r. r >>= λ p. with_lines (n + 1) p (before ++ line ∷ after)) (line_again_ok n plan first next (inr (read, k, fresh, short, refl)))
-    ∙ fault_again (n + 1) next before line after more fault rest (subst (λ m. IsFault more m line fault) (omega arith) is)
+leads_more : (plan : List Named) (line : List ℕ) (lines : List (List ℕ)) (more after : List Named) → Reads plan line more → Leads more lines after → Leads plan (line ∷ lines) after
+leads_more plan line lines more after (inl (k, e)) rest = inl (k, subst (λ p. Leads p lines after) e rest)
+leads_more plan line lines more after (inr (read, k, fresh, short, e)) rest = inr (read, k, fresh, short, subst (λ p. Leads p lines after) e rest)
+
+says_more : (n : ℕ) (plan : List Named) (line : List ℕ) (lines : List (List ℕ)) (more : List Named) (answer : Answer) → Reads plan line more → LinesSay (n + 1) more lines answer → LinesSay n plan (line ∷ lines) answer
+says_more n plan line lines more (Ok after) h rest = leads_more plan line lines more after h rest
+says_more n plan line lines more (Err fault) h (before, at, after, last, whole, leads, is) =
+    (line ∷ before, at, after, last, ap (λ t. line ∷ t) whole, leads_more plan line before more last h leads, subst (λ m. IsFault last m at fault) (omega arith) is)
+
+lines_say : (n : ℕ) (plan : List Named) (lines : List (List ℕ)) → LinesSay n plan lines (with_lines n plan lines)
+lines_say n plan [] = refl
+lines_say n plan (line ∷ lines) = one (with_read n plan (line_of line)) (line_says n plan line) (λ more. lines_say (n + 1) more lines) where
+  one : (read : Answer) → LineSays n plan line read → ((more : List Named) → LinesSay (n + 1) more lines (with_lines (n + 1) more lines)) → LinesSay n plan (line ∷ lines) (read >>= λ more. with_lines (n + 1) more lines)
+  one (Ok more) h later = says_more n plan line lines more (with_lines (n + 1) more lines) h (later more)
+  one (Err fault) h later = ([], line, lines, plan, refl, refl, subst (λ m. IsFault plan m line fault) (omega arith) h)
+
+leads_first : (plan : List Named) (line : List ℕ) (lines : List (List ℕ)) (after : List Named) → Leads plan (line ∷ lines) after → (more : List Named) × Reads plan line more × Leads more lines after
+leads_first plan line lines after (inl (k, rest)) = (plan, inl (k, refl), rest)
+leads_first plan line lines after (inr (read, k, fresh, short, rest)) = (plan ++ named read ∷ [], inr (read, k, fresh, short, refl), rest)
+
+lines_lead : (n : ℕ) (plan : List Named) (before rest : List (List ℕ)) (more : List Named) → Leads plan before more → with_lines n plan (before ++ rest) ≡ with_lines (n + length before) more rest
+lines_lead n plan [] rest more h = ap (λ p. with_lines n p rest) (sym h) ∙ ap (λ i. with_lines i more rest) (omega arith)
+lines_lead n plan (line ∷ before) rest more h =
+    let first = leads_first plan line before more h in
+    let count : n + 1 + length before ≡ n + suc (length before) = omega arith in
+    ap (λ r. r >>= λ p. with_lines (n + 1) p (before ++ rest)) (line_reads n plan line (Ok first.0) first.1) ∙ lines_lead (n + 1) first.0 before rest more first.2 ∙ ap (λ i. with_lines i more rest) count
 
 -- ---- the lines of a text
 
@@ -213,17 +153,16 @@ lines_are_parts text lines h = ap (parts_of 10) h.2 ∙ parts_of_join lines h.0 
 
 pub plan_law : (text : List ℕ) (plan : List Named) → (plan_of text ≡ Ok plan) ↔ IsPlan text plan
 plan_law text plan = (
-  λ h. (parts_of 10 text, parts_are text, leads_read 1 [] (parts_of 10 text) plan h),
-  λ (lines, are, leads). ap (with_lines 1 []) (lines_are_parts text lines are) ∙ leads_again 1 [] lines plan leads,
+  λ h. (parts_of 10 text, parts_are text, subst (LinesSay 1 [] (parts_of 10 text)) h (lines_say 1 [] (parts_of 10 text))),
+  λ (lines, are, leads). ap (with_lines 1 []) (lines_are_parts text lines are ∙ sym (append-nil lines)) ∙ lines_lead 1 [] lines [] plan leads,
 )
 
 pub fault_law : (text : List ℕ) (fault : Fault) → (plan_of text ≡ Err fault) ↔ IsFirstFault text fault
-fault_law text fault = (λ h. one (fault_read 1 [] (parts_of 10 text) fault h), two) where
-  one : FaultIn 1 [] (parts_of 10 text) fault → IsFirstFault text fault
-  one (before, line, after, plan, whole, leads, is) =
-      (before, line, after, plan, subst (AreLines text) whole (parts_are text), leads, subst (λ m. IsFault plan m line fault) (omega arith) is)
-
-  two : IsFirstFault text fault → plan_of text ≡ Err fault
-  two (before, line, after, plan, are, leads, is) =
-      ap (with_lines 1 []) (lines_are_parts text (before ++ line ∷ after) are)
-      ∙ fault_again 1 [] before line after plan fault leads (subst (λ m. IsFault plan m line fault) (omega arith) is)
+fault_law text fault = (
+  λ h. let x = subst (LinesSay 1 [] (parts_of 10 text)) h (lines_say 1 [] (parts_of 10 text)) in
+  (x.0, x.1, x.2, x.3, subst (AreLines text) x.4 (parts_are text), x.5, subst (λ m. IsFault x.3 m x.1 fault) (omega arith) x.6),
+  λ (before, line, after, plan, are, leads, is).
+      let here : IsFault plan (1 + length before) line fault = subst (λ m. IsFault plan m line fault) (omega arith) is in
+      ap (with_lines 1 []) (lines_are_parts text (before ++ line ∷ after) are) ∙ lines_lead 1 [] before (line ∷ after) plan leads
+      ∙ ap (λ r. r >>= λ p. with_lines (1 + length before + 1) p after) (line_reads (1 + length before) plan line (Err fault) here),
+)
