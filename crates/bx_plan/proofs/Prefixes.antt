@@ -1,5 +1,5 @@
 -- The nodes are the prefixes of the schedules, each once.
-use Rattle.std.proofs.Common.{◌≡◌, ◌⊎◌, inl, inr, ℕ, zero, suc, ◌<◌, Bool, true, List, [], ◌∷◌, ◌++◌, length, get_or, take, drop, refl, sym, ap, ◌∙◌, arith, subst, append_assoc, length-append, Decides}
+use Rattle.std.proofs.Common.{◌≡◌, ◌⊎◌, ⊎_elim, inl, inr, ℕ, zero, suc, ◌<◌, Bool, true, ◌||◌, List, [], ◌∷◌, ◌++◌, length, get_or, take, drop, refl, sym, ap, ◌∙◌, arith, subst, append_assoc, append-nil, length-append, Decides}
 use Rattle.std.specs.Cmp.{IsEquivalence}
 use Rattle.std.specs.Cmp.Lexicographic.{pointwise}
 use Rattle.std.specs.List.{Contains, IsDistinct}
@@ -8,6 +8,7 @@ use Rattle.std.proofs.lemmas.Bool.Decides.{same_from_decides}
 use Rattle.std.proofs.lemmas.Cmp.{lists_equiv}
 use Rattle.std.proofs.lemmas.List.{get_or_append_left, get_or_default, length_push, take-append-drop, take_at}
 use Rattle.std.proofs.lemmas.List.Elements.{Contains-append_cases, Contains-append_left, Contains-append_right}
+use Rattle.std.proofs.lemmas.List.Folds.{list_any-append}
 use Rattle.std.proofs.lemmas.Map.Keys.{apart_from_distinct, IsDistinct-from_apart, IsDistinct-push}
 use Rattle.std.proofs.lemmas.Map.Made.{is_member-Decides}
 use Rattle.std.proofs.lemmas.Slice.Eq.{slice_eq-Decides}
@@ -41,60 +42,26 @@ with_new nodes to new = cond-false (has_node nodes to) nodes (nodes ++ to ∷ []
 pub with_old : (nodes : List (List Choice)) (to : List Choice) → Contains nodes to → with_node nodes to ≡ nodes
 with_old nodes to old = cond-true (has_node nodes to) nodes (nodes ++ to ∷ []) ((has_decides nodes to).1 old)
 
-record Added (nodes paths more : List (List Choice)) : Type 0 where
-  there : (path : List Choice) → Contains nodes path ⊎ Contains paths path → Contains more path
-  only : (path : List Choice) → Contains more path → Contains nodes path ⊎ Contains paths path
-  apart : IsDistinct same_path nodes → IsDistinct same_path more
-  root : 0 < length nodes → (0 < length more) × (get_or more 0 [] ≡ get_or nodes 0 [])
+-- they are the nodes and the paths, each once
+has_all : (nodes paths : List (List Choice)) (path : List Choice) → has_node (with_nodes nodes paths) path ≡ has_node (nodes ++ paths) path
+has_all nodes [] path = ap (λ ns. has_node ns path) (sym (append-nil nodes))
+has_all nodes (to ∷ paths) path =
+    has_all (with_node nodes to) paths path ∙ cond_both (has_node nodes to) nodes (nodes ++ to ∷ []) (λ ns. has_node (ns ++ paths) path ≡ has_node (nodes ++ to ∷ paths) path)
+    (λ t. list_any-append (same_path path) nodes paths ∙ known (has_node nodes path) (same_path path to) (has_node paths path) (λ e. ap (has_node nodes) ((path_decides path to).0 e) ∙ t) ∙ sym (list_any-append (same_path path) nodes (to ∷ paths)))
+    (λ f. ap (λ ns. has_node ns path) (append_assoc nodes (to ∷ []) paths))
+  where
+    known : (x y z : Bool) → (y ≡ true → x ≡ true) → (x || z) ≡ (x || (y || z))
+    known x y z h = grind arith
 
-added_one : (nodes : List (List Choice)) (to : List Choice) → Added nodes (to ∷ []) (with_node nodes to)
-added_one nodes to = cond_both (has_node nodes to) nodes (nodes ++ to ∷ []) (Added nodes (to ∷ [])) (λ t. record {
-  there = λ path h. one t path h;
-  only = λ path h. inl h;
-  apart = λ h. h;
-  root = λ h. (h, refl);
-}) (λ f. record {
-  there = λ path h. two path h;
-  only = λ path h. Contains-append_cases nodes (to ∷ []) path h;
-  apart = λ h. IsDistinct-push path_laws nodes to h f;
-  root = λ h. (omega (arith, length_push nodes to), get_or_append_left nodes (to ∷ []) [] 0 h);
-}) where
-  one : has_node nodes to ≡ true → (path : List Choice) → Contains nodes path ⊎ Contains (to ∷ []) path → Contains nodes path
-  one t path (inl h) = h
-  one t path (inr (zero, h, e)) = subst (Contains nodes) e ((has_decides nodes to).0 t)
-  one t path (inr (suc k, h, e)) = absurd (omega (arith, h))
+each_once : (nodes paths : List (List Choice)) → IsDistinct same_path nodes → IsDistinct same_path (with_nodes nodes paths)
+each_once nodes [] h = h
+each_once nodes (to ∷ paths) h = each_once (with_node nodes to) paths (cond_both (has_node nodes to) nodes (nodes ++ to ∷ []) (IsDistinct same_path) (λ t. h) (λ f. IsDistinct-push path_laws nodes to h f))
 
-  two : (path : List Choice) → Contains nodes path ⊎ Contains (to ∷ []) path → Contains (nodes ++ to ∷ []) path
-  two path (inl h) = Contains-append_left nodes (to ∷ []) path h
-  two path (inr h) = Contains-append_right nodes (to ∷ []) path h
-
-added_both : (nodes paths others mid more : List (List Choice)) → Added nodes paths mid → Added mid others more → Added nodes (paths ++ others) more
-added_both nodes paths others mid more first second = record {
-  there = λ path h. one path h;
-  only = λ path h. two path (second.only path h);
-  apart = λ h. second.apart (first.apart h);
-  root = λ h. let was = first.root h in let later = second.root was.0 in (later.0, later.1 ∙ was.1);
-} where
-  one : (path : List Choice) → Contains nodes path ⊎ Contains (paths ++ others) path → Contains more path
-  one path (inl h) = second.there path (inl (first.there path (inl h)))
-  one path (inr h) = either (Contains-append_cases paths others path h) where
-    either : Contains paths path ⊎ Contains others path → Contains more path
-    either (inl k) = second.there path (inl (first.there path (inr k)))
-    either (inr k) = second.there path (inr k)
-
-  two : (path : List Choice) → Contains mid path ⊎ Contains others path → Contains nodes path ⊎ Contains (paths ++ others) path
-  two path (inr h) = inr (Contains-append_right paths others path h)
-  two path (inl h) = either (first.only path h) where
-    either : Contains nodes path ⊎ Contains paths path → Contains nodes path ⊎ Contains (paths ++ others) path
-    either (inl k) = inl k
-    either (inr k) = inr (Contains-append_left paths others path k)
-
-added : (nodes paths : List (List Choice)) → Added nodes paths (with_nodes nodes paths)
-added nodes [] = record { there = λ path h. one path h; only = λ path h. inl h; apart = λ h. h; root = λ h. (h, refl) } where
-  one : (path : List Choice) → Contains nodes path ⊎ Contains [] path → Contains nodes path
-  one path (inl h) = h
-  one path (inr (k, h, e)) = absurd (omega (arith, h))
-added nodes (to ∷ paths) = added_both nodes (to ∷ []) paths (with_node nodes to) (with_nodes nodes (to ∷ paths)) (added_one nodes to) (added (with_node nodes to) paths)
+first_stays : (nodes paths : List (List Choice)) → 0 < length nodes → get_or (with_nodes nodes paths) 0 [] ≡ get_or nodes 0 []
+first_stays nodes [] h = refl
+first_stays nodes (to ∷ paths) h =
+    cond_both (has_node nodes to) nodes (nodes ++ to ∷ []) (λ ns. get_or (with_nodes ns paths) 0 [] ≡ get_or nodes 0 []) (λ t. first_stays nodes paths h)
+    (λ f. first_stays (nodes ++ to ∷ []) paths (omega (arith, length_push nodes to)) ∙ get_or_append_left nodes (to ∷ []) [] 0 h)
 
 -- ---- the prefixes of one schedule
 
@@ -124,76 +91,56 @@ begun schedule (c ∷ path) (rest, e) =
 
 -- ---- all schedules
 
-record Grown (nodes schedules more : List (List Choice)) : Type 0 where
-  there : (path : List Choice) → Contains nodes path ⊎ IsPrefix schedules path → Contains more path
-  only : (path : List Choice) → Contains more path → Contains nodes path ⊎ IsPrefix schedules path
-  apart : IsDistinct same_path nodes → IsDistinct same_path more
-  root : 0 < length nodes → get_or more 0 [] ≡ get_or nodes 0 []
+abbrev all_prefixes : List (List Choice) → List (List Choice)
+all_prefixes [] = []
+all_prefixes (schedule ∷ schedules) = prefixes [] schedule ++ all_prefixes schedules
 
-grown_more : (nodes schedules mid more : List (List Choice)) (schedule : List Choice) → Contains nodes [] → Added nodes (prefixes [] schedule) mid → Grown mid schedules more → Grown nodes (schedule ∷ schedules) more
-grown_more nodes schedules mid more schedule root first others = record {
-  there = λ path h. others.there path (one path h);
-  only = λ path h. two path (others.only path h);
-  apart = λ h. others.apart (first.apart h);
-  root = λ h. let was = first.root h in others.root was.0 ∙ was.1;
-} where
-  one : (path : List Choice) → Contains nodes path ⊎ IsPrefix (schedule ∷ schedules) path → Contains mid path ⊎ IsPrefix schedules path
-  one path (inl h) = inl (first.there path (inl h))
-  one path (inr (inl h)) = inl (first.there path (either (begun schedule path h))) where
-    either : (path ≡ []) ⊎ Contains (prefixes [] schedule) path → Contains nodes path ⊎ Contains (prefixes [] schedule) path
-    either (inl e) = inl (subst (Contains nodes) (sym e) root)
-    either (inr k) = inr k
-  one path (inr (inr h)) = inr h
+with_both : (nodes xs ys : List (List Choice)) → with_nodes nodes (xs ++ ys) ≡ with_nodes (with_nodes nodes xs) ys
+with_both nodes [] ys = refl
+with_both nodes (x ∷ xs) ys = with_both (with_node nodes x) xs ys
 
-  two : (path : List Choice) → Contains mid path ⊎ IsPrefix schedules path → Contains nodes path ⊎ IsPrefix (schedule ∷ schedules) path
-  two path (inr h) = inr (inr h)
-  two path (inl h) = either (first.only path h) where
-    either : Contains nodes path ⊎ Contains (prefixes [] schedule) path → Contains nodes path ⊎ IsPrefix (schedule ∷ schedules) path
-    either (inl k) = inl k
-    either (inr k) = inr (inl (begins schedule path k))
+with_all : (nodes schedules : List (List Choice)) → nodes_from nodes schedules ≡ with_nodes nodes (all_prefixes schedules)
+with_all nodes [] = refl
+with_all nodes (schedule ∷ schedules) = with_all (with_schedule_nodes nodes schedule) schedules ∙ sym (with_both nodes (prefixes [] schedule) (all_prefixes schedules))
 
-grown : (nodes schedules : List (List Choice)) → Contains nodes [] → Grown nodes schedules (nodes_from nodes schedules)
-grown nodes [] root = record { there = λ path h. one path h; only = λ path h. inl h; apart = λ h. h; root = λ h. refl } where
-  one : (path : List Choice) → Contains nodes path ⊎ ⊥ → Contains nodes path
-  one path (inl h) = h
-  one path (inr h) = absurd h
-grown nodes (schedule ∷ schedules) root =
-    let first = added nodes (prefixes [] schedule) in
-    grown_more nodes schedules (with_schedule_nodes nodes schedule) (nodes_from nodes (schedule ∷ schedules)) schedule root first (grown (with_schedule_nodes nodes schedule) schedules (first.there [] (inl root)))
+prefix_is : (schedules : List (List Choice)) (path : List Choice) → Contains (all_prefixes schedules) path → IsPrefix schedules path
+prefix_is [] path (k, h, e) = absurd (omega (arith, h))
+prefix_is (schedule ∷ schedules) path h = ⊎_elim (λ k. inl (begins schedule path k)) (λ k. inr (prefix_is schedules path k)) (Contains-append_cases (prefixes [] schedule) (all_prefixes schedules) path h)
+
+is_prefix : (schedules : List (List Choice)) (path : List Choice) → IsPrefix schedules path → (path ≡ []) ⊎ Contains (all_prefixes schedules) path
+is_prefix [] path h = absurd h
+is_prefix (schedule ∷ schedules) path (inl h) = ⊎_elim inl (λ k. inr (Contains-append_left (prefixes [] schedule) (all_prefixes schedules) path k)) (begun schedule path h)
+is_prefix (schedule ∷ schedules) path (inr h) = ⊎_elim inl (λ k. inr (Contains-append_right (prefixes [] schedule) (all_prefixes schedules) path k)) (is_prefix schedules path h)
 
 -- ---- the nodes of some schedules
 
 module _ (schedules : List (List Choice)) where
-  all : Grown ([] ∷ []) schedules (nodes_of schedules)
-  all = grown ([] ∷ []) schedules (0, omega arith, refl)
-
   pub distinct_nodes : IsDistinct same_path (nodes_of schedules)
-  distinct_nodes = all.apart (IsDistinct-from_apart same_path ([] ∷ []) (λ i j d a b. absurd (omega (arith, a, b))))
+  distinct_nodes = rw (with_all ([] ∷ []) schedules) (each_once ([] ∷ []) (all_prefixes schedules) (IsDistinct-from_apart same_path ([] ∷ []) (λ i j d a b. absurd (omega (arith, a, b)))))
+
+  has_is : (path : List Choice) → has_node (nodes_of schedules) path ≡ has_node ([] ∷ all_prefixes schedules) path
+  has_is path = ap (λ ns. has_node ns path) (with_all ([] ∷ []) schedules) ∙ has_all ([] ∷ []) (all_prefixes schedules) path
 
   pub is_node : (path : List Choice) → (path ≡ []) ⊎ IsPrefix schedules path → Contains (nodes_of schedules) path
-  is_node path (inl e) = all.there path (inl (0, omega arith, sym e))
-  is_node path (inr h) = all.there path (inr h)
+  is_node path h =
+      let there = ⊎_elim (λ e. (0, omega arith, sym e)) (Contains-append_right ([] ∷ []) (all_prefixes schedules) path) (⊎_elim inl (is_prefix schedules path) h) in
+      (has_decides (nodes_of schedules) path).0 (has_is path ∙ (has_decides ([] ∷ all_prefixes schedules) path).1 there)
 
   pub node_is : (path : List Choice) → Contains (nodes_of schedules) path → (path ≡ []) ⊎ IsPrefix schedules path
-  node_is path h = one (all.only path h) where
-    one : Contains ([] ∷ []) path ⊎ IsPrefix schedules path → (path ≡ []) ⊎ IsPrefix schedules path
-    one (inl (zero, h, e)) = inl (sym e)
-    one (inl (suc k, h, e)) = absurd (omega (arith, h))
-    one (inr h) = inr h
+  node_is path h = one ((has_decides ([] ∷ all_prefixes schedules) path).0 (sym (has_is path) ∙ (has_decides (nodes_of schedules) path).1 h)) where
+    one : Contains ([] ∷ all_prefixes schedules) path → (path ≡ []) ⊎ IsPrefix schedules path
+    one (zero, h, e) = inl (sym e)
+    one (suc k, h, e) = inr (prefix_is schedules path (k, omega (arith, h), e))
 
   apart : (i j : ℕ) → i < j → j < length (nodes_of schedules) → get_or (nodes_of schedules) i [] ≡ get_or (nodes_of schedules) j [] → ⊥
   apart i j a h e = both_ways (same_path (get_or (nodes_of schedules) i []) (get_or (nodes_of schedules) j [])) (apart_from_distinct same_path (nodes_of schedules) i j [] distinct_nodes a h) ((path_decides _ _).1 e)
 
 pub nodes_law : (schedules : List (List Choice)) → AreNodes schedules (nodes_of schedules)
 nodes_law schedules = record {
-  root = (all schedules).root (omega arith);
+  root = ap (λ ns. get_or ns 0 []) (with_all ([] ∷ []) schedules) ∙ first_stays ([] ∷ []) (all_prefixes schedules) (omega arith);
   members = λ path. (
     λ (k, h, e). node_is schedules path (k, h, get_or_default (nodes_of schedules) k path [] h ∙ e),
     λ h. let at = is_node schedules path h in (at.0, at.1, get_or_default (nodes_of schedules) at.0 [] path at.1 ∙ at.2),
   );
-  distinct = λ i j h l e. one i j h l e (cases_order i j);
-} where
-  one : (i j : ℕ) → i < length (nodes_of schedules) → j < length (nodes_of schedules) → get_or (nodes_of schedules) i [] ≡ get_or (nodes_of schedules) j [] → (i ≡ j) ⊎ ((i < j) ⊎ (j < i)) → i ≡ j
-  one i j h l e (inl same) = same
-  one i j h l e (inr (inl a)) = absurd (apart schedules i j a l e)
-  one i j h l e (inr (inr a)) = absurd (apart schedules j i a h (sym e))
+  distinct = λ i j h l e. ⊎_elim (λ same. same) (λ o. absurd (⊎_elim (λ a. apart schedules i j a l e) (λ a. apart schedules j i a h (sym e)) o)) (cases_order i j);
+}
