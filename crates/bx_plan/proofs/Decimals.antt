@@ -1,10 +1,10 @@
 -- Numbers are read as they are spelled.
-use Rattle.std.proofs.Common.{◌≡◌, ℕ, ◌+◌, ◌-◌, ◌*◌, ◌^◌, ◌<◌, ◌≤◌, Bool, true, false, cond, ◌&&◌, List, [], ◌∷◌, Some, None, length, get_or, refl, sym, ap, ◌∙◌, arith, rules, inl, inr, ◌⊎◌}
+use Rattle.std.proofs.Common.{◌≡◌, ℕ, ◌+◌, ◌-◌, ◌*◌, ◌^◌, ◌<◌, ◌≤◌, Bool, true, false, cond, ◌&&◌, List, [], ◌∷◌, Some, None, length, get_or, refl, sym, ap, ◌∙◌, arith, rules, ⊎_elim}
 use Rattle.std.specs.Prelude.{nat_eq, nat_le, ◌↔◌}
 use Rattle.std.specs.Char.{is_ascii_digit}
 use Rattle.std.specs.Str.{all_ascii_digits}
 use Rattle.std.specs.Fmt.{decimal}
-use Rattle.std.proofs.lemmas.Bool.{and_parts, and_from, leb-true, le-leb, eqb-true, eq-eqb, cases_eq, ne_eqb}
+use Rattle.std.proofs.lemmas.Bool.{and_parts, and_from, cond_both, cond-false, leb-true, le-leb, eqb-false, cases_eq, ne_eqb}
 use Rattle.std.proofs.lemmas.Str.Parse.{IsNumeralModel, numerals_by_fold}
 use Rattle.std.proofs.lemmas.Fmt.{digits_decimal, digits_value-decimal, decimal-digits_value, decimal_nonempty, first_decimal, decimal_digit}
 use Rattle.bx_plan.specs.Reading.{digits_from, number_of}
@@ -30,15 +30,12 @@ ReadsFrom most n text m = AreDigits text × (value_from n text ≡ m) × (n ≤ 
 
 from_digits : (most n : ℕ) (text : List ℕ) (m : ℕ) → digits_from most n text ≡ Some m → ReadsFrom most n text m
 from_digits most n [] m h = let e : n ≡ m = cc in (refl, e, λ small. omega arith)
-from_digits most n (b ∷ bs) m h = one (is_ascii_digit b) (nat_le (n * 10 + (b - 48)) most) refl refl (from_digits most (n * 10 + (b - 48)) bs m) h where
-  one : (digit fits : Bool) → is_ascii_digit b ≡ digit → nat_le (n * 10 + (b - 48)) most ≡ fits
-      → (digits_from most (n * 10 + (b - 48)) bs ≡ Some m → ReadsFrom most (n * 10 + (b - 48)) bs m)
-      → cond (digit && fits) (digits_from most (n * 10 + (b - 48)) bs) None ≡ Some m → ReadsFrom most n (b ∷ bs) m
-  one true true p q later r =
-      let more = later r in
-      (and_from (is_ascii_digit b) (all_ascii_digits bs) p more.0, more.1, λ small. more.2 (leb-true _ _ q))
-  one true false p q later r = cc
-  one false fits p q later r = cc
+from_digits most n (b ∷ bs) m h =
+    let next = n * 10 + (b - 48) in
+    cond_both (is_ascii_digit b && nat_le next most) (digits_from most next bs) None (λ r. r ≡ Some m → ReadsFrom most n (b ∷ bs) m)
+    (λ t r. let parts = and_parts (is_ascii_digit b) (nat_le next most) t in
+    let more = from_digits most next bs m r in
+    (and_from (is_ascii_digit b) (all_ascii_digits bs) parts.0 more.0, more.1, λ small. more.2 (leb-true _ _ parts.1))) (λ f r. cc) h
 
 to_digits : (most n : ℕ) (text : List ℕ) → AreDigits text → value_from n text ≤ most → digits_from most n text ≡ Some (value_from n text)
 to_digits most n [] digits small = refl
@@ -55,24 +52,19 @@ IsPlain text = (0 < length text) × (get_or text 0 0 ≡ 48 → length text ≡ 
 pub plain_number : (most : ℕ) (text : List ℕ) → IsPlain text → number_of most text ≡ digits_from most 0 text
 plain_number most [] h = absurd (omega (arith, h.0))
 plain_number most (b ∷ []) h = refl
-plain_number most (b ∷ c ∷ bs) h = one (nat_eq b 48) refl where
-  one : (zero : Bool) → nat_eq b 48 ≡ zero → cond zero None (digits_from most 0 (b ∷ c ∷ bs)) ≡ digits_from most 0 (b ∷ c ∷ bs)
-  one true p = absurd (omega (arith, h.1 (eqb-true b 48 p)))
-  one false p = refl
+plain_number most (b ∷ c ∷ bs) h = cond-false (nat_eq b 48) None (digits_from most 0 (b ∷ c ∷ bs)) (ne_eqb b 48 (λ e. absurd (omega (arith, h.1 e))))
 
 pub number_plain : (most : ℕ) (text : List ℕ) (n : ℕ) → number_of most text ≡ Some n → IsPlain text
 number_plain most [] n h = cc
 number_plain most (b ∷ []) n h = (omega arith, λ e. refl)
-number_plain most (b ∷ c ∷ bs) n h = one (nat_eq b 48) refl h where
-  one : (zero : Bool) → nat_eq b 48 ≡ zero → cond zero None (digits_from most 0 (b ∷ c ∷ bs)) ≡ Some n → IsPlain (b ∷ c ∷ bs)
-  one true p r = cc
-  one false p r = (omega arith, λ e. let t : nat_eq b 48 ≡ true = eq-eqb b 48 e in cc)
+number_plain most (b ∷ c ∷ bs) n h =
+    cond_both (nat_eq b 48) None (digits_from most 0 (b ∷ c ∷ bs)) (λ r. r ≡ Some n → IsPlain (b ∷ c ∷ bs)) (λ t r. cc) (λ f r. (omega arith, λ e. absurd (eqb-false b 48 f e))) h
 
 decimal_plain : (n : ℕ) → n < 2 ^ 64 → IsPlain (decimal n)
-decimal_plain n small = (decimal_nonempty n small, one (cases_eq n 0)) where
-  one : (n ≡ 0) ⊎ (n ≡ 0 → ⊥) → get_or (decimal n) 0 0 ≡ 48 → length (decimal n) ≡ 1
-  one (inl e) h = ap (λ m. length (decimal m)) e ∙ ap length (decimal_digit 0 (omega arith))
-  one (inr e) h = absurd (omega (arith, first_decimal n (omega arith) small))
+decimal_plain n small = (
+  decimal_nonempty n small,
+  λ h. ⊎_elim (λ e. ap (λ m. length (decimal m)) e ∙ ap length (decimal_digit 0 (omega arith))) (λ e. absurd (omega (arith, first_decimal n (omega arith) small))) (cases_eq n 0),
+)
 
 -- what is read is spelled so, and what is spelled so is read
 pub number_spelled : (most n : ℕ) (text : List ℕ) → most < 2 ^ 64 → number_of most text ≡ Some n → (n ≤ most) × (text ≡ decimal n)

@@ -1,10 +1,15 @@
 -- Texts without a mark, and where a text is cut.
-use Rattle.std.proofs.Common.{◌≡◌, ℕ, Bool, true, false, cond, List, [], ◌∷◌, ◌++◌, Option, Some, None, refl, ap, ◌∙◌, option_map, subst}
-use Rattle.std.specs.Option.{option_map_or}
+use Rattle.std.proofs.Common.{◌≡◌, ℕ, false, cond, List, [], ◌∷◌, ◌++◌, Option, Some, None, refl, ap, ◌∙◌, option_map, subst}
 use Rattle.std.specs.Prelude.{nat_eq}
-use Rattle.std.proofs.lemmas.Bool.{eqb-true, eq-eqb}
+use Rattle.std.proofs.lemmas.Bool.{cond_both, eqb-true, eq-eqb}
+use Rattle.std.proofs.lemmas.Option.{same_Some}
 use Rattle.bx_plan.specs.Reading.{cut, parts_of}
 use Rattle.bx_plan.proofs.Cuts.{parts_none, parts_some}
+
+-- what comes of an option by a function
+pub option_map_some : {A B P : Type 0} (f : A → B) (o : Option A) (y : B) → option_map f o ≡ Some y → ((x : A) → o ≡ Some x → f x ≡ y → P) → P
+option_map_some f None y h k = cc
+option_map_some f (Some x) y h k = k x refl (same_Some (f x) y h)
 
 -- no byte of the text is the mark
 abbrev pub Lacks : ℕ → List ℕ → Type 0
@@ -28,27 +33,17 @@ cut_at mark (b ∷ bs) behind h =
     ap (λ t. cond t (Some ([], bs ++ mark ∷ behind)) (option_map (λ parts. (b ∷ parts.0, parts.1)) (cut mark (bs ++ mark ∷ behind)))) h.0
     ∙ ap (option_map (λ parts. (b ∷ parts.0, parts.1))) (cut_at mark bs behind h.1)
 
-some_is : (x y : List ℕ × List ℕ) → Some x ≡ Some y → x ≡ y
-some_is x y h = ap (λ o. option_map_or (λ v. v) o x) h
-
 -- the text is so, where it is cut so
 abbrev pub CutAt : ℕ → List ℕ → List ℕ × List ℕ → Type 0
 CutAt mark text parts = (text ≡ parts.0 ++ mark ∷ parts.1) × Lacks mark parts.0
 
 pub cut_takes : (mark : ℕ) (text : List ℕ) (parts : List ℕ × List ℕ) → cut mark text ≡ Some parts → CutAt mark text parts
 cut_takes mark [] parts h = cc
-cut_takes mark (b ∷ bs) parts h = one (nat_eq b mark) (cut mark bs) refl refl (λ more. cut_takes mark bs more) h where
-  one : (same : Bool) (found : Option (List ℕ × List ℕ)) → nat_eq b mark ≡ same → cut mark bs ≡ found
-      → ((more : List ℕ × List ℕ) → cut mark bs ≡ Some more → CutAt mark bs more)
-      → cond same (Some ([], bs)) (option_map (λ p. (b ∷ p.0, p.1)) found) ≡ Some parts → CutAt mark (b ∷ bs) parts
-  one true found p q later r =
-      let e : ([], bs) ≡ parts = some_is ([], bs) parts r in
-      subst (CutAt mark (b ∷ bs)) e (ap (λ x. x ∷ bs) (eqb-true b mark p), tt)
-  one false None p q later r = cc
-  one false (Some more) p q later r =
-      let e : (b ∷ more.0, more.1) ≡ parts = some_is (b ∷ more.0, more.1) parts r in
-      let before = later more q in
-      subst (CutAt mark (b ∷ bs)) e (ap (λ x. b ∷ x) before.0, (p, before.1))
+cut_takes mark (b ∷ bs) parts h =
+    let with_first : List ℕ × List ℕ → List ℕ × List ℕ = λ p. (b ∷ p.0, p.1) in
+    cond_both (nat_eq b mark) (Some ([], bs)) (option_map with_first (cut mark bs)) (λ r. r ≡ Some parts → CutAt mark (b ∷ bs) parts)
+    (λ t r. subst (CutAt mark (b ∷ bs)) (same_Some ([], bs) parts r) (ap (λ x. x ∷ bs) (eqb-true b mark t), tt))
+    (λ f r. option_map_some with_first (cut mark bs) parts r (λ more q e. let before = cut_takes mark bs more q in subst (CutAt mark (b ∷ bs)) e (ap (λ x. b ∷ x) before.0, (f, before.1)))) h
 
 pub parts_lacks : (mark : ℕ) (text : List ℕ) → Lacks mark text → parts_of mark text ≡ text ∷ []
 parts_lacks mark text h = parts_none mark text (cut_lacks mark text h)
