@@ -30,24 +30,17 @@ module _ (ss : List Stretch) (j : AreStretches 0 ss) where
 
     -- in the place of the last, which is of the same choice
     pub longer : (last : ℕ) → last + 1 ≡ length ss → (get_or ss last no_stretch).choice ≡ s.choice → Longer ss s (set ss last s)
-    longer last e same = (
-      subst (AreStretches 0) (sym after) (joined 0 (take last ss) (s ∷ []) (sides ss j last).0 (omega (arith, ends ss j last, within ss j last, some), tt)),
-      λ times h.
-          ap (choices_from 0) after
-          ∙ sym (absorbed 0 (take last ss) r s [] same (omega (arith, ends ss j last, (rest ss j last here).0)) (omega (arith, next ss j last here, within ss j (last + 1), some)))
-          ∙ ap (choices_from 0) (sym (append_assoc (take last ss) (r ∷ []) (s ∷ []))) ∙ ap (λ (xs : List Stretch). choices_from 0 (xs ++ s ∷ [])) (sym all) ∙ further.1 times h,
-    ) where
-      r : Stretch
-      r = get_or ss last no_stretch
-
-      here : last < length ss
-      here = omega (arith, e)
-
-      all : ss ≡ take last ss ++ get_or ss last no_stretch ∷ []
-      all = sym (take_all (last + 1) ss (omega (arith, e))) ∙ take_more ss last no_stretch here
-
-      after : set ss last s ≡ take last ss ++ s ∷ []
-      after = set_split ss last s here ∙ ap (λ (xs : List Stretch). take last ss ++ s ∷ xs) (drop_all (suc last) ss (omega (arith, e)))
+    longer last e same =
+        let r = get_or ss last no_stretch in
+        let here : last < length ss = omega (arith, e) in
+        let all : ss ≡ take last ss ++ r ∷ [] = sym (take_all (last + 1) ss (omega (arith, e))) ∙ take_more ss last no_stretch here in
+        let after : set ss last s ≡ take last ss ++ s ∷ [] = set_split ss last s here ∙ ap (λ (xs : List Stretch). take last ss ++ s ∷ xs) (drop_all (suc last) ss (omega (arith, e))) in (
+          subst (AreStretches 0) (sym after) (joined 0 (take last ss) (s ∷ []) (sides ss j last).0 (omega (arith, ends ss j last, within ss j last, some), tt)),
+          λ times h.
+              ap (choices_from 0) after
+              ∙ sym (absorbed 0 (take last ss) r s [] same (omega (arith, ends ss j last, (rest ss j last here).0)) (omega (arith, next ss j last here, within ss j (last + 1), some)))
+              ∙ ap (choices_from 0) (sym (append_assoc (take last ss) (r ∷ []) (s ∷ []))) ∙ ap (λ (xs : List Stretch). choices_from 0 (xs ++ s ∷ [])) (sym all) ∙ further.1 times h,
+        )
 
   -- ---- at one of them
 
@@ -120,42 +113,24 @@ set_two i ss x y h =
 pub exchanged : (ss : List Stretch) (n : ℕ) → AreStretches 0 ss → n + 1 < length ss → (get_or ss n no_stretch).past ≡ made_before n ss + 1 → (get_or ss (n + 1) no_stretch).past ≡ made_before n ss + 2
     → Makes (set (set ss n (record { choice = (get_or ss (n + 1) no_stretch).choice; past = (get_or ss n no_stretch).past })) (n + 1) (record { choice = (get_or ss n no_stretch).choice; past = (get_or ss (n + 1) no_stretch).past }))
     (swap (choices_from 0 ss) (made_before n ss) (made_before n ss + 1))
-exchanged ss n j h one two = (
-  subst (AreStretches 0) (sym edit) (joined 0 (take n ss) (x ∷ y ∷ more) (sides ss j n).0 (omega (arith, one, ends ss j n), (omega (arith, one, two), subst (λ i. AreStretches b.past (drop i ss)) place (rest ss j (n + 1) h).1))),
-  ap (choices_from 0) edit ∙ choices_append 0 (take n ss) (x ∷ y ∷ more)
-      ∙ ap (λ cs. front ++ cs) (singles (end_of 0 (take n ss)) x y more (omega (arith, one, ends ss j n)) (omega (arith, two, ends ss j n)))
-      ∙ sym (swap_there front (made_before n ss) (made_before n ss + 1) a.choice b.choice (choices_from b.past more) refl (omega arith))
-      ∙ ap (λ cs. swap cs (made_before n ss) (made_before n ss + 1)) (sym before),
-) where
-  a : Stretch
-  a = get_or ss n no_stretch
-
-  b : Stretch
-  b = get_or ss (n + 1) no_stretch
-
-  more : List Stretch
-  more = drop (n + 2) ss
-
-  front : List Choice
-  front = choices_from 0 (take n ss)
-
-  x : Stretch
-  x = record { choice = (get_or ss (n + 1) no_stretch).choice; past = (get_or ss n no_stretch).past }
-
-  y : Stretch
-  y = record { choice = (get_or ss n no_stretch).choice; past = (get_or ss (n + 1) no_stretch).past }
-
-  edit : set (set ss n x) (n + 1) y ≡ take n ss ++ x ∷ y ∷ more
-  edit = set_two n ss x y h
-
-  place : n + 1 + 1 ≡ n + 2
-  place = omega arith
-
-  row : drop n ss ≡ a ∷ b ∷ more
-  row = at ss j n (omega (arith, h)) ∙ ap (λ (xs : List Stretch). a ∷ xs) (at ss j (n + 1) h ∙ ap (λ i. b ∷ drop i ss) place)
-
-  before : choices_from 0 ss ≡ front ++ a.choice ∷ b.choice ∷ choices_from b.past more
-  before = split ss j n ∙ ap (λ (xs : List Stretch). front ++ choices_from (made_before n ss) xs) row ∙ ap (λ cs. front ++ cs) (singles (made_before n ss) a b more one two)
+exchanged ss n j h one two =
+    let a = get_or ss n no_stretch in
+    let b = get_or ss (n + 1) no_stretch in
+    let more = drop (n + 2) ss in
+    let front = choices_from 0 (take n ss) in
+    let x : Stretch = record { choice = b.choice; past = a.past } in
+    let y : Stretch = record { choice = a.choice; past = b.past } in
+    let edit : set (set ss n x) (n + 1) y ≡ take n ss ++ x ∷ y ∷ more = set_two n ss x y h in
+    let place : n + 1 + 1 ≡ n + 2 = omega arith in
+    let row : drop n ss ≡ a ∷ b ∷ more = at ss j n (omega (arith, h)) ∙ ap (λ (xs : List Stretch). a ∷ xs) (at ss j (n + 1) h ∙ ap (λ i. b ∷ drop i ss) place) in
+    let before : choices_from 0 ss ≡ front ++ a.choice ∷ b.choice ∷ choices_from b.past more =
+    split ss j n ∙ ap (λ (xs : List Stretch). front ++ choices_from (made_before n ss) xs) row ∙ ap (λ cs. front ++ cs) (singles (made_before n ss) a b more one two) in (
+      subst (AreStretches 0) (sym edit) (joined 0 (take n ss) (x ∷ y ∷ more) (sides ss j n).0 (omega (arith, one, ends ss j n), (omega (arith, one, two), subst (λ i. AreStretches b.past (drop i ss)) place (rest ss j (n + 1) h).1))),
+      ap (choices_from 0) edit ∙ choices_append 0 (take n ss) (x ∷ y ∷ more)
+          ∙ ap (λ cs. front ++ cs) (singles (end_of 0 (take n ss)) x y more (omega (arith, one, ends ss j n)) (omega (arith, two, ends ss j n)))
+          ∙ sym (swap_there front (made_before n ss) (made_before n ss + 1) a.choice b.choice (choices_from b.past more) refl (omega arith))
+          ∙ ap (λ cs. swap cs (made_before n ss) (made_before n ss + 1)) (sym before),
+    )
 
 -- ---- put off
 

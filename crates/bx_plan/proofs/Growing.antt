@@ -1,5 +1,5 @@
 -- The chains of the schedules of a row so far, with one more.
-use Rattle.std.proofs.Common.{◌≡◌, ◌≢◌, ◌⊎◌, inl, inr, ℕ, zero, suc, ◌+◌, ◌-◌, ◌<◌, ◌≤◌, List, [], ◌∷◌, ◌++◌, length, get_or, set, take, drop, refl, sym, ap, subst, ◌∙◌, arith, add-one, append_assoc, append-nil, length-append}
+use Rattle.std.proofs.Common.{◌≡◌, ◌≢◌, ◌⊎◌, ⊎_elim, inl, inr, ℕ, zero, suc, ◌+◌, ◌-◌, ◌<◌, ◌≤◌, List, [], ◌∷◌, ◌++◌, length, get_or, set, take, drop, refl, sym, ap, subst, ◌∙◌, arith, add-one, append_assoc, append-nil, length-append}
 use Rattle.std.proofs.lemmas.Bool.{cases_eq, cases_lt}
 use Rattle.std.proofs.Math.ListN.{get_or-map}
 use Rattle.std.proofs.lemmas.List.{get_or-set_other, get_or-set_same, length_push, length-map, length-set, length-take, length-take-le, same_from_push, take-append-drop, take-take, take_all, take_at, take_more}
@@ -38,38 +38,27 @@ goes_on : (s : List Choice) (n : ℕ) → n < length s → s ≡ (take n s ++ ge
 goes_on s n h = sym (take-append-drop (n + 1) s) ∙ ap (λ p. p ++ drop (n + 1) s) (take_more s n no_choice h)
 
 cut_where_parted : (ss : List (List Choice)) (i j n : ℕ) → i < length ss → j < length ss → n ≡ common (get_or ss i []) (get_or ss j []) → n < length (get_or ss j []) → IsCut ss (take n (get_or ss j []))
-cut_where_parted ss i j n h l e long = one (cases_lt n (length (get_or ss i []))) where
-  a : List Choice
-  a = get_or ss i []
-
-  b : List Choice
-  b = get_or ss j []
-
-  same : take n (get_or ss i []) ≡ take n (get_or ss j [])
-  same = taken_alike (get_or ss i []) (get_or ss j []) n (omega (arith, e))
-
-  one : (n < length (get_or ss i [])) ⊎ (length (get_or ss i []) ≤ n) → IsCut ss (take n (get_or ss j []))
-  one (inr p) = inr (inl (ends_there ss i (take n b) h (sym same ∙ take_all n a p)))
-  one (inl p) =
-      let c = get_or a n no_choice in
-      let alike = take_more a n no_choice p ∙ ap (λ p. p ++ c ∷ []) same in
-      inr (inr (
-        c,
-        get_or b n no_choice,
-        (λ q. omega (arith, e, common_long a b (n + 1) (omega (arith, p)) (omega (arith, long)) (alike ∙ ap (λ c. take n b ++ c ∷ []) q ∙ sym (take_more b n no_choice long)))),
-        prefix_at ss i (take n b ++ c ∷ []) (drop (n + 1) a) h (goes_on a n p ∙ ap (λ p. (p ++ c ∷ []) ++ drop (n + 1) a) same),
-        prefix_at ss j (take n b ++ get_or b n no_choice ∷ []) (drop (n + 1) b) l (goes_on b n long),
-      ))
+cut_where_parted ss i j n h l e long =
+    let a = get_or ss i [] in
+    let b = get_or ss j [] in
+    let same : take n a ≡ take n b = taken_alike a b n (omega (arith, e)) in
+    ⊎_elim (λ (p : n < length a).
+    let c = get_or a n no_choice in
+    let alike = take_more a n no_choice p ∙ ap (λ p. p ++ c ∷ []) same in
+    inr (inr (
+      c,
+      get_or b n no_choice,
+      (λ q. omega (arith, e, common_long a b (n + 1) (omega (arith, p)) (omega (arith, long)) (alike ∙ ap (λ c. take n b ++ c ∷ []) q ∙ sym (take_more b n no_choice long)))),
+      prefix_at ss i (take n b ++ c ∷ []) (drop (n + 1) a) h (goes_on a n p ∙ ap (λ p. (p ++ c ∷ []) ++ drop (n + 1) a) same),
+      prefix_at ss j (take n b ++ get_or b n no_choice ∷ []) (drop (n + 1) b) l (goes_on b n long),
+    ))) (λ (p : length a ≤ n). inr (inl (ends_there ss i (take n b) h (sym same ∙ take_all n a p)))) (cases_lt n (length a))
 
 -- another schedule parts there from one that goes on
 parts_from : (t s : List Choice) (n : ℕ) (c : Choice) (rest : List Choice) → n < length s → t ≡ (take n s ++ c ∷ []) ++ rest → c ≢ get_or s n no_choice → common t s ≡ n
-parts_from t s n c rest h e apart = one (cases_lt n (common t s)) where
-  front : take (n + 1) t ≡ take n s ++ c ∷ []
-  front = ap (take (n + 1)) e ∙ take_at (take n s ++ c ∷ []) rest (n + 1) (omega (arith, length_push (take n s) c, length-take-le n s (omega (arith, h))))
-
-  one : (n < common t s) ⊎ (common t s ≤ n) → common t s ≡ n
-  one (inl l) = absurd (apart (same_from_push (take n s) (take n s) c (get_or s n no_choice) (sym front ∙ taken_alike t s (n + 1) (omega (arith, l)) ∙ take_more s n no_choice h)).1)
-  one (inr l) = omega (arith, l, begins_common t s (c ∷ rest) n (omega (arith, h)) (e ∙ append_assoc (take n s) (c ∷ []) rest))
+parts_from t s n c rest h e apart =
+    let front : take (n + 1) t ≡ take n s ++ c ∷ [] = ap (take (n + 1)) e ∙ take_at (take n s ++ c ∷ []) rest (n + 1) (omega (arith, length_push (take n s) c, length-take-le n s (omega (arith, h)))) in
+    ⊎_elim (λ (l : n < common t s). absurd (apart (same_from_push (take n s) (take n s) c (get_or s n no_choice) (sym front ∙ taken_alike t s (n + 1) (omega (arith, l)) ∙ take_more s n no_choice h)).1))
+    (λ (l : common t s ≤ n). omega (arith, l, begins_common t s (c ∷ rest) n (omega (arith, h)) (e ∙ append_assoc (take n s) (c ∷ []) rest))) (cases_lt n (common t s))
 
 parted_at_cut : (ss : List (List Choice)) (j n : ℕ) → 0 < n → n < length (get_or ss j []) → IsCut ss (take n (get_or ss j [])) → (i : ℕ) × (i < length ss) × (common (get_or ss i []) (get_or ss j []) ≡ n)
 parted_at_cut ss j n some long (inl e) = absurd (omega (arith, some, ap length e, length-take-le n (get_or ss j []) (omega (arith, long))))
@@ -78,13 +67,11 @@ parted_at_cut ss j n some long (inr (inl e)) =
     let s = get_or ss j [] in
     let count = length-take-le n s (omega (arith, long)) in
     (at.0, at.1, ap (λ t. common t s) (sym at.2) ∙ omega (arith, count, (common_short (take n s) s).0, common_long (take n s) s n (omega (arith, count)) (omega (arith, long)) (take_all n (take n s) (omega (arith, count)))))
-parted_at_cut ss j n some long (inr (inr (a, b, apart, first, second))) = one (same_or_not a (get_or (get_or ss j []) n no_choice)) where
-  s : List Choice
-  s = get_or ss j []
-
-  one : (a ≡ get_or (get_or ss j []) n no_choice) ⊎ (a ≢ get_or (get_or ss j []) n no_choice) → (i : ℕ) × (i < length ss) × (common (get_or ss i []) (get_or ss j []) ≡ n)
-  one (inl e) = let at = prefix_of ss (take n s ++ b ∷ []) second in (at.0, at.1, parts_from (get_or ss at.0 []) s n b at.2 long at.3 (λ f. apart (e ∙ sym f)))
-  one (inr m) = let at = prefix_of ss (take n s ++ a ∷ []) first in (at.0, at.1, parts_from (get_or ss at.0 []) s n a at.2 long at.3 m)
+parted_at_cut ss j n some long (inr (inr (a, b, apart, first, second))) =
+    let s = get_or ss j [] in
+    let by : (c : Choice) → c ≢ get_or s n no_choice → IsPrefix ss (take n s ++ c ∷ []) → (i : ℕ) × (i < length ss) × (common (get_or ss i []) s ≡ n) =
+    λ c m p. let at = prefix_of ss (take n s ++ c ∷ []) p in (at.0, at.1, parts_from (get_or ss at.0 []) s n c at.2 long at.3 m) in
+    ⊎_elim (λ e. by b (λ f. apart (e ∙ sym f)) second) (λ m. by a m first) (same_or_not a (get_or s n no_choice))
 
 -- ---- up from the last chain
 
@@ -98,27 +85,14 @@ module _ (plan : List Named) (all : Chained) (forest : AreForest plan all) where
 
   pub up_next : (at : ℕ) (path : List Choice) (depth : ℕ) → Up at path depth → depth < (head all at).past → IsCut (choices_of plan) (take depth path) → Up (above all at) path depth × (above all at < at)
   up_next zero path depth is l cut = let none : (head all 0).past ≡ 0 = ap (λ (h : Head). h.past) forest.root in absurd (omega (arith, l, none))
-  up_next (suc c) path depth (h, front, low) l cut = ((omega (arith, h, b.below), b.stands ∙ first_is ∙ ap (λ n. take n path) (sym up_past), omega (arith, high, up_past)), b.below) where
-    x : Head
-    x = head all (suc c)
-
-    b : Begins plan (head all (suc c)) (chain_path plan all (above all (suc c))) (suc c)
-    b = forest.begins (suc c) (omega arith) h
-
-    taken : (n : ℕ) → n ≤ (head all (suc c)).past → path_at plan (head all (suc c)) n ≡ take n path
-    taken n k = sym (take-take n (head all (suc c)).past (choices_at plan (head all (suc c)).line) k) ∙ ap (take n) front ∙ take-take n (head all (suc c)).past path k
-
-    first_is : path_at plan (head all (suc c)) (head all (suc c)).first ≡ take (head all (suc c)).first path
-    first_is = taken (head all (suc c)).first (omega (arith, b.some))
-
-    up_past : (head all (above all (suc c))).past ≡ (head all (suc c)).first
-    up_past = sym (path_long (above all (suc c)) (omega (arith, h, b.below))) ∙ ap length b.stands ∙ length-take-le (head all (suc c)).first (choices_at plan (head all (suc c)).line) (omega (arith, b.some, b.within))
-
-    high : depth ≤ (head all (suc c)).first
-    high = one (cases_lt (head all (suc c)).first depth) where
-      one : ((head all (suc c)).first < depth) ⊎ (depth ≤ (head all (suc c)).first) → depth ≤ (head all (suc c)).first
-      one (inr k) = k
-      one (inl k) = absurd (b.inside depth k l (subst (IsCut (choices_of plan)) (sym (taken depth (omega (arith, l)))) cut))
+  up_next (suc c) path depth (h, front, low) l cut =
+      let x : Head = head all (suc c) in
+      let b = forest.begins (suc c) (omega arith) h in
+      let taken : (n : ℕ) → n ≤ x.past → path_at plan x n ≡ take n path = λ n k. sym (take-take n x.past (choices_at plan x.line) k) ∙ ap (take n) front ∙ take-take n x.past path k in
+      let up_past : (head all x.above).past ≡ x.first = sym (path_long x.above (omega (arith, h, b.below))) ∙ ap length b.stands ∙ length-take-le x.first (choices_at plan x.line) (omega (arith, b.some, b.within)) in
+      let deep : x.first < depth → ⊥ = λ k. b.inside depth k l (subst (IsCut (choices_of plan)) (sym (taken depth (omega (arith, l)))) cut) in
+      let high : depth ≤ x.first = ⊎_elim (λ k. absurd (deep k)) (λ k. k) (cases_lt x.first depth) in
+      ((omega (arith, h, b.below), b.stands ∙ taken x.first (omega (arith, b.some)) ∙ ap (λ n. take n path) (sym up_past), omega (arith, high, up_past)), b.below)
 
 -- ---- one chain more
 
@@ -174,10 +148,10 @@ module _ (plan : List Named) (rows : List Row) (are : AreRows (choices_of plan) 
     Mine c path = (c ≡ length all.heads) × (n : ℕ) × (first < n) × (n ≤ past) × (path ≡ take n here)
 
     owns_either : (c : ℕ) (path : List Choice) → Owns plan next c path → Owns plan all c path ⊎ Mine c path
-    owns_either c path o = one (cases_eq c (length all.heads)) where
-      one : (c ≡ length all.heads) ⊎ (c ≢ length all.heads) → Owns plan all c path ⊎ Mine c path
-      one (inl e) = let by : By x path = subst (λ h. By h path) (ap (head next) e ∙ new) (o.2, o.3, o.4, o.5) in inr (e, by.0, by.1, by.2, by.3 ∙ path_is by.0)
-      one (inr m) = let low : c < length all.heads = omega (arith, o.1, more, m) in let by : By (head all c) path = subst (λ h. By h path) (old c low) (o.2, o.3, o.4, o.5) in inl (o.0, low, by.0, by.1, by.2, by.3)
+    owns_either c path o =
+        ⊎_elim (λ (e : c ≡ length all.heads). let by : By x path = subst (λ h. By h path) (ap (head next) e ∙ new) (o.2, o.3, o.4, o.5) in inr (e, by.0, by.1, by.2, by.3 ∙ path_is by.0))
+        (λ (m : c ≢ length all.heads). let low : c < length all.heads = omega (arith, o.1, more, m) in let by : By (head all c) path = subst (λ h. By h path) (old c low) (o.2, o.3, o.4, o.5) in inl (o.0, low, by.0, by.1, by.2, by.3))
+        (cases_eq c (length all.heads))
 
     clash : (c d : ℕ) (path : List Choice) → Owns plan all c path → Mine d path → ⊥
     clash c d path o (_, n, a, b, e) = one (grown.only c path o) where
@@ -186,15 +160,9 @@ module _ (plan : List Named) (rows : List Row) (are : AreRows (choices_of plan) 
       one (inr (m, l, f)) = omega (arith, a, l, ap length (sym e ∙ f), length-take n here, length-take m here, b, within)
 
     alone : (c d : ℕ) (path : List Choice) → Owns plan next c path → Owns plan next d path → c ≡ d
-    alone c d path o p = one (owns_either c path o) (owns_either d path p) where
-      one : Owns plan all c path ⊎ Mine c path → Owns plan all d path ⊎ Mine d path → c ≡ d
-      one (inl a) (inl b) = grown.forest.alone c d path a b
-      one (inl a) (inr b) = absurd (clash c d path a b)
-      one (inr a) (inl b) = absurd (clash d c path b a)
-      one (inr a) (inr b) = a.0 ∙ sym b.0
-
-    first_fits : first ≤ length here
-    first_fits = omega (arith, some, within)
+    alone c d path o p =
+        ⊎_elim (λ a. ⊎_elim (λ b. grown.forest.alone c d path a b) (λ b. absurd (clash c d path a b)) (owns_either d path p))
+        (λ a. ⊎_elim (λ b. absurd (clash d c path b a)) (λ b. a.0 ∙ sym b.0) (owns_either d path p)) (owns_either c path o)
 
     begins : (c : ℕ) → 0 < c → c < length next.heads → Begins plan (head next c) (chain_path plan next (head next c).above) c
     begins c a b = one (cases_eq c (length all.heads)) where
@@ -227,8 +195,8 @@ module _ (plan : List Named) (rows : List Row) (are : AreRows (choices_of plan) 
         kids = kids_more all x grown.forest.some grown.forest.rows grown.forest.kids there;
         alone = alone;
       };
-      owned = λ path n r. two path n r;
-      only = λ c path o. three c path (owns_either c path o);
+      owned = λ path some r. two path some r;
+      only = λ c path o. ⊎_elim (λ p. ⊎_elim inl (λ (n, l, e). inr (n, omega (arith, l, some), e)) (grown.only c path p)) (λ (_, n, _, b, e). inr (n, b, e)) (owns_either c path o);
       last = omega (arith, begins_common (take past here) here [] past within (sym (append-nil (take past here))), ap (λ p. common p here) last_is);
       long = grown.long;
       ends = λ i a b. let was = grown.ends i a b in (omega (arith, was.0, more), old_path _ was.0 ∙ was.1);
@@ -238,17 +206,9 @@ module _ (plan : List Named) (rows : List Row) (are : AreRows (choices_of plan) 
 
       two : (path : List Choice) → path ≢ [] → IsReached plan rows k past path → (c : ℕ) × Owns plan next c path
       two path some (inl r) = let was = grown.owned path some (inl r) in (was.0, owns_old was.0 path was.1)
-      two path some (inr (n, b, e)) = four (cases_lt first n) where
-        four : (first < n) ⊎ (n ≤ first) → (c : ℕ) × Owns plan next c path
-        four (inl l) = (length all.heads, subst (Owns plan next (length all.heads)) (sym e) (owns_new n l b))
-        four (inr l) = let was = grown.owned path some (inr (n, l, e)) in (was.0, owns_old was.0 path was.1)
-
-      three : (c : ℕ) (path : List Choice) → Owns plan all c path ⊎ Mine c path → IsReached plan rows k past path
-      three c path (inr (_, n, _, b, e)) = inr (n, b, e)
-      three c path (inl o) = four (grown.only c path o) where
-        four : IsReached plan rows k first path → IsReached plan rows k past path
-        four (inl a) = inl a
-        four (inr (n, l, e)) = inr (n, omega (arith, l, some), e)
+      two path some (inr (n, b, e)) =
+          ⊎_elim (λ l. (length all.heads, subst (Owns plan next (length all.heads)) (sym e) (owns_new n l b)))
+          (λ l. let was = grown.owned path some (inr (n, l, e)) in (was.0, owns_old was.0 path was.1)) (cases_lt first n)
 
   -- ---- a whole row
 
