@@ -1,21 +1,11 @@
 -- A text is read where it is a plan's, and refused by its first fault.
-use Rattle.std.proofs.Common.{◌≡◌, ◌≢◌, ◌⊎◌, inl, inr, ℕ, suc, ◌+◌, ◌<◌, Bool, true, false, cond, List, [], ◌∷◌, ◌++◌, Option, Some, None, Result, Ok, Err, length, refl, sym, ap, ◌∙◌, arith, subst, append-nil, Decides}
-use Rattle.std.specs.Prelude.{nat_eq, nat_lt, ◌↔◌}
-use Rattle.std.specs.List.{AllByRecursion, join_with_byte, onto_first}
-use Rattle.std.proofs.lemmas.List.Splits.{length-slice_split, join_with_byte-slice_split}
+use Rattle.bx_plan.proofs.Words.{◌≡◌, ◌≢◌, ◌⊎◌, inl, inr, ℕ, suc, ◌+◌, ◌<◌, Bool, true, false, cond, List, [], ◌∷◌, ◌++◌, Option, Some, None, Result, Ok, Err, length, refl, sym, ap, ◌∙◌, arith, subst, append-nil}
+use Rattle.bx_plan.proofs.Words.{Decides, nat_eq, nat_lt, ◌↔◌, AllByRecursion, join_with_byte, onto_first, length-slice_split, join_with_byte-slice_split, bytes_eq, ne_eqb, eqb-false, both_ways, cond_both}
+use Rattle.bx_plan.proofs.Words.{false_from_ne_true, bytes_eq-Decides, ◌>>=◌, Fault, NameTwice, TooLong, Entry, line_of, parts_of, node_count, Named, choices_of, named, has_name, is_too_long, with_read, with_lines}
+use Rattle.bx_plan.proofs.Words.{plan_of, IsNothing, IsSchedule}
 use Rattle.bx_plan.proofs.Marks.{Lacks, parts_lacks, parts_at}
-use Rattle.std.specs.Str.{bytes_eq}
-use Rattle.std.proofs.lemmas.Bool.{ne_eqb, eqb-false, both_ways, cond_both, false_from_ne_true}
 use Rattle.std.proofs.lemmas.Bool.Decides.{Decides-ltb, Decides-or}
-use Rattle.std.proofs.lemmas.Slice.Eq.{bytes_eq-Decides}
-use Rattle.bx_terms.specs.Outcomes.{◌>>=◌}
-use Rattle.bx_terms.specs.declared.faults.Fault.{Fault}
-use Rattle.bx_terms.specs.declared.faults.Fault.TheVariants.{BadLine, NameTwice, TooLong}
-use Rattle.bx_plan.specs.Entry.{Entry}
-use Rattle.bx_plan.specs.Reading.{line_of, parts_of}
-use Rattle.bx_plan.specs.Nodes.{node_count}
-use Rattle.bx_plan.specs.Plans.{Named, choices_of, named, has_name, is_too_long, with_schedule, with_read, with_lines, plan_of}
-use Rattle.bx_plan.specs.Grammar.{IsNothing, IsSchedule}
+use Rattle.bx_terms.specs.declared.faults.Fault.TheVariants.{BadLine}
 use Rattle.bx_plan.specs.Texts.{AreLines, HasName, IsTooLong, Leads, IsPlan, IsFault, IsFirstFault}
 use Rattle.bx_plan.proofs.Headings.{nothing_spelled, nothing_again, line_spelled, line_again}
 
@@ -160,7 +150,7 @@ plan_law text plan = (
 pub fault_law : (text : List ℕ) (fault : Fault) → (plan_of text ≡ Err fault) ↔ IsFirstFault text fault
 fault_law text fault = (
   λ h. let x = subst (LinesSay 1 [] (parts_of 10 text)) h (lines_say 1 [] (parts_of 10 text)) in
-  (x.0, x.1, x.2, x.3, subst (AreLines text) x.4 (parts_are text), x.5, subst (λ m. IsFault x.3 m x.1 fault) (omega arith) x.6),
+      (x.0, x.1, x.2, x.3, subst (AreLines text) x.4 (parts_are text), x.5, subst (λ m. IsFault x.3 m x.1 fault) (omega arith) x.6),
   λ (before, line, after, plan, are, leads, is).
       let here : IsFault plan (1 + length before) line fault = subst (λ m. IsFault plan m line fault) (omega arith) is in
       ap (with_lines 1 []) (lines_are_parts text (before ++ line ∷ after) are) ∙ lines_lead 1 [] before (line ∷ after) plan leads

@@ -1,26 +1,13 @@
 -- One schedule more in a plan that is read.
-use Rattle.std.proofs.Common.{◌≡◌, ◌⊎◌, inl, inr, ℕ, ◌+◌, ◌-◌, ◌^◌, ◌<◌, ◌≤◌, min, Bool, true, false, cond, ◌||◌, List, [], ◌∷◌, ◌++◌, Option, None, Some, Result, Ok, Err, length, get_or, replicate, take, refl, sym, ap, subst, ◌∙◌, arith, length-append, Bor}
-use Rattle.std.proofs.Math.ListN.{get_or-append}
-use Rattle.std.proofs.Math.Seq.{get_or-append_seam}
-use Rattle.std.proofs.lemmas.List.{length-map, length-replicate, map-append, take_all, take-append-le}
-use Rattle.std.proofs.lemmas.Bool.Decides.{same_from_decides}
-use Rattle.std.proofs.lemmas.List.Folds.{list_any-append}
-use Rattle.std.proofs.lemmas.Slice.Eq.{bytes_eq-Decides}
-use Rattle.std.specs.Prelude.{nat_lt}
-use Rattle.std.specs.Str.{bytes_eq}
-use Rattle.std.specs.BTreeSet.{BTreeSet, contains, Updates}
-use Rattle.std.proofs.lemmas.Bool.{both_ways, cases_lt, lt-ltb, le-ltb, ltb-true, ltb-false}
+use Rattle.bx_plan.proofs.Words.{◌≡◌, ◌⊎◌, inl, inr, ℕ, ◌+◌, ◌-◌, ◌^◌, ◌<◌, ◌≤◌, min, Bool, true, false, cond, ◌||◌, List, [], ◌∷◌, ◌++◌, Option, None, Some, Result, Ok, Err, length, get_or, replicate, take, refl}
+use Rattle.bx_plan.proofs.Words.{sym, ap, subst, ◌∙◌, arith, length-append, Bor, get_or-append, get_or-append_seam, length-map, length-replicate, map-append, take_all, same_from_decides, list_any-append}
+use Rattle.bx_plan.proofs.Words.{bytes_eq-Decides, nat_lt, bytes_eq, BTreeSet, contains, both_ways, cases_lt, lt-ltb, le-ltb, ltb-true, ltb-false, ◌>>=◌, Fault, NameTwice, TooLong, read_loose, text_cmp, Stands}
+use Rattle.bx_plan.proofs.Words.{Entry, count_of, spread, Line, Named, choices_of, has_name, is_too_long, named, with_lines, with_read, TakesFirst, line_view, lines_view, node_count}
+use Rattle.std.proofs.lemmas.List.{take-append-le}
+use Rattle.std.specs.BTreeSet.{Updates}
 use Rattle.std.proofs.lemmas.Map.Text.{is_eq-slice_cmp}
-use Rattle.bx_terms.specs.Outcomes.{◌>>=◌}
-use Rattle.bx_terms.specs.declared.faults.Fault.{Fault}
-use Rattle.bx_terms.specs.declared.faults.Fault.TheVariants.{NameTwice, TooLong}
-use Rattle.bx_plan.specs.Building.{read_loose, text_cmp, with_loose, Overfull, Stands}
-use Rattle.bx_plan.specs.Entry.{Entry}
-use Rattle.bx_plan.specs.Reading.{count_of, spread}
-use Rattle.bx_plan.specs.declared.plans.Line.{Line}
-use Rattle.bx_plan.specs.Plans.{Named, choices_of, has_name, is_too_long, named, with_lines, with_read, with_schedule, TakesFirst}
-use Rattle.bx_plan.specs.View.{line_view, lines_view}
-use Rattle.bx_plan.specs.Nodes.{node_count}
+use Rattle.bx_plan.specs.Building.{with_loose, Overfull}
+use Rattle.bx_plan.specs.Plans.{with_schedule}
 use Rattle.bx_plan.proofs.Counting.{no_more}
 
 pub length-spread : (entries : List Entry) → length (spread entries) ≡ count_of entries

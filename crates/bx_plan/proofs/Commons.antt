@@ -1,13 +1,6 @@
 -- How many choices two schedules begin with alike.
-use Rattle.std.proofs.Common.{◌≡◌, ◌≢◌, ◌⊎◌, ⊎_elim, inl, inr, ℕ, zero, suc, ◌+◌, ◌≤◌, true, false, List, [], ◌∷◌, ◌++◌, length, take, refl, sym, ap, ◌∙◌, arith, Decides, length-append}
-use Rattle.std.specs.Prelude.{nat_eq}
-use Rattle.std.proofs.lemmas.Bool.{and_from, and_parts, both_ways, cases_Bool, cond_both, cond-false, cond-true, eqb-true, eq-eqb, false_from_ne_true}
-use Rattle.std.proofs.lemmas.Bool.Decides.{nat_tests}
-use Rattle.std.proofs.lemmas.List.{length-take-le, take_all, take_at}
-use Rattle.bx_world.specs.declared.choices.Choice.{Choice}
-use Rattle.bx_world.specs.declared.choices.Choice.TheVariants.{Run, Deliver, Expire}
-use Rattle.bx_plan.specs.Gathered.{common}
-use Rattle.bx_plan.specs.Nodes.{choice_eq}
+use Rattle.bx_plan.proofs.Words.{◌≡◌, ◌≢◌, ◌⊎◌, ⊎_elim, inl, inr, ℕ, zero, suc, ◌+◌, ◌≤◌, List, [], ◌∷◌, ◌++◌, length, take, refl, sym, ap, ◌∙◌, arith, Decides, length-append, both_ways, cases_Bool, cond_both}
+use Rattle.bx_plan.proofs.Words.{cond-false, cond-true, false_from_ne_true, nat_tests, length-take-le, take_all, take_at, Choice, common, choice_eq}
 
 pub choice_decides : (a b : Choice) → Decides (choice_eq a b) (a ≡ b)
 choice_decides a b = (λ h. grind (arith, nat_tests), λ e. grind (arith, nat_tests))

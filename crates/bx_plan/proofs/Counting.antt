@@ -1,19 +1,13 @@
 -- How many distinct prefixes the schedules of a row have.
-use Rattle.std.proofs.Common.{◌≡◌, ◌⊎◌, inl, inr, ℕ, zero, suc, ◌+◌, ◌-◌, ◌^◌, ◌<◌, ◌≤◌, min, Bool, true, false, List, [], ◌∷◌, ◌++◌, length, get_or, take, drop, map, cond, refl, sym, ap, subst, ◌∙◌, arith, add-one, append_assoc, length-append}
-use Rattle.std.specs.Prelude.{nat_lt}
-use Rattle.std.specs.List.{filter, All, Contains}
-use Rattle.std.proofs.lemmas.List.{append-nil, take-append-drop, take_all, length_push, length-map, length-take, get_or-map, get_or_push, get_or-take, map-append}
-use Rattle.std.proofs.lemmas.List.Elements.{All-nil, All-push, All-weaker, Contains-push_cases, filter_more}
-use Rattle.std.proofs.lemmas.Bool.{both_ways, cond_both, lt-ltb, le-ltb, ltb-true}
+use Rattle.bx_plan.proofs.Words.{◌≡◌, ◌⊎◌, inl, inr, ℕ, zero, suc, ◌+◌, ◌-◌, ◌^◌, ◌<◌, ◌≤◌, min, Bool, true, false, List, [], ◌∷◌, ◌++◌, length, get_or, take, drop, map, cond, refl, sym, ap, subst, ◌∙◌, arith}
+use Rattle.bx_plan.proofs.Words.{add-one, append_assoc, length-append, nat_lt, Contains, take-append-drop, take_all, length_push, length-map, length-take, map-append, Contains-push_cases, both_ways, cond_both}
+use Rattle.bx_plan.proofs.Words.{lt-ltb, le-ltb, ltb-true, Choice, Line, Row, common, no_row, placed, row_at, AreRows, Named, choices_of, line_view, lines_view, with_nodes, prefixes, with_schedule_nodes, nodes_from}
+use Rattle.bx_plan.proofs.Words.{nodes_of, node_count, IsPrefix}
+use Rattle.std.specs.List.{filter, All}
+use Rattle.std.proofs.lemmas.List.{append-nil, get_or-map, get_or_push, get_or-take}
+use Rattle.std.proofs.lemmas.List.Elements.{All-nil, All-push, All-weaker, filter_more}
 use Rattle.std.proofs.lemmas.Map.Made.{length-le_from_is_member}
-use Rattle.bx_world.specs.declared.choices.Choice.{Choice}
-use Rattle.bx_plan.specs.declared.plans.Line.{Line}
-use Rattle.bx_plan.specs.declared.plans.Row.{Row}
 use Rattle.bx_plan.specs.Counting.{counted}
-use Rattle.bx_plan.specs.Gathered.{common, no_row, placed, row_at, AreRows}
-use Rattle.bx_plan.specs.Plans.{Named, choices_of}
-use Rattle.bx_plan.specs.View.{line_view, lines_view}
-use Rattle.bx_plan.specs.Nodes.{with_nodes, prefixes, with_schedule_nodes, nodes_from, nodes_of, node_count, IsPrefix}
 use Rattle.bx_plan.proofs.Commons.{begins_common, common_least, common_same, common_short, taken_alike}
 use Rattle.bx_plan.proofs.Prefixes.{distinct_nodes, has_decides, is_node, node_is, path_laws, with_new, with_old}
 

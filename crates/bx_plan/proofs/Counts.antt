@@ -1,8 +1,6 @@
 -- Entries are read from left to right.
-use Rattle.std.proofs.Common.{◌≡◌, ℕ, ◌+◌, ◌++◌, ◌∷◌, [], List, Option, Some, None, option_map, replicate, refl, sym, ap, ◌∙◌, append_assoc, append-nil, arith}
-use Rattle.std.specs.Option.{option_and_then}
-use Rattle.bx_plan.specs.Entry.{Entry}
-use Rattle.bx_plan.specs.Reading.{entry_of, entry_each, count_of, spread}
+use Rattle.bx_plan.proofs.Words.{◌≡◌, ℕ, ◌+◌, ◌++◌, ◌∷◌, [], List, Option, Some, None, option_map, replicate, refl, sym, ap, ◌∙◌, append_assoc, append-nil, arith, option_and_then, Entry, entry_of, entry_each}
+use Rattle.bx_plan.proofs.Words.{count_of, spread}
 
 -- the entries so far with those of these words
 abbrev pub entries_after : List Entry → List (List ℕ) → Option (List Entry)

@@ -1,12 +1,10 @@
 -- A text cut at a mark, by the place of the mark, and the parts that come of it.
-use Rattle.std.proofs.Common.{◌≡◌, ℕ, zero, suc, ◌+◌, ◌-◌, ◌<◌, Bool, true, false, cond, List, [], ◌∷◌, Option, Some, None, length, take, drop, refl, sym, ap, ◌∙◌, arith, add-one, option_map, length-drop}
-use Rattle.std.specs.Prelude.{nat_eq, slice_index}
-use Rattle.std.specs.List.{onto_first}
-use Rattle.std.proofs.lemmas.Bool.{cond-false, cond-true, false_from_ne_true}
+use Rattle.bx_plan.proofs.Words.{◌≡◌, ℕ, zero, suc, ◌+◌, ◌-◌, ◌<◌, Bool, true, false, cond, List, [], ◌∷◌, Option, Some, None, length, take, drop, refl, sym, ap, ◌∙◌, arith, add-one, option_map, length-drop, nat_eq}
+use Rattle.bx_plan.proofs.Words.{onto_first, cond-false, cond-true, false_from_ne_true, cut, parts_of}
+use Rattle.std.specs.Prelude.{slice_index}
 use Rattle.std.proofs.Math.Seq.{take-length}
 use Rattle.memchr.specs.Find.{is_byte, IsFirstByte}
 use Rattle.bx_plan.specs.Parts.{IsPlace}
-use Rattle.bx_plan.specs.Reading.{cut, parts_of}
 
 -- a byte is the mark
 abbrev IsMark : ℕ → List ℕ → ℕ → Type 0

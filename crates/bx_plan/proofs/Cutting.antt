@@ -1,14 +1,9 @@
 -- Where the chains of the schedules of a row end.
-use Rattle.std.proofs.Common.{◌≡◌, ◌≢◌, ◌⊎◌, inl, inr, ℕ, zero, suc, ◌+◌, ◌-◌, ◌<◌, ◌≤◌, min, List, [], ◌∷◌, ◌++◌, length, get_or, refl, sym, ap, subst, ◌∙◌, arith, append_assoc}
-use Rattle.std.specs.Prelude.{nat_lt}
-use Rattle.std.specs.List.{Contains}
-use Rattle.std.proofs.lemmas.Bool.{cases_eq, cases_lt, cond_both, ltb-true, ltb-false}
+use Rattle.bx_plan.proofs.Words.{◌≡◌, ◌≢◌, ◌⊎◌, inl, inr, ℕ, zero, suc, ◌+◌, ◌-◌, ◌<◌, ◌≤◌, min, List, [], ◌∷◌, ◌++◌, length, get_or, refl, sym, ap, subst, ◌∙◌, arith, append_assoc, nat_lt, Contains, cases_eq}
+use Rattle.bx_plan.proofs.Words.{cases_lt, cond_both, ltb-true, ltb-false, Contains-append_cases, Contains-append_left, Contains-append_right, Contains-push_cases, Choice, Row, marked, AllCuts, AreCuts, IsCutBy}
+use Rattle.bx_plan.proofs.Words.{common, placed, row_at, AreRows}
 use Rattle.std.proofs.lemmas.List.{append-nil}
-use Rattle.std.proofs.lemmas.List.Elements.{Contains-append_cases, Contains-append_left, Contains-append_right, Contains-push_cases}
-use Rattle.bx_world.specs.declared.choices.Choice.{Choice}
-use Rattle.bx_plan.specs.declared.plans.Row.{Row}
-use Rattle.bx_plan.specs.Cuts.{deepest, marked, AllCuts, AreCuts, IsCutBy, Rise}
-use Rattle.bx_plan.specs.Gathered.{common, placed, row_at, AreRows}
+use Rattle.bx_plan.specs.Cuts.{deepest, Rise}
 use Rattle.bx_plan.proofs.Commons.{common_short, common_turned}
 use Rattle.bx_plan.proofs.Counting.{before, before_is, passed}
 

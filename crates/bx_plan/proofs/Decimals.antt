@@ -1,13 +1,9 @@
 -- Numbers are read as they are spelled.
-use Rattle.std.proofs.Common.{◌≡◌, ℕ, ◌+◌, ◌-◌, ◌*◌, ◌^◌, ◌<◌, ◌≤◌, Bool, true, false, cond, ◌&&◌, List, [], ◌∷◌, Some, None, length, get_or, refl, sym, ap, ◌∙◌, arith, rules, ⊎_elim}
-use Rattle.std.specs.Prelude.{nat_eq, nat_le, ◌↔◌}
-use Rattle.std.specs.Char.{is_ascii_digit}
+use Rattle.bx_plan.proofs.Words.{◌≡◌, ℕ, ◌+◌, ◌-◌, ◌*◌, ◌^◌, ◌<◌, ◌≤◌, true, false, cond, ◌&&◌, List, [], ◌∷◌, Some, None, length, get_or, refl, sym, ap, ◌∙◌, arith, rules, ⊎_elim, nat_eq, nat_le, ◌↔◌}
+use Rattle.bx_plan.proofs.Words.{is_ascii_digit, decimal, and_parts, and_from, cond_both, cond-false, leb-true, le-leb, eqb-false, cases_eq, ne_eqb, digits_from, number_of}
 use Rattle.std.specs.Str.{all_ascii_digits}
-use Rattle.std.specs.Fmt.{decimal}
-use Rattle.std.proofs.lemmas.Bool.{and_parts, and_from, cond_both, cond-false, leb-true, le-leb, eqb-false, cases_eq, ne_eqb}
 use Rattle.std.proofs.lemmas.Str.Parse.{IsNumeralModel, numerals_by_fold}
 use Rattle.std.proofs.lemmas.Fmt.{digits_decimal, digits_value-decimal, decimal-digits_value, decimal_nonempty, first_decimal, decimal_digit}
-use Rattle.bx_plan.specs.Reading.{digits_from, number_of}
 use Rattle.bx_plan.proofs.Marks.{Lacks}
 
 -- the number that the digits write behind those of n

@@ -1,11 +1,8 @@
 -- Stretches in a row that is edited: one more behind them, a part of them, one that is parted or joined with the next, and two whose choices are exchanged.
-use Rattle.std.proofs.Common.{◌≡◌, ℕ, zero, suc, ◌+◌, ◌-◌, ◌<◌, ◌≤◌, List, [], ◌∷◌, ◌++◌, length, map, get_or, set, take, drop, replicate, refl, sym, ap, subst, ◌∙◌, arith, length-append, append_assoc}
-use Rattle.std.specs.List.{slice_get, insert, swap}
-use Rattle.std.proofs.lemmas.List.{append-nil, drop_all, drop-set-lt, length_push, length-set, length-take-le, set_split, take_all, take_at, take_more, take_more_set, take-append-drop}
+use Rattle.bx_plan.proofs.Words.{◌≡◌, ℕ, zero, suc, ◌+◌, ◌-◌, ◌<◌, ◌≤◌, List, [], ◌∷◌, ◌++◌, length, map, get_or, set, take, drop, replicate, refl, sym, ap, subst, ◌∙◌, arith, length-append, append_assoc, slice_get}
+use Rattle.bx_plan.proofs.Words.{insert, swap, drop_all, length_push, length-set, length-take-le, take_all, take_at, take_more, take-append-drop, Choice, Stretch, choices_from, made_before, AreStretches}
+use Rattle.std.proofs.lemmas.List.{append-nil, drop-set-lt, set_split, take_more_set}
 use Rattle.std.proofs.lemmas.List.Edits.{swap_is}
-use Rattle.bx_world.specs.declared.choices.Choice.{Choice}
-use Rattle.bx_plan.specs.declared.schedules.stretches.Stretch.{Stretch}
-use Rattle.bx_plan.specs.Stretches.{choices_from, made_before, AreStretches}
 use Rattle.bx_plan.proofs.Stretching.{absorbed, at, choices_append, count_end, end_of, ends, found, joined, long, next, no_stretch, parted, rest, sides, split, taken, within}
 
 -- these stretches make these choices

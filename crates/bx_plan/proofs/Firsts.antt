@@ -1,20 +1,12 @@
 -- Entries are read one after another, each from the head of the text that is left.
-use Rattle.std.proofs.Common.{◌≡◌, ◌⊎◌, inl, inr, ℕ, ◌+◌, ◌-◌, ◌*◌, ◌^◌, ◌<◌, ◌≤◌, Bool, true, false, cond, ◌&&◌, List, [], ◌∷◌, ◌++◌, Option, Some, None, length, get_or, refl, sym, ap, ◌∙◌, arith, subst, option_map, append_assoc, append-nil, length-append}
-use Rattle.std.specs.Prelude.{nat_eq, nat_le, MatchOption}
+use Rattle.bx_plan.proofs.Words.{◌≡◌, ◌⊎◌, inl, inr, ℕ, ◌+◌, ◌-◌, ◌*◌, ◌^◌, ◌<◌, ◌≤◌, true, false, cond, ◌&&◌, List, [], ◌∷◌, ◌++◌, Option, Some, None, length, refl, sym, ap, ◌∙◌, arith, subst, option_map}
+use Rattle.bx_plan.proofs.Words.{append_assoc, append-nil, length-append, nat_eq, nat_le, MatchOption, option_and_then, option_map_or, is_ascii_digit, decimal, and_parts, cond_both, eqb-true, eqb-false, ne_eqb}
+use Rattle.bx_plan.proofs.Words.{le-leb, nat_tests, option_and_then_some, same_Some, Choice, Run, Deliver, Expire, Entry, digits_first, words_left, size_left, spelling, HasPids, IsOnce, IsRepeated, IsEntry, cut}
+use Rattle.bx_plan.proofs.Words.{parts_of, digits_from, number_of, entry_of, entry_each, entries_of}
 use Rattle.std.specs.Borrow.{Bor}
-use Rattle.std.specs.Option.{option_and_then, option_map_or}
-use Rattle.std.specs.Char.{is_ascii_digit}
-use Rattle.std.specs.Fmt.{decimal}
-use Rattle.std.proofs.lemmas.Bool.{and_parts, cond_both, eqb-true, eqb-false, ne_eqb, le-leb, true_from_ne_false}
-use Rattle.std.proofs.lemmas.Bool.Decides.{nat_tests}
-use Rattle.std.proofs.lemmas.Option.{option_and_then_some, same_Some}
-use Rattle.bx_world.specs.declared.choices.Choice.{Choice}
-use Rattle.bx_world.specs.declared.choices.Choice.TheVariants.{Run, Deliver, Expire}
+use Rattle.std.proofs.lemmas.Bool.{true_from_ne_false}
 use Rattle.bx_plan.specs.declared.entries.First.{First}
-use Rattle.bx_plan.specs.Entry.{Entry}
-use Rattle.bx_plan.specs.Firsts.{digits_first, number_first, deliver_first, choice_by, choice_first, some_times, times_first, entry_first, next_of, next_first, first_view, words_left, size_left, IsFirst}
-use Rattle.bx_plan.specs.Grammar.{spelling, HasPids, IsOnce, IsRepeated, IsEntry}
-use Rattle.bx_plan.specs.Reading.{cut, parts_of, digits_from, number_of, entry_of, entry_each, entries_of}
+use Rattle.bx_plan.specs.Firsts.{number_first, deliver_first, choice_by, choice_first, some_times, times_first, entry_first, next_of, next_first, first_view, IsFirst}
 use Rattle.bx_plan.proofs.Decimals.{number_again, number_plain, number_spelled, plain_number}
 use Rattle.bx_plan.proofs.Marks.{Lacks, cut_takes, option_map_some, parts_at, parts_lacks}
 use Rattle.bx_plan.proofs.Cuts.{parts_none, parts_some}
@@ -128,7 +120,8 @@ Stands text entry rest = (word : List ℕ) × IsEntry word entry × (text ≡ wo
 
 times_read : (choice : Choice) (behind : List ℕ) (times : ℕ) (rest : List ℕ) → HasPids choice → times_first behind ≡ Some (times, rest) → Stands (spelling choice ++ behind) (choice, times) rest
 times_read choice behind times rest pids h = one behind h where
-  read : (behind : List ℕ) (n : ℕ) (left : List ℕ) → ◌≡◌ {A = Option (ℕ × List ℕ)} (Some (n, left)) (Some (times, rest)) → Stands (spelling choice ++ behind) (choice, n) left → Stands (spelling choice ++ behind) (choice, times) rest
+  read : (behind : List ℕ) (n : ℕ) (left : List ℕ) → ◌≡◌ {A = Option (ℕ × List ℕ)} (Some (n, left)) (Some (times, rest))
+      → Stands (spelling choice ++ behind) (choice, n) left → Stands (spelling choice ++ behind) (choice, times) rest
   read behind n left e s = subst (λ (r : ℕ × List ℕ). Stands (spelling choice ++ behind) (choice, r.0) r.1) (same_Some (n, left) (times, rest) e) s
 
   one : (behind : List ℕ) → times_first behind ≡ Some (times, rest) → Stands (spelling choice ++ behind) (choice, times) rest
@@ -138,8 +131,11 @@ times_read choice behind times rest pids h = one behind h where
       (λ t r. option_and_then_some some_times (number_first 100000 bs) (times, rest) r (λ number q d.
       let is = number_read 100000 bs number.0 number.1 (omega arith) (omega arith) q in
       cond_both (nat_eq number.0 0) None (Some number) (λ r. r ≡ Some (times, rest) → Stands (spelling choice ++ b ∷ bs) (choice, times) rest) (λ z s. cc)
-      (λ z s. read (b ∷ bs) number.0 number.1 s (spelling choice ++ 42 ∷ decimal number.0, (pids, inr (omega (arith, eqb-false number.0 0 z), is.0, refl)),
-          behind_mark (spelling choice) 42 b bs number.0 number.1 (eqb-true b 42 t) is.1)) d))
+      (λ z s. read (b ∷ bs) number.0 number.1 s (
+        spelling choice ++ 42 ∷ decimal number.0,
+        (pids, inr (omega (arith, eqb-false number.0 0 z), is.0, refl)),
+        behind_mark (spelling choice) 42 b bs number.0 number.1 (eqb-true b 42 t) is.1,
+      )) d))
       (λ f r. read (b ∷ bs) 1 (b ∷ bs) r (spelling choice, (pids, inl (refl, refl)), refl)) h
 
 entry_read : (text : List ℕ) (entry : Entry) (rest : List ℕ) → entry_first text ≡ Some (entry, rest) → Stands text entry rest
@@ -229,6 +225,7 @@ first_is text (Some first) h =
     let same = both first.behind in
     record { word = is.0; split = is.1 ∙ ap (λ ws. is.0 ∷ ws) same.0; is = is.2; shorter = omega (arith, is.3, same.1) }
   where
-    both : (b : Option (Bor (List ℕ))) → (option_map_or (parts_of 32) (option_map (λ (t : Bor (List ℕ)). t.now) b) [] ≡ words_left b) × (option_map_or (λ (t : List ℕ). length t + 1) (option_map (λ (t : Bor (List ℕ)). t.now) b) 0 ≡ size_left b)
+    both : (b : Option (Bor (List ℕ))) → (option_map_or (parts_of 32) (option_map (λ (t : Bor (List ℕ)). t.now) b) [] ≡ words_left b)
+        × (option_map_or (λ (t : List ℕ). length t + 1) (option_map (λ (t : Bor (List ℕ)). t.now) b) 0 ≡ size_left b)
     both None = (refl, refl)
     both (Some t) = (refl, refl)

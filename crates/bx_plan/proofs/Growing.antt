@@ -1,18 +1,14 @@
 -- The chains of the schedules of a row so far, with one more.
-use Rattle.std.proofs.Common.{◌≡◌, ◌≢◌, ◌⊎◌, ⊎_elim, inl, inr, ℕ, zero, suc, ◌+◌, ◌-◌, ◌<◌, ◌≤◌, List, [], ◌∷◌, ◌++◌, length, get_or, set, take, drop, refl, sym, ap, subst, ◌∙◌, arith, add-one, append_assoc, append-nil, length-append}
-use Rattle.std.proofs.lemmas.Bool.{cases_eq, cases_lt}
+use Rattle.bx_plan.proofs.Words.{◌≡◌, ◌≢◌, ◌⊎◌, ⊎_elim, inl, inr, ℕ, zero, suc, ◌+◌, ◌-◌, ◌<◌, ◌≤◌, List, [], ◌∷◌, ◌++◌, length, get_or, set, take, drop, refl, sym, ap, subst, ◌∙◌, arith, add-one, append_assoc}
+use Rattle.bx_plan.proofs.Words.{append-nil, length-append, cases_eq, cases_lt, get_or-set_other, get_or-set_same, length_push, length-map, length-set, length-take, length-take-le, take-append-drop, take-take}
+use Rattle.bx_plan.proofs.Words.{take_all, take_at, take_more, Choice, Run, Head, Row, above, begun, chain_path, head, Chained, IsCut, common, common_before, placed, row_at, AreRows, Grown, IsPrefix, Named}
+use Rattle.bx_plan.proofs.Words.{choices_of}
 use Rattle.std.proofs.Math.ListN.{get_or-map}
-use Rattle.std.proofs.lemmas.List.{get_or-set_other, get_or-set_same, length_push, length-map, length-set, length-take, length-take-le, same_from_push, take-append-drop, take-take, take_all, take_at, take_more}
-use Rattle.bx_world.specs.declared.choices.Choice.{Choice}
-use Rattle.bx_world.specs.declared.choices.Choice.TheVariants.{Run}
-use Rattle.bx_plan.specs.declared.chains.Head.{Head}
-use Rattle.bx_plan.specs.declared.plans.Row.{Row}
-use Rattle.bx_plan.specs.Chains.{above, begun, chain_path, head, path_at, AreChains, AreForest, Begins, Chained, IsCut, Owns}
-use Rattle.bx_plan.specs.Gathered.{common, common_before, placed, row_at, AreRows}
-use Rattle.bx_plan.specs.Growing.{Grown, IsReached}
-use Rattle.bx_plan.specs.Nodes.{EndsThere, IsPrefix}
+use Rattle.std.proofs.lemmas.List.{same_from_push}
+use Rattle.bx_plan.specs.Chains.{path_at, AreChains, AreForest, Begins, Owns}
+use Rattle.bx_plan.specs.Growing.{IsReached}
+use Rattle.bx_plan.specs.Nodes.{EndsThere}
 use Rattle.bx_plan.specs.Planned.{choices_at}
-use Rattle.bx_plan.specs.Plans.{Named, choices_of}
 use Rattle.bx_plan.proofs.Commons.{begins_common, common_least, common_long, common_same, common_short, same_or_not, taken_alike}
 use Rattle.bx_plan.proofs.Counting.{prefix_at, prefix_of}
 use Rattle.bx_plan.proofs.Kids.{kids_more, more_heads, more_kids, new_head, old_head}
@@ -150,7 +146,8 @@ module _ (plan : List Named) (rows : List Row) (are : AreRows (choices_of plan) 
     owns_either : (c : ℕ) (path : List Choice) → Owns plan next c path → Owns plan all c path ⊎ Mine c path
     owns_either c path o =
         ⊎_elim (λ (e : c ≡ length all.heads). let by : By x path = subst (λ h. By h path) (ap (head next) e ∙ new) (o.2, o.3, o.4, o.5) in inr (e, by.0, by.1, by.2, by.3 ∙ path_is by.0))
-        (λ (m : c ≢ length all.heads). let low : c < length all.heads = omega (arith, o.1, more, m) in let by : By (head all c) path = subst (λ h. By h path) (old c low) (o.2, o.3, o.4, o.5) in inl (o.0, low, by.0, by.1, by.2, by.3))
+        (λ (m : c ≢ length all.heads). let low : c < length all.heads = omega (arith, o.1, more, m) in
+        let by : By (head all c) path = subst (λ h. By h path) (old c low) (o.2, o.3, o.4, o.5) in inl (o.0, low, by.0, by.1, by.2, by.3))
         (cases_eq c (length all.heads))
 
     clash : (c d : ℕ) (path : List Choice) → Owns plan all c path → Mine d path → ⊥

@@ -1,16 +1,12 @@
 -- Lines are read as the grammar has them.
-use Rattle.std.proofs.Common.{◌≡◌, inl, inr, ℕ, true, false, cond, ◌&&◌, List, [], ◌∷◌, ◌++◌, Some, None, length, refl, sym, ap, ◌∙◌, arith, subst, Decides}
-use Rattle.std.specs.Prelude.{nat_eq, nat_le, ◌↔◌}
-use Rattle.std.specs.Option.{option_and_then, option_map}
-use Rattle.std.specs.List.{list_all, AllByRecursion}
-use Rattle.std.specs.Str.{is_utf8}
-use Rattle.std.proofs.lemmas.Str.{IsUtf8-from_is_utf8, is_utf8-from_IsUtf8}
-use Rattle.std.proofs.lemmas.Bool.{cond_both, eqb-true, ne_eqb, and_parts, and_from, leb-true, le-leb}
-use Rattle.std.proofs.lemmas.Bool.Decides.{Decides-and, nat_tests}
-use Rattle.std.proofs.lemmas.Option.{cond_some, option_and_then_some}
-use Rattle.bx_plan.specs.Entry.{Entry}
-use Rattle.bx_plan.specs.Reading.{cut, tail_of, is_name_byte, is_name, named_of, schedule_of, line_of}
-use Rattle.bx_plan.specs.Grammar.{IsNameByte, IsName, IsSchedule, IsNothing}
+use Rattle.bx_plan.proofs.Words.{◌≡◌, inl, inr, ℕ, false, cond, ◌&&◌, List, [], ◌∷◌, ◌++◌, Some, None, length, refl, sym, ap, ◌∙◌, arith, subst, Decides, nat_eq, nat_le, ◌↔◌, option_and_then, list_all}
+use Rattle.bx_plan.proofs.Words.{AllByRecursion, is_utf8, IsUtf8-from_is_utf8, is_utf8-from_IsUtf8, cond_both, eqb-true, ne_eqb, and_parts, and_from, leb-true, le-leb, nat_tests, option_and_then_some, Entry, cut}
+use Rattle.bx_plan.proofs.Words.{tail_of, is_name_byte, is_name, line_of, IsSchedule, IsNothing}
+use Rattle.std.specs.Option.{option_map}
+use Rattle.std.proofs.lemmas.Bool.Decides.{Decides-and}
+use Rattle.std.proofs.lemmas.Option.{cond_some}
+use Rattle.bx_plan.specs.Reading.{named_of, schedule_of}
+use Rattle.bx_plan.specs.Grammar.{IsNameByte, IsName}
 use Rattle.bx_plan.proofs.Marks.{Lacks, cut_at, cut_takes, option_map_some}
 use Rattle.bx_plan.proofs.Spellings.{tail_law}
 
@@ -22,8 +18,8 @@ name_decides : (name : List ℕ) → Decides (is_name name) (IsName name)
 name_decides name =
     let n = length name in (
       λ h. let parts = and_parts (nat_le 1 n && nat_le n 64) (list_all is_name_byte name) h in
-      let sizes = and_parts (nat_le 1 n) (nat_le n 64) parts.0 in
-      (leb-true 1 n sizes.0, leb-true n 64 sizes.1, (name_bytes name).0 parts.1),
+          let sizes = and_parts (nat_le 1 n) (nat_le n 64) parts.0 in
+          (leb-true 1 n sizes.0, leb-true n 64 sizes.1, (name_bytes name).0 parts.1),
       λ h. and_from (nat_le 1 n && nat_le n 64) (list_all is_name_byte name) (and_from (nat_le 1 n) (nat_le n 64) (le-leb 1 n h.0) (le-leb n 64 h.1)) ((name_bytes name).1 h.2),
     )
 

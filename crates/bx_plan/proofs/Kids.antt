@@ -1,12 +1,8 @@
 -- What stands on each chain, with a chain more.
-use Rattle.std.proofs.Common.{◌≡◌, ◌≢◌, ◌⊎◌, inl, inr, ℕ, zero, suc, ◌+◌, ◌<◌, ◌==◌, ◌&&◌, nat_lt, List, [], ◌∷◌, ◌++◌, length, get_or, set, refl, sym, ap, ◌∙◌, arith, length-append}
-use Rattle.std.proofs.Math.ListN.{get_or-append}
-use Rattle.std.proofs.Math.Seq.{get_or-append_seam}
-use Rattle.std.proofs.lemmas.List.{get_or-set_same, get_or-set_other, length_push, length-set}
-use Rattle.std.proofs.lemmas.Bool.{cases_eq}
-use Rattle.std.proofs.lemmas.Bool.Decides.{nat_tests}
-use Rattle.bx_plan.specs.declared.chains.Head.{Head}
-use Rattle.bx_plan.specs.Chains.{begun, Chained, above, head, is_kid, kids, no_head, one_if, times}
+use Rattle.bx_plan.proofs.Words.{◌≡◌, ◌≢◌, ◌⊎◌, inl, inr, ℕ, zero, suc, ◌+◌, ◌<◌, ◌==◌, ◌&&◌, List, [], ◌∷◌, ◌++◌, length, get_or, set, refl, sym, ap, ◌∙◌, arith, length-append, get_or-append, get_or-append_seam}
+use Rattle.bx_plan.proofs.Words.{get_or-set_same, get_or-set_other, length_push, length-set, cases_eq, nat_tests, Head, begun, Chained, above, head, times}
+use Rattle.std.proofs.Common.{nat_lt}
+use Rattle.bx_plan.specs.Chains.{is_kid, kids, no_head, one_if}
 use Rattle.bx_plan.proofs.Times.{times-append}
 
 -- chain d of one chain more stands on chain c: it did so before, or it is the new one

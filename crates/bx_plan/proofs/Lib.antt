@@ -23,3 +23,4 @@ pub mod Cutting
 pub mod Times
 pub mod Kids
 pub mod Growing
+pub mod Words

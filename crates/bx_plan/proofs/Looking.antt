@@ -1,7 +1,5 @@
 -- Plans that are the same.
-use Rattle.std.proofs.Common.{◌≡◌, List, [], ◌∷◌, refl}
-use Rattle.bx_plan.specs.declared.plans.Line.{Line}
-use Rattle.bx_plan.specs.View.{line_view, lines_view}
+use Rattle.bx_plan.proofs.Words.{◌≡◌, List, [], ◌∷◌, refl, Line, line_view, lines_view}
 
 pub lines_same : (xs ys : List Line) → lines_view xs ≡ lines_view ys → xs ≡ ys
 lines_same [] [] e = refl

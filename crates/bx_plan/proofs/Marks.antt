@@ -1,9 +1,5 @@
 -- Texts without a mark, and where a text is cut.
-use Rattle.std.proofs.Common.{◌≡◌, ℕ, false, cond, List, [], ◌∷◌, ◌++◌, Option, Some, None, refl, ap, ◌∙◌, option_map, subst}
-use Rattle.std.specs.Prelude.{nat_eq}
-use Rattle.std.proofs.lemmas.Bool.{cond_both, eqb-true, eq-eqb}
-use Rattle.std.proofs.lemmas.Option.{same_Some}
-use Rattle.bx_plan.specs.Reading.{cut, parts_of}
+use Rattle.bx_plan.proofs.Words.{◌≡◌, ℕ, false, cond, List, [], ◌∷◌, ◌++◌, Option, Some, None, refl, ap, ◌∙◌, option_map, subst, nat_eq, cond_both, eqb-true, eq-eqb, same_Some, cut, parts_of}
 use Rattle.bx_plan.proofs.Cuts.{parts_none, parts_some}
 
 -- what comes of an option by a function

@@ -1,13 +1,9 @@
 -- Names are ASCII, and so UTF-8.
-use Rattle.std.proofs.Common.{◌≡◌, ℕ, ◌<◌, ◌&&◌, true, false, List, [], ◌∷◌, length, arith}
-use Rattle.std.specs.List.{list_all}
-use Rattle.std.specs.Prelude.{nat_le}
-use Rattle.std.specs.Str.{IsUtf8, IsAscii, is_utf8}
-use Rattle.std.proofs.lemmas.Bool.{and_parts, false_from_ne_true}
-use Rattle.std.proofs.lemmas.Bool.Decides.{nat_tests}
-use Rattle.std.proofs.lemmas.Str.{IsUtf8-from_ascii, IsUtf8-from_is_utf8, is_utf8-from_IsUtf8}
+use Rattle.bx_plan.proofs.Words.{◌≡◌, ℕ, ◌<◌, ◌&&◌, true, false, List, [], ◌∷◌, length, arith, list_all, nat_le, is_utf8, and_parts, false_from_ne_true, nat_tests, IsUtf8-from_is_utf8, is_utf8-from_IsUtf8, is_name}
+use Rattle.bx_plan.proofs.Words.{is_name_byte}
+use Rattle.std.specs.Str.{IsUtf8, IsAscii}
+use Rattle.std.proofs.lemmas.Str.{IsUtf8-from_ascii}
 use Rattle.std.proofs.lemmas.Str.Ascii.{IsAscii-nil, IsAscii-cons}
-use Rattle.bx_plan.specs.Reading.{is_name, is_name_byte}
 
 name_byte_small : (b : ℕ) → is_name_byte b ≡ true → b < 128
 name_byte_small b h = grind (arith, nat_tests)

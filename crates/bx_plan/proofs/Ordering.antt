@@ -1,16 +1,11 @@
 -- Schedules in order: those stand together that begin alike.
-use Rattle.std.proofs.Common.{◌≡◌, ◌≢◌, ◌⊎◌, inl, inr, suc, ◌<◌, ◌≤◌, true, false, List, [], ◌∷◌, ◌++◌, refl, sym, ap, ◌∙◌, arith}
-use Rattle.std.specs.declared.cmp.Ordering.{Ordering}
-use Rattle.std.specs.declared.cmp.Ordering.TheVariants.{Less, Equal, Greater}
-use Rattle.std.specs.Ordering.{nat_cmp, ordering_then, ordering_reverse, is_gt}
+use Rattle.bx_plan.proofs.Words.{◌≡◌, ◌≢◌, ◌⊎◌, inl, inr, suc, ◌<◌, ◌≤◌, true, false, List, [], ◌∷◌, ◌++◌, refl, sym, ap, ◌∙◌, arith, Ordering, ordering_reverse, is_gt, cases_Bool, cases_lt, nat_tests, lists_total}
+use Rattle.bx_plan.proofs.Words.{Choice, choice_cmp, choices_cmp, common}
+use Rattle.std.specs.declared.cmp.Ordering.TheVariants.{Equal}
+use Rattle.std.specs.Ordering.{ordering_then}
 use Rattle.std.specs.Cmp.{IsTotalOrder}
-use Rattle.std.proofs.lemmas.Bool.{cases_Bool, cases_lt}
-use Rattle.std.proofs.lemmas.Bool.Decides.{nat_tests}
-use Rattle.std.proofs.lemmas.Cmp.{lists_total, nat_cmp_total, on_total, then_total, tied_itself}
-use Rattle.std.proofs.lemmas.Map.Lookups.{exact_unsigned}
-use Rattle.bx_world.specs.declared.choices.Choice.{Choice}
-use Rattle.bx_world.specs.declared.choices.Choice.TheVariants.{Run, Deliver, Expire}
-use Rattle.bx_plan.specs.Gathered.{rank, choice_cmp, choices_cmp, common}
+use Rattle.std.proofs.lemmas.Cmp.{nat_cmp_total, on_total, then_total, tied_itself}
+use Rattle.bx_plan.specs.Gathered.{rank}
 use Rattle.bx_plan.proofs.Commons.{common_apart, common_here, common_least, common_turned, same_or_not}
 
 pub choice_total : IsTotalOrder choice_cmp

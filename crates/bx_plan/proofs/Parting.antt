@@ -1,12 +1,10 @@
 -- Where two rows of stretches part.
-use Rattle.std.proofs.Common.{◌≡◌, ◌≢◌, ℕ, zero, suc, ◌+◌, ◌-◌, ◌<◌, ◌≤◌, min, List, [], ◌∷◌, ◌++◌, get_or, replicate, take, refl, sym, ap, ◌∙◌, arith}
+use Rattle.bx_plan.proofs.Words.{◌≡◌, ◌≢◌, ℕ, zero, suc, ◌+◌, ◌-◌, ◌<◌, ◌≤◌, min, List, [], ◌∷◌, ◌++◌, get_or, replicate, take, refl, sym, ap, ◌∙◌, arith, length-replicate, length-take-le, take-append-drop, Choice}
+use Rattle.bx_plan.proofs.Words.{Stretch, choice_cmp, choices_cmp, common, behind, choices_from, AreStretches}
 use Rattle.std.specs.declared.cmp.Ordering.TheVariants.{Less, Greater}
-use Rattle.std.proofs.lemmas.List.{length-replicate, length-take-le, take-append-drop}
-use Rattle.bx_world.specs.declared.choices.Choice.{Choice}
-use Rattle.bx_plan.specs.declared.schedules.stretches.Stretch.{Stretch}
 use Rattle.bx_plan.specs.Forks.{choice_first, IsLeft}
-use Rattle.bx_plan.specs.Gathered.{choice_cmp, choices_cmp, common, next_cmp}
-use Rattle.bx_plan.specs.Stretches.{behind, choices_from, AreStretches, BeginAlike}
+use Rattle.bx_plan.specs.Gathered.{next_cmp}
+use Rattle.bx_plan.specs.Stretches.{BeginAlike}
 use Rattle.bx_plan.proofs.Commons.{common_apart, common_append, common_short, taken_alike}
 use Rattle.bx_plan.proofs.Ordering.{cmp_apart, cmp_append}
 use Rattle.bx_plan.proofs.Stretching.{no_stretch, stepped}

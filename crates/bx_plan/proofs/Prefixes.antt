@@ -1,19 +1,17 @@
 -- The nodes are the prefixes of the schedules, each once.
-use Rattle.std.proofs.Common.{◌≡◌, ◌⊎◌, ⊎_elim, inl, inr, ℕ, zero, suc, ◌<◌, Bool, true, ◌||◌, List, [], ◌∷◌, ◌++◌, length, get_or, take, drop, refl, sym, ap, ◌∙◌, arith, subst, append_assoc, append-nil, length-append, Decides}
+use Rattle.bx_plan.proofs.Words.{◌≡◌, ◌⊎◌, ⊎_elim, inl, inr, ℕ, zero, suc, ◌<◌, Bool, true, ◌||◌, List, [], ◌∷◌, ◌++◌, length, get_or, take, drop, refl, sym, ap, ◌∙◌, arith, append_assoc, append-nil, length-append}
+use Rattle.bx_plan.proofs.Words.{Decides, Contains, both_ways, cond_both, cond-false, cond-true, false_from_ne_true, same_from_decides, get_or_default, length_push, take-append-drop, take_at, Contains-append_cases}
+use Rattle.bx_plan.proofs.Words.{Contains-append_left, Contains-append_right, list_any-append, Choice, choice_eq, with_nodes, prefixes, with_schedule_nodes, nodes_from, nodes_of, IsPrefix}
 use Rattle.std.specs.Cmp.{IsEquivalence}
 use Rattle.std.specs.Cmp.Lexicographic.{pointwise}
-use Rattle.std.specs.List.{Contains, IsDistinct}
-use Rattle.std.proofs.lemmas.Bool.{both_ways, cases_order, cond_both, cond-false, cond-true, false_from_ne_true}
-use Rattle.std.proofs.lemmas.Bool.Decides.{same_from_decides}
+use Rattle.std.specs.List.{IsDistinct}
+use Rattle.std.proofs.lemmas.Bool.{cases_order}
 use Rattle.std.proofs.lemmas.Cmp.{lists_equiv}
-use Rattle.std.proofs.lemmas.List.{get_or_append_left, get_or_default, length_push, take-append-drop, take_at}
-use Rattle.std.proofs.lemmas.List.Elements.{Contains-append_cases, Contains-append_left, Contains-append_right}
-use Rattle.std.proofs.lemmas.List.Folds.{list_any-append}
+use Rattle.std.proofs.lemmas.List.{get_or_append_left}
 use Rattle.std.proofs.lemmas.Map.Keys.{apart_from_distinct, IsDistinct-from_apart, IsDistinct-push}
 use Rattle.std.proofs.lemmas.Map.Made.{is_member-Decides}
 use Rattle.std.proofs.lemmas.Slice.Eq.{slice_eq-Decides}
-use Rattle.bx_world.specs.declared.choices.Choice.{Choice}
-use Rattle.bx_plan.specs.Nodes.{choice_eq, has_node, with_node, with_nodes, prefixes, with_schedule_nodes, nodes_from, nodes_of, IsPrefix, AreNodes}
+use Rattle.bx_plan.specs.Nodes.{has_node, with_node, AreNodes}
 use Rattle.bx_plan.proofs.Commons.{choice_decides}
 
 -- ---- paths among nodes
@@ -47,7 +45,8 @@ has_all : (nodes paths : List (List Choice)) (path : List Choice) → has_node (
 has_all nodes [] path = ap (λ ns. has_node ns path) (sym (append-nil nodes))
 has_all nodes (to ∷ paths) path =
     has_all (with_node nodes to) paths path ∙ cond_both (has_node nodes to) nodes (nodes ++ to ∷ []) (λ ns. has_node (ns ++ paths) path ≡ has_node (nodes ++ to ∷ paths) path)
-    (λ t. list_any-append (same_path path) nodes paths ∙ known (has_node nodes path) (same_path path to) (has_node paths path) (λ e. ap (has_node nodes) ((path_decides path to).0 e) ∙ t) ∙ sym (list_any-append (same_path path) nodes (to ∷ paths)))
+    (λ t. list_any-append (same_path path) nodes paths
+    ∙ known (has_node nodes path) (same_path path to) (has_node paths path) (λ e. ap (has_node nodes) ((path_decides path to).0 e) ∙ t) ∙ sym (list_any-append (same_path path) nodes (to ∷ paths)))
     (λ f. ap (λ ns. has_node ns path) (append_assoc nodes (to ∷ []) paths))
   where
     known : (x y z : Bool) → (y ≡ true → x ≡ true) → (x || z) ≡ (x || (y || z))

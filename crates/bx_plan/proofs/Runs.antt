@@ -1,7 +1,5 @@
 -- Choices that are taken in steps.
-use Rattle.std.proofs.Common.{◌≡◌, ℕ, ◌+◌, ◌-◌, ◌<◌, ◌++◌, List, length, replicate, sym, ap, ◌∙◌, arith, append_assoc, length-append}
-use Rattle.std.proofs.lemmas.List.{length-replicate, replicate-append-replicate}
-use Rattle.bx_world.specs.declared.choices.Choice.{Choice}
+use Rattle.bx_plan.proofs.Words.{◌≡◌, ℕ, ◌+◌, ◌-◌, ◌<◌, ◌++◌, List, length, replicate, sym, ap, ◌∙◌, arith, append_assoc, length-append, length-replicate, replicate-append-replicate, Choice}
 
 pub run_longer : (c : Choice) (m n : ℕ) (old mid left : List Choice) → old ≡ replicate m c ++ mid → mid ≡ replicate n c ++ left → old ≡ replicate (m + n) c ++ left
 run_longer c m n old mid left e f = e ∙ ap (λ cs. replicate m c ++ cs) f ∙ sym (append_assoc (replicate m c) (replicate n c) left) ∙ ap (λ cs. cs ++ left) (replicate-append-replicate m n c)

@@ -1,24 +1,13 @@
 -- Rows in order, and how two of them are merged.
-use Rattle.std.proofs.Common.{◌≡◌, ◌⊎◌, inl, inr, ℕ, zero, suc, ◌+◌, ◌<◌, ◌≤◌, Bool, true, false, cond, List, [], ◌∷◌, ◌++◌, Option, None, Some, length, get_or, refl, sym, ap, subst, ◌∙◌, arith, add-one}
-use Rattle.std.specs.Prelude.{nat_eq}
-use Rattle.std.specs.List.{slice_get}
-use Rattle.std.specs.declared.cmp.Ordering.{Ordering}
-use Rattle.std.specs.declared.cmp.Ordering.TheVariants.{Less, Equal, Greater}
-use Rattle.std.specs.Ordering.{ordering_reverse, is_gt, is_lt}
+use Rattle.bx_plan.proofs.Words.{◌≡◌, ◌⊎◌, inl, inr, ℕ, zero, suc, ◌+◌, ◌<◌, ◌≤◌, Bool, true, false, cond, List, [], ◌∷◌, ◌++◌, Option, None, Some, length, get_or, refl, sym, ap, subst, ◌∙◌, arith, add-one, nat_eq}
+use Rattle.bx_plan.proofs.Words.{slice_get, Ordering, ordering_reverse, is_gt, cases_lt, eqb-true, lists_total, length-map, sum_by-append, Choice, Line, Row, choices_cmp, common, common_before, no_row, placed}
+use Rattle.bx_plan.proofs.Words.{row_at, AreRows, at_row, rows_at, AreFrom, AreInOrder, AreMerged, Takes, Named, choices_of, line_view, lines_view}
+use Rattle.std.specs.Ordering.{is_lt}
 use Rattle.std.specs.Cmp.{IsStrictWeakOrder}
 use Rattle.std.specs.List.Sorted.{IsSortedBy}
-use Rattle.std.proofs.lemmas.Bool.{cases_lt, eqb-true}
-use Rattle.std.proofs.lemmas.Cmp.{lists_total}
-use Rattle.std.proofs.lemmas.List.{length-map}
 use Rattle.std.proofs.lemmas.List.Sorted.{ranks_by, sorted_far}
-use Rattle.std.proofs.lemmas.List.Sums.{sum_by-append, sum_by-cons}
-use Rattle.bx_world.specs.declared.choices.Choice.{Choice}
-use Rattle.bx_plan.specs.declared.plans.Line.{Line}
-use Rattle.bx_plan.specs.declared.plans.Row.{Row}
-use Rattle.bx_plan.specs.Gathered.{choices_cmp, common, common_before, no_row, placed, row_at, AreRows}
-use Rattle.bx_plan.specs.Ordered.{at_row, headed, rows_at, AreFrom, AreInOrder, AreMerged, GoOn, IsTaken, Stands, Takes, TakesFirst}
-use Rattle.bx_plan.specs.Plans.{Named, choices_of}
-use Rattle.bx_plan.specs.View.{line_view, lines_view}
+use Rattle.std.proofs.lemmas.List.Sums.{sum_by-cons}
+use Rattle.bx_plan.specs.Ordered.{headed, GoOn, IsTaken, Stands, TakesFirst}
 use Rattle.bx_plan.proofs.Commons.{common_least, common_turned}
 use Rattle.bx_plan.proofs.Counting.{line_choices}
 use Rattle.bx_plan.proofs.Ordering.{between, choice_total, more_first}

@@ -1,19 +1,11 @@
 -- Choices and entries are read as they are spelled.
-use Rattle.std.proofs.Common.{◌≡◌, ◌⊎◌, ⊎_elim, inl, inr, ℕ, ◌<◌, ◌≤◌, Bool, true, false, cond, List, [], ◌∷◌, ◌++◌, Option, Some, None, length, refl, sym, ap, ◌∙◌, arith, subst}
+use Rattle.bx_plan.proofs.Words.{◌≡◌, ◌⊎◌, ⊎_elim, inl, inr, ℕ, ◌<◌, ◌≤◌, true, false, List, [], ◌∷◌, ◌++◌, Option, Some, None, length, refl, sym, ap, ◌∙◌, arith, subst, nat_eq, ◌↔◌, option_and_then, option_map_or}
+use Rattle.bx_plan.proofs.Words.{decimal, cond_both, eqb-true, eqb-false, ne_eqb, is_ascii_digit, join_with_byte, option_and_then_some, same_Some, length-slice_split, join_with_byte-slice_split, Choice, Run, Deliver}
+use Rattle.bx_plan.proofs.Words.{Expire, Entry, cut, parts_of, number_of, entry_of, entry_each, entries_of, tail_of, spelling, HasPids, IsOnce, IsRepeated, IsEntry}
 use Rattle.std.proofs.lemmas.List.{append-nil}
-use Rattle.std.specs.Prelude.{nat_eq, ◌↔◌}
-use Rattle.std.specs.Option.{option_and_then, option_map, option_map_or}
-use Rattle.std.specs.Fmt.{decimal}
-use Rattle.std.proofs.lemmas.Bool.{cond_both, eqb-true, eqb-false, ne_eqb}
-use Rattle.std.specs.Char.{is_ascii_digit}
-use Rattle.std.specs.List.{join_with_byte}
-use Rattle.std.proofs.lemmas.Option.{option_and_then_some, same_Some}
-use Rattle.std.proofs.lemmas.List.Splits.{length-slice_split, join_with_byte-slice_split}
-use Rattle.bx_world.specs.declared.choices.Choice.{Choice}
-use Rattle.bx_world.specs.declared.choices.Choice.TheVariants.{Run, Deliver, Expire}
-use Rattle.bx_plan.specs.Entry.{Entry}
-use Rattle.bx_plan.specs.Reading.{cut, parts_of, number_of, choice_of, deliver_of, made, repeated_of, entry_of, entry_each, entries_of, tail_of}
-use Rattle.bx_plan.specs.Grammar.{spelling, HasPids, IsOnce, IsRepeated, IsEntry, AreEntries}
+use Rattle.std.specs.Option.{option_map}
+use Rattle.bx_plan.specs.Reading.{choice_of, deliver_of, made, repeated_of}
+use Rattle.bx_plan.specs.Grammar.{AreEntries}
 use Rattle.bx_plan.proofs.Marks.{Lacks, Lacks-append, cut_lacks, cut_at, cut_takes, option_map_some, parts_lacks, parts_at}
 use Rattle.bx_plan.proofs.Decimals.{number_spelled, number_again, decimal_lacks}
 

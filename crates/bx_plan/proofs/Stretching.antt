@@ -1,16 +1,14 @@
 -- Stretches in a row: where they are over, and the choices that they make.
-use Rattle.std.proofs.Common.{◌≡◌, ◌⊎◌, inl, inr, ℕ, zero, suc, ◌+◌, ◌-◌, ◌<◌, ◌≤◌, min, leb, true, false, List, [], ◌∷◌, ◌++◌, length, Some, get_or, take, drop, replicate, refl, sym, ap, subst, ◌∙◌, arith, length-append, length-drop, append_assoc}
-use Rattle.std.specs.List.{slice_get}
+use Rattle.bx_plan.proofs.Words.{◌≡◌, ◌⊎◌, inl, inr, ℕ, zero, suc, ◌+◌, ◌-◌, ◌<◌, ◌≤◌, min, leb, true, false, List, [], ◌∷◌, ◌++◌, length, Some, get_or, take, drop, replicate, refl, sym, ap, subst, ◌∙◌, arith}
+use Rattle.bx_plan.proofs.Words.{length-append, length-drop, append_assoc, slice_get, cases_lt, le-leb, leb-true, drop_all, drop_more, get_or_default, length-replicate, replicate-append-replicate, take_all, take_at}
+use Rattle.bx_plan.proofs.Words.{take_more, take-append-drop, Choice, Stretch, behind, choices_from, made_before, AreStretches, IsPart, IsOverBy}
 use Rattle.std.specs.List.Sorted.{IsNonDecreasingBy, IsPartitionPoint}
 use Rattle.std.proofs.Math.Seq.{take-append-add}
-use Rattle.std.proofs.lemmas.Bool.{cases_lt, le-leb, leb-true, leb-false, lt-leb}
-use Rattle.std.proofs.lemmas.List.{drop_all, drop_at, drop_more, get_or_default, length-replicate, replicate-append-replicate, take_all, take_at, take_more, take-append-drop}
+use Rattle.std.proofs.lemmas.Bool.{leb-false, lt-leb}
+use Rattle.std.proofs.lemmas.List.{drop_at}
 use Rattle.std.proofs.lemmas.List.Sorted.{IsNonDecreasingBy-from_all_adjacent}
-use Rattle.bx_world.specs.declared.choices.Choice.{Choice}
 use Rattle.bx_world.specs.declared.choices.Choice.TheVariants as choices
-use Rattle.bx_plan.specs.declared.schedules.stretches.Stretch.{Stretch}
 use Rattle.bx_plan.specs.Runs.{GoesOn}
-use Rattle.bx_plan.specs.Stretches.{behind, choices_from, made_before, AreStretches, IsPart, IsOverBy}
 
 abbrev pub no_stretch : Stretch
 no_stretch = record { choice = choices.Run 0; past = 0 }

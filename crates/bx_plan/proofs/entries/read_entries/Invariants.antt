@@ -1,8 +1,5 @@
-use Rattle.std.proofs.Common.{◌≡◌, List}
-use Rattle.bx_plan.specs.Entry.{Entry}
-use Rattle.bx_plan.specs.Firsts.{size_left, words_left}
+use Rattle.bx_plan.proofs.Words.{◌≡◌, List, Entry, size_left, words_left, entries_of}
 use Rattle.bx_plan.specs.Made.{Make}
-use Rattle.bx_plan.specs.Reading.{entries_of}
 use Rattle.bx_plan.proofs.Counts.{entries_after}
 use Rattle.bx_plan.proofs.entries.read_entries.Given as goal
 

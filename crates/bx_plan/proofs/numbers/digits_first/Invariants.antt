@@ -1,5 +1,4 @@
-use Rattle.std.proofs.Common.{◌≡◌, ◌≤◌, length}
-use Rattle.bx_plan.specs.Firsts.{digits_first}
+use Rattle.bx_plan.proofs.Words.{◌≡◌, ◌≤◌, length, digits_first}
 use Rattle.bx_plan.proofs.numbers.digits_first.Given as goal
 
 -- the digits that are left complete the number so far

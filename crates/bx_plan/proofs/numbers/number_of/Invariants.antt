@@ -1,5 +1,4 @@
-use Rattle.std.proofs.Common.{◌≡◌, ◌≤◌, drop}
-use Rattle.bx_plan.specs.Reading.{digits_from}
+use Rattle.bx_plan.proofs.Words.{◌≡◌, ◌≤◌, drop, digits_from}
 use Rattle.bx_plan.proofs.numbers.number_of.Given as goal
 
 -- the digits that are left complete the number so far

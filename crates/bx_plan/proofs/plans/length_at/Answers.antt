@@ -1,5 +1,4 @@
-use Rattle.std.proofs.Common.{length, sym, ap, ◌∙◌}
-use Rattle.bx_plan.specs.Gathered.{row_at}
+use Rattle.bx_plan.proofs.Words.{length, sym, ap, ◌∙◌, row_at}
 use Rattle.bx_plan.proofs.Counting.{line_choices}
 use Rattle.bx_plan.proofs.plans.length_at.Goals as goal
 

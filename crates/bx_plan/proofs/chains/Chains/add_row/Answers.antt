@@ -1,11 +1,6 @@
-use Rattle.std.proofs.Common.{◌≡◌, ◌+◌, ◌-◌, ◌<◌, ◌≤◌, zero, suc, ℕ, List, [], ◌∷◌, ◌++◌, length, reverse, refl, sym, ap, subst, ◌∙◌, arith}
-use Rattle.std.proofs.lemmas.List.{reverse-append, length-reverse}
-use Rattle.bx_plan.specs.Chains.{chain_path, IsCut}
-use Rattle.bx_plan.specs.Cuts.{AllCuts}
-use Rattle.bx_plan.specs.Gathered.{placed, row_at}
-use Rattle.bx_plan.specs.Growing.{Grown}
-use Rattle.bx_plan.specs.Plans.{choices_of}
-use Rattle.bx_plan.specs.View.{lines_view}
+use Rattle.bx_plan.proofs.Words.{◌≡◌, ◌+◌, ◌-◌, ◌<◌, ◌≤◌, zero, suc, ℕ, List, [], ◌∷◌, ◌++◌, length, reverse, refl, sym, ap, subst, ◌∙◌, arith, reverse-append, chain_path, IsCut, AllCuts, placed, Grown, choices_of}
+use Rattle.bx_plan.proofs.Words.{lines_view}
+use Rattle.std.proofs.lemmas.List.{length-reverse}
 use Rattle.bx_plan.proofs.Commons.{common_short, taken_alike}
 use Rattle.bx_plan.proofs.Cutting.{cuts_over, cuts_within, next_cut, no_cuts, NextCut}
 use Rattle.bx_plan.proofs.Growing.{begin_cut, end_cut, grown_more, inside_cut}

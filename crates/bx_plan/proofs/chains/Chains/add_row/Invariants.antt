@@ -1,10 +1,4 @@
-use Rattle.std.proofs.Common.{◌≡◌, ◌+◌, ◌-◌, ◌≤◌, ℕ, List, ◌++◌, length, reverse, take}
-use Rattle.bx_plan.specs.Chains.{IsCut}
-use Rattle.bx_plan.specs.Cuts.{AllCuts, AreCuts}
-use Rattle.bx_plan.specs.Gathered.{placed, row_at}
-use Rattle.bx_plan.specs.Growing.{Grown}
-use Rattle.bx_plan.specs.Plans.{choices_of}
-use Rattle.bx_plan.specs.View.{lines_view}
+use Rattle.bx_plan.proofs.Words.{◌≡◌, ◌+◌, ◌-◌, ◌≤◌, ℕ, List, ◌++◌, length, reverse, take, IsCut, AllCuts, AreCuts, placed, row_at, Grown, choices_of, lines_view}
 use Rattle.bx_plan.proofs.chains.Chains.add_row.Given as goal
 
 -- the chains lead up to a depth, and the cuts behind it come last

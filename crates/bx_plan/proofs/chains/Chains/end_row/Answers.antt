@@ -1,10 +1,4 @@
-use Rattle.std.proofs.Common.{◌≡◌, ◌+◌, ◌-◌, length, sym, subst, ◌∙◌, inl, arith}
-use Rattle.std.proofs.lemmas.List.{take_all}
-use Rattle.bx_plan.specs.Chains.{chain_path, IsCut}
-use Rattle.bx_plan.specs.Gathered.{common_before, placed}
-use Rattle.bx_plan.specs.Growing.{Grown}
-use Rattle.bx_plan.specs.Plans.{choices_of}
-use Rattle.bx_plan.specs.View.{lines_view}
+use Rattle.bx_plan.proofs.Words.{◌≡◌, ◌+◌, ◌-◌, length, sym, subst, ◌∙◌, inl, arith, take_all, chain_path, IsCut, common_before, placed, Grown, choices_of, lines_view}
 use Rattle.bx_plan.proofs.Commons.{common_short, taken_alike}
 use Rattle.bx_plan.proofs.Growing.{end_cut, grown_row}
 use Rattle.bx_plan.proofs.chains.Chains.end_row.Goals as goal

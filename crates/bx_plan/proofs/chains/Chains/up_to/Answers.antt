@@ -1,7 +1,4 @@
-use Rattle.std.proofs.Common.{◌≡◌, ◌<◌, ◌≤◌, ◌-◌, length, take, sym, ap, subst, arith}
-use Rattle.bx_plan.specs.declared.chains.Head.{Head}
-use Rattle.bx_plan.specs.Chains.{above, chain_path, head}
-use Rattle.bx_plan.specs.View.{lines_view}
+use Rattle.bx_plan.proofs.Words.{◌≡◌, ◌<◌, ◌≤◌, ◌-◌, length, take, sym, ap, subst, arith, Head, above, chain_path, head, lines_view}
 use Rattle.bx_plan.proofs.Growing.{up_next}
 use Rattle.bx_plan.proofs.chains.Chains.up_to.Goals as goal
 

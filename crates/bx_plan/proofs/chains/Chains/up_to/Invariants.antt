@@ -1,6 +1,4 @@
-use Rattle.std.proofs.Common.{◌≡◌, ◌-◌, ◌<◌, ◌≤◌, length, take}
-use Rattle.bx_plan.specs.Chains.{chain_path, head}
-use Rattle.bx_plan.specs.View.{lines_view}
+use Rattle.bx_plan.proofs.Words.{◌≡◌, ◌-◌, ◌<◌, ◌≤◌, length, take, chain_path, head, lines_view}
 use Rattle.bx_plan.proofs.chains.Chains.up_to.Given as goal
 
 -- the chain lies on the way, and leads as deep at least

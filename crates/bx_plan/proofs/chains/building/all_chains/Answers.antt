@@ -1,8 +1,4 @@
-use Rattle.std.proofs.Common.{◌≡◌, length, sym, subst, arith}
-use Rattle.bx_plan.specs.Gathered.{common_before}
-use Rattle.bx_plan.specs.Growing.{Grown}
-use Rattle.bx_plan.specs.Plans.{choices_of}
-use Rattle.bx_plan.specs.View.{lines_view}
+use Rattle.bx_plan.proofs.Words.{◌≡◌, length, sym, subst, arith, common_before, Grown, choices_of, lines_view}
 use Rattle.bx_plan.proofs.Growing.{grown_all}
 use Rattle.bx_plan.proofs.chains.building.all_chains.Goals as goal
 

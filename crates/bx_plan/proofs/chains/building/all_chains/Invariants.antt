@@ -1,9 +1,4 @@
-use Rattle.std.proofs.Common.{◌-◌, length, reverse}
-use Rattle.bx_plan.specs.Cuts.{AllCuts}
-use Rattle.bx_plan.specs.Gathered.{common_before}
-use Rattle.bx_plan.specs.Growing.{Grown}
-use Rattle.bx_plan.specs.Plans.{choices_of}
-use Rattle.bx_plan.specs.View.{lines_view}
+use Rattle.bx_plan.proofs.Words.{◌-◌, length, reverse, AllCuts, common_before, Grown, choices_of, lines_view}
 use Rattle.bx_plan.proofs.chains.building.all_chains.Given as goal
 
 -- the chains of the schedules before a place, and the cuts of those from there on

@@ -1,7 +1,4 @@
-use Rattle.std.proofs.Common.{◌≡◌, List, [], ◌∷◌, ℕ, Option, None, Some, append-nil, reverse, refl, sym, ap, ◌∙◌}
-use Rattle.std.specs.Prelude.{MatchOption}
-use Rattle.std.proofs.lemmas.List.{reverse-append}
-use Rattle.bx_plan.specs.Cuts.{marked}
+use Rattle.bx_plan.proofs.Words.{◌≡◌, List, [], ◌∷◌, ℕ, Option, None, Some, append-nil, reverse, refl, sym, ap, ◌∙◌, MatchOption, reverse-append, marked}
 use Rattle.bx_plan.proofs.Cutting.{marked_rise, taken_next}
 use Rattle.bx_plan.proofs.chains.cuts.cut_by.Goals as goal
 

@@ -1,5 +1,4 @@
-use Rattle.std.proofs.Common.{length, reverse}
-use Rattle.bx_plan.specs.Cuts.{marked}
+use Rattle.bx_plan.proofs.Words.{length, reverse, marked}
 use Rattle.bx_plan.proofs.Cutting.{AreTaken}
 use Rattle.bx_plan.proofs.chains.cuts.cut_by.Given as goal
 

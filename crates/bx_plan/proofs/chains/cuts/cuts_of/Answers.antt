@@ -1,8 +1,4 @@
-use Rattle.std.proofs.Common.{◌≡◌, ◌-◌, suc, length, reverse, subst, arith}
-use Rattle.bx_plan.specs.Cuts.{IsCutBy}
-use Rattle.bx_plan.specs.Gathered.{placed, row_at}
-use Rattle.bx_plan.specs.Plans.{choices_of}
-use Rattle.bx_plan.specs.View.{lines_view}
+use Rattle.bx_plan.proofs.Words.{◌≡◌, ◌-◌, suc, length, reverse, subst, arith, IsCutBy, placed, row_at, choices_of, lines_view}
 use Rattle.bx_plan.proofs.Cutting.{row_before}
 use Rattle.bx_plan.proofs.chains.cuts.cuts_of.Goals as goal
 

@@ -1,7 +1,4 @@
-use Rattle.std.proofs.Common.{◌-◌, ◌≤◌, length, reverse}
-use Rattle.bx_plan.specs.Cuts.{AllCuts}
-use Rattle.bx_plan.specs.Plans.{choices_of}
-use Rattle.bx_plan.specs.View.{lines_view}
+use Rattle.bx_plan.proofs.Words.{◌-◌, ◌≤◌, length, reverse, AllCuts, choices_of, lines_view}
 use Rattle.bx_plan.proofs.Counting.{before}
 use Rattle.bx_plan.proofs.Cutting.{AreMarks}
 use Rattle.bx_plan.proofs.chains.cuts.cuts_of.Given as goal

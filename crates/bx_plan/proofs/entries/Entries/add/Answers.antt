@@ -1,5 +1,4 @@
-use Rattle.std.proofs.Common.{◌++◌, List, sym, ap, ◌∙◌, replicate, arith}
-use Rattle.bx_world.specs.declared.choices.Choice.{Choice}
+use Rattle.bx_plan.proofs.Words.{◌++◌, List, sym, ap, ◌∙◌, replicate, arith, Choice}
 use Rattle.bx_plan.proofs.Counts.{count-push, spread-push}
 use Rattle.bx_plan.proofs.entries.Entries.add.Goals as goal
 

@@ -1,5 +1,4 @@
-use Rattle.std.proofs.Common.{sym, ap, ◌∙◌}
-use Rattle.bx_plan.specs.View.{lines_view}
+use Rattle.bx_plan.proofs.Words.{sym, ap, ◌∙◌, lines_view}
 use Rattle.bx_plan.proofs.Looking.{lines_same}
 use Rattle.bx_plan.proofs.plans.Plan.same.Goals as goal
 

@@ -1,8 +1,4 @@
-use Rattle.std.proofs.Common.{◌+◌, length, arith, ap, sym, subst, ◌∙◌}
-use Rattle.std.proofs.lemmas.Bool.{lt-ltb, ltb-true}
-use Rattle.bx_plan.specs.Gathered.{row_at}
-use Rattle.bx_plan.specs.Plans.{choices_of}
-use Rattle.bx_plan.specs.View.{lines_view}
+use Rattle.bx_plan.proofs.Words.{◌+◌, length, arith, ap, sym, subst, ◌∙◌, lt-ltb, ltb-true, row_at, choices_of, lines_view}
 use Rattle.bx_plan.proofs.Counting.{counted_all, counted_next, counted_none, counted_over, line_choices, low_within, IsCounted}
 use Rattle.bx_plan.proofs.plans.counting.is_full.Goals.{then-row-count, else-row-count}
 use Rattle.bx_plan.proofs.plans.counting.is_full.Goals as goal

@@ -1,5 +1,4 @@
-use Rattle.bx_plan.specs.Plans.{choices_of}
-use Rattle.bx_plan.specs.View.{lines_view}
+use Rattle.bx_plan.proofs.Words.{choices_of, lines_view}
 use Rattle.bx_plan.proofs.Counting.{IsCounted}
 use Rattle.bx_plan.proofs.plans.counting.is_full.Given as goal
 

@@ -1,7 +1,4 @@
-use Rattle.std.proofs.Common.{◌-◌, ◌<◌, ◌≤◌, length, take}
-use Rattle.bx_plan.specs.Nodes.{node_count}
-use Rattle.bx_plan.specs.Plans.{choices_of}
-use Rattle.bx_plan.specs.View.{lines_view}
+use Rattle.bx_plan.proofs.Words.{◌-◌, ◌<◌, ◌≤◌, length, take, node_count, choices_of, lines_view}
 use Rattle.bx_plan.proofs.plans.counting.last_fitting.Given as goal
 
 abbrev pub invariant-loop-high : goal.invariant-loop-high

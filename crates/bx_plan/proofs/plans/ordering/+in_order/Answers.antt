@@ -1,8 +1,4 @@
-use Rattle.std.proofs.Common.{List, subst}
-use Rattle.bx_plan.specs.declared.plans.Row.{Row}
-use Rattle.bx_plan.specs.Ordered.{AreMerged}
-use Rattle.bx_plan.specs.Plans.{choices_of}
-use Rattle.bx_plan.specs.View.{lines_view}
+use Rattle.bx_plan.proofs.Words.{List, subst, Row, AreMerged, choices_of, lines_view}
 use Rattle.bx_plan.proofs.Sorting.{both_orders}
 use Rattle.bx_plan.proofs.plans.ordering.+in_order.Goals as goal
 

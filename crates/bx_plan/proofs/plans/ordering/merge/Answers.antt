@@ -1,8 +1,4 @@
-use Rattle.std.proofs.Common.{List, [], ◌∷◌, length, sym, ap, subst, ◌∙◌, arith, length-append}
-use Rattle.bx_world.specs.declared.choices.Choice.{Choice}
-use Rattle.bx_plan.specs.Ordered.{rows_at, AreFrom, Takes}
-use Rattle.bx_plan.specs.Plans.{choices_of}
-use Rattle.bx_plan.specs.View.{lines_view}
+use Rattle.bx_plan.proofs.Words.{List, [], ◌∷◌, length, sym, ap, subst, ◌∙◌, arith, length-append, Choice, rows_at, AreFrom, Takes, choices_of, lines_view}
 use Rattle.bx_plan.proofs.Sorting.{from_push, last_of, last_push, rows_push}
 use Rattle.bx_plan.proofs.plans.ordering.merge.Goals as goal
 

@@ -1,8 +1,4 @@
-use Rattle.std.proofs.Common.{◌≡◌, ◌+◌, ◌≤◌, ℕ, [], length}
-use Rattle.std.specs.Vec.{vec_capacity}
-use Rattle.bx_plan.specs.Ordered.{rows_at, AreFrom}
-use Rattle.bx_plan.specs.Plans.{choices_of}
-use Rattle.bx_plan.specs.View.{lines_view}
+use Rattle.bx_plan.proofs.Words.{◌≡◌, ◌+◌, ◌≤◌, ℕ, [], length, vec_capacity, rows_at, AreFrom, choices_of, lines_view}
 use Rattle.bx_plan.proofs.Sorting.{last_of}
 use Rattle.bx_plan.proofs.plans.ordering.merge.Given as goal
 

@@ -1,7 +1,4 @@
-use Rattle.std.proofs.Common.{ℕ, sym, subst}
-use Rattle.bx_plan.specs.Ordered.{AreInOrder}
-use Rattle.bx_plan.specs.Plans.{choices_of}
-use Rattle.bx_plan.specs.View.{lines_view}
+use Rattle.bx_plan.proofs.Words.{ℕ, sym, subst, AreInOrder, choices_of, lines_view}
 use Rattle.bx_plan.proofs.Sorting.{lines_long, rows_are}
 use Rattle.bx_plan.proofs.plans.ordering.rows_of.Goals as goal
 

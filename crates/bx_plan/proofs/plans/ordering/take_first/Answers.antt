@@ -1,6 +1,4 @@
-use Rattle.std.proofs.Common.{sym, ◌∙◌, arith}
-use Rattle.bx_plan.specs.Plans.{choices_of}
-use Rattle.bx_plan.specs.View.{lines_view}
+use Rattle.bx_plan.proofs.Words.{sym, ◌∙◌, arith, choices_of, lines_view}
 use Rattle.bx_plan.proofs.Sorting.{first_within, lines_long, second_within, taken_alone, taken_turned, takes_more}
 use Rattle.bx_plan.proofs.plans.ordering.take_first.Goals as goal
 

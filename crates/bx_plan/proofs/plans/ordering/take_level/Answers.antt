@@ -1,8 +1,4 @@
-use Rattle.std.proofs.Common.{refl, sym, ap, ◌∙◌, arith}
-use Rattle.std.specs.Ordering.{is_gt}
-use Rattle.bx_plan.specs.Ordered.{at_row}
-use Rattle.bx_plan.specs.Plans.{choices_of}
-use Rattle.bx_plan.specs.View.{lines_view}
+use Rattle.bx_plan.proofs.Words.{refl, sym, ap, ◌∙◌, arith, is_gt, at_row, choices_of, lines_view}
 use Rattle.bx_plan.proofs.Commons.{common_turned}
 use Rattle.bx_plan.proofs.Ordering.{turned_back}
 use Rattle.bx_plan.proofs.Sorting.{compared, level_alike, taken_turned, takes_level}

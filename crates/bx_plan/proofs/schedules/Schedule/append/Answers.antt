@@ -1,8 +1,5 @@
-use Rattle.std.proofs.Common.{◌≡◌, ◌<◌, ◌++◌, List, length, take, replicate, sym, ap, subst, ◌∙◌, arith, length-append}
-use Rattle.std.proofs.lemmas.List.{length-replicate}
+use Rattle.bx_plan.proofs.Words.{◌≡◌, ◌<◌, ◌++◌, List, length, take, replicate, sym, ap, subst, ◌∙◌, arith, length-append, length-replicate, Choice, NextRun}
 use Rattle.std.proofs.Math.Seq.{take-append_seam}
-use Rattle.bx_world.specs.declared.choices.Choice.{Choice}
-use Rattle.bx_plan.specs.Runs.{NextRun}
 use Rattle.bx_plan.proofs.schedules.Schedule.append.Goals as goal
 
 pub returns-in-Err-clause-err : goal.returns-in-Err-clause-err

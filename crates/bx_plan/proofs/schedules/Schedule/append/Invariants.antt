@@ -1,5 +1,4 @@
-use Rattle.std.proofs.Common.{◌≡◌, ◌++◌, List, length}
-use Rattle.bx_world.specs.declared.choices.Choice.{Choice}
+use Rattle.bx_plan.proofs.Words.{◌≡◌, ◌++◌, List, length, Choice}
 use Rattle.bx_plan.proofs.schedules.Schedule.append.Given as goal
 
 -- the choices added so far, and what is left behind them

@@ -1,8 +1,4 @@
-use Rattle.std.proofs.Common.{◌≡◌, ◌<◌, List, length, Some, get_or, sym, ap, subst, ◌∙◌, arith}
-use Rattle.std.specs.List.{slice_get}
-use Rattle.bx_world.specs.declared.choices.Choice.{Choice}
-use Rattle.bx_plan.specs.declared.schedules.stretches.Stretch.{Stretch}
-use Rattle.bx_plan.specs.Stretches.{IsOverBy}
+use Rattle.bx_plan.proofs.Words.{◌≡◌, ◌<◌, List, length, Some, get_or, sym, ap, subst, ◌∙◌, arith, slice_get, Choice, Stretch, IsOverBy}
 use Rattle.bx_plan.proofs.Stretching.{found, next, no_stretch}
 use Rattle.bx_plan.proofs.schedules.Schedule.get.Goals as goal
 

@@ -1,9 +1,6 @@
-use Rattle.std.proofs.Common.{◌≡◌, ℕ, ◌+◌, ◌<◌, ◌++◌, List, length, get_or, drop, replicate, sym, ap, ◌∙◌, arith, rules, length-append, append_assoc}
-use Rattle.std.proofs.lemmas.List.{drop_more, length-replicate}
-use Rattle.bx_world.specs.declared.choices.Choice.{Choice}
+use Rattle.bx_plan.proofs.Words.{◌≡◌, ℕ, ◌+◌, ◌<◌, ◌++◌, List, length, get_or, drop, replicate, sym, ap, ◌∙◌, arith, rules, length-append, append_assoc, drop_more, length-replicate, Choice, spread_runs}
 use Rattle.bx_world.specs.declared.choices.Choice.TheVariants as choices
 use Rattle.bx_plan.specs.declared.schedules.Run.{Run}
-use Rattle.bx_plan.specs.Runs.{spread_runs}
 use Rattle.bx_plan.proofs.schedules.Schedule.of.Goals as goal
 
 abbrev no_run : Run

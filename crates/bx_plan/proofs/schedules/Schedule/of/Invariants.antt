@@ -1,5 +1,4 @@
-use Rattle.std.proofs.Common.{◌≡◌, ◌++◌, drop}
-use Rattle.bx_plan.specs.Runs.{spread_runs}
+use Rattle.bx_plan.proofs.Words.{◌≡◌, ◌++◌, drop, spread_runs}
 use Rattle.bx_plan.proofs.schedules.Schedule.of.Given as goal
 
 -- the runs that are left complete the choices so far

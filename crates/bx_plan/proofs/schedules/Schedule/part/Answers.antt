@@ -1,7 +1,4 @@
-use Rattle.std.proofs.Common.{◌-◌, List, length, take, drop, ap, subst, ◌∙◌, arith}
-use Rattle.std.proofs.lemmas.List.{take_rest}
-use Rattle.bx_plan.specs.declared.schedules.stretches.Stretch.{Stretch}
-use Rattle.bx_plan.specs.Stretches.{IsOverBy}
+use Rattle.bx_plan.proofs.Words.{◌-◌, List, length, take, drop, ap, subst, ◌∙◌, arith, take_rest, Stretch, IsOverBy}
 use Rattle.bx_plan.proofs.Stretching.{part_on}
 use Rattle.bx_plan.proofs.schedules.Schedule.part.Goals as goal
 

@@ -1,7 +1,4 @@
-use Rattle.std.proofs.Common.{◌≡◌, ◌+◌, List, length, replicate, sym, ap, ◌∙◌, arith, length-append}
-use Rattle.std.proofs.lemmas.List.{length-replicate}
-use Rattle.bx_plan.specs.declared.schedules.stretches.Stretch.{Stretch}
-use Rattle.bx_plan.specs.Stretches.{choices_from}
+use Rattle.bx_plan.proofs.Words.{◌≡◌, ◌+◌, List, length, replicate, sym, ap, ◌∙◌, arith, length-append, length-replicate, Stretch, choices_from}
 use Rattle.bx_plan.proofs.schedules.Schedule.push.Goals as goal
 
 pub invariant_of-self-2 : goal.invariant_of-self-2

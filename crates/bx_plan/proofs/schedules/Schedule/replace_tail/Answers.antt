@@ -1,8 +1,5 @@
-use Rattle.std.proofs.Common.{true, false, ◌≡◌, List, [], ◌∷◌, length, replicate, Result, Ok, Err, refl, ap, ◌∙◌, ◌-◌, arith, length-append}
+use Rattle.bx_plan.proofs.Words.{true, false, ◌≡◌, List, [], ◌∷◌, length, replicate, Result, Ok, Err, refl, ap, ◌∙◌, ◌-◌, arith, length-append, length-replicate, Stretch, choices_from, AreStretches}
 use Rattle.std.specs.Prelude.{OnErr}
-use Rattle.std.proofs.lemmas.List.{length-replicate}
-use Rattle.bx_plan.specs.declared.schedules.stretches.Stretch.{Stretch}
-use Rattle.bx_plan.specs.Stretches.{choices_from, AreStretches}
 use Rattle.bx_plan.proofs.schedules.Schedule.replace_tail.Goals as goal
 
 none_there : (ss : List Stretch) → AreStretches 0 ss → length (choices_from 0 ss) ≡ 0 → length ss ≡ 0

@@ -1,6 +1,4 @@
-use Rattle.std.proofs.Common.{sym, ap, ◌∙◌, arith}
-use Rattle.std.proofs.lemmas.Bool.{eq-eqb, eqb-true}
-use Rattle.bx_plan.specs.Gathered.{common}
+use Rattle.bx_plan.proofs.Words.{sym, ap, ◌∙◌, arith, eq-eqb, eqb-true, common}
 use Rattle.bx_plan.proofs.Commons.{all_alike, common_same}
 use Rattle.bx_plan.proofs.schedules.Schedule.same.Goals as goal
 

@@ -1,6 +1,4 @@
-use Rattle.std.proofs.Common.{◌≡◌, length, take, sym, ap, ◌∙◌, arith}
-use Rattle.std.proofs.lemmas.Bool.{eqb-true, le-leb, leb-true}
-use Rattle.std.proofs.lemmas.List.{length-take-le}
+use Rattle.bx_plan.proofs.Words.{◌≡◌, length, take, sym, ap, ◌∙◌, arith, eqb-true, le-leb, leb-true, length-take-le}
 use Rattle.bx_plan.proofs.Commons.{common_long, taken_alike}
 use Rattle.bx_plan.proofs.schedules.Schedule.same_front.Goals as goal
 

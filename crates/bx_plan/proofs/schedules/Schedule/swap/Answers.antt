@@ -1,9 +1,4 @@
-use Rattle.std.proofs.Common.{◌≡◌, ℕ, ◌+◌, List, length, take, sym, ap, ◌∙◌, arith}
-use Rattle.std.specs.List.{swap}
-use Rattle.std.proofs.lemmas.List.{take-take}
-use Rattle.bx_world.specs.declared.choices.Choice.{Choice}
-use Rattle.bx_plan.specs.declared.schedules.stretches.Stretch.{Stretch}
-use Rattle.bx_plan.specs.Stretches.{choices_from, made_before}
+use Rattle.bx_plan.proofs.Words.{◌≡◌, ℕ, ◌+◌, List, length, take, sym, ap, ◌∙◌, arith, swap, take-take, Choice, Stretch, choices_from, made_before}
 use Rattle.bx_plan.proofs.Stretching.{grows, there}
 use Rattle.bx_plan.proofs.schedules.Schedule.swap.Goals as goal
 

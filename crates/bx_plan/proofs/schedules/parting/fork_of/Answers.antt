@@ -1,7 +1,4 @@
-use Rattle.std.proofs.Common.{List, sym, subst, arith}
-use Rattle.std.proofs.lemmas.Bool.{both_ways}
-use Rattle.bx_plan.specs.declared.schedules.stretches.Stretch.{Stretch}
-use Rattle.bx_plan.specs.Stretches.{behind, choices_from}
+use Rattle.bx_plan.proofs.Words.{List, sym, subst, arith, both_ways, Stretch, behind, choices_from}
 use Rattle.bx_plan.proofs.Commons.{common_short}
 use Rattle.bx_plan.proofs.Parting.{walked_all, walked_known, walked_on, Walked}
 use Rattle.bx_plan.proofs.schedules.parting.fork_of.Goals as goal

@@ -1,5 +1,4 @@
-use Rattle.std.proofs.Common.{◌-◌, length}
-use Rattle.bx_plan.specs.Stretches.{choices_from}
+use Rattle.bx_plan.proofs.Words.{◌-◌, length, choices_from}
 use Rattle.bx_plan.proofs.Parting.{Walked}
 use Rattle.bx_plan.proofs.schedules.parting.fork_of.Given as goal
 

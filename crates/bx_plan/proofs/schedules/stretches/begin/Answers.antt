@@ -1,6 +1,4 @@
-use Rattle.std.proofs.Common.{List, take, sym, subst}
-use Rattle.bx_plan.specs.declared.schedules.stretches.Stretch.{Stretch}
-use Rattle.bx_plan.specs.Stretches.{AreStretches}
+use Rattle.bx_plan.proofs.Words.{List, take, sym, subst, Stretch, AreStretches}
 use Rattle.bx_plan.proofs.Stretching.{sides}
 use Rattle.bx_plan.proofs.schedules.stretches.begin.Goals as goal
 

@@ -1,6 +1,4 @@
-use Rattle.std.proofs.Common.{◌+◌, ◌++◌, List, map, ap, ◌∙◌, arith}
-use Rattle.std.proofs.lemmas.List.{take_all}
-use Rattle.bx_plan.specs.declared.schedules.stretches.Stretch.{Stretch}
+use Rattle.bx_plan.proofs.Words.{◌+◌, ◌++◌, List, map, ap, ◌∙◌, arith, take_all, Stretch}
 use Rattle.bx_plan.proofs.Edits.{chained, put_later}
 use Rattle.bx_plan.proofs.Stretching.{next, within}
 use Rattle.bx_plan.proofs.schedules.stretches.chain.Goals as goal

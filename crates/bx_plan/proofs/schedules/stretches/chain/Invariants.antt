@@ -1,5 +1,4 @@
-use Rattle.std.proofs.Common.{◌≡◌, ◌++◌, map, take}
-use Rattle.std.specs.Vec.{vec_capacity}
+use Rattle.bx_plan.proofs.Words.{◌≡◌, ◌++◌, map, take, vec_capacity}
 use Rattle.bx_plan.proofs.Edits.{put_later}
 use Rattle.bx_plan.proofs.schedules.stretches.chain.Given as goal
 

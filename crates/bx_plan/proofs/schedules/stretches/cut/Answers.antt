@@ -1,7 +1,4 @@
-use Rattle.std.proofs.Common.{◌-◌, ◌++◌, ◌∷◌, [], ◌<◌, List, length, take, sym, ap, subst, ◌∙◌, arith}
-use Rattle.std.proofs.lemmas.List.{get_or_default}
-use Rattle.bx_plan.specs.declared.schedules.stretches.Stretch.{Stretch}
-use Rattle.bx_plan.specs.Stretches.{choices_from, IsOverBy}
+use Rattle.bx_plan.proofs.Words.{◌-◌, ◌++◌, ◌∷◌, [], ◌<◌, List, length, take, sym, ap, subst, ◌∙◌, arith, get_or_default, Stretch, choices_from, IsOverBy}
 use Rattle.bx_plan.proofs.Edits.{cut_at, Makes}
 use Rattle.bx_plan.proofs.Stretching.{next, no_stretch, there}
 use Rattle.bx_plan.proofs.schedules.stretches.cut.Goals.{After-push_reserved}

@@ -1,7 +1,4 @@
-use Rattle.std.proofs.Common.{◌≡◌, ◌+◌, ◌<◌, length, get_or, set, sym, ap, subst, ◌∙◌, arith}
-use Rattle.std.proofs.lemmas.List.{get_or_default}
-use Rattle.bx_plan.specs.declared.schedules.stretches.Stretch.{Stretch}
-use Rattle.bx_plan.specs.Stretches.{choices_from, made_before, AreStretches}
+use Rattle.bx_plan.proofs.Words.{◌≡◌, ◌+◌, ◌<◌, length, get_or, set, sym, ap, subst, ◌∙◌, arith, get_or_default, Stretch, choices_from, made_before, AreStretches}
 use Rattle.bx_plan.proofs.Edits.{exchanged}
 use Rattle.bx_plan.proofs.Stretching.{next, no_stretch, there, within}
 use Rattle.bx_plan.proofs.schedules.stretches.exchange.Goals as goal

@@ -1,7 +1,4 @@
-use Rattle.std.proofs.Common.{rules, ◌≡◌, ◌-◌, ◌+◌, length, refl, sym, ap, subst, ◌∙◌, arith}
-use Rattle.std.proofs.lemmas.List.{get_or_default}
-use Rattle.bx_plan.specs.declared.schedules.stretches.Stretch.{Stretch}
-use Rattle.bx_plan.specs.Stretches.{choices_from, AreStretches}
+use Rattle.bx_plan.proofs.Words.{rules, ◌≡◌, ◌-◌, ◌+◌, length, refl, sym, ap, subst, ◌∙◌, arith, get_or_default, Stretch, choices_from, AreStretches}
 use Rattle.bx_plan.proofs.Edits.{further, longer}
 use Rattle.bx_plan.proofs.Stretching.{no_stretch}
 use Rattle.bx_plan.proofs.schedules.stretches.join.Goals as goal

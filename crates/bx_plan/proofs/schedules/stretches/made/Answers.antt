@@ -1,6 +1,4 @@
-use Rattle.std.proofs.Common.{◌+◌, ◌-◌, length, ap, ◌∙◌, arith}
-use Rattle.std.proofs.lemmas.List.{get_or_default}
-use Rattle.bx_plan.specs.declared.schedules.stretches.Stretch.{Stretch}
+use Rattle.bx_plan.proofs.Words.{◌+◌, ◌-◌, length, ap, ◌∙◌, arith, get_or_default, Stretch}
 use Rattle.bx_plan.proofs.Stretching.{next, no_stretch, whole}
 use Rattle.bx_plan.proofs.schedules.stretches.made.Goals as goal
 

@@ -1,7 +1,4 @@
-use Rattle.std.proofs.Common.{◌≡◌, ◌-◌, ◌+◌, ◌<◌, ◌++◌, suc, length, get_or, take, drop, refl, sym, ap, subst, ◌∙◌, arith}
-use Rattle.std.proofs.lemmas.List.{get_or_default}
-use Rattle.bx_plan.specs.declared.schedules.stretches.Stretch.{Stretch}
-use Rattle.bx_plan.specs.Stretches.{choices_from, AreStretches}
+use Rattle.bx_plan.proofs.Words.{◌≡◌, ◌-◌, ◌+◌, ◌<◌, ◌++◌, suc, length, get_or, take, drop, refl, sym, ap, subst, ◌∙◌, arith, get_or_default, Stretch, choices_from, AreStretches}
 use Rattle.bx_plan.proofs.Edits.{merged}
 use Rattle.bx_plan.proofs.Stretching.{no_stretch}
 use Rattle.bx_plan.proofs.schedules.stretches.merge.Goals as goal

@@ -1,8 +1,5 @@
-use Rattle.std.proofs.Common.{rules, ◌≡◌, ℕ, ◌+◌, ◌<◌, ◌≤◌, ◌∷◌, List, length, get_or, take, drop, sym, ap, subst, ◌∙◌, arith}
-use Rattle.std.specs.List.{insert}
-use Rattle.std.proofs.lemmas.List.{get_or_default, length-take-le, take_at}
-use Rattle.bx_plan.specs.declared.schedules.stretches.Stretch.{Stretch}
-use Rattle.bx_plan.specs.Stretches.{choices_from, made_before, AreStretches}
+use Rattle.bx_plan.proofs.Words.{rules, ◌≡◌, ℕ, ◌+◌, ◌<◌, ◌≤◌, ◌∷◌, List, length, get_or, take, drop, sym, ap, subst, ◌∙◌, arith, insert, get_or_default, length-take-le, take_at, Stretch, choices_from, made_before}
+use Rattle.bx_plan.proofs.Words.{AreStretches}
 use Rattle.bx_plan.proofs.Edits.{over_at, parted_at, same_there}
 use Rattle.bx_plan.proofs.Stretching.{next, no_stretch, there, within}
 use Rattle.bx_plan.proofs.schedules.stretches.part_at.Goals as goal

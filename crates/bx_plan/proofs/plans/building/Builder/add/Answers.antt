@@ -1,11 +1,7 @@
-use Rattle.std.proofs.Common.{◌≡◌, ◌+◌, List, [], ◌∷◌, ◌++◌, Ok, inr, length, Bool, true, false, not, refl, sym, ap, ◌∙◌, arith, Bor, ℕ}
+use Rattle.bx_plan.proofs.Words.{◌≡◌, ◌+◌, List, [], ◌∷◌, ◌++◌, Ok, inr, length, Bool, true, false, refl, sym, ap, ◌∙◌, arith, Bor, ℕ, length_push, BTreeSet, contains, Choice, so_far, text_cmp, Named, has_name}
+use Rattle.bx_plan.proofs.Words.{spread}
+use Rattle.std.proofs.Common.{not}
 use Rattle.std.proofs.lemmas.Bool.{not-true}
-use Rattle.std.proofs.lemmas.List.{length_push}
-use Rattle.std.specs.BTreeSet.{BTreeSet, contains}
-use Rattle.bx_world.specs.declared.choices.Choice.{Choice}
-use Rattle.bx_plan.specs.Building.{so_far, text_cmp}
-use Rattle.bx_plan.specs.Plans.{Named, has_name}
-use Rattle.bx_plan.specs.Reading.{spread}
 use Rattle.bx_plan.proofs.Adding.{is_long, is_short, knows_more, loose_added, loose_long}
 use Rattle.bx_plan.proofs.plans.building.Builder.add.Goals as goal
 

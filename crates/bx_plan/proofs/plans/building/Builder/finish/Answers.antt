@@ -1,17 +1,9 @@
-use Rattle.std.proofs.Common.{◌≡◌, ◌<◌, ◌≤◌, ◌+◌, List, Option, Result, Err, length, take, sym, ap, subst, ◌∙◌, arith}
-use Rattle.std.proofs.lemmas.List.{get_or_default, length-map}
-use Rattle.bx_terms.specs.declared.faults.Fault.{Fault}
-use Rattle.bx_terms.specs.declared.faults.Fault.TheVariants.{TooLong}
-use Rattle.bx_plan.specs.declared.plans.Line.{Line}
-use Rattle.bx_plan.specs.declared.plans.building.Refusal.{Refusal}
+use Rattle.bx_plan.proofs.Words.{◌≡◌, ◌<◌, ◌≤◌, ◌+◌, List, Option, Result, Err, length, take, sym, ap, subst, ◌∙◌, arith, get_or_default, length-map, Fault, TooLong, Line, Refusal, parts_of, so_far, node_count}
+use Rattle.bx_plan.proofs.Words.{Named, choices_of, plan_of, TakesMemory, line_view, lines_view}
 use Rattle.bx_plan.specs.declared.plans.building.Refusal.TheVariants.{Bad, Twice, Long}
 use Rattle.bx_terms.specs.Outcomes.{Gives}
 use Rattle.bx_plan.specs.Planned.{Planned, schedules}
-use Rattle.bx_plan.specs.Reading.{parts_of}
-use Rattle.bx_plan.specs.Building.{answer_of, fault_of, so_far}
-use Rattle.bx_plan.specs.Nodes.{node_count}
-use Rattle.bx_plan.specs.Plans.{Named, choices_of, plan_of, TakesMemory}
-use Rattle.bx_plan.specs.View.{line_view, lines_view}
+use Rattle.bx_plan.specs.Building.{answer_of, fault_of}
 use Rattle.bx_plan.proofs.Adding.{few_all, stands_few, stands_full}
 use Rattle.bx_plan.proofs.plans.building.Builder.finish.Goals as goal
 

@@ -1,8 +1,4 @@
-use Rattle.std.proofs.Common.{◌≡◌, ◌+◌, ◌<◌, length}
-use Rattle.bx_plan.specs.Building.{so_far, IsBuilding, Stands}
-use Rattle.bx_plan.specs.Parts.{parts_left}
-use Rattle.bx_plan.specs.Plans.{plan_of, with_lines, TakesMemory}
-use Rattle.bx_plan.specs.Reading.{parts_of}
+use Rattle.bx_plan.proofs.Words.{◌≡◌, ◌+◌, ◌<◌, length, so_far, IsBuilding, Stands, parts_left, plan_of, with_lines, TakesMemory, parts_of}
 use Rattle.bx_plan.proofs.plans.building.Builder.read_all.Given as goal
 
 -- the lines that are left complete the plan so far

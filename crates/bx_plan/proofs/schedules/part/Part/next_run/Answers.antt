@@ -1,8 +1,4 @@
-use Rattle.std.proofs.Common.{◌≡◌, ◌+◌, ◌++◌, List, [], ◌∷◌, None, replicate, refl, sym, ap, subst, ◌∙◌, arith}
-use Rattle.std.specs.List.{slice_get}
-use Rattle.std.proofs.lemmas.Bool.{both_ways}
-use Rattle.bx_world.specs.declared.choices.Choice.{Choice}
-use Rattle.bx_plan.specs.Runs.{NextRun}
+use Rattle.bx_plan.proofs.Words.{◌≡◌, ◌+◌, ◌++◌, List, [], ◌∷◌, None, replicate, refl, sym, ap, subst, ◌∙◌, arith, slice_get, both_ways, Choice, NextRun}
 use Rattle.bx_plan.proofs.Runs.{run_longer, run_taken}
 use Rattle.bx_plan.proofs.schedules.part.Part.next_run.Goals.{then-begins_with, else-begins_with}
 use Rattle.bx_plan.proofs.schedules.part.Part.next_run.Goals as goal

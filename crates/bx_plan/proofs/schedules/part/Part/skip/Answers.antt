@@ -1,8 +1,4 @@
-use Rattle.std.proofs.Common.{◌-◌, ◌++◌, List, replicate, take, sym, ap, subst, ◌∙◌}
-use Rattle.std.specs.List.{slice_get}
-use Rattle.bx_world.specs.declared.choices.Choice.{Choice}
-use Rattle.bx_plan.specs.declared.schedules.stretches.Stretch.{Stretch}
-use Rattle.bx_plan.specs.Stretches.{choices_from, IsPart}
+use Rattle.bx_plan.proofs.Words.{◌-◌, ◌++◌, List, replicate, take, sym, ap, subst, ◌∙◌, slice_get, Choice, Stretch, choices_from, IsPart}
 use Rattle.bx_plan.proofs.Stretching.{skipped}
 use Rattle.bx_plan.proofs.schedules.part.Part.skip.Goals as goal
 

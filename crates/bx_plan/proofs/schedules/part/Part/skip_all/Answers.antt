@@ -1,5 +1,4 @@
-use Rattle.std.proofs.Common.{◌+◌, refl}
-use Rattle.std.proofs.lemmas.Bool.{both_ways}
+use Rattle.bx_plan.proofs.Words.{◌+◌, refl, both_ways}
 use Rattle.bx_plan.proofs.Runs.{run_longer}
 use Rattle.bx_plan.proofs.schedules.part.Part.skip_all.Goals as goal
 
