@@ -1,8 +1,9 @@
 -- One schedule more in a plan that is read.
+use Rattle.bx_plan.proofs.Words.{cases_Bool, cond_both, ⊎_elim}
 use Rattle.bx_plan.proofs.Words.{◌≡◌, ◌⊎◌, inl, inr, ℕ, ◌+◌, ◌-◌, ◌^◌, ◌<◌, ◌≤◌, min, Bool, true, false, cond, ◌||◌, List, [], ◌∷◌, ◌++◌, Option, None, Some, Result, Ok, Err, length, get_or, replicate, take, refl}
 use Rattle.bx_plan.proofs.Words.{sym, ap, subst, ◌∙◌, arith, length-append, Bor, get_or-append, get_or-append_seam, length-map, length-replicate, map-append, take_all, same_from_decides, list_any-append}
 use Rattle.bx_plan.proofs.Words.{bytes_eq-Decides, nat_lt, bytes_eq, BTreeSet, contains, both_ways, cases_lt, lt-ltb, le-ltb, ltb-true, ltb-false, ◌>>=◌, Fault, NameTwice, TooLong, read_loose, text_cmp, Stands}
-use Rattle.bx_plan.proofs.Words.{Entry, count_of, spread, Line, Named, choices_of, has_name, is_too_long, named, with_lines, with_read, TakesFirst, line_view, lines_view, node_count}
+use Rattle.bx_plan.proofs.Words.{Entry, count_of, spread, Line, Named, choices_of, has_name, named, with_lines, with_read, TakesFirst, line_view, lines_view, node_count}
 use Rattle.std.proofs.lemmas.List.{take-append-le}
 use Rattle.std.specs.BTreeSet.{Updates}
 use Rattle.std.proofs.lemmas.Map.Text.{is_eq-slice_cmp}
@@ -30,10 +31,7 @@ bytes_eq_turned xs ys =
     same_from_decides _ _ (bytes_eq-Decides xs ys) (λ h. sym (back.0 h), λ e. back.1 (sym e))
 
 either : (here before : Bool) → cond here true before ≡ (before || (here || false))
-either true true = refl
-either true false = refl
-either false true = refl
-either false false = refl
+either here before = grind arith
 
 -- the names, with one more
 pub knows_more : (plan after : List Named) (schedule : Named) (names more : BTreeSet (Bor (List ℕ))) (key : Bor (List ℕ))
@@ -53,28 +51,11 @@ knows_more plan after schedule names more key knows updates same is_after name =
 -- ---- one schedule more, by the tests
 
 module _ (n : ℕ) (plan : List Named) (schedule : Named) where
-  by_loose : (twice long : Bool) → has_name schedule.0 plan ≡ twice → nat_lt 100000 (length schedule.1) ≡ long → with_loose n plan schedule ≡ cond twice (Err (NameTwice n)) (cond long (Err (TooLong n)) (Ok (plan ++ schedule ∷ [])))
-  by_loose twice long p q =
-      ap (λ x. cond x (Err (NameTwice n)) (cond (nat_lt 100000 (length schedule.1)) (Err (TooLong n)) (Ok (plan ++ schedule ∷ [])))) p
-      ∙ ap (λ y. cond twice (Err (NameTwice n)) (cond y (Err (TooLong n)) (Ok (plan ++ schedule ∷ [])))) q
-
-  pub loose_twice : has_name schedule.0 plan ≡ true → with_loose n plan schedule ≡ Err (NameTwice n)
-  loose_twice p = by_loose true (nat_lt 100000 (length schedule.1)) p refl
-
   pub loose_long : has_name schedule.0 plan ≡ false → 100000 < length schedule.1 → with_loose n plan schedule ≡ Err (TooLong n)
-  loose_long p q = by_loose false true p (lt-ltb _ _ q)
+  loose_long p q = rw (p, lt-ltb 100000 (length schedule.1) q) refl
 
   pub loose_added : has_name schedule.0 plan ≡ false → length schedule.1 ≤ 100000 → with_loose n plan schedule ≡ Ok (plan ++ schedule ∷ [])
-  loose_added p q = by_loose false false p (le-ltb _ _ q)
-
-  -- the prefixes are counted besides
-  abbrev Also : Bool → Bool → Type 0
-  Also twice long = with_schedule n plan schedule ≡ cond twice (Err (NameTwice n)) (cond (long || nat_lt 1000000 (node_count (choices_of (plan ++ schedule ∷ [])))) (Err (TooLong n)) (Ok (plan ++ schedule ∷ [])))
-
-  also : (twice long : Bool) → has_name schedule.0 plan ≡ twice → nat_lt 100000 (length schedule.1) ≡ long → Also twice long
-  also twice long p q =
-      ap (λ x. cond x (Err (NameTwice n)) (cond (is_too_long plan schedule) (Err (TooLong n)) (Ok (plan ++ schedule ∷ [])))) p
-      ∙ ap (λ y. cond twice (Err (NameTwice n)) (cond (y || nat_lt 1000000 (node_count (choices_of (plan ++ schedule ∷ [])))) (Err (TooLong n)) (Ok (plan ++ schedule ∷ [])))) q
+  loose_added p q = rw (p, le-ltb 100000 (length schedule.1) q) refl
 
   -- refused in both ways, or added where there are not too many prefixes
   abbrev Loose : Result (List Named) Fault → Type 0
@@ -83,11 +64,10 @@ module _ (n : ℕ) (plan : List Named) (schedule : Named) where
       ⊎ ((said ≡ Ok (plan ++ schedule ∷ [])) × (with_schedule n plan schedule ≡ cond (nat_lt 1000000 (node_count (choices_of (plan ++ schedule ∷ [])))) (Err (TooLong n)) (Ok (plan ++ schedule ∷ []))))
 
   pub loose : Loose (with_loose n plan schedule)
-  loose = one (has_name schedule.0 plan) (nat_lt 100000 (length schedule.1)) refl refl where
-    one : (twice long : Bool) → has_name schedule.0 plan ≡ twice → nat_lt 100000 (length schedule.1) ≡ long → Loose (with_loose n plan schedule)
-    one true long p q = inl (NameTwice n, by_loose true long p q, also true long p q)
-    one false true p q = inl (TooLong n, by_loose false true p q, also false true p q)
-    one false false p q = inr (by_loose false false p q, also false false p q)
+  loose =
+      ⊎_elim (λ (p : has_name schedule.0 plan ≡ true). inl (NameTwice n, rw p refl, rw p refl)) (λ (p : has_name schedule.0 plan ≡ false).
+      ⊎_elim (λ (q : nat_lt 100000 (length schedule.1) ≡ true). inl (TooLong n, rw (p, q) refl, rw (p, q) refl)) (λ (q : nat_lt 100000 (length schedule.1) ≡ false). inr (rw (p, q) refl, rw (p, q) refl))
+      (cases_Bool (nat_lt 100000 (length schedule.1)))) (cases_Bool (has_name schedule.0 plan))
 
 -- ---- whether there are too many prefixes so far
 
@@ -134,33 +114,16 @@ stands_read n plan more numbers after lines None answer long e noted stands = cc
 stands_read n plan more numbers after lines (Some None) answer long e (inl (same, kept)) stands =
     subst (λ p. Stands p after (with_lines (n + 1) p lines) answer) (sym kept) (subst (λ ns. Stands plan ns (with_lines (n + 1) plan lines) answer) (sym same) stands)
 stands_read n plan more numbers after lines (Some None) answer long e (inr (same, longer)) stands = let kept : plan ≡ more = cc in absurd (omega (arith, longer, ap length kept))
-stands_read n plan more numbers after lines (Some (Some line)) answer long e noted stands = one (loose n plan (named line)) where
-  two : more ≡ plan ++ named line ∷ [] → ((after ≡ numbers) × (more ≡ plan)) ⊎ ((after ≡ numbers ++ n ∷ []) × (length more ≡ length plan + 1))
-      → with_schedule n plan (named line) ≡ cond (nat_lt 1000000 (node_count (choices_of (plan ++ named line ∷ [])))) (Err (TooLong n)) (Ok (plan ++ named line ∷ [])) → Stands more after (with_lines (n + 1) more lines) answer
-  two is (inl (same, kept)) strictly = absurd (omega (arith, ap length kept, ap length is, length-append plan (named line ∷ [])))
-  two is (inr (same, longer)) strictly =
-      subst (λ p. Stands p after (with_lines (n + 1) p lines) answer) (sym is) (subst (λ ns. Stands (plan ++ named line ∷ []) ns (with_lines (n + 1) (plan ++ named line ∷ []) lines) answer) (sym same)
+stands_read n plan more numbers after lines (Some (Some line)) answer long e noted stands = one (loose n plan (named line)) noted where
+  added : with_loose n plan (named line) ≡ Ok (plan ++ named line ∷ []) → more ≡ plan ++ named line ∷ []
+  added loosely = let both : Ok more ≡ Ok (plan ++ named line ∷ []) = sym e ∙ loosely in cc
+
+  one : Loose n plan (named line) (with_loose n plan (named line)) → ((after ≡ numbers) × (more ≡ plan)) ⊎ ((after ≡ numbers ++ n ∷ []) × (length more ≡ length plan + 1)) → Stands more after (with_lines (n + 1) more lines) answer
+  one (inl (fault, loosely, strictly)) noted = let clash : Err fault ≡ Ok more = sym loosely ∙ e in cc
+  one (inr (loosely, strictly)) (inl (same, kept)) = absurd (omega (arith, ap length kept, ap length (added loosely), length-append plan (named line ∷ [])))
+  one (inr (loosely, strictly)) (inr (same, longer)) =
+      subst (λ p. Stands p after (with_lines (n + 1) p lines) answer) (sym (added loosely)) (subst (λ ns. Stands (plan ++ named line ∷ []) ns (with_lines (n + 1) (plan ++ named line ∷ []) lines) answer) (sym same)
       (stands_more n plan (named line) numbers lines answer (nat_lt 1000000 (node_count (choices_of (plan ++ named line ∷ [])))) long refl strictly stands))
-
-  one : ((fault : Fault) × (with_loose n plan (named line) ≡ Err fault) × (with_schedule n plan (named line) ≡ Err fault))
-      ⊎ ((with_loose n plan (named line) ≡ Ok (plan ++ named line ∷ [])) × (with_schedule n plan (named line) ≡ cond (nat_lt 1000000 (node_count (choices_of (plan ++ named line ∷ [])))) (Err (TooLong n)) (Ok (plan ++ named line ∷ []))))
-      → Stands more after (with_lines (n + 1) more lines) answer
-  one (inl (fault, loosely, strictly)) = let clash : Err fault ≡ Ok more = sym loosely ∙ e in cc
-  one (inr (loosely, strictly)) = let both : Ok more ≡ Ok (plan ++ named line ∷ []) = sym e ∙ loosely in let is : more ≡ plan ++ named line ∷ [] = cc in two is noted strictly
-
--- a line that is at fault in both ways
-pub stands_refused : (n : ℕ) (plan : List Named) (numbers : List ℕ) (lines : List (List ℕ)) (read : Option (Option (List ℕ × List Entry))) (fault : Fault) (answer : Result (List Named) Fault)
-    → read_loose n plan read ≡ Err fault
-    → Stands plan numbers (with_read n plan read >>= λ next. with_lines (n + 1) next lines) answer → Stands plan numbers (Err fault) answer
-stands_refused n plan numbers lines read fault answer e (inr over) = inr over
-stands_refused n plan numbers lines None fault answer e (inl (few, said)) = inl (few, sym e ∙ said)
-stands_refused n plan numbers lines (Some None) fault answer e (inl (few, said)) = cc
-stands_refused n plan numbers lines (Some (Some line)) fault answer e (inl (few, said)) = inl (few, one (loose n plan (named line))) where
-  one : ((fault : Fault) × (with_loose n plan (named line) ≡ Err fault) × (with_schedule n plan (named line) ≡ Err fault))
-      ⊎ ((with_loose n plan (named line) ≡ Ok (plan ++ named line ∷ [])) × (with_schedule n plan (named line) ≡ cond (nat_lt 1000000 (node_count (choices_of (plan ++ named line ∷ [])))) (Err (TooLong n)) (Ok (plan ++ named line ∷ []))))
-      → Err fault ≡ answer
-  one (inl (other, loosely, strictly)) = let same : Err fault ≡ Err other = sym e ∙ loosely in same ∙ sym (ap (λ r. r >>= λ next. with_lines (n + 1) next lines) strictly) ∙ said
-  one (inr (loosely, strictly)) = let clash : Err fault ≡ Ok (plan ++ named line ∷ []) = sym e ∙ loosely in cc
 
 -- ---- the answer, where it is known whether there are too many prefixes
 
@@ -185,11 +148,9 @@ stands_full plan numbers said answer k fits full h (inr (i, l, low, high, is)) =
 
 -- a schedule that was added is not too long
 short_of : (n : ℕ) (plan more : List Named) (schedule : Named) → with_loose n plan schedule ≡ Ok more → length schedule.1 ≤ 100000
-short_of n plan more schedule e = one (cases_lt 100000 (length schedule.1)) (has_name schedule.0 plan) refl where
-  one : (100000 < length schedule.1) ⊎ (length schedule.1 ≤ 100000) → (twice : Bool) → has_name schedule.0 plan ≡ twice → length schedule.1 ≤ 100000
-  one (inr l) twice p = l
-  one (inl l) true p = let clash : Err (NameTwice n) ≡ Ok more = sym (loose_twice n plan schedule p) ∙ e in cc
-  one (inl l) false p = let clash : Err (TooLong n) ≡ Ok more = sym (loose_long n plan schedule p l) ∙ e in cc
+short_of n plan more schedule e =
+    cond_both (has_name schedule.0 plan) _ _ (λ r. r ≡ Ok more → length schedule.1 ≤ 100000) (λ p r. cc)
+    (λ p. cond_both (nat_lt 100000 (length schedule.1)) _ _ (λ r. r ≡ Ok more → length schedule.1 ≤ 100000) (λ q r. cc) (λ q r. ltb-false 100000 (length schedule.1) q)) e
 
 pub takes_more : (n : ℕ) (plan more : List Named) (read : Option (Option (List ℕ × List Entry))) (later : Type 0) → read_loose n plan read ≡ Ok more → later → TakesFirst read later
 takes_more n plan more None later e t = cc
@@ -203,10 +164,7 @@ takes_added n plan more (Some (Some line)) later e l = short_of n plan more (nam
 
 -- the test on all schedules failed
 pub few_all : (lines items : List Line) (n : ℕ) (b : Bool) → lines ≡ items → n ≡ length items → (1000000 < node_count (take n (choices_of (lines_view lines))) → b ≡ true) → b ≡ false → node_count (choices_of (lines_view items)) ≤ 1000000
-few_all lines items n b e f told failed = one (cases_lt 1000000 (node_count (choices_of (lines_view items)))) where
-  whole : take n (choices_of (lines_view lines)) ≡ choices_of (lines_view items)
-  whole = ap (λ (ls : List Line). take n (choices_of (lines_view ls))) e ∙ take_all n (choices_of (lines_view items)) (omega (arith, f, length-map (lines_view items) (λ (s : Named). s.1), length-map items line_view))
-
-  one : (1000000 < node_count (choices_of (lines_view items))) ⊎ (node_count (choices_of (lines_view items)) ≤ 1000000) → node_count (choices_of (lines_view items)) ≤ 1000000
-  one (inr l) = l
-  one (inl l) = absurd (both_ways b failed (told (subst (λ ss. 1000000 < node_count ss) (sym whole) l)))
+few_all lines items n b e f told failed =
+    let whole : take n (choices_of (lines_view lines)) ≡ choices_of (lines_view items) =
+    ap (λ (ls : List Line). take n (choices_of (lines_view ls))) e ∙ take_all n (choices_of (lines_view items)) (omega (arith, f, length-map (lines_view items) (λ (s : Named). s.1), length-map items line_view)) in
+    ⊎_elim (λ (l : 1000000 < node_count (choices_of (lines_view items))). absurd (both_ways b failed (told (subst (λ ss. 1000000 < node_count ss) (sym whole) l)))) (λ l. l) (cases_lt 1000000 (node_count (choices_of (lines_view items))))

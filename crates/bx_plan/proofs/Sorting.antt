@@ -1,5 +1,5 @@
 -- Rows in order, and how two of them are merged.
-use Rattle.bx_plan.proofs.Words.{◌≡◌, ◌⊎◌, inl, inr, ℕ, zero, suc, ◌+◌, ◌<◌, ◌≤◌, Bool, true, false, cond, List, [], ◌∷◌, ◌++◌, Option, None, Some, length, get_or, refl, sym, ap, subst, ◌∙◌, arith, add-one, nat_eq}
+use Rattle.bx_plan.proofs.Words.{⊎_elim, ◌≡◌, ℕ, zero, suc, ◌+◌, ◌<◌, ◌≤◌, Bool, true, false, cond, List, [], ◌∷◌, ◌++◌, Option, None, Some, length, get_or, refl, sym, ap, subst, ◌∙◌, arith, add-one, nat_eq}
 use Rattle.bx_plan.proofs.Words.{slice_get, Ordering, ordering_reverse, is_gt, cases_lt, eqb-true, lists_total, length-map, sum_by-append, Choice, Line, Row, choices_cmp, common, common_before, no_row, placed}
 use Rattle.bx_plan.proofs.Words.{row_at, AreRows, at_row, rows_at, AreFrom, AreInOrder, AreMerged, Takes, Named, choices_of, line_view, lines_view}
 use Rattle.std.specs.Ordering.{is_lt}
@@ -13,14 +13,6 @@ use Rattle.bx_plan.proofs.Counting.{line_choices}
 use Rattle.bx_plan.proofs.Ordering.{between, choice_total, more_first}
 
 -- ---- rows without their first, and with another number at their first
-
-pub headed_long : (n : ℕ) (rows : List Row) → length (headed n rows) ≡ length rows
-headed_long n [] = refl
-headed_long n (row ∷ rows) = refl
-
-pub headed_lines : (n line : ℕ) (rows : List Row) → rows_at line (headed n rows) ≡ rows_at line rows
-headed_lines n line [] = refl
-headed_lines n line (row ∷ rows) = refl
 
 pub rows_push : (line : ℕ) (rows : List Row) (row : Row) → rows_at line (rows ++ row ∷ []) ≡ rows_at line rows + rows_at line (row ∷ [])
 rows_push line rows row = sum_by-append (λ (r : Row). cond (nat_eq r.line line) 1 0) rows (row ∷ [])
@@ -41,10 +33,6 @@ module _ (schedules : List (List Choice)) where
   pub first_stands : (last : List Choice) (rows : List Row) (row : Row) → AreFrom schedules last rows → slice_get rows 0 ≡ Some row → Stands schedules last row
   first_stands last [] row are e = cc
   first_stands last (r ∷ rows) row are e = let same : r ≡ row = cc in subst (Stands schedules last) same are.0
-
-  pub headed_from : (rows : List Row) → AreFrom schedules [] rows → AreFrom schedules [] (headed 0 rows)
-  headed_from [] are = tt
-  headed_from (row ∷ rows) are = (record { within = are.0.within; behind = are.0.behind; common = refl }, are.1)
 
   -- the last schedule of rows, or that one
   abbrev pub last_of : List Choice → List Row → List Choice
@@ -83,36 +71,6 @@ module _ (schedules : List (List Choice)) where
   }
 
   -- it begins with more choices as the last one than the other does
-  pub taken_more : (xs ys left : List Row) (row y : Row) → xs ≡ row ∷ left → slice_get ys 0 ≡ Some y → y.common < row.common → IsTaken schedules xs ys left ys row
-  taken_more xs [] left row y is second less = cc
-  taken_more xs (z ∷ zs) left row y is second less =
-      let same : z ≡ y = cc in record {
-        fewer = omega (arith, ap length is);
-        lines = λ line. omega (arith, line_first xs left row is line);
-        order = λ last a b.
-            let both = subst (AreFrom schedules last) is a in
-            let more = more_first last (at_row schedules row) (at_row schedules z) both.0.behind b.0.behind (omega (arith, less, both.0.common, b.0.common, ap (λ (r : Row). r.common) same)) in
-            (both.0, both.1, (record { within = b.0.within; behind = more.0; common = b.0.common ∙ sym more.1 }, b.1));
-      }
-
-  -- the other one does not stand before it
-  pub taken_level : (xs ys left : List Row) (row y : Row) (n : ℕ) → xs ≡ row ∷ left → slice_get ys 0 ≡ Some y → is_gt (choices_cmp (at_row schedules row) (at_row schedules y)) ≡ false
-      → n ≡ common (at_row schedules row) (at_row schedules y) → IsTaken schedules xs ys left (headed n ys) row
-  taken_level xs [] left row y n is second behind e = cc
-  taken_level xs (z ∷ zs) left row y n is second behind e =
-      let same : z ≡ y = cc in record {
-        fewer = omega (arith, ap length is);
-        lines = λ line. omega (arith, line_first xs left row is line);
-        order = λ last a b.
-            let both = subst (AreFrom schedules last) is a in
-            let next : Stands schedules (at_row schedules row) (record { line = z.line; common = n }) = record {
-              within = b.0.within;
-              behind = ap (λ (r : Row). is_gt (choices_cmp (at_row schedules row) (at_row schedules r))) same ∙ behind;
-              common = e ∙ sym (ap (λ (r : Row). common (at_row schedules row) (at_row schedules r)) same);
-            } in
-            (both.0, both.1, (next, b.1));
-      }
-
   -- ---- the same by what is taken off the first of both
 
   opened : (xs left : List Row) (row : Row) (o : Option Row) → slice_get xs 0 ≡ Some row → TakesFirst xs left o → (o ≡ Some row) × (xs ≡ row ∷ left)
@@ -122,22 +80,40 @@ module _ (schedules : List (List Choice)) where
       let same : r ≡ row = cc in
       (ap Some same, is ∙ ap (λ (r : Row). r ∷ left) same)
 
+  -- it begins with more choices as the last one than the other does
   pub takes_more : (xs ys left : List Row) (row y : Row) (o : Option Row) → slice_get xs 0 ≡ Some row → slice_get ys 0 ≡ Some y → TakesFirst xs left o → y.common < row.common → Takes schedules xs ys left ys o
-  takes_more xs ys left row y o first second is less =
+  takes_more xs [] left row y o first second is less = cc
+  takes_more xs (z ∷ zs) left row y o first second is less =
       let both = opened xs left row o first is in
-      subst (Takes schedules xs ys left ys) (sym both.0) (taken_more xs ys left row y both.1 second less)
+      let same : z ≡ y = cc in
+      subst (Takes schedules xs (z ∷ zs) left (z ∷ zs)) (sym both.0) (record {
+        fewer = omega (arith, ap length both.1);
+        lines = λ line. omega (arith, line_first xs left row both.1 line);
+        order = λ last a b.
+            let here = subst (AreFrom schedules last) both.1 a in
+            let more = more_first last (at_row schedules row) (at_row schedules z) here.0.behind b.0.behind (omega (arith, less, here.0.common, b.0.common, ap (λ (r : Row). r.common) same)) in
+            (here.0, here.1, (record { within = b.0.within; behind = more.0; common = b.0.common ∙ sym more.1 }, b.1));
+      })
 
+  -- the other one does not stand before it
   pub takes_level : (xs ys left ys_left : List Row) (row y : Row) (n : ℕ) (o : Option Row) → slice_get xs 0 ≡ Some row → slice_get ys 0 ≡ Some y → TakesFirst xs left o → ys_left ≡ headed n ys
       → is_gt (choices_cmp (at_row schedules row) (at_row schedules y)) ≡ false → n ≡ common (at_row schedules row) (at_row schedules y) → Takes schedules xs ys left ys_left o
-  takes_level xs ys left ys_left row y n o first second is rest behind e =
+  takes_level xs [] left ys_left row y n o first second is rest behind e = cc
+  takes_level xs (z ∷ zs) left ys_left row y n o first second is rest behind e =
       let both = opened xs left row o first is in
-      subst (Takes schedules xs ys left ys_left) (sym both.0) (subst (λ (zs : List Row). IsTaken schedules xs ys left zs row) (sym rest) (taken_level xs ys left row y n both.1 second behind e))
-
-  pub first_within : (xs ys : List Row) (row : Row) → GoOn schedules xs ys → slice_get xs 0 ≡ Some row → row.line < length schedules
-  first_within xs ys row next e = (first_stands next.0 xs row next.1 e).within
-
-  pub second_within : (xs ys : List Row) (row : Row) → GoOn schedules xs ys → slice_get ys 0 ≡ Some row → row.line < length schedules
-  second_within xs ys row next e = (first_stands next.0 ys row next.2 e).within
+      let same : z ≡ y = cc in
+      subst (Takes schedules xs (z ∷ zs) left ys_left) (sym both.0) (subst (λ (rs : List Row). IsTaken schedules xs (z ∷ zs) left rs row) (sym rest) (record {
+        fewer = omega (arith, ap length both.1);
+        lines = λ line. omega (arith, line_first xs left row both.1 line);
+        order = λ last a b.
+            let here = subst (AreFrom schedules last) both.1 a in
+            let next : Stands schedules (at_row schedules row) (record { line = z.line; common = n }) = record {
+              within = b.0.within;
+              behind = ap (λ (r : Row). is_gt (choices_cmp (at_row schedules row) (at_row schedules r))) same ∙ behind;
+              common = e ∙ sym (ap (λ (r : Row). common (at_row schedules row) (at_row schedules r)) same);
+            } in
+            (here.0, here.1, (next, b.1));
+      }))
 
   pub level_alike : (xs ys : List Row) (row y : Row) → GoOn schedules xs ys → slice_get xs 0 ≡ Some row → slice_get ys 0 ≡ Some y → row.common ≡ y.common → row.common ≤ common (at_row schedules row) (at_row schedules y)
   level_alike xs ys row y next first second level =
@@ -149,10 +125,10 @@ module _ (schedules : List (List Choice)) where
 
   -- the rows of two rows of lines
   pub both_orders : (first middle past : ℕ) (xs ys rows : List Row) → AreInOrder schedules first middle xs → AreInOrder schedules middle past ys → AreMerged schedules xs ys rows → AreInOrder schedules first past rows
-  both_orders first middle past xs ys rows one other is = record { from = is.from; all = λ line h l. each line h l (cases_lt line middle) } where
-    each : (line : ℕ) → first ≤ line → line < past → (line < middle) ⊎ (middle ≤ line) → 0 < rows_at line rows
-    each line h l (inl low) = omega (arith, is.lines line, one.all line h low)
-    each line h l (inr high) = omega (arith, is.lines line, other.all line high l)
+  both_orders first middle past xs ys rows one other is = record {
+    from = is.from;
+    all = λ line h l. ⊎_elim (λ (low : line < middle). omega (arith, is.lines line, one.all line h low)) (λ (high : middle ≤ line). omega (arith, is.lines line, other.all line high l)) (cases_lt line middle);
+  }
 
   abbrev stands_first : Row → Row → Bool
   stands_first x y = is_lt (choices_cmp (at_row schedules x) (at_row schedules y))

@@ -1,5 +1,5 @@
 use Rattle.bx_plan.proofs.Words.{sym, ◌∙◌, arith, choices_of, lines_view}
-use Rattle.bx_plan.proofs.Sorting.{first_within, lines_long, second_within, taken_alone, taken_turned, takes_more}
+use Rattle.bx_plan.proofs.Sorting.{first_stands, lines_long, taken_alone, taken_turned, takes_more}
 use Rattle.bx_plan.proofs.plans.ordering.take_first.Goals as goal
 
 pub returns-in_default : goal.returns-in_default
@@ -25,8 +25,8 @@ returns-then-first-second-2 c =
 
 pub take_level-requires-clause-one : goal.take_level-requires-clause-one
 take_level-requires-clause-one c =
-    omega (arith, first_within (choices_of (lines_view c.args.lines.now)) c.args.one.now c.args.other.now c.in-Some.first c.requires (sym c.first.ensures ∙ c.in-Some.is), lines_long c.args.lines.now)
+    omega (arith, (first_stands (choices_of (lines_view c.args.lines.now)) c.requires.0 c.args.one.now c.in-Some.first c.requires.1 (sym c.first.ensures ∙ c.in-Some.is)).within, lines_long c.args.lines.now)
 
 pub take_level-requires-clause-other : goal.take_level-requires-clause-other
 take_level-requires-clause-other c =
-    omega (arith, second_within (choices_of (lines_view c.args.lines.now)) c.args.one.now c.args.other.now c.in-Some-first.second c.requires (sym c.first-2.ensures ∙ c.in-Some-first.is), lines_long c.args.lines.now)
+    omega (arith, (first_stands (choices_of (lines_view c.args.lines.now)) c.requires.0 c.args.other.now c.in-Some-first.second c.requires.2 (sym c.first-2.ensures ∙ c.in-Some-first.is)).within, lines_long c.args.lines.now)
