@@ -29,9 +29,9 @@ abbrev mutual
 abbrev pub AreLow : ℕ → List Tree → Type 0
 AreLow d ts = AllByRecursion (λ t. depth t ≤ d) ts
 
-both_low : (d : ℕ) (ts us : List Tree) → AreLow d ts → AreLow d us → AreLow d (ts ++ us)
-both_low d [] us a b = b
-both_low d (t ∷ ts) us a b = (a.0, both_low d ts us a.1 b)
+pub all_both : {X : Type 0} (P : X → Type 0) (xs ys : List X) → AllByRecursion P xs → AllByRecursion P ys → AllByRecursion P (xs ++ ys)
+all_both P [] ys a b = b
+all_both P (x ∷ xs) ys a b = (a.0, all_both P xs ys a.1 b)
 
 chain_low : (d : ℕ) (ts : List Tree) (u : Tree) → AreLow d ts → row_depth u ≤ d → row_depth (chain ts u) ≤ d
 chain_low d [] u a h = h
@@ -43,7 +43,7 @@ codes_low d s (c ∷ cs) = (omega arith, codes_low d s cs)
 
 strings_low : {p q : Place} {ts : List Tree} → Strings p ts q → (d : ℕ) → AreLow d ts
 strings_low (no_string h) d = tt
-strings_low (a_string {l = l} {b = w} {ts = ts} n e rest) d = both_low d (letters (span l l.after) (spelled w)) ts (codes_low d (span l l.after) (chars (spelled w))) (strings_low rest d)
+strings_low (a_string {l = l} {b = w} {ts = ts} n e rest) d = all_both (λ t. depth t ≤ d) (letters (span l l.after) (spelled w)) ts (codes_low d (span l l.after) (chars (spelled w))) (strings_low rest d)
 
 tail_low : (d : ℕ) (t : Tree) → depth t ≤ d → row_depth (tail_of t) ≤ d
 tail_low d (tuple s t) h = h
@@ -53,7 +53,8 @@ tail_low d _ h = omega arith
 mutual
   spelled_low : {d : ℕ} {l : Lexeme} {t : Tree} {q : Place} → Spells d l t q → depth t ≤ d
   spelled_low (strings {d = d} {l = l} {b = w} {ts = ts} e h) =
-      let low = chain_low d (letters (span l l.after) (spelled w) ++ ts) nil (both_low d (letters (span l l.after) (spelled w)) ts (codes_low d (span l l.after) (chars (spelled w))) (strings_low h d)) (omega arith) in
+      let here = letters (span l l.after) (spelled w) in
+      let low = chain_low d (here ++ ts) nil (all_both (λ t. depth t ≤ d) here ts (codes_low d (span l l.after) (chars (spelled w))) (strings_low h d)) (omega arith) in
       omega (arith, low)
   spelled_low (a_tuple {d = d} {ts = ts} e n row c) = let low = chain_low d ts nil (row_low row) (omega arith) in omega (arith, low)
   spelled_low (a_list {d = d} {ts = ts} e n row c) = let low = chain_low d ts nil (row_low row) (omega arith) in omega (arith, low)

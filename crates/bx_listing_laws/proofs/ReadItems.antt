@@ -1,9 +1,9 @@
 -- An item that was read is one that can be written.
-use Rattle.std.proofs.Common.{◌≡◌, ◌≢◌, ℕ, suc, ◌≤◌, Bool, true, false, ◌&&◌, List, [], ◌∷◌, ◌++◌, length, drop, Some, None, refl, sym, ◌∙◌, subst, arith, codes, nat_eq, if◌then◌else◌}
+use Rattle.std.proofs.Common.{◌≡◌, ◌≢◌, ℕ, suc, ◌≤◌, Bool, true, false, ◌&&◌, List, [], ◌∷◌, ◌++◌, length, drop, Some, refl, sym, subst, arith, codes, leb-true, length-append, nat_eq, if◌then◌else◌}
 use Rattle.std.proofs.lemmas.Bool.{and_parts}
 use Rattle.std.specs.Prelude.{nat_le}
 use Rattle.std.specs.List.{AllByRecursion}
-use Rattle.std.proofs.lemmas.Bool.Decides.{nat_tests, Decides-eqb}
+use Rattle.std.proofs.lemmas.Bool.Decides.{nat_tests}
 use Rattle.bx_text.specs.Tree.{Tree}
 use Rattle.bx_ops.specs.declared.guard_bif.Bif.{Bif}
 use Rattle.bx_ops.specs.declared.opcode.Op.{Op}
@@ -28,7 +28,7 @@ use Rattle.bx_listing.proofs.ListedItems.{no_slots}
 use Rattle.bx_listing.proofs.ListedSlots.{slots_length}
 use Rattle.bx_listing.proofs.Fitting.{item_fits}
 use Rattle.bx_listing_laws.specs.Writable.{IsWritableOperand, FaultIsSaid, depth_left, IsWritableItem}
-use Rattle.bx_listing_laws.proofs.Depths.{depth, AreLow, parts_low, list_low}
+use Rattle.bx_listing_laws.proofs.Depths.{depth, AreLow, all_both, parts_low, list_low}
 use Rattle.bx_listing_laws.proofs.ReadOperands.{Within, Stands, AllStand, operand_writable, members_writable}
 
 -- where a slot's tree has to stand, so that what it holds is read again
@@ -57,10 +57,6 @@ amounts_stand k (t ∷ ts) = (tt, amounts_stand k ts)
 abbrev AreWritable : Table → ℕ → List Operand → Type 0
 AreWritable last k os = AllByRecursion (IsWritableOperand last k) os
 
-all_joined : (last : Table) (k : ℕ) (os more : List Operand) → AreWritable last k os → AreWritable last k more → AreWritable last k (os ++ more)
-all_joined last k [] more a b = b
-all_joined last k (o ∷ os) more a b = (a.0, all_joined last k os more a.1 b)
-
 slot_writable : (last : Table) (k : ℕ) (b c : Table) {s : Slot} {t : Tree} {os : List Operand} → IsSlot b s t os c → length c ≤ length last → SlotStands k s t → Within b last (AreWritable last k os)
 slot_writable last k b c (an_operand {sort = s} {t = t} {o = o} h) l d = let one = operand_writable last k b c s t o h l d in (one.0, (one.1, tt))
 slot_writable last k b c (a_list {sort = s} {t = t} {ts = ts} (u, e, listed) are) l d =
@@ -82,7 +78,7 @@ slots_writable last k no_slot l a = (l, tt)
 slots_writable last k (a_slot {before = b} {between = c} {os = os} {more = more} h hs) l a =
     let rest = slots_writable last k hs l a.1 in
     let first = slot_writable last k b c h rest.0 a.0 in
-    (first.0, all_joined last k os more first.1 rest.1)
+    (first.0, all_both (IsWritableOperand last k) os more first.1 rest.1)
 
 -- the terms of an instruction stand so
 
@@ -96,14 +92,11 @@ reach_all : ℕ → ℕ → List Slot → Bool
 reach_all d k [] = true
 reach_all d k (s ∷ ss) = reach d k s && reach_all d k ss
 
-at_most : (d k : ℕ) → nat_le d k ≡ true → d ≤ k
-at_most d k e = grind (arith, nat_tests)
-
 slot_stands : (d k : ℕ) (s : Slot) (t : Tree) → depth t ≤ d → reach d k s ≡ true → SlotStands k s t
 unfolding reach
-slot_stands d k (slot_kinds.One sorts.Source) t h e = omega (arith, at_most d (suc k) e)
-slot_stands d k (slot_kinds.Many s) t h e = omega (arith, at_most d (suc (suc (suc k))) e)
-slot_stands d k (slot_kinds.Pairs r s) t h e = omega (arith, at_most d (suc (suc (suc k))) e)
+slot_stands d k (slot_kinds.One sorts.Source) t h e = omega (arith, leb-true d (suc k) e)
+slot_stands d k (slot_kinds.Many s) t h e = omega (arith, leb-true d (suc (suc (suc k))) e)
+slot_stands d k (slot_kinds.Pairs r s) t h e = omega (arith, leb-true d (suc (suc (suc k))) e)
 slot_stands d k _ t h e = tt
 
 places : (d k : ℕ) (ss : List Slot) (ts : List Tree) → AreLow d ts → reach_all d k ss ≡ true → AllPlaces k ss ts
@@ -125,25 +118,11 @@ unfolding reach reach_all
 test_reach ops.IsLt at = refl
 test_reach _ at = cc
 
-is_number : (n m : ℕ) → nat_eq n m ≡ true → n ≡ m
-is_number n m e = (Decides-eqb n m).0 e
-
 bif_few : (n : ℕ) (op : Op) → 3 ≤ n → bif_op n ≡ Some op → ⊥
-bif_few n op h e = by (nat_eq n 0) (nat_eq n 1) (nat_eq n 2) refl refl refl e
-  where
-    by : (a b c : Bool) → nat_eq n 0 ≡ a → nat_eq n 1 ≡ b → nat_eq n 2 ≡ c → (if a then Some ops.Bif0 else if b then Some ops.Bif1 else if c then Some ops.Bif2 else None) ≡ Some op → ⊥
-    by true b c p q r e = let z = is_number n 0 p in omega arith
-    by false true c p q r e = let z = is_number n 1 q in omega arith
-    by false false true p q r e = let z = is_number n 2 r in omega arith
-    by false false false p q r e = cc
+bif_few n op h e = grind (arith, nat_tests)
 
 gc_bif_few : (n : ℕ) (op : Op) → 3 ≤ n → gc_bif_op n ≡ Some op → ⊥
-gc_bif_few n op h e = by (nat_eq n 1) (nat_eq n 2) refl refl e
-  where
-    by : (b c : Bool) → nat_eq n 1 ≡ b → nat_eq n 2 ≡ c → (if b then Some ops.GcBif1 else if c then Some ops.GcBif2 else None) ≡ Some op → ⊥
-    by true c q r e = let z = is_number n 1 q in omega arith
-    by false true q r e = let z = is_number n 2 r in omega arith
-    by false false q r e = cc
+gc_bif_few n op h e = grind (arith, nat_tests)
 
 bif_places : (op : Op) (ts : List Tree) (b f d : Tree) → bif_op (length ts) ≡ Some op → AreLow 254 ts → AllPlaces (depth_left op) (slots op) (b ∷ f ∷ (ts ++ d ∷ []))
 bif_places op [] b f d e a = let same : ops.Bif0 ≡ op = cc in subst (λ op. AllPlaces (depth_left op) (slots op) (b ∷ f ∷ d ∷ [])) same (tt, (tt, (tt, tt)))
@@ -160,11 +139,8 @@ gc_bif_places op (x ∷ y ∷ []) b f n d e a =
 gc_bif_places op (x ∷ y ∷ z ∷ more) b f n d e a = absurd (gc_bif_few (length (x ∷ y ∷ z ∷ more)) op (omega arith) e)
 
 raise_places : (ts : List Tree) (f d : Tree) → length (f ∷ (ts ++ d ∷ [])) ≡ 4 → AreLow 254 ts → AllPlaces 253 (slots ops.Raise) (f ∷ (ts ++ d ∷ []))
-raise_places [] f d e a = absurd (omega arith)
-raise_places (x ∷ []) f d e a = absurd (omega arith)
 raise_places (x ∷ y ∷ []) f d e a = (tt, (a.0, (a.1.0, (tt, tt))))
-raise_places (x ∷ y ∷ z ∷ []) f d e a = absurd (omega arith)
-raise_places (x ∷ y ∷ z ∷ w ∷ more) f d e a = absurd (omega arith)
+raise_places ts f d e a = absurd (omega (arith, length-append ts (d ∷ [])))
 
 item_places : {t : Tree} {op : Op} {ts : List Tree} → IsWritten t op ts → length ts ≡ length (slots op) → depth t ≤ 256 → AllPlaces (depth_left op) (slots op) ts
 item_places (bare {op = op} at w) n h = subst (λ ss. AllPlaces (depth_left op) ss []) (sym (no_slots op at)) tt
@@ -188,7 +164,7 @@ label_said (operands.Bif b) n os = by (nat_eq n 0) refl
   where
     by : (z : Bool) → nat_eq n 0 ≡ z → FaultIsSaid (operands.Bif b ∷ (if z then operands.NoLabel else operands.Label n) ∷ os)
     by true e = tt
-    by false e = λ is. absurd (let same : nat_eq n 0 ≡ true = (Decides-eqb n 0).1 is in let clash : true ≡ false = sym same ∙ e in cc)
+    by false e = grind (arith, nat_tests)
 label_said _ n os = tt
 
 fault_said : {b c : Table} {s : Sort} {rest : List Slot} {ts : List Tree} {os : List Operand} → AreSlots b (slot_kinds.One s ∷ slot_kinds.One sorts.Fail ∷ rest) ts os c → FaultIsSaid os

@@ -1,6 +1,6 @@
 -- An operand that was read is one that can be written.
-use Rattle.std.proofs.Common.{◌≡◌, ℕ, suc, ◌+◌, ◌≤◌, Bool, true, false, List, [], ◌∷◌, length, Some, None, pos, refl, sym, ap, subst, arith, codes, nat_eq, if◌then◌else◌, ⊎_elim, length-append}
-use Rattle.std.specs.Prelude.{nat_le, bytes_eq}
+use Rattle.std.proofs.Common.{◌≡◌, ℕ, suc, ◌+◌, ◌≤◌, Bool, true, false, List, [], ◌∷◌, length, Some, pos, refl, sym, ap, subst, arith, codes, nat_eq, if◌then◌else◌, ⊎_elim, length-append}
+use Rattle.std.specs.Prelude.{bytes_eq}
 use Rattle.std.specs.List.{AllByRecursion}
 use Rattle.std.proofs.lemmas.Bool.Decides.{nat_tests}
 use Rattle.std.proofs.lemmas.List.Quantifiers.{position-Some}
@@ -13,6 +13,7 @@ use Rattle.bx_ops.specs.declared.sorts.Sort.TheVariants as sorts
 use Rattle.bx_listing.specs.declared.items.Operand.{Operand}
 use Rattle.bx_listing.specs.declared.items.Operand.TheVariants as operands
 use Rattle.bx_listing.specs.Reading.{Table}
+use Rattle.bx_listing.specs.Shape.{in_range}
 use Rattle.bx_listing.specs.Operands.{fail_label}
 use Rattle.bx_listing.specs.ListedTerms.{Names, IsTerm, an_int, a_name, a_tuple, a_list, AreElements, no_element, an_element, IsRow, an_end, a_tail, a_cell}
 use Rattle.bx_listing.specs.ListedItems.{Number, AtomOperand, IntegerOperand, IsRegister, in_x, in_y, in_typed, IsValue, an_integer, an_atom, IsSource, a_register, a_value, a_nil, a_literal, IsPlain, IsOperand, AreMembers, no_member, a_member}
@@ -37,12 +38,11 @@ named_within last b c text a h l =
     (omega (arith, length-append b (text ∷ [])), omega (arith, length-append b (text ∷ []))))
     (named_cases b c text a h)
 
+in_range_low : (m n : ℕ) → in_range m ≡ Some n → InRange n
+in_range_low m n e = grind (arith, nat_tests)
+
 pub number_low : (t : Tree) (n : ℕ) → Number t n → InRange n
-number_low (integer s (pos m)) n e = by (nat_le m 4294967295) refl e
-  where
-    by : (b : Bool) → nat_le m 4294967295 ≡ b → (if b then Some m else None) ≡ Some n → InRange n
-    by true low e = let same : m ≡ n = cc in subst InRange same (grind (arith, nat_tests))
-    by false low e = absurd (cc)
+number_low (integer s (pos m)) n e = in_range_low m n e
 number_low _ n e = absurd (cc)
 
 -- a literal's term
