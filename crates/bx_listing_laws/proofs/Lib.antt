@@ -1,10 +1,8 @@
-pub mod Operands
 pub mod Rows
 pub mod Trees
 pub mod WrittenTerms
 pub mod WrittenOperands
 pub mod WrittenSlots
-pub mod WrittenBifs
 pub mod WrittenItems
 pub mod WrittenForms
 pub mod WrittenCode

@@ -1,14 +1,12 @@
 -- Texts that are printed terms, and what is known of every term that such a text is read as, wherever its parts stand.
-use Rattle.std.proofs.Common.{◌≡◌, ℕ, suc, ◌≤◌, ◌<◌, ◌^◌, Bool, true, false, List, [], ◌∷◌, ◌++◌, map, Some, None, ℤ, pos, negsuc, refl, sym, ap, ◌∙◌, subst, arith, if◌then◌else◌, append_assoc, decimal, IsUtf8, codes}
-use Rattle.std.specs.Prelude.{nat_le, nat_lt, option_map}
-use Rattle.std.specs.List.{AllByRecursion, list_all}
+use Rattle.std.proofs.Common.{◌≡◌, ℕ, suc, ◌≤◌, ◌<◌, ◌^◌, true, false, List, [], ◌∷◌, ◌++◌, map, Some, ℤ, pos, negsuc, refl, sym, ap, ◌∙◌, subst, arith, append_assoc, decimal, IsAscii, IsUtf8, codes, ltb-true}
+use Rattle.std.specs.Prelude.{nat_lt, option_map}
+use Rattle.std.specs.List.{AllByRecursion, flat_map, list_all}
 use Rattle.std.specs.Fmt.{signed_decimal}
 use Rattle.std.proofs.lemmas.Bool.Decides.{nat_tests}
-use Rattle.std.proofs.lemmas.Bool.{and_parts, and_from}
-use Rattle.std.proofs.lemmas.Str.{encode_ascii}
-use Rattle.std.specs.Str.{all_scalars}
-use Rattle.std.specs.Prelude.{encode_utf8_all}
-use Rattle.std.proofs.Math.Utf8.{low_scalar}
+use Rattle.std.proofs.lemmas.Bool.{and_parts}
+use Rattle.std.proofs.lemmas.Str.{IsUtf8-from_ascii}
+use Rattle.std.proofs.lemmas.Str.Ascii.{IsAscii-nil, IsAscii-cons}
 use lib.Signed.{mag}
 use Rattle.bx_terms.specs.AtomText.{printed_atom}
 use Rattle.bx_text.specs.declared.node.Span.{Span}
@@ -17,7 +15,7 @@ use Rattle.bx_text.specs.Printed.{integer_text, node_text, rest_text}
 use Rattle.bx_text.specs.Tree.{Tree, integer, atom, tuple, list, nil, cons, chain}
 use Rattle.bx_text.proofs.Shown.{small_text}
 use Rattle.bx_text_laws.specs.Shown.{Shown, ShownRow, ShownList, ShownRest, nowhere, unplaced}
-use Rattle.bx_listing.specs.Shape.{tagged, shape, elements, number, in_range, word, proper, list_elements}
+use Rattle.bx_listing.specs.Shape.{tagged, shape, elements, number, word, proper, list_elements}
 
 -- a text that a term is printed as, and what every term is that differs from it only in its spans
 pub record Printed (d : ℕ) (text : List ℕ) (Is : Tree → Type 0) : Type 0 where
@@ -49,6 +47,13 @@ abbrev pub between : List (List ℕ) → List ℕ → List ℕ
 between [] end = end
 between (w ∷ ws) end = w ++ behind ws end
 
+pub commas_are : {X : Type 0} (text : X → List ℕ) (xs : List X) (end : List ℕ) → flat_map (λ x. codes "," ++ text x) xs ++ end ≡ behind (map text xs) end
+commas_are text [] end = refl
+commas_are text (x ∷ xs) end = ap (λ w. 44 ∷ w) (append_assoc (text x) (flat_map (λ x. codes "," ++ text x) xs) end ∙ ap (λ w. text x ++ w) (commas_are text xs end))
+
+pub joined_is : {X : Type 0} (text : X → List ℕ) (x : X) (xs : List X) (end : List ℕ) → (text x ++ flat_map (λ x. codes "," ++ text x) xs) ++ end ≡ text x ++ behind (map text xs) end
+joined_is text x xs end = append_assoc (text x) (flat_map (λ x. codes "," ++ text x) xs) end ∙ ap (λ w. text x ++ w) (commas_are text xs end)
+
 -- terms without their spans
 
 pub atom_is : (u : Tree) (w : List ℕ) → unplaced u ≡ atom nowhere w → (s : Span) × (u ≡ atom s w)
@@ -59,45 +64,22 @@ pub integer_is : (u : Tree) (n : ℤ) → unplaced u ≡ integer nowhere n → (
 integer_is (integer s m) n e = let same : m ≡ n = cc in (s, ap (integer s) same)
 integer_is _ n e = absurd (cc)
 
-pub tuple_is : (u t : Tree) → unplaced u ≡ tuple nowhere (unplaced t) → (s : Span) × (row : Tree) × (u ≡ tuple s row) × (unplaced row ≡ unplaced t)
-tuple_is (tuple s row) t e = (s, row, refl, cc)
-tuple_is _ t e = absurd (cc)
-
-pub list_is : (u t : Tree) → unplaced u ≡ list nowhere (unplaced t) → (s : Span) × (row : Tree) × (u ≡ list s row) × (unplaced row ≡ unplaced t)
-list_is (list s row) t e = (s, row, refl, cc)
-list_is _ t e = absurd (cc)
-
-pub nil_is : (u : Tree) → unplaced u ≡ nil → u ≡ nil
-nil_is nil e = refl
-nil_is _ e = absurd (cc)
-
-pub cons_is : (u a b : Tree) → unplaced u ≡ cons (unplaced a) (unplaced b) → (t : Tree) × (v : Tree) × (u ≡ cons t v) × (unplaced t ≡ unplaced a) × (unplaced v ≡ unplaced b)
-cons_is (cons t v) a b e = (t, v, refl, cc, cc)
-cons_is _ a b e = absurd (cc)
-
 -- the parts of a row
-proper_is : (row : Tree) (ts : List Tree) → unplaced row ≡ unplaced (chain ts nil) → (us : List Tree) × (elements row ≡ us) × (proper row ≡ Some us) × (map unplaced us ≡ map unplaced ts)
-proper_is row [] e = let is : row ≡ nil = nil_is row e in ([], ap elements is, ap proper is, refl)
-proper_is row (t ∷ ts) e =
-    let (v, r, is, first, rest) = cons_is row t (chain ts nil) e in
-    let (us, els, all, same) = proper_is r ts rest in
-    (v ∷ us, ap elements is ∙ ap (λ us. v ∷ us) els, ap proper is ∙ ap (option_map (λ us. v ∷ us)) all, ap (λ w. w ∷ map unplaced us) first ∙ ap (λ ws. unplaced t ∷ ws) same)
+proper_is : (row : Tree) (ts : List Tree) → unplaced row ≡ unplaced (chain ts nil) → (proper row ≡ Some (elements row)) × (map unplaced (elements row) ≡ map unplaced ts)
+proper_is nil [] e = (refl, refl)
+proper_is (cons u row) (t ∷ ts) e = let (all, same) = proper_is row ts cc in (ap (option_map (λ us. u ∷ us)) all, cc)
+proper_is _ [] e = absurd (cc)
+proper_is _ (t ∷ ts) e = absurd (cc)
 
 -- a tuple that begins with a word
 tagged_is : (u : Tree) (w : List ℕ) (ts : List Tree) → unplaced u ≡ tuple nowhere (cons (atom nowhere w) (unplaced (chain ts nil)))
     → (us : List Tree) × (shape u ≡ tagged w us) × (map unplaced us ≡ map unplaced ts)
-tagged_is u w ts e =
-    let (s, row, is, inside) = tuple_is u (cons (atom nowhere w) (chain ts nil)) e in
-    let (a, rest, parts, first, more) = cons_is row (atom nowhere w) (chain ts nil) inside in
-    let (r, named) = atom_is a w first in
-    let (us, els, all, same) = proper_is rest ts more in
-    (us, ap shape (is ∙ ap (tuple s) (parts ∙ ap (λ a. cons a rest) named)) ∙ ap (tagged w) els, same)
+tagged_is (tuple s (cons (atom r v) row)) w ts e = let same : v ≡ w = cc in (elements row, ap (λ w. tagged w (elements row)) same, (proper_is row ts cc).1)
+tagged_is _ w ts e = absurd (cc)
 
 listed_is : (u : Tree) (ts : List Tree) → unplaced u ≡ list nowhere (unplaced (chain ts nil)) → (us : List Tree) × (list_elements u ≡ Some us) × (map unplaced us ≡ map unplaced ts)
-listed_is u ts e =
-    let (s, row, is, inside) = list_is u (chain ts nil) e in
-    let (us, els, all, same) = proper_is row ts inside in
-    (us, ap list_elements is ∙ all, same)
+listed_is (list s row) ts e = let (all, same) = proper_is row ts cc in (elements row, all, same)
+listed_is _ ts e = absurd (cc)
 
 -- their texts
 rest_is : (ts : List Tree) (end : List ℕ) → rest_text (chain ts nil) ++ end ≡ behind (map node_text ts) end
@@ -125,19 +107,12 @@ list_shown d [] a = tt
 list_shown d (t ∷ ts) a = (a.0, rest_shown d ts a.1)
 
 -- a word of ASCII
-pub plain_utf8 : (w : List ℕ) → list_all (λ b. nat_lt b 128) w ≡ true → IsUtf8 w
-plain_utf8 w a = let (s, e) = scalars w a in (w, (s, e))
-  where
-    low : (b : ℕ) → nat_lt b 128 ≡ true → b < 128
-    low b e = grind (arith, nat_tests)
+ascii : (w : List ℕ) → list_all (λ b. nat_lt b 128) w ≡ true → IsAscii w
+ascii [] a = IsAscii-nil
+ascii (b ∷ w) a = let (low, more) = and_parts (nat_lt b 128) (list_all (λ b. nat_lt b 128) w) a in IsAscii-cons b w (ltb-true b 128 low) (ascii w more)
 
-    scalars : (w : List ℕ) → list_all (λ b. nat_lt b 128) w ≡ true → (all_scalars w ≡ true) × (encode_utf8_all w ≡ w)
-    scalars [] a = (refl, refl)
-    scalars (b ∷ w) a =
-        let both = and_parts (nat_lt b 128) (list_all (λ b. nat_lt b 128) w) a in
-        let small : b < 128 = low b both.0 in
-        let more = scalars w both.1 in
-        (and_from _ _ (low_scalar b (omega arith)) more.0, ap (λ ws. ws ++ encode_utf8_all w) (encode_ascii b small) ∙ ap (λ ws. b ∷ ws) more.1)
+pub plain_utf8 : (w : List ℕ) → list_all (λ b. nat_lt b 128) w ≡ true → IsUtf8 w
+plain_utf8 w a = IsUtf8-from_ascii w (ascii w a)
 
 -- texts of words, numbers, tuples and lists
 
@@ -160,17 +135,8 @@ integer_printed d z {Is} h k = record {
   means = λ u e. let (s, is) = integer_is u z e in subst Is (sym is) (k s);
 }
 
-not_large : (n : ℕ) → n ≤ 4294967295 → is_large (pos n) ≡ false
-not_large n h = grind (arith, nat_tests)
-
-in_bounds : (n : ℕ) → n ≤ 4294967295 → in_range n ≡ Some n
-in_bounds n h = ap (λ (b : Bool). if b then Some n else None) low
-  where
-    low : nat_le n 4294967295 ≡ true
-    low = grind (arith, nat_tests)
-
 pub number_printed : (d n : ℕ) {Is : Tree → Type 0} → n ≤ 4294967295 → ((u : Tree) → number u ≡ Some n → Is u) → Printed d (decimal n) Is
-number_printed d n h k = integer_printed d (pos n) (not_large n h) (λ s. k (integer s (pos n)) (in_bounds n h))
+number_printed d n h k = integer_printed d (pos n) (grind (arith, nat_tests)) (λ s. k (integer s (pos n)) (grind (arith, nat_tests)))
 
 pub none_printed : {d : ℕ} {Are : List Tree → Type 0} → Are [] → PrintedAll d [] Are
 none_printed {d} {Are} a = record { trees = []; shown = tt; printed = refl; means = λ us e. by us e }

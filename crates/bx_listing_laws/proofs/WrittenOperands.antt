@@ -1,9 +1,9 @@
 -- The text of an operand is read as the same operand.
-use Rattle.std.proofs.Common.{◌≡◌, ◌≢◌, ℕ, ℤ, suc, ◌≤◌, Bool, true, false, List, [], ◌∷◌, ◌++◌, Some, refl, sym, ap, ◌∙◌, subst, arith, codes, decimal, append_assoc, nat_eq, if◌then◌else◌}
+use Rattle.std.proofs.Common.{◌≡◌, ◌≢◌, ℕ, ℤ, suc, ◌≤◌, Bool, true, false, List, [], ◌∷◌, ◌++◌, get_or, Some, refl, sym, ap, ◌∙◌, subst, arith, codes, decimal, append_assoc, leb-true, eqb-true}
 use Rattle.std.specs.Prelude.{nat_le, nat_lt, ◌==◌}
 use Rattle.std.specs.List.{list_all}
 use Rattle.std.proofs.lemmas.Fmt.{decimal_digit}
-use Rattle.std.proofs.lemmas.Bool.Decides.{nat_tests, Decides-eqb}
+use Rattle.std.proofs.lemmas.Bool.Decides.{nat_tests}
 use Rattle.bx_terms.specs.declared.atom_table.AtomId.{AtomId}
 use Rattle.bx_terms.specs.AtomTable.{IsAtomTable}
 use Rattle.bx_terms.specs.AtomText.{printed_atom}
@@ -26,7 +26,7 @@ use Rattle.bx_listing.specs.Reading.{Table}
 use Rattle.bx_listing.specs.Shape.{tagged, word}
 use Rattle.bx_listing.specs.Operands.{fail_label}
 use Rattle.bx_listing.specs.ListedTerms.{Names}
-use Rattle.bx_listing.specs.ListedItems.{Tuple, Number, Atom, AtomOperand, IntegerOperand, Target, IsRegister, in_x, in_y, IsValue, an_integer, an_atom, IsSource, a_register, a_value, a_nil, a_literal, IsCallee, IsAmount, IsBif, IsOperand}
+use Rattle.bx_listing.specs.ListedItems.{Tuple, Number, Atom, AtomOperand, IntegerOperand, Target, IsRegister, in_x, in_y, an_integer, an_atom, IsSource, a_register, a_value, a_nil, a_literal, IsCallee, IsAmount, IsBif, IsOperand}
 use Rattle.bx_listing.specs.Writing.{name_text, operand_text}
 use Rattle.bx_listing.specs.Fits.{is_one}
 use Rattle.bx_listing_laws.specs.Spellable.{IsLiteral}
@@ -91,29 +91,23 @@ nil_printed d names = word_printed d (codes "nil") (plain_utf8 (codes "nil") ref
 
 -- functions, amounts, BIFs
 
-pub three_joined : (a b c : List ℕ) → ((((a ++ 44 ∷ []) ++ b) ++ 44 ∷ []) ++ c) ++ 125 ∷ [] ≡ a ++ 44 ∷ (b ++ 44 ∷ (c ++ 125 ∷ []))
-three_joined a b c = simp append_assoc
-
-two_joined : (a b : List ℕ) → ((a ++ 44 ∷ []) ++ b) ++ 125 ∷ [] ≡ a ++ 44 ∷ (b ++ 125 ∷ [])
-two_joined a b = simp append_assoc
-
 callee_printed : (d : ℕ) (names : Table) (i : Import) → IsAtomTable names → IsHeld names i.«module» × IsHeld names i.function × InRange i.arity
     → Printed (suc d) (operand_text names (operands.Import i)) (λ u. IsCallee names u (operands.Import i) names)
 callee_printed d names i table h =
-    reworded (ap (λ w. codes "{extfunc," ++ w) (sym (three_joined (name_text names i.«module») (name_text names i.function) (decimal i.arity))))
+    reworded (simp append_assoc)
     (tagged_printed d (codes "extfunc") (plain_utf8 (codes "extfunc") refl)
     (part (atom_alone d names i.«module» table h.0) (part (atom_alone d names i.function table h.1) (one_part (number_alone d i.arity h.2))))
-    (λ u us is x. let (m, vs, e, one, (f, ws, g, two, (a, last, three))) = x in (m, f, a, names, i, is ∙ ap (tagged (codes "extfunc")) (e ∙ ap (λ vs. m ∷ vs) (g ∙ ap (λ ws. f ∷ ws) last)), one, two, three, refl)))
+    (λ u us is x. let (m, vs, e, one, (f, ws, g, two, (a, last, three))) = x in (m, f, a, names, i, cc, one, two, three, refl)))
 
 -- `{NAME,N}`
 pub counted_printed : (d : ℕ) (names : Table) (a : AtomId) (n : ℕ) {Is : Tree → Type 0} → IsAtomTable names → IsHeld names a → InRange n
     → ((u : Tree) (text : List ℕ) (v : Tree) → Tuple u text (v ∷ []) → Names names text a names → Number v n → Is u)
     → Printed (suc d) (codes "{" ++ name_text names a ++ codes "," ++ decimal n ++ codes "}") Is
 counted_printed d names a n {Is} table h l k =
-    let known_a = known names a.0 table h in
-    reworded (ap (λ w. 123 ∷ w) (sym (two_joined (name_text names a) (decimal n))))
-    (subst (λ o. Printed (suc d) (123 ∷ (printed_name o ++ 44 ∷ (decimal n ++ 125 ∷ []))) Is) (sym known_a.held)
-    (tagged_printed d known_a.text known_a.utf8 (one_part (number_alone d n l)) (λ u us is x. k u known_a.text x.0 (is ∙ ap (tagged known_a.text) x.1) known_a.named x.2)))
+    let (held, utf8, named) = known names a.0 table h in
+    reworded (simp append_assoc)
+    (subst (λ o. Printed (suc d) (123 ∷ (printed_name o ++ 44 ∷ (decimal n ++ 125 ∷ []))) Is) (sym held)
+    (tagged_printed d (get_or names a.0 []) utf8 (one_part (number_alone d n l)) (λ u us is x. k u (get_or names a.0 []) x.0 (is ∙ ap (tagged (get_or names a.0 [])) x.1) named x.2)))
 
 amount_printed : (d : ℕ) (names : Table) (a : Amount) → IsAtomTable names → IsHeld names a.kind × InRange a.count
     → Printed (suc d) (operand_text names (operands.Amount a)) (λ u. IsAmount names u (operands.Amount a) names)
@@ -126,15 +120,12 @@ bif_ascii _ = refl
 bif_printed : (d : ℕ) (names : Table) (b : Bif) (n : ℕ) → ((guard_bif b).arity == n) ≡ true → Printed d (operand_text names (operands.Bif b)) (λ u. IsBif n u (operands.Bif b))
 bif_printed d names b n e =
     word_printed d (guard_bif b).name (plain_utf8 (guard_bif b).name (bif_ascii b))
-    (λ u w. ((guard_bif b).name, b, w, subst (λ n. guard_bif_with (guard_bif b).name n ≡ Some b) ((Decides-eqb (guard_bif b).arity n).0 e) (guard_bif_with-both b), refl))
+    (λ u w. ((guard_bif b).name, b, w, subst (λ n. guard_bif_with (guard_bif b).name n ≡ Some b) (eqb-true (guard_bif b).arity n e) (guard_bif_with-both b), refl))
 
 -- where a BIF goes on a fault
 
 labelled : (n : ℕ) → n ≢ 0 → operands.Label n ≡ fail_label n
-labelled n h = sym (ap (λ (b : Bool). if b then operands.NoLabel else operands.Label n) other)
-  where
-    other : nat_eq n 0 ≡ false
-    other = grind (arith, nat_tests)
+labelled n h = grind (arith, nat_tests)
 
 pub fail_printed : (d k : ℕ) (names : Table) (o : Operand) → is_one sorts.Fail o ≡ true → IsWritableOperand names k o → ((n : ℕ) → o ≡ operands.Label n → n ≢ 0)
     → Printed (suc d) (operand_text names o) (λ u. IsOperand names sorts.Fail u o names)
@@ -142,99 +133,34 @@ fail_printed d k names (operands.Label n) e h other = weaker (λ u t. ((n, t, la
 fail_printed d k names operands.NoLabel e h other = weaker (λ u t. ((0, t, refl), refl)) (no_label_printed d)
 fail_printed d k names _ e h other = absurd (cc)
 
--- by their sorts
-
-register_printed : (d k : ℕ) (names : Table) (o : Operand) → is_one sorts.Register o ≡ true → IsWritableOperand names k o → Printed (suc d) (operand_text names o) (λ u. IsRegister u o)
-register_printed d k names (operands.X n) e h = x_printed d n h
-register_printed d k names (operands.Y n) e h = y_printed d n h
-register_printed d k names _ e h = absurd (cc)
-
-value_printed : (d k : ℕ) (names : Table) (o : Operand) → IsAtomTable names → is_one sorts.Value o ≡ true → IsWritableOperand names k o → Printed (suc d) (operand_text names o) (λ u. IsValue names u o names)
-value_printed d k names (operands.Integer n) table e h = weaker (λ u i. an_integer i) (integer_operand d names n h)
-value_printed d k names (operands.Atom a) table e h = weaker (λ u i. an_atom i) (atom_printed d names a table h)
-value_printed d k names _ table e h = absurd (cc)
-
-source_printed : (d k : ℕ) (names : Table) (o : Operand) → IsAtomTable names → is_one sorts.Source o ≡ true → IsWritableOperand names k o → k ≤ d → Printed (suc d) (operand_text names o) (λ u. IsSource names u o names)
-source_printed d k names (operands.X n) table e h l = weaker (λ u r. a_register r) (x_printed d n h)
-source_printed d k names (operands.Y n) table e h l = weaker (λ u r. a_register r) (y_printed d n h)
-source_printed d k names (operands.Integer n) table e h l = weaker (λ u i. a_value (an_integer i)) (integer_operand d names n h)
-source_printed d k names (operands.Atom a) table e h l = weaker (λ u i. a_value (an_atom i)) (atom_printed d names a table h)
-source_printed d k names operands.Nil table e h l = nil_printed (suc d) names
-source_printed d k names (operands.Literal t) table e h l = literal_printed d k names t table h l
-source_printed d k names _ table e h l = absurd (cc)
-
-y_register : (d k : ℕ) (names : Table) (o : Operand) → is_one sorts.YRegister o ≡ true → IsWritableOperand names k o → Printed (suc d) (operand_text names o) (λ u. IsOperand names sorts.YRegister u o names)
-y_register d k names (operands.Y n) e h = weaker (λ u r. ((n, r, refl), refl)) (y_printed d n h)
-y_register d k names _ e h = absurd (cc)
-
-target_operand : (d k : ℕ) (names : Table) (o : Operand) → is_one sorts.Target o ≡ true → IsWritableOperand names k o → Printed (suc d) (operand_text names o) (λ u. IsOperand names sorts.Target u o names)
-target_operand d k names (operands.Label n) e h = weaker (λ u t. ((n, t, refl), refl)) (target_printed d n h)
-target_operand d k names _ e h = absurd (cc)
-
-place_operand : (d k : ℕ) (names : Table) (o : Operand) → is_one sorts.Place o ≡ true → IsWritableOperand names k o → Printed (suc d) (operand_text names o) (λ u. IsOperand names sorts.Place u o names)
-place_operand d k names (operands.Place n) e h = weaker (λ u t. ((n, t, refl), refl)) (number_alone (suc d) n h)
-place_operand d k names _ e h = absurd (cc)
-
-number_operand : (d k : ℕ) (names : Table) (o : Operand) → is_one sorts.Number o ≡ true → IsWritableOperand names k o → Printed (suc d) (operand_text names o) (λ u. IsOperand names sorts.Number u o names)
-number_operand d k names (operands.Number n) e h = weaker (λ u t. ((n, t, refl), refl)) (number_alone (suc d) n h)
-number_operand d k names _ e h = absurd (cc)
-
-arity_operand : (d k : ℕ) (names : Table) (o : Operand) → is_one sorts.Arity o ≡ true → IsWritableOperand names k o → Printed (suc d) (operand_text names o) (λ u. IsOperand names sorts.Arity u o names)
-arity_operand d k names (operands.Arity n) e h = weaker (λ u t. ((n, t, refl), refl)) (number_alone (suc d) n h)
-arity_operand d k names _ e h = absurd (cc)
-
-atom_operand : (d k : ℕ) (names : Table) (o : Operand) → IsAtomTable names → is_one sorts.Atom o ≡ true → IsWritableOperand names k o → Printed (suc d) (operand_text names o) (λ u. IsOperand names sorts.Atom u o names)
-atom_operand d k names (operands.Atom a) table e h = atom_printed d names a table h
-atom_operand d k names _ table e h = absurd (cc)
-
-callee_operand : (d k : ℕ) (names : Table) (o : Operand) → IsAtomTable names → is_one sorts.Callee o ≡ true → IsWritableOperand names k o → Printed (suc d) (operand_text names o) (λ u. IsOperand names sorts.Callee u o names)
-callee_operand d k names (operands.Import i) table e h = callee_printed d names i table h
-callee_operand d k names _ table e h = absurd (cc)
-
-amount_operand : (d k : ℕ) (names : Table) (o : Operand) → IsAtomTable names → is_one sorts.Amount o ≡ true → IsWritableOperand names k o → Printed (suc d) (operand_text names o) (λ u. IsOperand names sorts.Amount u o names)
-amount_operand d k names (operands.Amount a) table e h = amount_printed d names a table h
-amount_operand d k names _ table e h = absurd (cc)
-
-bif0_operand : (d : ℕ) (names : Table) (o : Operand) → is_one sorts.Bif0 o ≡ true → Printed d (operand_text names o) (λ u. IsOperand names sorts.Bif0 u o names)
-bif0_operand d names (operands.Bif b) e = weaker (λ u i. (i, refl)) (bif_printed d names b 0 e)
-bif0_operand d names _ e = absurd (cc)
-
-bif1_operand : (d : ℕ) (names : Table) (o : Operand) → is_one sorts.Bif1 o ≡ true → Printed d (operand_text names o) (λ u. IsOperand names sorts.Bif1 u o names)
-bif1_operand d names (operands.Bif b) e = weaker (λ u i. (i, refl)) (bif_printed d names b 1 e)
-bif1_operand d names _ e = absurd (cc)
-
-bif2_operand : (d : ℕ) (names : Table) (o : Operand) → is_one sorts.Bif2 o ≡ true → Printed d (operand_text names o) (λ u. IsOperand names sorts.Bif2 u o names)
-bif2_operand d names (operands.Bif b) e = weaker (λ u i. (i, refl)) (bif_printed d names b 2 e)
-bif2_operand d names _ e = absurd (cc)
-
-mark_operand : (d : ℕ) (names : Table) (o : Operand) → is_one sorts.Mark o ≡ true → Printed d (operand_text names o) (λ u. IsOperand names sorts.Mark u o names)
-mark_operand d names operands.Nil e = weaker (λ u i. (refl, refl)) (nil_printed d names)
-mark_operand d names _ e = absurd (cc)
-
 -- whether a literal of a sort that nests k deep may stand where d are left; a BIF's label is said separately
 abbrev pub suits : ℕ → ℕ → Sort → Bool
 suits d k sorts.Source = nat_le k d
 suits d k sorts.Fail = false
 suits d k s = true
 
-is_at_most : (k d : ℕ) → nat_le k d ≡ true → k ≤ d
-is_at_most k d e = grind (arith, nat_tests)
-
 pub operand_printed : (d k : ℕ) (names : Table) (s : Sort) (o : Operand) → IsAtomTable names → is_one s o ≡ true → IsWritableOperand names k o → suits d k s ≡ true
     → Printed (suc d) (operand_text names o) (λ u. IsOperand names s u o names)
-operand_printed d k names sorts.Source o table e h l = source_printed d k names o table e h (is_at_most k d l)
-operand_printed d k names sorts.Value o table e h l = value_printed d k names o table e h
-operand_printed d k names sorts.Register o table e h l = weaker (λ u r. (r, refl)) (register_printed d k names o e h)
-operand_printed d k names sorts.YRegister o table e h l = y_register d k names o e h
-operand_printed d k names sorts.Target o table e h l = target_operand d k names o e h
-operand_printed d k names sorts.Fail o table e h l = absurd (cc)
-operand_printed d k names sorts.Place o table e h l = place_operand d k names o e h
-operand_printed d k names sorts.Number o table e h l = number_operand d k names o e h
-operand_printed d k names sorts.Arity o table e h l = arity_operand d k names o e h
-operand_printed d k names sorts.Atom o table e h l = atom_operand d k names o table e h
-operand_printed d k names sorts.Callee o table e h l = callee_operand d k names o table e h
-operand_printed d k names sorts.Bif0 o table e h l = bif0_operand (suc d) names o e
-operand_printed d k names sorts.Bif1 o table e h l = bif1_operand (suc d) names o e
-operand_printed d k names sorts.Bif2 o table e h l = bif2_operand (suc d) names o e
-operand_printed d k names sorts.Mark o table e h l = mark_operand (suc d) names o e
-operand_printed d k names sorts.Amount o table e h l = amount_operand d k names o table e h
+operand_printed d k names sorts.Source (operands.X n) table e h l = weaker (λ u r. a_register r) (x_printed d n h)
+operand_printed d k names sorts.Source (operands.Y n) table e h l = weaker (λ u r. a_register r) (y_printed d n h)
+operand_printed d k names sorts.Source (operands.Integer n) table e h l = weaker (λ u i. a_value (an_integer i)) (integer_operand d names n h)
+operand_printed d k names sorts.Source (operands.Atom a) table e h l = weaker (λ u i. a_value (an_atom i)) (atom_printed d names a table h)
+operand_printed d k names sorts.Source operands.Nil table e h l = nil_printed (suc d) names
+operand_printed d k names sorts.Source (operands.Literal t) table e h l = literal_printed d k names t table h (leb-true k d l)
+operand_printed d k names sorts.Value (operands.Integer n) table e h l = weaker (λ u i. an_integer i) (integer_operand d names n h)
+operand_printed d k names sorts.Value (operands.Atom a) table e h l = weaker (λ u i. an_atom i) (atom_printed d names a table h)
+operand_printed d k names sorts.Register (operands.X n) table e h l = weaker (λ u r. (r, refl)) (x_printed d n h)
+operand_printed d k names sorts.Register (operands.Y n) table e h l = weaker (λ u r. (r, refl)) (y_printed d n h)
+operand_printed d k names sorts.YRegister (operands.Y n) table e h l = weaker (λ u r. ((n, r, refl), refl)) (y_printed d n h)
+operand_printed d k names sorts.Target (operands.Label n) table e h l = weaker (λ u t. ((n, t, refl), refl)) (target_printed d n h)
+operand_printed d k names sorts.Place (operands.Place n) table e h l = weaker (λ u t. ((n, t, refl), refl)) (number_alone (suc d) n h)
+operand_printed d k names sorts.Number (operands.Number n) table e h l = weaker (λ u t. ((n, t, refl), refl)) (number_alone (suc d) n h)
+operand_printed d k names sorts.Arity (operands.Arity n) table e h l = weaker (λ u t. ((n, t, refl), refl)) (number_alone (suc d) n h)
+operand_printed d k names sorts.Atom (operands.Atom a) table e h l = atom_printed d names a table h
+operand_printed d k names sorts.Callee (operands.Import i) table e h l = callee_printed d names i table h
+operand_printed d k names sorts.Bif0 (operands.Bif b) table e h l = weaker (λ u i. (i, refl)) (bif_printed (suc d) names b 0 e)
+operand_printed d k names sorts.Bif1 (operands.Bif b) table e h l = weaker (λ u i. (i, refl)) (bif_printed (suc d) names b 1 e)
+operand_printed d k names sorts.Bif2 (operands.Bif b) table e h l = weaker (λ u i. (i, refl)) (bif_printed (suc d) names b 2 e)
+operand_printed d k names sorts.Mark operands.Nil table e h l = weaker (λ u i. (refl, refl)) (nil_printed (suc d) names)
+operand_printed d k names sorts.Amount (operands.Amount a) table e h l = amount_printed d names a table h
+operand_printed d k names _ _ table e h l = absurd (cc)
