@@ -1,11 +1,11 @@
 -- What an instruction, and what a signal, makes of the mailbox of its process, where that lives on.
-use Rattle.std.proofs.Common.{◌≡◌, ℕ, [], ◌∷◌, Bool, true, false, Some, None, refl, ap, ◌∙◌}
+use Rattle.std.proofs.Common.{◌≡◌, ℕ, List, [], ◌∷◌, Bool, true, false, Some, None, refl, ap, ◌∙◌}
 use Rattle.std.specs.Prelude.{if◌then◌else◌, ◌==◌, ◌||◌, not, nat_le}
 use Rattle.bx_terms.specs.Tree.{Tree, atom, height}
 use Rattle.bx_terms.specs.declared.fixed.TheConstants.{TRUE, KILLED}
 use Rattle.bx_load.specs.Image.{Loaded}
 use Rattle.bx_mail.specs.Mail.{Mail, added}
-use Rattle.bx_mail.specs.History.{Add, all_done}
+use Rattle.bx_mail.specs.History.{Operation, Add, all_done}
 use Rattle.bx_signals.specs.declared.signal.Signal.{Signal}
 use Rattle.bx_signals.specs.declared.signal.Signal.TheVariants as signals
 use Rattle.bx_cells.specs.Links.{among}
@@ -23,8 +23,7 @@ use Rattle.bx_world.specs.declared.turns.Turn.TheVariants as turns
 use Rattle.bx_world.specs.Requests.{requested}
 use Rattle.bx_world.specs.Deeds.{Deed, leaves, closes, puts, yes, badarg, exit_message, is_kill, is_normal, low_enough, unlinked_done, notes, exits_itself, performs, did, instruction, hears, dies, is_told, exit_comes, signalled}
 use Rattle.bx_run_laws.specs.Mailings.{by_exit, unless_killed, by_request, by_effect, by_run, by_signal}
-use Rattle.bx_run_laws.proofs.Settled.{settled_keeps}
-use Rattle.bx_run_laws.proofs.Attempted.{RanWith, attempted_ran}
+use Rattle.bx_run_laws.proofs.Attempted.{RanWith, attempted_ran, settled_keeps}
 
 module _ (x : Process) where
   -- a process that goes on has this mailbox; where a spawn is asked for, so has the one that asked
@@ -39,17 +38,11 @@ module _ (x : Process) where
 
   pub closes_so : (mail : Mail) (said : Process × Effect) → RanWith mail said → Leads mail (closes said)
   closes_so mail (y, effects.Ran) h = h
-  closes_so mail (y, effects.Ended reason) h = tt
-  closes_so mail (y, effects.Trap kind) h = tt
-  closes_so mail (y, effects.Send to message) h = tt
-  closes_so mail (y, effects.Ask native ts) h = tt
+  closes_so mail _ h = tt
 
   closes_same : (mail : Mail) (y : Process) (effect : Effect) → y.mailbox ≡ mail → Leads mail (closes (y, effect))
   closes_same mail y effects.Ran h = h
-  closes_same mail y (effects.Ended reason) h = tt
-  closes_same mail y (effects.Trap kind) h = tt
-  closes_same mail y (effects.Send to message) h = tt
-  closes_same mail y (effects.Ask native ts) h = tt
+  closes_same mail y _ h = tt
 
   -- an answer
   pub closed : (image : Loaded) (answer : Answer) (y : Process) → y.mailbox ≡ x.mailbox → Leads x.mailbox (closes (settled image answer y))
@@ -58,10 +51,7 @@ module _ (x : Process) where
   -- an answer with a message to itself
   noted_ran : (message : Tree) (y : Process) (effect : Effect) → y.mailbox ≡ x.mailbox → RanWith (added x.mailbox message) (noted message (y, effect))
   noted_ran message y effects.Ran h = ap (λ mail. added mail message) h
-  noted_ran message y (effects.Ended reason) h = tt
-  noted_ran message y (effects.Trap kind) h = tt
-  noted_ran message y (effects.Send to other) h = tt
-  noted_ran message y (effects.Ask native ts) h = tt
+  noted_ran message y _ h = tt
 
   noted_so : (image : Loaded) (v message : Tree) → Leads (added x.mailbox message) (closes (settled_with image (Value v) message x))
   unfolding settled_with
@@ -73,38 +63,34 @@ module _ (x : Process) where
   notes_so image message true = noted_so image (atom TRUE.0) message
   notes_so image message false = tt
 
+  -- by a test
+  tested : (b : Bool) (some more : List Operation) (d e : Deed) → Leads (all_done x.mailbox some) d → Leads (all_done x.mailbox more) e → Leads (all_done x.mailbox (if b then some else more)) (if b then d else e)
+  tested true some more d e h k = h
+  tested false some more d e h k = k
+
+  either : (mail : Mail) (b : Bool) (d e : Deed) → Leads mail d → Leads mail e → Leads mail (if b then d else e)
+  either mail true d e h k = h
+  either mail false d e h k = k
+
   itself : (image : Loaded) (p : ℕ) (reason : Tree) → Leads (all_done x.mailbox (unless_killed p reason x)) (exits_itself image p reason x)
-  itself image p reason = go (is_kill reason) x.trap_exit
-    where
-      go : (kill traps : Bool) → Leads (all_done x.mailbox (if kill then [] else if traps then Add (exit_message p reason) ∷ [] else []))
-          (if kill then leaves x (atom KILLED.0) else if traps then notes image yes x (low_enough (exit_message p reason)) else leaves x reason)
-      go true traps = tt
-      go false true = notes_so image (exit_message p reason) (nat_le (height (exit_message p reason)) 10000)
-      go false false = tt
+  itself image p reason =
+      let told = notes image yes x (low_enough (exit_message p reason)) in
+      tested (is_kill reason) [] (by_exit p reason x) (leaves x (atom KILLED.0)) (if x.trap_exit then told else leaves x reason) tt
+      (tested x.trap_exit (Add (exit_message p reason) ∷ []) [] told (leaves x reason) (notes_so image (exit_message p reason) (nat_le (height (exit_message p reason)) 10000)) tt)
 
   -- what a process asks of the world
   performed : (image : Loaded) (p : ℕ) (r : Request) → Leads (all_done x.mailbox (by_request p x (Some r))) (performs image p r x)
   performed image p requests.Refused = closed image badarg x refl
-  performed image p (requests.Send q message) = go (q == p)
-    where
-      go : (b : Bool) → Leads (all_done x.mailbox (if b then Add message ∷ [] else [])) (if b then closes (settled_with image (Value message) message x) else puts q (signals.Message message) (closes (settled image (Value message) x)))
-      go true = noted_so image message message
-      go false = closed image (Value message) x refl
-  performed image p (requests.Exit q reason) = go (q == p)
-    where
-      go : (b : Bool) → Leads (all_done x.mailbox (if b then unless_killed p reason x else [])) (if b then exits_itself image p reason x else puts q (signals.Exit reason) (closes (settled image yes x)))
-      go true = itself image p reason
-      go false = closed image yes x refl
-  performed image p (requests.Link q) = go ((q == p) || among q x.links)
-    where
-      go : (b : Bool) → Leads x.mailbox (if b then closes (settled image yes x) else puts q signals.Link (closes (settled image yes (with_link q x))))
-      go true = closed image yes x refl
-      go false = closed image yes (with_link q x) refl
-  performed image p (requests.Unlink q) = go ((q == p) || not (among q x.links))
-    where
-      go : (b : Bool) → Leads x.mailbox (if b then closes (settled image yes x) else puts q signals.Unlink (closes (unlinked_done q (settled image yes x))))
-      go true = closed image yes x refl
-      go false = closes_same x.mailbox (without_link q (settled image yes x).0) (settled image yes x).1 (settled_keeps image yes x)
+  performed image p (requests.Send q message) =
+      tested (q == p) (Add message ∷ []) [] (closes (settled_with image (Value message) message x)) (puts q (signals.Message message) (closes (settled image (Value message) x)))
+      (noted_so image message message) (closed image (Value message) x refl)
+  performed image p (requests.Exit q reason) =
+      tested (q == p) (unless_killed p reason x) [] (exits_itself image p reason x) (puts q (signals.Exit reason) (closes (settled image yes x))) (itself image p reason) (closed image yes x refl)
+  performed image p (requests.Link q) =
+      either x.mailbox ((q == p) || among q x.links) (closes (settled image yes x)) (puts q signals.Link (closes (settled image yes (with_link q x)))) (closed image yes x refl) (closed image yes (with_link q x) refl)
+  performed image p (requests.Unlink q) =
+      either x.mailbox ((q == p) || not (among q x.links)) (closes (settled image yes x)) (puts q signals.Unlink (closes (unlinked_done q (settled image yes x)))) (closed image yes x refl)
+      (closes_same x.mailbox (without_link q (settled image yes x).0) (settled image yes x).1 (settled_keeps image yes x))
   performed image p (requests.Display term) = closed image yes x refl
   performed image p (requests.Spawn spawn) = (refl, refl)
 
@@ -112,8 +98,7 @@ module _ (x : Process) where
   did_so image p y effects.Ran h = h
   did_so image p y (effects.Send to message) h = performed image p (requests.Send to message)
   did_so image p y (effects.Ask native ts) h = performed image p (requested native ts)
-  did_so image p y (effects.Ended reason) h = tt
-  did_so image p y (effects.Trap kind) h = tt
+  did_so image p y _ h = tt
 
   pub instructed : (image : Loaded) (p : ℕ) → Leads (all_done x.mailbox (by_run image p x)) (instruction image p x)
   instructed image p = did_so image p (attempted image p x).0 (attempted image p x).1 (attempted_ran image p x)
@@ -123,29 +108,13 @@ module _ (x : Process) where
   told_so message y true h = ap (λ mail. added mail message) h
   told_so message y false h = tt
 
-  ignored_so : (reason : Tree) (y : Process) (normal : Bool) → y.mailbox ≡ x.mailbox → Leads x.mailbox (if normal then hears y turns.Ran else dies y reason)
-  ignored_so reason y true h = h
-  ignored_so reason y false h = tt
-
   exit_so : (p : ℕ) (reason : Tree) (y : Process) → y.mailbox ≡ x.mailbox → Leads (all_done x.mailbox (by_exit p reason x)) (exit_comes p x y reason)
-  exit_so p reason y h = go x.trap_exit
-    where
-      go : (traps : Bool) → Leads (all_done x.mailbox (if traps then Add (exit_message p reason) ∷ [] else []))
-          (if traps then is_told x y (low_enough (exit_message p reason)) else if is_normal reason then hears y turns.Ran else dies y reason)
-      go true = told_so (exit_message p reason) y (nat_le (height (exit_message p reason)) 10000) h
-      go false = ignored_so reason y (is_normal reason) h
+  exit_so p reason y h =
+      tested x.trap_exit (Add (exit_message p reason) ∷ []) [] (is_told x y (low_enough (exit_message p reason))) (if is_normal reason then hears y turns.Ran else dies y reason)
+      (told_so (exit_message p reason) y (nat_le (height (exit_message p reason)) 10000) h) (either x.mailbox (is_normal reason) (hears y turns.Ran) (dies y reason) h tt)
 
   pub signalled_so : (p : ℕ) (s : Signal) → Leads (all_done x.mailbox (by_signal p x s)) (signalled p x s)
-  signalled_so p (signals.Message message) = refl
-  signalled_so p signals.Link = refl
-  signalled_so p signals.Unlink = refl
-  signalled_so p (signals.LinkExit reason) = go (among p x.links)
-    where
-      go : (b : Bool) → Leads (all_done x.mailbox (if b then by_exit p reason x else [])) (if b then exit_comes p x (without_link p x) reason else hears x turns.Ran)
-      go true = exit_so p reason (without_link p x) refl
-      go false = refl
-  signalled_so p (signals.Exit reason) = go (is_kill reason)
-    where
-      go : (b : Bool) → Leads (all_done x.mailbox (if b then [] else by_exit p reason x)) (if b then dies x (atom KILLED.0) else exit_comes p x x reason)
-      go true = tt
-      go false = exit_so p reason x refl
+  signalled_so p (signals.LinkExit reason) =
+      tested (among p x.links) (by_exit p reason x) [] (exit_comes p x (without_link p x) reason) (hears x turns.Ran) (exit_so p reason (without_link p x) refl) refl
+  signalled_so p (signals.Exit reason) = tested (is_kill reason) [] (by_exit p reason x) (dies x (atom KILLED.0)) (exit_comes p x x reason) tt (exit_so p reason x refl)
+  signalled_so p _ = refl

@@ -1,4 +1,3 @@
-pub mod Arrived
 pub mod Attempted
 pub mod Deeds
 pub mod Mailed
@@ -6,4 +5,3 @@ pub mod Numbered
 pub mod PartReports
 pub mod Parting
 pub mod Removed
-pub mod Settled

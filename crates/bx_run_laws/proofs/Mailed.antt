@@ -1,7 +1,7 @@
--- What choices make of the mailbox of one process, told by what is done to it.
-use Rattle.std.proofs.Common.{◌≡◌, ◌≢◌, ℕ, zero, suc, ◌<◌, List, [], ◌∷◌, ◌++◌, Bool, true, false, Option, Some, None, Ok, Err, length, refl, sym, subst, ◌∙◌, arith, length-append}
+-- What choices make of the mailbox of one process, told by what is done to it: so which messages it holds, and which is the current one.
+use Rattle.std.proofs.Common.{◌≡◌, ◌≢◌, ℕ, zero, suc, ◌<◌, List, [], ◌∷◌, ◌++◌, Bool, true, false, Option, Some, None, Ok, Err, length, refl, sym, subst, ◌∙◌, arith, length-append, eqb-true}
+use Rattle.std.proofs.lemmas.Bool.{eqb-false}
 use Rattle.std.specs.Prelude.{◌==◌, if◌then◌else◌, slice_get}
-use Rattle.std.proofs.lemmas.Bool.Decides.{nat_tests}
 use Rattle.std.proofs.lemmas.Option.{slice_get_within}
 use Rattle.bx_terms.specs.Tree.{pid}
 use Rattle.bx_terms.specs.declared.faults.Fault.TheVariants.{NotEnabled}
@@ -25,8 +25,10 @@ use Rattle.bx_world.specs.Changes.{Coming, turned_to, change, spawned, run_turn,
 use Rattle.bx_world.specs.Choosing.{chosen}
 use Rattle.bx_world.specs.Posting.{behind, all_behind}
 use Rattle.bx_world.proofs.Confined.{get_set_other, get_set_same}
+use Rattle.bx_run_laws.specs.Earliest.{AreLeft}
 use Rattle.bx_run_laws.specs.Mailings.{by_choice, unless_trap, mailed, all_mailed}
 use Rattle.bx_run_laws.proofs.Deeds.{TurnsTo, Leads, closed, instructed, signalled_so}
+use Rattle.bx_run_laws.proofs.Numbered.{TheEarliest, earliest, those_stand}
 
 -- who lives has this mailbox; one who does not live yet will have an empty one
 abbrev pub Has : Mail → Option Life → Type 0
@@ -52,6 +54,10 @@ Comes mail one (Ok (Ok made)) = Becomes mail one made.life × IsNew made.child
 Comes mail one (Ok (Err kind)) = Unit {0}
 Comes mail one (Err fault) = Unit {0}
 
+by_test : {A : Type 0} (P : A → Type 0) (b : Bool) (x y : A) → P x → P y → P (if b then x else y)
+by_test P true x y h k = h
+by_test P false x y h k = k
+
 -- ---- a change of a process that lives
 
 module _ (x : Process) where
@@ -71,14 +77,12 @@ module _ (x : Process) where
 
   spawned_comes : (image : Loaded) (p count : ℕ) (spawn : SpawnRequest) → Comes x.mailbox (Some (Live x)) (Ok (spawned image p count spawn x))
   spawned_comes image p count spawn =
-      go (past_limits spawn count) (is_answered image None system_limit x) (is_answered image (other_if spawn.linked count) (Value (pid count)) x) (new_child image p spawn)
-      (closed x image system_limit x refl) (closed x image (Value (pid count)) (linked_to (other_if spawn.linked count) x) (linked_mail (other_if spawn.linked count) x))
-      (linked_mail (other_if spawn.linked p) (new_process (export image spawn.«module» spawn.function (length spawn.arguments)) spawn.arguments))
-    where
-      go : (b : Bool) (refused answered : Deed) (child : Process) → Leads x x.mailbox refused → Leads x x.mailbox answered → child.mailbox ≡ empty
-          → Comes x.mailbox (Some (Live x)) (Ok (if b then change None refused else change (Some child) answered))
-      go true refused answered child h k new = changed x.mailbox None refused h tt
-      go false refused answered child h k new = changed x.mailbox (Some child) answered k new
+      let refused = is_answered image None system_limit x in
+      let answered = is_answered image (other_if spawn.linked count) (Value (pid count)) x in
+      let child = new_child image p spawn in
+      by_test (λ c. Comes x.mailbox (Some (Live x)) (Ok c)) (past_limits spawn count) (change None refused) (change (Some child) answered) (changed x.mailbox None refused (closed x image system_limit x refl) tt)
+      (changed x.mailbox (Some child) answered (closed x image (Value (pid count)) (linked_to (other_if spawn.linked count) x) (linked_mail (other_if spawn.linked count) x))
+      (linked_mail (other_if spawn.linked p) (new_process (export image spawn.«module» spawn.function (length spawn.arguments)) spawn.arguments)))
 
   -- a run
   run_comes : (image : Loaded) (p count : ℕ) (mail : Mail) (turn : Turn) (deed : Deed) → TurnsTo x mail turn deed.process → Comes mail (Some (Live x)) (Ok (run_turn turn image p count x (record deed { turn = turn })))
@@ -86,10 +90,6 @@ module _ (x : Process) where
   run_comes image p count mail (turns.Ended reason) deed h = ((tt, tt), tt)
   run_comes image p count mail (turns.Trapped kind) deed h = tt
   run_comes image p count mail (turns.Spawns spawn) deed h = subst (λ m. Comes m (Some (Live x)) (Ok (spawned image p count spawn x))) h.1 (spawned_comes image p count spawn)
-
-  either : (mail : Mail) (b : Bool) (c d : Coming) → Comes mail (Some (Live x)) c → Comes mail (Some (Live x)) d → Comes mail (Some (Live x)) (if b then c else d)
-  either mail true c d h k = h
-  either mail false c d h k = k
 
   expired_mail : (b : Bool) → (expired_if b x).mailbox ≡ x.mailbox
   expired_mail true = refl
@@ -99,25 +99,20 @@ module _ (x : Process) where
   lived image (Run p) count s =
       let deed = instruction image p x in
       let mail = all_done x.mailbox (by_choice image (Run p) (Some (Live x)) s) in
-      either mail (can_run x) (Ok (run_change image p count x)) (Err NotEnabled) (run_comes image p count mail deed.turn deed (instructed x image p)) tt
+      by_test (Comes mail (Some (Live x))) (can_run x) (Ok (run_change image p count x)) (Err NotEnabled) (run_comes image p count mail deed.turn deed (instructed x image p)) tt
   lived image (Deliver p q) count None = tt
   lived image (Deliver p q) count (Some s) = changed (all_done x.mailbox (by_choice image (Deliver p q) (Some (Live x)) (Some s))) None (signalled p x s) (signalled_so x p s) tt
   lived image (Expire p) count s =
-      either x.mailbox (can_expire x) (Ok (Ok (record { life = Some (Live (expired x)); child = None; posts = []; takes = false; shows = None }))) (Err NotEnabled)
+      by_test (Comes x.mailbox (Some (Live x))) (can_expire x) (Ok (Ok (record { life = Some (Live (expired x)); child = None; posts = []; takes = false; shows = None }))) (Err NotEnabled)
       ((tt, expired_mail (can_expire x)), tt) tt
 
 -- ---- a change of any life
 
 comes : (image : Loaded) (c : Choice) (one : Option Life) (count : ℕ) (s : Option Signal) (mail : Mail) → Has mail one → Comes (all_done mail (by_choice image c one s)) one (change_of image c one count s)
 comes image c (Some (Live x)) count s mail h = subst (λ m. Comes (all_done m (by_choice image c (Some (Live x)) s)) (Some (Live x)) (change_of image c (Some (Live x)) count s)) h (lived x image c count s)
-comes image (Run p) None count s mail h = tt
-comes image (Run p) (Some (Exited reason)) count s mail h = tt
-comes image (Deliver p q) None count None mail h = tt
 comes image (Deliver p q) None count (Some s) mail h = (h, tt)
-comes image (Deliver p q) (Some (Exited reason)) count None mail h = tt
 comes image (Deliver p q) (Some (Exited reason)) count (Some s) mail h = ((tt, tt), tt)
-comes image (Expire p) None count s mail h = tt
-comes image (Expire p) (Some (Exited reason)) count s mail h = tt
+comes image _ _ count _ mail h = tt
 
 -- ---- among the others
 
@@ -150,64 +145,40 @@ other : (mail : Mail) (p k : ℕ) (lives : List Life) (life : Option Life) (chil
 other mail p k lives None child apart new h = born mail child lives k new h
 other mail p k lives (Some life) child apart new h = subst (λ o. Has mail o) (sym (get_set_other (with_child child lives) p k life apart)) (born mail child lives k new h)
 
-is_that : (m n : ℕ) → (m == n) ≡ true → m ≡ n
-is_that m n h = grind (arith, nat_tests)
-
-is_not : (m n : ℕ) → (m == n) ≡ false → m ≢ n
-is_not m n h = grind (arith, nat_tests)
-
 -- ---- one choice in a world
-
--- a child has no message, whoever bears it
-abbrev Bears : Coming → Type 0
-Bears (Ok (Ok made)) = IsNew made.child
-Bears (Ok (Err kind)) = Unit {0}
-Bears (Err fault) = Unit {0}
-
-bears : (mail : Mail) (one : Option Life) (x : Coming) → Comes mail one x → Bears x
-bears mail one (Ok (Ok made)) h = h.1
-bears mail one (Ok (Err kind)) h = tt
-bears mail one (Err fault) h = tt
 
 some_mail : (one : Option Life) → (mail : Mail) × Has mail one
 some_mail None = (empty, refl)
 some_mail (Some (Live x)) = (x.mailbox, refl)
 some_mail (Some (Exited reason)) = (empty, tt)
 
-applied : (c : Choice) (w : State) (p : ℕ) (mail : Mail) (operations : List Operation) (x : Coming) → Has mail (slice_get w.processes p)
-    → (p ≡ actor c → Comes (all_done mail operations) (slice_get w.processes (actor c)) x) → Bears x
+-- whatever the mailbox of its process was
+abbrev ComesSo : Choice → State → List Operation → Coming → Type 0
+ComesSo c w operations x = (mail : Mail) → Has mail (slice_get w.processes (actor c)) → Comes (all_done mail operations) (slice_get w.processes (actor c)) x
+
+applied : (c : Choice) (w : State) (p : ℕ) (mail : Mail) (operations : List Operation) (x : Coming) → Has mail (slice_get w.processes p) → ComesSo c w operations x
     → Has (all_done mail (if p == actor c then unless_trap x operations else [])) (slice_get (after c w x).processes p)
-applied c w p mail operations (Ok (Ok made)) h here new = go (p == actor c) refl
+applied c w p mail operations (Ok (Ok made)) h so = go (p == actor c) refl
   where
+    -- a child has no message, whoever bears it
+    new : IsNew made.child
+    new = let some = some_mail (slice_get w.processes (actor c)) in (so some.0 some.1).1
+
     go : (b : Bool) → (p == actor c) ≡ b → Has (all_done mail (if b then operations else [])) (slice_get (with_life (actor c) made.life (with_child made.child w.processes)) p)
     go true e =
-        let same : p ≡ actor c = is_that p (actor c) e in
+        let same = eqb-true p (actor c) e in
         subst (λ k. Has (all_done mail operations) (slice_get (with_life (actor c) made.life (with_child made.child w.processes)) k)) (sym same)
-        (own (all_done mail operations) (actor c) w.processes made.life made.child (here same).0 new)
-    go false e = other mail (actor c) p w.processes made.life made.child (is_not p (actor c) e) new h
-applied c w p mail operations (Ok (Err kind)) h here new = nothing (p == actor c)
-  where
-    nothing : (b : Bool) → Has (all_done mail (if b then [] else [])) (slice_get w.processes p)
-    nothing true = h
-    nothing false = h
-applied c w p mail operations (Err fault) h here new = nothing (p == actor c)
-  where
-    nothing : (b : Bool) → Has (all_done mail (if b then [] else [])) (slice_get w.processes p)
-    nothing true = h
-    nothing false = h
+        (own (all_done mail operations) (actor c) w.processes made.life made.child (so mail (subst (λ k. Has mail (slice_get w.processes k)) same h)).0 new)
+    go false e = other mail (actor c) p w.processes made.life made.child (eqb-false p (actor c) e) new h
+applied c w p mail operations _ h so = by_test (λ none. Has (all_done mail none) (slice_get w.processes p)) (p == actor c) [] [] h h
 
 pub step : (image : Loaded) (c : Choice) (w : State) (p : ℕ) (mail : Mail) → Has mail (slice_get w.processes p) → Has (all_done mail (mailed image c w p)) (slice_get (behind image c w).processes p)
-step image c w p mail h =
-    let one = slice_get w.processes (actor c) in
-    let signal = heeds c w.lanes.channels in
-    let some = some_mail one in
-    go (can w c) (by_choice image c one signal) (λ same. comes image c one (length w.processes) signal mail (subst (λ k. Has mail (slice_get w.processes k)) same h))
-    (bears (all_done some.0 (by_choice image c one signal)) one (coming image c w) (comes image c one (length w.processes) signal some.0 some.1))
+step image c w p mail h = go (can w c) (by_choice image c (slice_get w.processes (actor c)) (heeds c w.lanes.channels)) (comes image c (slice_get w.processes (actor c)) (length w.processes) (heeds c w.lanes.channels))
   where
-    go : (b : Bool) (operations : List Operation) → (p ≡ actor c → Comes (all_done mail operations) (slice_get w.processes (actor c)) (coming image c w)) → Bears (coming image c w)
+    go : (b : Bool) (operations : List Operation) → ComesSo c w operations (coming image c w)
         → Has (all_done mail (if b then if p == actor c then unless_trap (coming image c w) operations else [] else [])) (slice_get (if b then chosen image c w else w).processes p)
-    go true operations come new = applied c w p mail operations (coming image c w) h come new
-    go false operations come new = h
+    go true operations so = applied c w p mail operations (coming image c w) h so
+    go false operations so = h
 
 -- ---- choices in a row
 
@@ -236,3 +207,16 @@ begins place (suc p) = refl
 pub from_start : (image : Loaded) (choices : List Choice) (place : Place) (p : ℕ) (x : Process) → slice_get (all_behind image choices (begun place)).processes p ≡ Some (Live x)
     → x.mailbox ≡ all_done empty (all_mailed image choices (begun place) p)
 from_start image choices place p x at = subst (Has (all_done empty (all_mailed image choices (begun place) p))) at (all_steps image choices (begun place) p empty (begins place p))
+
+-- ---- which messages stand there
+
+pub current_earliest : (image : Loaded) (choices : List Choice) (place : Place) (p : ℕ) (x : Process) → slice_get (all_behind image choices (begun place)).processes p ≡ Some (Live x)
+    → TheEarliest (all_mailed image choices (begun place) p) x.mailbox
+current_earliest image choices place p x at =
+    let operations = all_mailed image choices (begun place) p in subst (TheEarliest operations) (sym (from_start image choices place p x at)) (earliest operations)
+
+pub left_in_order : (image : Loaded) (choices : List Choice) (place : Place) (p : ℕ) (x : Process) → slice_get (all_behind image choices (begun place)).processes p ≡ Some (Live x)
+    → AreLeft (all_mailed image choices (begun place) p) (x.mailbox.passed ++ x.mailbox.rest)
+left_in_order image choices place p x at =
+    let operations = all_mailed image choices (begun place) p in
+    subst (λ mail. AreLeft operations (mail.passed ++ mail.rest)) (sym (from_start image choices place p x at)) (those_stand operations)

@@ -1,6 +1,7 @@
 -- Messages behind their numbers in order of arrival are those that arrived.
-use Rattle.std.proofs.Common.{◌≡◌, ℕ, zero, suc, ◌+◌, ◌≤◌, List, [], ◌∷◌, ◌++◌, Some, length, refl, sym, ap, subst, ◌∙◌, arith, append_assoc, append-nil, length-append}
+use Rattle.std.proofs.Common.{◌≡◌, ℕ, ◌+◌, ◌≤◌, List, [], ◌∷◌, ◌++◌, Some, length, refl, sym, ap, subst, ◌∙◌, arith, append_assoc, append-nil, length-append}
 use Rattle.std.specs.Prelude.{map, slice_get, MatchOption}
+use Rattle.bx_share.proofs.Places.{get_more, get_last}
 use Rattle.bx_terms.specs.Tree.{Tree}
 use Rattle.bx_mail.specs.Mail.{Mail, empty, current, first, pass_first, take_first}
 use Rattle.bx_mail.specs.History.{Operation, Add, Current, Pass, Take, Reset, all_done, Numbered, numbers, messages, History, unused, recorded, all_recorded, history, Waits}
@@ -16,18 +17,9 @@ named_append : (came : List Tree) (xs ys : List Numbered) → Named came xs → 
 named_append came [] ys h k = k
 named_append came (x ∷ xs) ys h k = (h.0, named_append came xs ys h.1 k)
 
-get_before : (came : List Tree) (message last : Tree) (n : ℕ) → slice_get came n ≡ Some message → slice_get (came ++ last ∷ []) n ≡ Some message
-get_before [] message last n h = absurd (cc)
-get_before (one ∷ came) message last zero h = h
-get_before (one ∷ came) message last (suc n) h = get_before came message last n h
-
-get_last : (came : List Tree) (last : Tree) → slice_get (came ++ last ∷ []) (length came) ≡ Some last
-get_last [] last = refl
-get_last (one ∷ came) last = get_last came last
-
 named_before : (came : List Tree) (last : Tree) (xs : List Numbered) → Named came xs → Named (came ++ last ∷ []) xs
 named_before came last [] h = tt
-named_before came last (x ∷ xs) h = (get_before came x.1 last x.0 h.0, named_before came last xs h.1)
+named_before came last (x ∷ xs) h = (get_more came (last ∷ []) x.0 x.1 h.0, named_before came last xs h.1)
 
 record IsNamed (came : List Tree) (passed rest : List Numbered) (count : ℕ) : Type 0 where
   passed_are : Named came passed

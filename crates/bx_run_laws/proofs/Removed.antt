@@ -10,7 +10,6 @@ use Rattle.bx_terms.specs.declared.kinds.Trap.{Trap}
 use Rattle.bx_terms.specs.declared.places.Place.{Place}
 use Rattle.bx_ops.specs.declared.opcode.Op.TheVariants as ops
 use Rattle.bx_ops.specs.Table.{slots}
-use Rattle.bx_bifs.specs.declared.natives.Native.{Native}
 use Rattle.bx_listing.specs.declared.items.Operand.{Operand}
 use Rattle.bx_listing.specs.Items.{Item}
 use Rattle.bx_load.specs.Image.{Loaded, after}
@@ -19,12 +18,10 @@ use Rattle.bx_mail.specs.Mail.{Mail, current, first, take_first, taken}
 use Rattle.bx_mail.specs.History.{history, Waits}
 use Rattle.bx_proc.specs.declared.parts.Effect.{Effect}
 use Rattle.bx_proc.specs.declared.parts.Effect.TheVariants as effects
-use Rattle.bx_proc.specs.declared.parts.Status.{Status}
-use Rattle.bx_proc.specs.declared.parts.Status.TheVariants as states
 use Rattle.bx_proc.specs.Process.{Process, can_run}
 use Rattle.bx_proc.specs.Receiving.{a_message}
 use Rattle.bx_proc.specs.Rules.{went_on}
-use Rattle.bx_proc.specs.Stepping.{there, allowed, allowed_if, is_held_up, run, woken, tried, told, attempted}
+use Rattle.bx_proc.specs.Stepping.{run, woken, tried, told, attempted}
 use Rattle.bx_proc.specs.Table.{rule, own_rule, row}
 use Rattle.bx_proc.proofs.Taking.{each}
 use Rattle.bx_world.specs.declared.choices.Choice.{Choice}
@@ -39,7 +36,8 @@ use Rattle.bx_world.specs.Posting.{all_behind}
 use Rattle.bx_world.proofs.Confined.{get_set_same}
 use Rattle.bx_run_laws.specs.Earliest.{IsEarliest, Removes, TakesOut}
 use Rattle.bx_run_laws.specs.Mailings.{op_of, op_at, all_mailed}
-use Rattle.bx_run_laws.proofs.Arrived.{current_earliest}
+use Rattle.bx_run_laws.proofs.Attempted.{item_so, tried_so}
+use Rattle.bx_run_laws.proofs.Mailed.{current_earliest}
 
 -- a message is taken out, or it is a trap
 abbrev Removal : Mail → Result (Process × Effect) Trap → Type 0
@@ -63,24 +61,11 @@ row_removal : (number : ℕ) (image : Loaded) (here : Place) (i : Item) (x : Pro
 row_removal number image here i x stands =
     let is : i.op ≡ ops.RemoveMessage = cc in subst (λ op. Removal x.mailbox (rule number image here op i.operands x).said) (sym is) (removal number image here i.operands x)
 
-allowed_removal : (number : ℕ) (image : Loaded) (here : Place) (held_up : Bool) (i : Item) (x : Process) → Some i.op ≡ Some ops.RemoveMessage → Removal x.mailbox (allowed_if held_up i >>= λ j. row number image here j x)
-allowed_removal number image here true i x stands = tt
-allowed_removal number image here false i x stands = row_removal number image here i x stands
-
-at_removal : (number : ℕ) (image : Loaded) (here : Place) (o : Option Item) (x : Process) → op_of o ≡ Some ops.RemoveMessage → Removal x.mailbox (there o >>= allowed x.fault >>= λ i. row number image here i x)
-at_removal number image here None x stands = tt
-at_removal number image here (Some i) x stands = allowed_removal number image here (is_held_up x.fault i) i x stands
-
 run_removal : (number : ℕ) (image : Loaded) (o : Option Place) (x : Process) → op_at image o ≡ Some ops.RemoveMessage → Removal x.mailbox (run number image o x)
 unfolding run
 run_removal number image None x stands = absurd (cc)
-run_removal number image (Some here) x stands = at_removal number image here (numbered_at image here) x stands
-
-tried_removal : (number : ℕ) (image : Loaded) (status : Status) (asked : Option Native) (x : Process) → op_at image x.place ≡ Some ops.RemoveMessage → Removal x.mailbox (tried number image status asked x)
-tried_removal number image status (Some native) x stands = tt
-tried_removal number image states.Ready None x stands = run_removal number image x.place x stands
-tried_removal number image states.Waiting None x stands = run_removal number image x.place (woken x) stands
-tried_removal number image (states.Ended reason) None x stands = tt
+run_removal number image (Some here) x stands =
+    item_so (Removal x.mailbox) (λ kind. tt) number image here (numbered_at image here) x (λ i is. row_removal number image here i x (ap op_of (sym is) ∙ stands))
 
 abbrev Removed : Mail → Process × Effect → Type 0
 Removed old (y, effects.Ran) = (message : Tree) × TakesOut message old y.mailbox
@@ -89,15 +74,14 @@ Removed old (y, effect) = ⊥
 
 told_removed : (old : Mail) (x : Process) (said : Result (Process × Effect) Trap) → Removal old said → Removed old (told x said)
 told_removed old x (Ok (y, effects.Ran)) h = h
-told_removed old x (Ok (y, effects.Ask native ts)) h = h
-told_removed old x (Ok (y, effects.Send to message)) h = h
-told_removed old x (Ok (y, effects.Ended reason)) h = h
-told_removed old x (Ok (y, effects.Trap kind)) h = tt
 told_removed old x (Err kind) h = tt
+told_removed old x _ h = absurd h
 
 attempted_removed : (image : Loaded) (number : ℕ) (x : Process) → op_at image x.place ≡ Some ops.RemoveMessage → Removed x.mailbox (attempted image number x)
 unfolding attempted
-attempted_removed image number x stands = told_removed x.mailbox x (tried number image x.status x.asked x) (tried_removal number image x.status x.asked x stands)
+attempted_removed image number x stands =
+    told_removed x.mailbox x (tried number image x.status x.asked x)
+    (tried_so (Removal x.mailbox) (λ kind. tt) number image x.status x.asked x (run_removal number image x.place x stands) (run_removal number image x.place (woken x) stands))
 
 -- ---- in a world
 
@@ -111,9 +95,7 @@ module _ (image : Loaded) (w : State) (p : ℕ) (x : Process) (within : p < leng
   ran_on : (said : Process × Effect) → Removed x.mailbox said → RunsOn (changes.after (Run p) w (Ok (run_turn (did image p x said).turn image p (length w.processes) x (did image p x said))))
   ran_on (y, effects.Ran) h runs = (h.0, y, get_set_same w.processes p (Live y) within, h.1)
   ran_on (y, effects.Trap kind) h runs = absurd (cc)
-  ran_on (y, effects.Ask native ts) h runs = absurd h
-  ran_on (y, effects.Send to message) h runs = absurd h
-  ran_on (y, effects.Ended reason) h runs = absurd h
+  ran_on _ h runs = absurd h
 
   able_on : (able : Bool) → able ≡ true → Removed x.mailbox (attempted image p x) → RunsOn (changes.after (Run p) w (if able then Ok (run_change image p (length w.processes) x) else Err NotEnabled))
   able_on true able removed = ran_on (attempted image p x) removed

@@ -30,7 +30,7 @@ pub fn a_mailbox_is_what_came_and_was_received()
 {}
 
 /// The messages of a process that lives are those that came to it and that it did not take, in order of arrival.
-#[tactic(auto, using(crate::proofs::Arrived::left_in_order))]
+#[tactic(auto, using(crate::proofs::Mailed::left_in_order))]
 pub fn messages_stand_in_order_of_arrival()
     ensures { (image : Loaded) (choices : List Choice) (place : Place) (p : ℕ) (x : Process) → slice_get
         (all_behind image choices (begun place)).processes p ≡ Some (Live x) → AreLeft
@@ -40,7 +40,7 @@ pub fn messages_stand_in_order_of_arrival()
 /// The current message of a process is the earliest, in order of arrival, of those that were not taken, nor passed over since the
 /// last reset or the last message that was taken; where there is none, none of them waits. A `remove_message` that is run, and is
 /// no trap, takes it, and leaves the others in their order, of which none is passed over any more.
-#[tactic(auto, using(crate::proofs::Arrived::current_earliest, crate::proofs::Removed::takes_earliest))]
+#[tactic(auto, using(crate::proofs::Mailed::current_earliest, crate::proofs::Removed::takes_earliest))]
 pub fn remove_message_takes_the_earliest_that_was_not_passed_over()
     ensures current { (image : Loaded) (choices : List Choice) (place : Place) (p : ℕ) (x : Process) → slice_get
         (all_behind image choices (begun place)).processes p ≡ Some (Live x) → MatchOption (current x.mailbox)
