@@ -1,13 +1,14 @@
 -- What events put into a channel is what arrived out of it, and then what waits.
 use Rattle.std.proofs.Common.{◌≡◌, ℕ, zero, suc, ◌+◌, ◌==◌, ◌⊎◌, inl, inr, List, [], ◌∷◌, ◌++◌, Bool, true, false, cond, map, length, refl, sym, ap, subst, ◌∙◌, arith, append-nil, append_assoc, length-append}
-use Rattle.std.specs.Prelude.{T, Option, Some, None, ◌&&◌, if◌then◌else◌, slice_get, unwrap_or}
+use Rattle.std.specs.Prelude.{T, Some, None, option_map, ◌&&◌, if◌then◌else◌, slice_get, unwrap_or}
 use Rattle.std.specs.FinMap.{entries, entries_sorted, get-entries}
 use Rattle.std.specs.FinMap.Entries.{below_all, find, is_sorted}
-use Rattle.std.specs.Ordering.{eq_by_cmp, is_eq, is_lt}
+use Rattle.std.specs.Ordering.{is_eq, is_lt}
 use Rattle.std.specs.declared.cmp.Ordering.{Ordering}
-use Rattle.std.specs.declared.cmp.Ordering.TheVariants.{Less, Equal, Greater}
-use Rattle.std.proofs.lemmas.Bool.Decides.{nat_tests}
+use Rattle.std.specs.declared.cmp.Ordering.TheVariants.{Less}
+use Rattle.std.proofs.lemmas.Bool.{cases_Bool, eqb-true}
 use Rattle.std.proofs.lemmas.List.{length-map, map-append}
+use Rattle.std.proofs.lemmas.Option.{slice_get-map}
 use Rattle.bx_signals.specs.Waiting.{first}
 use Rattle.bx_signals.specs.Channels.{Channels, in_order, pair_cmp, pairs, waiting}
 use Rattle.bx_signals.specs.declared.signal.Signal.{Signal}
@@ -20,14 +21,9 @@ use Rattle.bx_events.specs.declared.events.Sent.{Sent}
 use Rattle.bx_events.specs.declared.events.What.{What}
 use Rattle.bx_events.specs.declared.events.What.TheVariants as whats
 use Rattle.bx_events.specs.Flows.{IsFirst, IsPut, arrived_by, arrived_out, only_in, put_at, put_from, put_into, sent_by}
-use Rattle.bx_events.specs.Pairing.{all_sent, arrival, arrivals, by_puts, next_sent, numbered, one_if, puts_in, senders, senders_from, sent_behind, sent_in, takes}
+use Rattle.bx_events.specs.Pairing.{all_sent, arrival, arrivals, by_puts, next_sent, numbered, puts_in, senders, senders_from, sent_behind, sent_in, takes}
 
 -- ---- in one of two rows
-
-pub get_first : {A : Type 0} (xs ys : List A) (k : ℕ) (x : A) → slice_get xs k ≡ Some x → slice_get (xs ++ ys) k ≡ Some x
-get_first [] ys k x at = cc
-get_first (y ∷ xs) ys zero x at = at
-get_first (y ∷ xs) ys (suc k) x at = get_first xs ys k x at
 
 pub get_either : {A : Type 0} (xs ys : List A) (k : ℕ) (x : A) → slice_get (xs ++ ys) k ≡ Some x → (slice_get xs k ≡ Some x) ⊎ ((n : ℕ) × (k ≡ length xs + n) × (slice_get ys n ≡ Some x))
 get_either [] ys k x at = inr (k, omega arith, at)
@@ -38,16 +34,11 @@ get_either (y ∷ xs) ys (suc k) x at = elim (get_either xs ys k x at) [ inl h �
 
 is_below : (o : Ordering) → T (is_lt o) → is_eq o ≡ false
 is_below Less h = refl
-is_below Equal h = absurd h
-is_below Greater h = absurd h
+is_below _ h = absurd h
 
-left : (a b : Bool) → T (a && b) → T a
-left true b h = tt
-left false b h = absurd h
-
-right : (a b : Bool) → T (a && b) → T b
-right true b h = h
-right false b h = absurd h
+halves : (a b : Bool) → T (a && b) → T a × T b
+halves true b h = (tt, h)
+halves false b h = absurd h
 
 module _ {A : Type 0} (pair : ℕ × ℕ) (here : List A) where
   abbrev spread : List (ℕ × ℕ) → List A
@@ -57,21 +48,18 @@ module _ {A : Type 0} (pair : ℕ × ℕ) (here : List A) where
   nowhere : (es : List (Entry Signal)) → T (below_all pair_cmp pair es) → spread (map (λ (e : Entry Signal). e.0) es) ≡ []
   nowhere [] h = refl
   nowhere (e ∷ es) h =
-      let less = left (is_lt (pair_cmp pair e.0)) (below_all pair_cmp pair es) h in
+      let (less, more) = halves (is_lt (pair_cmp pair e.0)) (below_all pair_cmp pair es) h in
       ap (λ b. (if b then here else []) ++ spread (map (λ (e : Entry Signal). e.0) es)) (sym (tied pair e.0) ∙ is_below (pair_cmp pair e.0) less)
-      ∙ nowhere es (right (is_lt (pair_cmp pair e.0)) (below_all pair_cmp pair es) h)
+      ∙ nowhere es more
 
   once : (es : List (Entry Signal)) → T (is_sorted pair_cmp es) → (find pair_cmp pair es ≡ None → [] ≡ here) → spread (map (λ (e : Entry Signal). e.0) es) ≡ here
   once [] h none = none refl
-  once (e ∷ es) h none = go (eq_by_cmp pair_cmp pair e.0) refl (once es (right (below_all pair_cmp e.0 es) (is_sorted pair_cmp es) h)) none
-    where
-      go : (b : Bool) → eq_by_cmp pair_cmp pair e.0 ≡ b → ((find pair_cmp pair es ≡ None → [] ≡ here) → spread (map (λ (e : Entry Signal). e.0) es) ≡ here)
-          → (cond b (Some e.1) (find pair_cmp pair es) ≡ None → [] ≡ here) → (if same_pair pair e.0 then here else []) ++ spread (map (λ (e : Entry Signal). e.0) es) ≡ here
-      go true is on missed =
-          let same : same_pair pair e.0 ≡ true = sym (tied pair e.0) ∙ is in
-          let above = subst (λ (k : ℕ × ℕ). T (below_all pair_cmp k es)) (sym (equal_pair pair e.0 same)) (left (below_all pair_cmp e.0 es) (is_sorted pair_cmp es) h) in
-          ap (λ b. (if b then here else []) ++ spread (map (λ (e : Entry Signal). e.0) es)) same ∙ ap (λ xs. here ++ xs) (nowhere es above) ∙ append-nil here
-      go false is on missed = ap (λ b. (if b then here else []) ++ spread (map (λ (e : Entry Signal). e.0) es)) (sym (tied pair e.0) ∙ is) ∙ on missed
+  once (e ∷ es) h none =
+      let (above, sorted) = halves (below_all pair_cmp e.0 es) (is_sorted pair_cmp es) h in
+      elim (cases_Bool (same_pair pair e.0)) [
+        | inl same ↦ rw same (ap (λ xs. here ++ xs) (nowhere es (subst (λ (k : ℕ × ℕ). T (below_all pair_cmp k es)) (sym (equal_pair pair e.0 same)) above)) ∙ append-nil here)
+        | inr other ↦ rw other (once es sorted (λ missed. none (ap (λ b. cond b (Some e.1) (find pair_cmp pair es)) (tied pair e.0 ∙ other) ∙ missed)))
+      ]
 
   at_key : (m : Channels Signal) → (waiting m pair ≡ [] → [] ≡ here) → spread (pairs m) ≡ here
   at_key m none = once (entries m) (entries_sorted m) (λ missed. none (ap in_order (get-entries m pair ∙ missed)))
@@ -81,13 +69,13 @@ by_key : {A : Type 0} (b : Bool) (f : ℕ × ℕ → List A) (pair k : ℕ × �
 by_key true f pair k same = ap f (sym (same refl))
 by_key false f pair k same = refl
 
-both : {A : Type 0} (b : Bool) (x : A) (xs ys zs : List A) → zs ≡ xs ++ ys → (if b then x ∷ zs else zs) ≡ (if b then x ∷ xs else xs) ++ ys
+pub both : {A : Type 0} (b : Bool) (x : A) (xs ys zs : List A) → zs ≡ xs ++ ys → (if b then x ∷ zs else zs) ≡ (if b then x ∷ xs else xs) ++ ys
 both true x xs ys zs e = ap (λ ws. x ∷ ws) e
 both false x xs ys zs e = e
 
 -- ---- what an event puts
 
-put_append : (pair : ℕ × ℕ) (p row : ℕ) (xs ys : List Put) → put_at pair p row (xs ++ ys) ≡ put_at pair p row xs ++ put_at pair p row ys
+pub put_append : (pair : ℕ × ℕ) (p row : ℕ) (xs ys : List Put) → put_at pair p row (xs ++ ys) ≡ put_at pair p row xs ++ put_at pair p row ys
 put_append pair p row [] ys = refl
 put_append pair p row (x ∷ xs) ys = both (same_pair pair (p, x.to)) (sent_by p row x) (put_at pair p row xs) (put_at pair p row ys) (put_at pair p row (xs ++ ys)) (put_append pair p row xs ys)
 
@@ -96,49 +84,32 @@ abbrev pub sent_as : ℕ × ℕ → ℕ → ℕ → List Signal → List Sent
 sent_as pair row n [] = []
 sent_as pair row n (signal ∷ more) = record { from = pair.0; to = pair.1; number = n + 1; event = row; signal = signal } ∷ sent_as pair row (n + 1) more
 
-numbered_here : (pair k : ℕ × ℕ) (row n : ℕ) (ss : List Signal) → same_pair pair k ≡ true → put_at pair k.0 row (numbered k.1 n ss) ≡ sent_as pair row n ss
-numbered_here pair k row n [] same = refl
-numbered_here pair k row n (s ∷ ss) same =
-    let is : k ≡ pair = sym (equal_pair pair k same) in
-    ap (λ b. if b then sent_by k.0 row (record { to = k.1; number = n + 1; signal = s }) ∷ put_at pair k.0 row (numbered k.1 (n + 1) ss) else put_at pair k.0 row (numbered k.1 (n + 1) ss)) same
-    ∙ (λ i. record { from = (is i).0; to = (is i).1; number = n + 1; event = row; signal = s } ∷ numbered_here pair k row (n + 1) ss same i)
-
-numbered_else : (pair k : ℕ × ℕ) (row n : ℕ) (ss : List Signal) → same_pair pair k ≡ false → put_at pair k.0 row (numbered k.1 n ss) ≡ []
-numbered_else pair k row n [] other = refl
-numbered_else pair k row n (s ∷ ss) other =
-    ap (λ b. if b then sent_by k.0 row (record { to = k.1; number = n + 1; signal = s }) ∷ put_at pair k.0 row (numbered k.1 (n + 1) ss) else put_at pair k.0 row (numbered k.1 (n + 1) ss)) other
-    ∙ numbered_else pair k row (n + 1) ss other
-
-numbered_is : (pair k : ℕ × ℕ) (row n : ℕ) (ss : List Signal) → put_at pair k.0 row (numbered k.1 n ss) ≡ (if same_pair pair k then sent_as pair row n ss else [])
-numbered_is pair k row n ss = go (same_pair pair k) refl
-  where
-    go : (b : Bool) → same_pair pair k ≡ b → put_at pair k.0 row (numbered k.1 n ss) ≡ (if b then sent_as pair row n ss else [])
-    go true e = numbered_here pair k row n ss e
-    go false e = numbered_else pair k row n ss e
-
 nothing_either : {A : Type 0} (b : Bool) (xs : List A) → xs ≡ [] → [] ≡ (if b then xs else [])
 nothing_either true xs none = sym none
 nothing_either false xs none = refl
 
+one_kept : {A : Type 0} (b : Bool) (x : A) (xs ys : List A) → xs ≡ (if b then ys else []) → (if b then x ∷ xs else xs) ≡ (if b then x ∷ ys else [])
+one_kept true x xs ys e = ap (λ zs. x ∷ zs) e
+one_kept false x xs ys e = e
+
+numbered_is : (pair k : ℕ × ℕ) (row n : ℕ) (ss : List Signal) → put_at pair k.0 row (numbered k.1 n ss) ≡ (if same_pair pair k then sent_as k row n ss else [])
+numbered_is pair k row n [] = nothing_either (same_pair pair k) [] refl
+numbered_is pair k row n (s ∷ ss) =
+    one_kept (same_pair pair k) (sent_by k.0 row (record { to = k.1; number = n + 1; signal = s })) (put_at pair k.0 row (numbered k.1 (n + 1) ss)) (sent_as k row (n + 1) ss) (numbered_is pair k row (n + 1) ss)
+
 -- an event of process a puts into its own channels
 module _ (pair : ℕ × ℕ) (a row : ℕ) (events : List Event) (m : Channels Signal) (own : (k : ℕ × ℕ) → (k.0 == a) ≡ false → waiting m k ≡ []) where
   abbrev here_of : ℕ × ℕ → List Sent
-  here_of k = sent_as pair row (length (senders k events)) (waiting m k)
+  here_of k = sent_as k row (length (senders k events)) (waiting m k)
+
+  own_channel : (k : ℕ × ℕ) → put_at pair a row (numbered k.1 (length (senders k events)) (waiting m k)) ≡ (if same_pair pair k then here_of k else [])
+  own_channel k = elim (cases_Bool (k.0 == a)) [
+    | inl e ↦ ap (λ p. put_at pair p row (numbered k.1 (length (senders k events)) (waiting m k))) (sym (eqb-true k.0 a e)) ∙ numbered_is pair k row (length (senders k events)) (waiting m k)
+    | inr e ↦ ap (λ ss. put_at pair a row (numbered k.1 (length (senders k events)) ss)) (own k e) ∙ nothing_either (same_pair pair k) (here_of k) (ap (sent_as k row (length (senders k events))) (own k e))
+  ]
 
   one_channel : (k : ℕ × ℕ) → put_at pair a row (numbered k.1 (length (senders k events)) (waiting m k)) ≡ (if same_pair pair k then here_of pair else [])
-  one_channel k = go (k.0 == a) refl ∙ by_key (same_pair pair k) here_of pair k (equal_pair pair k)
-    where
-      n : ℕ
-      n = length (senders k events)
-
-      go : (b : Bool) → (k.0 == a) ≡ b → put_at pair a row (numbered k.1 (length (senders k events)) (waiting m k)) ≡ (if same_pair pair k then here_of k else [])
-      go true e =
-          let same : a ≡ k.0 = grind (arith, nat_tests) in
-          ap (λ p. put_at pair p row (numbered k.1 (length (senders k events)) (waiting m k))) same ∙ numbered_is pair k row (length (senders k events)) (waiting m k)
-      go false e =
-          let none = own k e in
-          ap (λ ss. put_at pair a row (numbered k.1 (length (senders k events)) ss)) none
-          ∙ nothing_either (same_pair pair k) (here_of k) (ap (sent_as pair row (length (senders k events))) none)
+  one_channel k = own_channel k ∙ by_key (same_pair pair k) here_of pair k (equal_pair pair k)
 
   all_channels : (ks : List (ℕ × ℕ)) → put_at pair a row (puts_in m events ks) ≡ spread pair (here_of pair) ks
   all_channels [] = refl
@@ -163,32 +134,21 @@ arrived_more pair (e ∷ events) event =
 
 -- ---- by the words of the story
 
-abbrev row_of : Sent → ℕ
+abbrev pub row_of : Sent → ℕ
 row_of sent = sent.event
 
-by_puts_are : (pair : ℕ × ℕ) (p row : ℕ) (puts : List Put) → by_puts pair p row puts ≡ map row_of (put_at pair p row puts)
+pub by_puts_are : (pair : ℕ × ℕ) (p row : ℕ) (puts : List Put) → by_puts pair p row puts ≡ map row_of (put_at pair p row puts)
 by_puts_are pair p row [] = refl
-by_puts_are pair p row (put ∷ more) = go (same_pair pair (p, put.to)) (by_puts_are pair p row more)
-  where
-    go : (b : Bool) → by_puts pair p row more ≡ map row_of (put_at pair p row more)
-        → (if b then row ∷ by_puts pair p row more else by_puts pair p row more) ≡ map row_of (if b then sent_by p row put ∷ put_at pair p row more else put_at pair p row more)
-    go true e = ap (λ xs. row ∷ xs) e
-    go false e = e
+by_puts_are pair p row (put ∷ more) = let on = by_puts_are pair p row more in elim (cases_Bool (same_pair pair (p, put.to))) [ inl e ↦ rw e (ap (λ xs. row ∷ xs) on) | inr e ↦ rw e on ]
 
-senders_are : (pair : ℕ × ℕ) (row : ℕ) (events : List Event) → senders_from pair row events ≡ map row_of (put_from pair row events)
+pub senders_are : (pair : ℕ × ℕ) (row : ℕ) (events : List Event) → senders_from pair row events ≡ map row_of (put_from pair row events)
 senders_are pair row [] = refl
 senders_are pair row (e ∷ events) =
     (λ i. by_puts_are pair e.actor row e.puts i ++ senders_are pair (row + 1) events i) ∙ sym (map-append row_of (put_at pair e.actor row e.puts) (put_from pair (row + 1) events))
 
 arrival_is : (pair : ℕ × ℕ) (what : What) → arrival pair what ≡ length (arrived_by pair what)
-arrival_is pair (whats.Arrived sent effect) = go (takes effect && same_pair pair (sent.from, sent.to))
-  where
-    go : (b : Bool) → one_if b ≡ length (if b then sent ∷ [] else [])
-    go true = refl
-    go false = refl
-arrival_is pair whats.Ran = refl
-arrival_is pair (whats.Took message) = refl
-arrival_is pair whats.Expired = refl
+arrival_is pair (whats.Arrived sent effect) = elim (cases_Bool (takes effect && same_pair pair (sent.from, sent.to))) [ inl e ↦ rw e | inr e ↦ rw e ]
+arrival_is pair _ = refl
 
 pub senders_count : (pair : ℕ × ℕ) (events : List Event) → length (senders pair events) ≡ length (put_into pair events)
 senders_count pair events = ap length (senders_are pair 0 events) ∙ length-map (put_into pair events) row_of
@@ -212,19 +172,16 @@ counted_append pair n [] ys h k = let same : n + 0 ≡ n = omega arith in subst 
 counted_append pair n (x ∷ xs) ys h k =
     let same : n + suc (length xs) ≡ n + 1 + length xs = omega arith in (h.0, h.1, h.2, counted_append pair (n + 1) xs ys h.3 (subst (λ m. IsCounted pair m ys) same k))
 
-counted_at : (pair : ℕ × ℕ) (n : ℕ) (xs ys : List Sent) (sent : Sent) → IsCounted pair n (xs ++ sent ∷ ys) → (sent.from ≡ pair.0) × (sent.to ≡ pair.1) × (sent.number ≡ n + length xs + 1)
-counted_at pair n [] ys sent h = let same : n + 1 ≡ n + 0 + 1 = omega arith in (h.0, h.1, h.2 ∙ same)
-counted_at pair n (x ∷ xs) ys sent h =
-    let on = counted_at pair (n + 1) xs ys sent h.3 in let same : n + 1 + length xs + 1 ≡ n + suc (length xs) + 1 = omega arith in (on.0, on.1, on.2 ∙ same)
-
-pub counted_get : (pair : ℕ × ℕ) (m n : ℕ) (xs : List Sent) (sent : Sent) → IsCounted pair m xs → slice_get xs n ≡ Some sent → sent.number ≡ m + n + 1
+pub counted_get : (pair : ℕ × ℕ) (m n : ℕ) (xs : List Sent) (sent : Sent) → IsCounted pair m xs → slice_get xs n ≡ Some sent → (sent.from ≡ pair.0) × (sent.to ≡ pair.1) × (sent.number ≡ m + n + 1)
 counted_get pair m n [] sent h e = cc
-counted_get pair m zero (x ∷ xs) sent h e = let same : sent ≡ x = cc in let count : m + 1 ≡ m + 0 + 1 = omega arith in ap (λ (s : Sent). s.number) same ∙ h.2 ∙ count
-counted_get pair m (suc n) (x ∷ xs) sent h e = let count : m + 1 + n + 1 ≡ m + suc n + 1 = omega arith in counted_get pair (m + 1) n xs sent h.3 e ∙ count
+counted_get pair m zero (x ∷ xs) sent h e =
+    let same : x ≡ sent = cc in let count : m + 1 ≡ m + 0 + 1 = omega arith in subst (λ (s : Sent). (s.from ≡ pair.0) × (s.to ≡ pair.1) × (s.number ≡ m + 0 + 1)) same (h.0, h.1, h.2 ∙ count)
+counted_get pair m (suc n) (x ∷ xs) sent h e =
+    let on = counted_get pair (m + 1) n xs sent h.3 e in let count : m + 1 + n + 1 ≡ m + suc n + 1 = omega arith in (on.0, on.1, on.2 ∙ count)
 
-row_at : (xs ys : List Sent) (sent : Sent) → slice_get (map row_of (xs ++ sent ∷ ys)) (length xs) ≡ Some sent.event
-row_at [] ys sent = refl
-row_at (x ∷ xs) ys sent = row_at xs ys sent
+is_there : (xs ys : List Sent) (sent : Sent) → slice_get (xs ++ sent ∷ ys) (length xs) ≡ Some sent
+is_there [] ys sent = refl
+is_there (x ∷ xs) ys sent = is_there xs ys sent
 
 -- ---- a channel
 
@@ -239,9 +196,10 @@ pub record Flow (pair : ℕ × ℕ) (events : List Event) (waits : List Signal) 
 named_at : (pair : ℕ × ℕ) (events : List Event) (xs ys : List Sent) (sent : Sent) → put_into pair events ≡ xs ++ sent ∷ ys → IsCounted pair 0 (put_into pair events)
     → sent_behind (length xs) pair events sent.signal ≡ sent
 named_at pair events xs ys sent is counted =
-    let at = counted_at pair 0 xs ys sent (subst (IsCounted pair 0) is counted) in
+    let at = counted_get pair 0 (length xs) (xs ++ sent ∷ ys) sent (subst (IsCounted pair 0) is counted) (is_there xs ys sent) in
     let row : unwrap_or (slice_get (senders pair events) (length xs)) 0 ≡ sent.event =
-    ap (λ rows. unwrap_or (slice_get rows (length xs)) 0) (senders_are pair 0 events ∙ ap (map row_of) is) ∙ ap (λ o. unwrap_or o 0) (row_at xs ys sent) in
+    ap (λ rows. unwrap_or (slice_get rows (length xs)) 0) (senders_are pair 0 events ∙ ap (map row_of) is)
+    ∙ ap (λ o. unwrap_or o 0) (slice_get-map row_of (xs ++ sent ∷ ys) (length xs) ∙ ap (option_map row_of) (is_there xs ys sent)) in
     let count : length xs + 1 ≡ 0 + length xs + 1 = omega arith in
     λ i. record { from = sym at.0 i; to = sym at.1 i; number = (count ∙ sym at.2) i; event = row i; signal = sent.signal }
 
@@ -284,12 +242,7 @@ put_there pair p row (put ∷ more) n sent at = go (same_pair pair (p, put.to)) 
   where
     go : (b : Bool) (m : ℕ) → slice_get (if b then sent_by p row put ∷ put_at pair p row more else put_at pair p row more) m ≡ Some sent
         → ((k : ℕ) → slice_get (put_at pair p row more) k ≡ Some sent → (sent.event ≡ row) × (p ≡ sent.from) × Among more sent) → (sent.event ≡ row) × (p ≡ sent.from) × Among (put ∷ more) sent
-    go true zero e on =
-        let same : sent_by p row put ≡ sent = cc in (
-          ap (λ (s : Sent). s.event) (sym same),
-          ap (λ (s : Sent). s.from) same,
-          (0, ap (λ (s : Sent). Some (record { to = s.to; number = s.number; signal = s.signal })) same),
-        )
+    go true zero e on = let same : sent_by p row put ≡ sent = cc in subst (λ (s : Sent). (s.event ≡ row) × (p ≡ s.from) × Among (put ∷ more) s) same (refl, refl, (0, refl))
     go true (suc m) e on = let found = on m e in (found.0, found.1, (suc found.2.0, found.2.1))
     go false m e on = let found = on m e in (found.0, found.1, (suc found.2.0, found.2.1))
 
@@ -300,10 +253,6 @@ put_here pair row (e ∷ events) n sent at = elim (get_either (put_at pair e.act
   | inl h ↦ (let found = put_there pair e.actor row e.puts n sent h in (0, omega (arith, found.0), e, refl, found.1, found.2))
   | inr there ↦ (let found = put_here pair (row + 1) events there.0 sent there.2 in (suc found.0, omega (arith, found.1), found.2, found.3, found.4, found.5))
 ]
-
-is_there : (xs ys : List Sent) (sent : Sent) → slice_get (xs ++ sent ∷ ys) (length xs) ≡ Some sent
-is_there [] ys sent = refl
-is_there (x ∷ xs) ys sent = is_there xs ys sent
 
 pub is_put : (pair : ℕ × ℕ) (events : List Event) (sent : Sent) → IsFirst pair events sent → IsPut events sent
 is_put pair events sent (others, is) =
@@ -319,15 +268,9 @@ only_append pair [] ys = refl
 only_append pair (x ∷ xs) ys = both (same_pair pair (x.from, x.to)) x (only_in pair xs) (only_in pair ys) (only_in pair (xs ++ ys)) (only_append pair xs ys)
 
 only_one : (pair k : ℕ × ℕ) (events : List Event) (n : ℕ) (ss : List Signal) → only_in pair (all_sent n k events ss) ≡ (if same_pair pair k then all_sent n k events ss else [])
-only_one pair k events n ss = go (same_pair pair k) refl n ss
-  where
-    go : (b : Bool) → same_pair pair k ≡ b → (n : ℕ) (ss : List Signal) → only_in pair (all_sent n k events ss) ≡ (if b then all_sent n k events ss else [])
-    go b e n [] = nothing_either b [] refl
-    go true e n (s ∷ ss) =
-        ap (λ t. if t then sent_behind n k events s ∷ only_in pair (all_sent (n + 1) k events ss) else only_in pair (all_sent (n + 1) k events ss)) e
-        ∙ ap (λ xs. sent_behind n k events s ∷ xs) (go true e (n + 1) ss)
-    go false e n (s ∷ ss) =
-        ap (λ t. if t then sent_behind n k events s ∷ only_in pair (all_sent (n + 1) k events ss) else only_in pair (all_sent (n + 1) k events ss)) e ∙ go false e (n + 1) ss
+only_one pair k events n [] = nothing_either (same_pair pair k) [] refl
+only_one pair k events n (s ∷ ss) =
+    one_kept (same_pair pair k) (sent_behind n k events s) (only_in pair (all_sent (n + 1) k events ss)) (all_sent (n + 1) k events ss) (only_one pair k events (n + 1) ss)
 
 module _ (pair : ℕ × ℕ) (events : List Event) (m : Channels Signal) where
   abbrev left_of : ℕ × ℕ → List Sent

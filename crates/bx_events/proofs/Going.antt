@@ -1,6 +1,6 @@
 -- Choices that are told one after another.
 use Rattle.std.proofs.Common.{◌≡◌, ℕ, ◌+◌, ◌-◌, ◌<◌, ◌≤◌, zero, suc, List, [], ◌∷◌, ◌++◌, Bool, true, false, length, replicate, refl, sym, ap, subst, ◌∙◌, arith, length-append}
-use Rattle.std.specs.Prelude.{Option, Some, None, is_some, ◌||◌, if◌then◌else◌, slice_get, slice_set, nat_lt, Result, Ok, Err, IsSome}
+use Rattle.std.specs.Prelude.{Option, Some, None, if◌then◌else◌, slice_get, slice_set, nat_lt, Result, Ok, Err, IsSome}
 use Rattle.std.proofs.lemmas.List.{length-set}
 use Rattle.bx_terms.specs.declared.faults.Fault.{Fault}
 use Rattle.bx_terms.specs.declared.faults.Fault.TheVariants.{Memory, TooLarge}
@@ -26,6 +26,7 @@ use Rattle.bx_events.specs.Actors.{before_of}
 use Rattle.bx_events.specs.Ledgers.{Keeps, Knows}
 use Rattle.bx_events.specs.Pairing.{arrival, arrivals, by_puts, senders, senders_from}
 use Rattle.bx_events.proofs.Noting.{along, keeps_more}
+use Rattle.bx_events.proofs.Told.{by_added, by_choice}
 use Rattle.bx_events.specs.Answers.{telling, Stands, Tells}
 use Rattle.bx_events.specs.Telling.{Telling, added, all_told, alone, is_over, joined, joins_last, last_of, one_told, told, told_by, untold, with_choice, with_joined}
 
@@ -57,19 +58,12 @@ joined_length None event events = refl
 joined_length (Some last) event events = length-set events (length events - 1) (joined last event)
 
 added_grows : (event : Event) (events : List Event) → length events ≤ length (added event events)
-added_grows event events = go (joins_last (last_of events) event)
-  where
-    go : (b : Bool) → length events ≤ length (if b then with_joined (last_of events) event events else events ++ event ∷ [])
-    go true = omega (arith, joined_length (last_of events) event events)
-    go false = omega (arith, length-append events (event ∷ []))
+added_grows event events =
+    by_added (λ es. length events ≤ length es) event events (λ e. omega (arith, joined_length (last_of events) event events)) (λ e. omega (arith, length-append events (event ∷ [])))
 
 one_grows : (image : Loaded) (c : Choice) (t : Telling) → length t.events ≤ length (one_told image c t).events
-one_grows image c t = go (is_over t.end) (can t.end.world c)
-  where
-    go : (over here : Bool) → length t.events ≤ length (if over then t.events else (if here then added (told image (t.end.applied + 1) c t.events t.end.world) t.events else t.events))
-    go true here = omega arith
-    go false true = added_grows (told image (t.end.applied + 1) c t.events t.end.world) t.events
-    go false false = omega arith
+one_grows image c t =
+    by_choice (λ s. length t.events ≤ length s.events) image c t (omega arith) (omega arith) (λ may. added_grows (told image (t.end.applied + 1) c t.events t.end.world) t.events)
 
 pub all_grow : (image : Loaded) (cs : List Choice) (t : Telling) → length t.events ≤ length (all_told image cs t).events
 all_grow image [] t = omega arith
@@ -78,25 +72,16 @@ all_grow image (c ∷ cs) t = omega (arith, one_grows image c t, all_grow image 
 -- ---- one choice
 
 pub refused_told : (image : Loaded) (c : Choice) (t : Telling) → is_over t.end ≡ false → can t.end.world c ≡ false → record { end = record t.end { refused = Some c }; events = t.events } ≡ one_told image c t
-refused_told image c t going never =
-    ap (λ (b : Bool). record {
-      end = if b then record { world = chosen image c t.end.world; applied = t.end.applied + 1; refused = None } else record t.end { refused = Some c };
-      events = if b then added (told image (t.end.applied + 1) c t.events t.end.world) t.events else t.events;
-    }) (sym never)
-    ∙ ap (λ (b : Bool). record { end = if b then t.end else tried image c t.end; events = if b then t.events else with_choice image c t }) (sym going)
+refused_told image c t going never = rw (going, never)
 
 -- where one that is enabled leads
 pub made_end : (image : Loaded) (c : Choice) (end : Ended) → is_over end ≡ false → can end.world c ≡ true
     → advanced image c end ≡ record { world = chosen image c end.world; applied = end.applied + 1; refused = None }
-made_end image c end going may =
-    ap (λ (b : Bool). if b then end else tried image c end) going
-    ∙ ap (λ (b : Bool). if b then record { world = chosen image c end.world; applied = end.applied + 1; refused = None } else record end { refused = Some c }) may
+made_end image c end going may = rw (going, may)
 
 pub made_told : (image : Loaded) (c : Choice) (t : Telling) → is_over t.end ≡ false → can t.end.world c ≡ true
     → record { end = advanced image c t.end; events = added (told image (t.end.applied + 1) c t.events t.end.world) t.events } ≡ one_told image c t
-made_told image c t going may =
-    ap (λ (b : Bool). record { end = advanced image c t.end; events = if b then added (told image (t.end.applied + 1) c t.events t.end.world) t.events else t.events }) (sym may)
-    ∙ ap (λ (b : Bool). record { end = advanced image c t.end; events = if b then t.events else with_choice image c t }) (sym going)
+made_told image c t going may = rw (going, may)
 
 -- ---- answers
 

@@ -4,7 +4,6 @@ pub mod Told
 pub mod Ordered
 pub mod Flowing
 pub mod Outlines
-pub mod Outlined
 pub mod Lined
 pub mod Posted
 pub mod Matched

@@ -1,9 +1,11 @@
 -- Where the lines of processes begin among events.
 use Rattle.std.proofs.Common.{◌≡◌, ℕ, zero, suc, ◌+◌, ◌<◌, ◌≤◌, ◌⊎◌, inl, inr, List, [], ◌∷◌, ◌++◌, Bool, true, false, map, length, refl, sym, ap, subst, ◌∙◌, arith, append-nil, append_assoc, length-append}
 use Rattle.std.specs.Prelude.{Option, Some, None, option_map, is_some, if◌then◌else◌, nat_lt, slice_get, slice_set}
+use Rattle.std.proofs.lemmas.Bool.{cases_Bool}
 use Rattle.std.proofs.lemmas.Bool.Decides.{nat_tests}
 use Rattle.std.proofs.lemmas.List.{length-map, map-append}
 use Rattle.std.proofs.lemmas.Option.{slice_get-map}
+use Rattle.bx_share.proofs.Places.{get_last, get_more}
 use Rattle.bx_events.specs.declared.events.Event.{Event}
 use Rattle.bx_events.specs.declared.events.Lane.{Lane}
 use Rattle.bx_events.specs.declared.events.Stands.{Stands}
@@ -11,7 +13,7 @@ use Rattle.bx_events.specs.declared.events.Stands.TheVariants as stand
 use Rattle.bx_events.specs.Births.{FoundNobody, HasPlace, IsBelow, IsBorn, StandsOn}
 use Rattle.bx_events.specs.Lanes.{born_at, closed_in, ended_at, lanes_of, lanes_on, with_event}
 use Rattle.bx_events.specs.Telling.{child_of}
-use Rattle.bx_events.proofs.Flowing.{get_either, get_first}
+use Rattle.bx_events.proofs.Flowing.{get_either}
 use Rattle.bx_events.proofs.Outlines.{outline, outlined_at, born_same, nobody_same}
 
 -- ---- the rows where lines begin
@@ -37,18 +39,11 @@ set_born (suc p) row lane (x ∷ lanes) at = ap (λ bs. x.born ∷ bs) (set_born
 
 closed_born : (row p : ℕ) (o : Option Lane) (lanes : List Lane) → slice_get lanes p ≡ o → map birth_of (closed_in row p o lanes) ≡ map birth_of lanes
 closed_born row p None lanes at = refl
-closed_born row p (Some lane) lanes at = go (is_some lane.ended)
-  where
-    go : (b : Bool) → map birth_of (if b then lanes else slice_set lanes p (record lane { ended = Some row })) ≡ map birth_of lanes
-    go true = refl
-    go false = set_born p row lane lanes at
+closed_born row p (Some lane) lanes at = elim (cases_Bool (is_some lane.ended)) [ inl e ↦ rw e | inr e ↦ rw e (set_born p row lane lanes at) ]
 
 ended_born : (row p : ℕ) (s : Stands) (lanes : List Lane) → map birth_of (ended_at row p s lanes) ≡ map birth_of lanes
 ended_born row p (stand.Ended reason) lanes = closed_born row p (slice_get lanes p) lanes refl
-ended_born row p stand.Goes lanes = refl
-ended_born row p stand.Waits lanes = refl
-ended_born row p (stand.Trapped kind) lanes = refl
-ended_born row p stand.Absent lanes = refl
+ended_born row p _ lanes = refl
 
 added_born : (row : ℕ) (child : Option ℕ) (lanes : List Lane) → map birth_of (born_at row child lanes) ≡ map birth_of lanes ++ born_by row child
 added_born row None lanes = sym (append-nil (map birth_of lanes))
@@ -114,15 +109,11 @@ lined_start = record { counts = refl; born = start; placed = λ row event at. cc
 
 born_later : (events : List Event) (event : Event) (p : ℕ) (birth : Option ℕ) → IsBorn events p birth → IsBorn (events ++ event ∷ []) p birth
 born_later events event p None h = h
-born_later events event p (Some row) (later, spawn, at, child) = (later, spawn, get_first events (event ∷ []) row spawn at, child)
-
-last_at : (events : List Event) (event : Event) → slice_get (events ++ event ∷ []) (length events) ≡ Some event
-last_at [] event = refl
-last_at (e ∷ events) event = last_at events event
+born_later events event p (Some row) (later, spawn, at, child) = (later, spawn, get_more events (event ∷ []) row spawn at, child)
 
 on_more : (o : Option (Option ℕ)) (row : ℕ) (bs cs : List (Option ℕ)) (p : ℕ) → slice_get bs p ≡ o → IsOn o row → IsOn (slice_get (bs ++ cs) p) row
 on_more None row bs cs p at h = absurd h
-on_more (Some birth) row bs cs p at h = subst (λ o. IsOn o row) (sym (get_first bs cs p birth at)) h
+on_more (Some birth) row bs cs p at h = subst (λ o. IsOn o row) (sym (get_more bs cs p birth at)) h
 
 -- a process more, or none
 child_is : (b : Bool) (n m : ℕ) → nat_lt n m ≡ b → n ≤ m → m ≤ n + 1 → (row : ℕ) → length (born_by row (if b then Some n else None)) + n ≡ m
@@ -159,7 +150,7 @@ module _ (events : List Event) (event : Event) where
       spawned : (p : ℕ) (birth : Option ℕ) (k : ℕ) → p ≡ length (births events) + k → (k ≡ 0) × (birth ≡ Some (length events)) × (c : ℕ) × (event.child ≡ Some c) → IsBorn (events ++ event ∷ []) p birth
       spawned p birth k is (none, row, c, has) =
           let number : c ≡ p = omega (arith, is, none, lined.counts, child_number (nat_lt n m) n c (sym child ∙ has)) in
-          subst (IsBorn (events ++ event ∷ []) p) (sym row) (omega (arith, is), event, last_at events event, has ∙ ap Some number)
+          subst (IsBorn (events ++ event ∷ []) p) (sym row) (omega (arith, is), event, get_last events event, has ∙ ap Some number)
 
       later : (p row : ℕ) → IsOn (slice_get (births events) p) row → IsOn (slice_get (births (events ++ event ∷ [])) p) row
       later p row on = subst (λ bs. IsOn (slice_get bs p) row) (sym more_births) (on_more (slice_get (births events) p) row (births events) (born_by (length events) event.child) p refl on)
@@ -180,7 +171,7 @@ module _ (events : List Event) (event : Event) where
       record {
         counts = sym (ap length same) ∙ lined.counts;
         born = λ p birth at. earlier p birth (lined.born p birth (ap (λ bs. slice_get bs p) same ∙ at));
-        placed = λ row other at. subst (λ bs. IsOn (slice_get bs other.actor) row ⊎ FoundNobody other) same (lined.placed row other (get_first events (event ∷ []) row other at));
+        placed = λ row other at. subst (λ bs. IsOn (slice_get bs other.actor) row ⊎ FoundNobody other) same (lined.placed row other (get_more events (event ∷ []) row other at));
       }
     where
       nobody : (spawn : Event) (p k : ℕ) → slice_get (event ∷ []) k ≡ Some spawn → spawn.child ≡ Some p → ⊥

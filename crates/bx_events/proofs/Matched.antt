@@ -1,9 +1,10 @@
 -- In each story an arrow begins where its signal was put, and a line where its process was spawned.
-use Rattle.std.proofs.Common.{◌≡◌, ℕ, zero, suc, ◌+◌, ◌<◌, ◌≤◌, ◌⊎◌, inl, inr, List, [], ◌∷◌, ◌++◌, Bool, true, false, map, length, take, refl, sym, ap, subst, ◌∙◌, arith, append-nil}
-use Rattle.std.specs.Prelude.{Option, Some, None, Ok, Err, IsTrue, is_none, is_some, if◌then◌else◌, slice_get}
+use Rattle.std.proofs.Common.{◌≡◌, ℕ, zero, suc, ◌+◌, ◌<◌, ◌⊎◌, inl, inr, List, [], ◌∷◌, ◌++◌, true, map, length, take, refl, sym, ap, subst, ◌∙◌, arith, append-nil}
+use Rattle.std.specs.Prelude.{Option, Some, None, Ok, is_none, is_some, slice_get}
 use Rattle.std.proofs.Math.Seq.{take-append_seam}
 use Rattle.std.proofs.lemmas.List.{length-map, map-append, take-append-le}
 use Rattle.std.proofs.lemmas.Option.{slice_get_within}
+use Rattle.bx_share.proofs.Places.{get_more}
 use Rattle.bx_terms.specs.declared.atom_table.AtomId.{AtomId}
 use Rattle.bx_terms.specs.declared.kinds.Trap.{Trap}
 use Rattle.bx_terms.specs.declared.places.Place.{Place}
@@ -14,7 +15,7 @@ use Rattle.bx_signals.specs.declared.signal.Signal.{Signal}
 use Rattle.bx_signals.proofs.Maps.{waiting_empty}
 use Rattle.bx_world.specs.declared.choices.Choice.{Choice}
 use Rattle.bx_world.specs.declared.choices.Choice.TheVariants.{Run, Deliver, Expire}
-use Rattle.bx_world.specs.World.{Life, State, begun, begun_at, started}
+use Rattle.bx_world.specs.World.{Life, State, begun, begun_at}
 use Rattle.bx_world.specs.Enabled.{able, actor, can, may_expire, may_run}
 use Rattle.bx_world.specs.Changes.{after, signal_coming}
 use Rattle.bx_world.specs.Choosing.{chosen}
@@ -36,9 +37,9 @@ use Rattle.bx_events.specs.Births.{FoundNobody, HasPlace, IsBorn, is_lost, loses
 use Rattle.bx_events.specs.Flows.{IsFirst, IsPut, arrived_by, arrived_out, only_in, put_at, put_into}
 use Rattle.bx_events.specs.Stories.{story}
 use Rattle.bx_events.specs.Telling.{is_run, puts_nothing, told, what_of}
-use Rattle.bx_events.proofs.Flowing.{Flow, IsCounted, arrived_more, counted_get, get_either, get_first, is_put, left_over, put_more}
+use Rattle.bx_events.proofs.Flowing.{Flow, IsCounted, arrived_more, counted_get, get_either, is_put, left_over, put_more}
 use Rattle.bx_events.proofs.Lined.{Lined, has_place, lane_born, lane_count, lined_less, lined_more, lined_start}
-use Rattle.bx_events.proofs.Outlined.{Plain, in_told}
+use Rattle.bx_events.proofs.Told.{Plain, in_told}
 use Rattle.bx_events.proofs.Outlines.{arrived_same, calm, first_like, first_same, outline, outlined_at, put_same}
 use Rattle.bx_events.proofs.Posted.{first_heard, flow_more}
 
@@ -100,16 +101,14 @@ puts_none pair p row (put ∷ more) e = cc
 
 none_arrives : (pair : ℕ × ℕ) (what : What) → is_run what ≡ true → arrived_by pair what ≡ []
 none_arrives pair whats.Ran e = refl
-none_arrives pair (whats.Took message) e = cc
-none_arrives pair (whats.Arrived sent effect) e = cc
-none_arrives pair whats.Expired e = cc
+none_arrives pair _ e = cc
 
 matched_less : (events : List Event) (event : Event) (w : State) → Plain event → Matched (events ++ outline event ∷ []) w → Matched events w
 matched_less events event w plain matched = record {
   flow = λ pair. flow_like pair (events ++ outline event ∷ []) events (waiting w.lanes.channels pair)
       (put_more pair 0 events (outline event) ∙ ap (λ xs. put_into pair events ++ xs) (puts_none pair event.actor (0 + length events) event.puts plain.quiet) ∙ append-nil (put_into pair events))
       (arrived_more pair events (outline event) ∙ ap (λ xs. arrived_out pair events ++ xs) (none_arrives pair event.what plain.runs) ∙ append-nil (arrived_out pair events)) (matched.flow pair);
-  firsts = λ row here at sent effect e. earlier row here at (matched.firsts row here (get_first events (outline event ∷ []) row here at)) sent effect e;
+  firsts = λ row here at sent effect e. earlier row here at (matched.firsts row here (get_more events (outline event ∷ []) row here at)) sent effect e;
 }
   where
     earlier : (row : ℕ) (here : Event) → slice_get events row ≡ Some here → ArrivesFirst (events ++ outline event ∷ []) row here → ArrivesFirst events row here
@@ -145,7 +144,7 @@ arrows image m f choices s =
     (λ t matched. (
       first_of_all t.events t.end.world matched,
       λ pair. left_over pair t.events t.end.world.lanes.channels (flow_in t.events t.end.world matched pair),
-      λ pair n sent at. let count : 0 + n + 1 ≡ n + 1 = omega arith in counted_get pair 0 n (put_into pair t.events) sent (flow_in t.events t.end.world matched pair).counted at ∙ count,
+      λ pair n sent at. let count : 0 + n + 1 ≡ n + 1 = omega arith in (counted_get pair 0 n (put_into pair t.events) sent (flow_in t.events t.end.world matched pair).counted at).2 ∙ count,
     ))
 
 pub each_is_first : (image : Loaded) (m f : AtomId) (choices : List Choice) (s : Story) (row : ℕ) (event : Event) (sent : Sent) (effect : Effect) → story image m f choices ≡ Ok s → slice_get s.events row ≡ Some event

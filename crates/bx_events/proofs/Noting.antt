@@ -1,16 +1,19 @@
 -- What a ledger knows behind one more signal and one more event.
-use Rattle.std.proofs.Common.{◌≡◌, ◌≢◌, ℕ, zero, suc, ◌+◌, List, [], ◌∷◌, ◌++◌, Bool, true, false, ◌&&◌, cond, length, take, refl, sym, ap, ◌∙◌, arith, get_or, ◌<◌, append-nil, append_assoc, length-append}
-use Rattle.std.specs.Prelude.{Option, Some, None, if◌then◌else◌, nat_eq, slice_get}
+use Rattle.std.proofs.Common.{◌≡◌, inl, inr, ℕ, zero, suc, ◌+◌, List, [], ◌∷◌, ◌++◌, Bool, true, false, ◌&&◌, cond, length, map, take, refl, sym, ap, ◌∙◌, arith, get_or, ◌<◌, append-nil, append_assoc, length-append}
+use Rattle.std.specs.Prelude.{Some, if◌then◌else◌, nat_eq, slice_get}
 use Rattle.std.specs.Ordering.{is_eq}
+use Rattle.std.proofs.lemmas.Bool.{cases_Bool}
 use Rattle.std.proofs.lemmas.Bool.Decides.{nat_tests}
-use Rattle.std.proofs.lemmas.List.{take_more}
+use Rattle.std.proofs.lemmas.List.{take_more, map-append}
 use Rattle.bx_signals.proofs.Maps.{equal_pair}
 use Rattle.bx_world.specs.Posting.{same_pair}
 use Rattle.bx_events.specs.declared.events.Event.{Event}
 use Rattle.bx_events.specs.declared.events.Put.{Put}
 use Rattle.bx_events.specs.declared.ledgers.Ledger.{Ledger}
 use Rattle.bx_events.specs.Ledgers.{by_number, Keeps, Knows}
+use Rattle.bx_events.specs.Flows.{put_at, put_from}
 use Rattle.bx_events.specs.Pairing.{arrival, arrivals, by_puts, senders, senders_from}
+use Rattle.bx_events.proofs.Flowing.{both, by_puts_are, put_more, row_of, senders_are}
 
 -- what is known of channels that are told in another way
 pub along : (put other : ℕ × ℕ → List ℕ) (heard also : ℕ × ℕ → ℕ) (l : Ledger) → Knows put heard l → ((q : ℕ × ℕ) → put q ≡ other q) → ((q : ℕ × ℕ) → heard q ≡ also q) → Knows other also l
@@ -37,13 +40,11 @@ get_last (y ∷ xs) x (suc n) b e = get_last xs x n b (grind (arith, nat_tests))
 -- it stands behind the others of its channel
 pub sender_more : (put : ℕ × ℕ → List ℕ) (p q : ℕ × ℕ) (at m n : ℕ) → m ≡ length (put p)
     → cond (is_eq (by_number (p, m) (q, n))) (Some at) (slice_get (put q) n) ≡ slice_get (if same_pair q p then put q ++ at ∷ [] else put q) n
-sender_more put p q at m n count = ap (λ b. cond b (Some at) (slice_get (put q) n)) (same_slot p q m n) ∙ go (same_pair q p) refl
-  where
-    go : (b : Bool) → same_pair q p ≡ b → cond (b && nat_eq n m) (Some at) (slice_get (put q) n) ≡ slice_get (if b then put q ++ at ∷ [] else put q) n
-    go true e =
-        let here : m ≡ length (put q) = count ∙ ap (λ (k : ℕ × ℕ). length (put k)) (sym (equal_pair q p e)) in
-        sym (get_last (put q) at n (nat_eq n m) (ap (nat_eq n) (sym here)))
-    go false e = refl
+sender_more put p q at m n count =
+    ap (λ b. cond b (Some at) (slice_get (put q) n)) (same_slot p q m n) ∙ (elim (cases_Bool (same_pair q p)) as (λ _. cond (same_pair q p && nat_eq n m) (Some at) (slice_get (put q) n) ≡ slice_get (if same_pair q p then put q ++ at ∷ [] else put q) n) [
+      | inl e ↦ rw e (sym (get_last (put q) at n (nat_eq n m) (ap (nat_eq n) (sym (count ∙ ap (λ (k : ℕ × ℕ). length (put k)) (sym (equal_pair q p e)))))))
+      | inr e ↦ rw e
+    ])
 
 pub count_more : (b : Bool) (xs : List ℕ) (at n : ℕ) → n ≡ length xs → (if b then n + 1 else n) ≡ length (if b then xs ++ at ∷ [] else xs)
 count_more true xs at n e = omega (arith, e, length-append xs (at ∷ []))
@@ -51,11 +52,7 @@ count_more false xs at n e = e
 
 -- ---- the signals of one event
 
-both : (b : Bool) (at : ℕ) (xs ys zs : List ℕ) → zs ≡ xs ++ ys → (if b then at ∷ zs else zs) ≡ (if b then at ∷ xs else xs) ++ ys
-both true at xs ys zs e = ap (λ (ws : List ℕ). at ∷ ws) e
-both false at xs ys zs e = e
-
-pub by_puts_append : (q : ℕ × ℕ) (p at : ℕ) (xs ys : List Put) → by_puts q p at (xs ++ ys) ≡ by_puts q p at xs ++ by_puts q p at ys
+by_puts_append : (q : ℕ × ℕ) (p at : ℕ) (xs ys : List Put) → by_puts q p at (xs ++ ys) ≡ by_puts q p at xs ++ by_puts q p at ys
 by_puts_append q p at [] ys = refl
 by_puts_append q p at (x ∷ xs) ys = both (same_pair q (p, x.to)) at (by_puts q p at xs) (by_puts q p at ys) (by_puts q p at (xs ++ ys)) (by_puts_append q p at xs ys)
 
@@ -73,11 +70,9 @@ put_next old q p at xs i x h is =
 -- ---- one event more
 
 senders_append : (q : ℕ × ℕ) (i : ℕ) (events : List Event) (event : Event) → senders_from q i (events ++ event ∷ []) ≡ senders_from q i events ++ by_puts q event.actor (i + length events) event.puts
-senders_append q i [] event =
-    append-nil (by_puts q event.actor i event.puts) ∙ ap (λ n. by_puts q event.actor n event.puts) (omega arith)
-senders_append q i (e ∷ events) event =
-    ap (λ (zs : List ℕ). by_puts q e.actor i e.puts ++ zs) (senders_append q (i + 1) events event ∙ ap (λ n. senders_from q (i + 1) events ++ by_puts q event.actor n event.puts) (omega arith))
-    ∙ sym (append_assoc (by_puts q e.actor i e.puts) (senders_from q (i + 1) events) (by_puts q event.actor (i + length (e ∷ events)) event.puts))
+senders_append q i events event =
+    senders_are q i (events ++ event ∷ []) ∙ ap (map row_of) (put_more q i events event) ∙ map-append row_of (put_from q i events) (put_at q event.actor (i + length events) event.puts)
+    ∙ (λ j. sym (senders_are q i events) j ++ sym (by_puts_are q event.actor (i + length events) event.puts) j)
 
 arrivals_append : (q : ℕ × ℕ) (events : List Event) (event : Event) → arrivals q (events ++ event ∷ []) ≡ arrivals q events + arrival q event.what
 arrivals_append q [] event = omega arith

@@ -1,19 +1,16 @@
 -- The numbers of choices run on from event to event.
-use Rattle.std.proofs.Common.{◌≡◌, ℕ, ◌+◌, ◌-◌, ◌<◌, ◌≤◌, zero, suc, List, [], ◌∷◌, ◌++◌, Bool, true, false, length, refl, sym, ap, subst, ◌∙◌, arith}
-use Rattle.std.specs.Prelude.{Option, Some, None, is_some, ◌||◌, ◌&&◌, nat_le, Ok, if◌then◌else◌, slice_get, slice_set}
-use Rattle.std.proofs.lemmas.Bool.{le-leb, lt-leb, leb-false, leb-true}
+use Rattle.std.proofs.Common.{◌≡◌, inl, inr, ℕ, ◌+◌, ◌-◌, ◌<◌, ◌≤◌, zero, suc, List, [], ◌∷◌, ◌++◌, Bool, true, false, length, refl, sym, ap, ◌∙◌, arith}
+use Rattle.std.specs.Prelude.{Option, Some, None, ◌&&◌, nat_le, Ok, if◌then◌else◌, slice_get, slice_set}
+use Rattle.std.proofs.lemmas.Bool.{and_parts, cases_Bool, le-leb, lt-leb, leb-false, leb-true}
 use Rattle.bx_terms.specs.declared.atom_table.AtomId.{AtomId}
 use Rattle.bx_load.specs.Image.{Loaded}
 use Rattle.bx_world.specs.declared.choices.Choice.{Choice}
-use Rattle.bx_world.specs.Enabled.{can}
-use Rattle.bx_world.specs.Choosing.{chosen}
-use Rattle.bx_world.specs.World.{State}
 use Rattle.bx_events.specs.declared.events.Event.{Event}
 use Rattle.bx_events.specs.declared.stories.Story.{Story}
 use Rattle.bx_events.specs.Stories.{story}
 use Rattle.bx_events.specs.Ordered.{RunOn, holds, times_told}
-use Rattle.bx_events.specs.Telling.{Telling, added, is_over, joined, joins_last, last_of, one_told, told, with_joined}
-use Rattle.bx_events.proofs.Told.{in_stories}
+use Rattle.bx_events.specs.Telling.{Telling, added, joined, joins_last, last_of, one_told, told, with_joined}
+use Rattle.bx_events.proofs.Told.{by_added, by_choice, in_stories}
 
 -- ---- one event more
 
@@ -42,11 +39,8 @@ onto_last a b None event events e joins run first more = cc
 onto_last a b (Some last) event events e joins run first more = joined_runs a b (length events - 1) events last event (last_count events last e) e run first more
 
 added_runs : (a b : ℕ) (event : Event) (events : List Event) → RunOn a events b → event.first ≡ b + 1 → event.first ≤ event.last → RunOn a (added event events) event.last
-added_runs a b event events run first more = go (joins_last (last_of events) event) refl
-  where
-    go : (b : Bool) → joins_last (last_of events) event ≡ b → RunOn a (if b then with_joined (last_of events) event events else events ++ event ∷ []) event.last
-    go true joins = onto_last a b (last_of events) event events refl joins run first more
-    go false joins = apart_runs a b events event run first more
+added_runs a b event events run first more =
+    by_added (λ es. RunOn a es event.last) event events (λ joins. onto_last a b (last_of events) event events refl joins run first more) (λ apart. apart_runs a b events event run first more)
 
 -- ---- one choice more
 
@@ -54,13 +48,7 @@ abbrev In : Telling → Type 0
 In t = RunOn 0 t.events t.end.applied
 
 one_runs : (image : Loaded) (c : Choice) (t : Telling) → In t → In (one_told image c t)
-one_runs image c t run = go (is_over t.end) (can t.end.world c)
-  where
-    go : (over here : Bool) → RunOn 0 (if over then t.events else (if here then added (told image (t.end.applied + 1) c t.events t.end.world) t.events else t.events))
-        (if over then t.end else (if here then record { world = chosen image c t.end.world; applied = t.end.applied + 1; refused = None } else record t.end { refused = Some c })).applied
-    go true here = run
-    go false true = added_runs 0 t.end.applied (told image (t.end.applied + 1) c t.events t.end.world) t.events run refl (omega arith)
-    go false false = run
+one_runs image c t run = by_choice In image c t run run (λ may. added_runs 0 t.end.applied (told image (t.end.applied + 1) c t.events t.end.world) t.events run refl (omega arith))
 
 pub run_on : (image : Loaded) (m f : AtomId) (choices : List Choice) (s : Story) → story image m f choices ≡ Ok s → RunOn 0 s.events s.applied
 run_on image m f choices s is = in_stories In (λ s. RunOn 0 s.events s.applied) image m f choices s (λ w at. refl) (one_runs image) (λ t run. run) is
@@ -74,10 +62,6 @@ not_yet n a b (x ∷ events) run h =
     let out : holds n x ≡ false = ap (λ (k : Bool). k && nat_le n x.last) begins in
     ap (λ (k : Bool). if k then 1 + times_told n events else times_told n events) out ∙ not_yet n x.last b events run.2 (omega (arith, h, run.0, run.1))
 
-second : (a b : Bool) → (a && b) ≡ true → b ≡ true
-second true b e = e
-second false b e = cc
-
 not_second : (a b : Bool) → a ≡ true → (a && b) ≡ false → b ≡ false
 not_second true b h e = e
 not_second false b h e = cc
@@ -87,12 +71,10 @@ one_of n a b [] run more less =
     let is : a ≡ b = run in
     let no : n < n = omega (arith, is, more, less) in
     absurd (omega (arith, no))
-one_of n a b (x ∷ events) run more less = go (holds n x) refl (one_of n x.last b events run.2)
-  where
-    go : (k : Bool) → holds n x ≡ k → (x.last < n → n ≤ b → times_told n events ≡ 1) → (if k then 1 + times_told n events else times_told n events) ≡ 1
-    go true is later = ap (λ m. 1 + m) (not_yet n x.last b events run.2 (leb-true n x.last (second (nat_le x.first n) (nat_le n x.last) is)))
-    go false is later =
-        later (leb-false n x.last (not_second (nat_le x.first n) (nat_le n x.last) (le-leb x.first n (omega (arith, run.0, more))) is)) less
+one_of n a b (x ∷ events) run more less = elim (cases_Bool (holds n x)) [
+  | inl is ↦ rw is (ap (λ m. 1 + m) (not_yet n x.last b events run.2 (leb-true n x.last (and_parts (nat_le x.first n) (nat_le n x.last) is).1)))
+  | inr is ↦ rw is (one_of n x.last b events run.2 (leb-false n x.last (not_second (nat_le x.first n) (nat_le n x.last) (le-leb x.first n (omega (arith, run.0, more))) is)) less)
+]
 
 pub told_once : (image : Loaded) (m f : AtomId) (choices : List Choice) (s : Story) (n : ℕ) → story image m f choices ≡ Ok s → 0 < n → n ≤ s.applied → times_told n s.events ≡ 1
 told_once image m f choices s n is more less = one_of n 0 s.applied s.events (run_on image m f choices s is) more less

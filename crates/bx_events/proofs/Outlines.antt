@@ -1,6 +1,7 @@
 -- Events without what runs that go on change of them.
 use Rattle.std.proofs.Common.{◌≡◌, ℕ, zero, suc, ◌+◌, List, [], ◌∷◌, ◌++◌, map, take, refl, sym, ap, ◌∙◌}
-use Rattle.std.specs.Prelude.{Option, Some, None, slice_get, slice_set}
+use Rattle.std.specs.Prelude.{Option, Some, None, option_map, slice_get, slice_set}
+use Rattle.std.proofs.lemmas.Option.{slice_get-map}
 use Rattle.std.specs.List.{take-map}
 use Rattle.bx_events.specs.declared.events.Event.{Event}
 use Rattle.bx_events.specs.declared.events.Sent.{Sent}
@@ -44,9 +45,7 @@ first_same pair row events sent =
 -- ---- one of them
 
 pub outlined_at : (row : ℕ) (events : List Event) (event : Event) → slice_get events row ≡ Some event → slice_get (map outline events) row ≡ Some (outline event)
-outlined_at row [] event at = cc
-outlined_at zero (x ∷ events) event at = let same : x ≡ event = cc in ap (λ (e : Event). Some (outline e)) same
-outlined_at (suc row) (x ∷ events) event at = outlined_at row events event at
+outlined_at row events event at = slice_get-map outline events row ∙ ap (option_map outline) at
 
 outline_of : (row : ℕ) (events : List Event) (event : Event) → slice_get (map outline events) row ≡ Some event → (old : Event) × (slice_get events row ≡ Some old) × (outline old ≡ event)
 outline_of row [] event at = cc
@@ -60,10 +59,7 @@ born_same events p (Some row) (later, event, at, child) =
 
 absent_same : (s : Stands) → calm s ≡ stand.Absent → s ≡ stand.Absent
 absent_same stand.Absent e = refl
-absent_same stand.Goes e = cc
-absent_same stand.Waits e = cc
-absent_same (stand.Ended reason) e = cc
-absent_same (stand.Trapped kind) e = cc
+absent_same _ e = cc
 
 pub nobody_same : (event : Event) → FoundNobody (outline event) → FoundNobody event
 nobody_same event h = (absent_same event.stands h.0, h.1)

@@ -1,7 +1,8 @@
 -- What a choice puts into a channel and takes out of it, as its event tells it.
-use Rattle.std.proofs.Common.{◌≡◌, ℕ, zero, suc, ◌+◌, ◌==◌, List, [], ◌∷◌, ◌++◌, ◌⊎◌, inl, inr, Bool, true, false, cond, map, length, take, refl, sym, ap, subst, ◌∙◌, arith, append-nil, append_assoc, length-append}
+use Rattle.std.proofs.Common.{◌≡◌, ℕ, ◌+◌, ◌==◌, List, [], ◌∷◌, ◌++◌, ◌⊎◌, inl, inr, Bool, true, false, cond, map, length, refl, sym, ap, subst, ◌∙◌, arith, append-nil, append_assoc}
 use Rattle.std.specs.Prelude.{Option, Some, None, Result, Ok, Err, ◌&&◌, is_some, if◌then◌else◌, slice_get}
 use Rattle.std.specs.FinMap as finite
+use Rattle.std.proofs.lemmas.Bool.{cases_Bool}
 use Rattle.std.proofs.lemmas.List.{map-append}
 use Rattle.bx_terms.specs.declared.kinds.Trap.{Trap}
 use Rattle.bx_terms.specs.Tree.{Tree}
@@ -9,34 +10,28 @@ use Rattle.bx_load.specs.Image.{Loaded}
 use Rattle.bx_signals.specs.Waiting.{first}
 use Rattle.bx_signals.specs.Channels.{Channels, put, waiting}
 use Rattle.bx_signals.specs.declared.signal.Signal.{Signal}
-use Rattle.bx_signals.specs.declared.signal.Signal.TheVariants as signals
 use Rattle.bx_signals.proofs.Maps.{equal_pair, waiting_empty, waiting_same, waiting_with}
-use Rattle.bx_proc.specs.declared.parts.Status.{Status}
-use Rattle.bx_proc.specs.declared.parts.Status.TheVariants as statuses
 use Rattle.bx_world.specs.declared.choices.Choice.{Choice}
 use Rattle.bx_world.specs.declared.choices.Choice.TheVariants.{Run, Deliver, Expire}
 use Rattle.bx_world.specs.declared.turns.Turn.{Turn}
 use Rattle.bx_world.specs.declared.turns.Turn.TheVariants as turns
 use Rattle.bx_world.specs.World.{Life, Live, Exited, State}
-use Rattle.bx_world.specs.Enabled.{able, actor, can}
+use Rattle.bx_world.specs.Enabled.{able, actor}
 use Rattle.bx_world.specs.Changes.{Change, Coming, after, apply, change, coming, signal_change, signal_coming, turned_to}
 use Rattle.bx_world.specs.Choosing.{bare, chosen, put_alone}
 use Rattle.bx_world.specs.Deeds.{Deed, Posts, signalled}
 use Rattle.bx_world.specs.Posting.{as_row, first_of, in_channel, put_by, same_pair, taken_by}
 use Rattle.bx_world.proofs.Applying.{ComesAs, comes_as}
 use Rattle.bx_world.proofs.Arriving.{came}
-use Rattle.bx_world.proofs.Commuting.{able_of}
 use Rattle.bx_world.proofs.Deeds.{Quiet, plain}
 use Rattle.bx_events.specs.declared.actors.Met.TheVariants as meets
 use Rattle.bx_events.specs.declared.events.Effect.{Effect}
-use Rattle.bx_events.specs.declared.events.Effect.TheVariants as effects
 use Rattle.bx_events.specs.declared.events.Event.{Event}
 use Rattle.bx_events.specs.declared.events.Sent.{Sent}
 use Rattle.bx_events.specs.declared.events.Stands.{Stands}
-use Rattle.bx_events.specs.declared.events.Stands.TheVariants as stand
 use Rattle.bx_events.specs.declared.events.What.{What}
 use Rattle.bx_events.specs.declared.events.What.TheVariants as whats
-use Rattle.bx_events.specs.Actors.{before_of, effect_at, effect_of, exit_effect, heard, is_less, late_effect, live_effect, mail_of, next_of, run_was, stands_as, stands_by, stands_in}
+use Rattle.bx_events.specs.Actors.{before_of, effect_at, effect_of, exit_effect, heard, is_less, mail_of, next_of, run_was, stands_as, stands_in}
 use Rattle.bx_events.specs.Flows.{IsFirst, arrived_by, arrived_out, put_at, put_into}
 use Rattle.bx_events.specs.Pairing.{next_sent, senders, takes}
 use Rattle.bx_events.specs.Telling.{alone, puts_of, told, what_of}
@@ -142,74 +137,26 @@ Arrival pair events m taken what =
     ⊎ ((s : Signal) × (first (waiting m pair) ≡ Some s) × (taken ≡ s ∷ []) × (arrived_by pair what ≡ next_sent pair events s ∷ []))
 
 by_exit : (more : Bool) (behind : Stands) → takes (exit_effect more behind) ≡ true
-by_exit more (stand.Ended reason) = refl
-by_exit true stand.Goes = refl
-by_exit false stand.Goes = refl
-by_exit true stand.Waits = refl
-by_exit false stand.Waits = refl
-by_exit true (stand.Trapped kind) = refl
-by_exit false (stand.Trapped kind) = refl
-by_exit true stand.Absent = refl
-by_exit false stand.Absent = refl
-
-by_live : (s : Signal) (more : Bool) (behind : Stands) → takes (live_effect s more behind) ≡ true
-by_live (signals.Message message) more behind = refl
-by_live signals.Link more behind = refl
-by_live signals.Unlink more behind = refl
-by_live (signals.LinkExit reason) more behind = by_exit more behind
-by_live (signals.Exit reason) more behind = by_exit more behind
-
-by_late : (s : Signal) → takes (late_effect s) ≡ true
-by_late (signals.Message message) = refl
-by_late signals.Link = refl
-by_late signals.Unlink = refl
-by_late (signals.LinkExit reason) = refl
-by_late (signals.Exit reason) = refl
+by_exit more behind = grind arith
 
 by_any : (before : Stands) (s : Signal) (more : Bool) (behind : Stands) → takes (effect_at before s more behind) ≡ true
-by_any (stand.Ended reason) s more behind = by_late s
-by_any stand.Absent s more behind = refl
-by_any stand.Goes s more behind = by_live s more behind
-by_any stand.Waits s more behind = by_live s more behind
-by_any (stand.Trapped kind) s more behind = by_live s more behind
+by_any before s more behind = grind (arith, by_exit)
 
 no_trap : (before : Stands) (s : Signal) (more : Bool) (o : Option Life) → takes (effect_of before s more (stands_as o)) ≡ true
-no_trap before s more None = by_any before s more stand.Absent
-no_trap before s more (Some (Exited reason)) = by_any before s more (stand.Ended reason)
-no_trap before s more (Some (Live x)) = go x.status
-  where
-    go : (status : Status) → takes (effect_of before s more (stands_by status)) ≡ true
-    go statuses.Ready = by_any before s more stand.Goes
-    go statuses.Waiting = by_any before s more stand.Waits
-    go (statuses.Ended reason) = by_any before s more (stand.Ended reason)
+no_trap before s more o = grind (arith, by_any)
 
 ran_nothing : (pair : ℕ × ℕ) (took : Bool) (next : Option Tree) → arrived_by pair (run_was took next) ≡ []
-ran_nothing pair true None = refl
-ran_nothing pair true (Some message) = refl
-ran_nothing pair false None = refl
-ran_nothing pair false (Some message) = refl
+ran_nothing pair took next = grind arith
 
 heard_as : (pair : ℕ × ℕ) (p q : ℕ) (events : List Event) (m : Channels Signal) (s : Signal) (took : Bool) (effect : Effect) → first (waiting m (p, q)) ≡ Some s → took ≡ true → takes effect ≡ true
     → Arrival pair events m (first_of (Deliver p q) took pair m) (whats.Arrived (next_sent (p, q) events s) effect)
-heard_as pair p q events m s took effect at takes_it is_taken = go (same_pair pair (p, q)) refl
-  where
-    taken_if : first_of (Deliver p q) took pair m ≡ (if same_pair pair (p, q) then as_row (first (waiting m pair)) else [])
-    taken_if = ap (λ t. first_of (Deliver p q) t pair m) takes_it
-
-    arrived_if : arrived_by pair (whats.Arrived (next_sent (p, q) events s) effect) ≡ (if same_pair pair (p, q) then next_sent (p, q) events s ∷ [] else [])
-    arrived_if = ap (λ t. if t && same_pair pair (p, q) then next_sent (p, q) events s ∷ [] else []) is_taken
-
-    go : (b : Bool) → same_pair pair (p, q) ≡ b → Arrival pair events m (first_of (Deliver p q) took pair m) (whats.Arrived (next_sent (p, q) events s) effect)
-    go true e =
-        let is : pair ≡ (p, q) = equal_pair pair (p, q) e in
-        let here : first (waiting m pair) ≡ Some s = ap (λ k. first (waiting m k)) is ∙ at in
-        inr (
-          s,
-          here,
-          taken_if ∙ ap (λ b. if b then as_row (first (waiting m pair)) else []) e ∙ ap as_row here,
-          arrived_if ∙ ap (λ b. if b then next_sent (p, q) events s ∷ [] else []) e ∙ ap (λ k. next_sent k events s ∷ []) (sym is),
-        )
-    go false e = inl (taken_if ∙ ap (λ b. if b then as_row (first (waiting m pair)) else []) e, arrived_if ∙ ap (λ b. if b then next_sent (p, q) events s ∷ [] else []) e)
+heard_as pair p q events m s took effect at takes_it is_taken = elim (cases_Bool (same_pair pair (p, q))) [
+  | inl e ↦ (
+      let is : pair ≡ (p, q) = equal_pair pair (p, q) e in
+      let here : first (waiting m pair) ≡ Some s = ap (λ k. first (waiting m k)) is ∙ at in
+      inr (s, here, rw (takes_it, e, here), rw (is_taken, e) (ap (λ k. next_sent k events s ∷ []) (sym is))))
+  | inr e ↦ inl (rw (takes_it, e), rw (is_taken, e))
+]
 
 arrives : (image : Loaded) (n : ℕ) (c : Choice) (events : List Event) (w : State) (pair : ℕ × ℕ) → able c w.processes w.lanes ≡ true
     → Arrival pair events w.lanes.channels (taken_by c pair w.lanes.channels (coming image c w)) (told image n c events w).what
@@ -217,14 +164,12 @@ arrives image n (Run p) events w pair may = inl (none (coming image (Run p) w), 
   where
     none : (x : Coming) → taken_by (Run p) pair w.lanes.channels x ≡ []
     none (Ok (Ok made)) = refl
-    none (Ok (Err kind)) = refl
-    none (Err fault) = refl
+    none _ = refl
 arrives image n (Expire p) events w pair may = inl (none (coming image (Expire p) w), refl)
   where
     none : (x : Coming) → taken_by (Expire p) pair w.lanes.channels x ≡ []
     none (Ok (Ok made)) = refl
-    none (Ok (Err kind)) = refl
-    none (Err fault) = refl
+    none _ = refl
 arrives image n (Deliver p q) events w pair may = signal (first (waiting w.lanes.channels (p, q))) refl may
   where
     signal : (o : Option Signal) → first (waiting w.lanes.channels (p, q)) ≡ o → is_some o ≡ true
@@ -242,9 +187,6 @@ arrives image n (Deliver p q) events w pair may = signal (first (waiting w.lanes
             (no_trap (stands_in q w) s (is_less (mail_of (slice_get w.processes q)) (mail_of (slice_get (apply (Deliver p q) made w).processes q))) (slice_get (apply (Deliver p q) made w).processes q))
 
 -- ---- a channel behind one choice more
-
-same_behind : (x y : Signal) (xs ys : List Signal) → x ∷ xs ≡ y ∷ ys → xs ≡ ys
-same_behind x y xs ys e = cc
 
 module _ (image : Loaded) (n : ℕ) (c : Choice) (events : List Event) (w : State) (pair : ℕ × ℕ) (may : able c w.processes w.lanes ≡ true) (flow : Flow pair events (waiting w.lanes.channels pair)) where
   abbrev event : Event
@@ -285,19 +227,17 @@ module _ (image : Loaded) (n : ℕ) (c : Choice) (events : List Event) (w : Stat
       go (inr (s, at, taken, arrived)) =
           let head = head_of pair events (waiting w.lanes.channels pair) s flow at in
           rests head.0 (next_sent pair events s ∷ []) [] (head.1 ∙ sym (append_assoc (arrived_out pair events) (next_sent pair events s ∷ []) head.0)) arrived
-          (same_behind s s (map (λ (s : Sent). s.signal) head.0 ++ put_by c pair (coming image c w)) (waiting (chosen image c w).lanes.channels pair)
+          (same_rest s s (map (λ (s : Sent). s.signal) head.0 ++ put_by c pair (coming image c w)) (waiting (chosen image c w).lanes.channels pair)
           (ap (λ ss. ss ++ put_by c pair (coming image c w)) head.2 ∙ balance ∙ ap (λ ss. ss ++ waiting (chosen image c w).lanes.channels pair) taken))
 
 -- a signal that arrives is the first of its channel
 pub first_heard : (image : Loaded) (n : ℕ) (c : Choice) (events : List Event) (w : State) (sent : Sent) (effect : Effect) → able c w.processes w.lanes ≡ true → ((pair : ℕ × ℕ) → Flow pair events (waiting w.lanes.channels pair))
     → (told image n c events w).what ≡ whats.Arrived sent effect → (sent.to ≡ actor c) × IsFirst (sent.from, sent.to) events sent
-first_heard image n (Run p) events w sent effect may flow is = go (is_less (mail_of (slice_get (chosen image (Run p) w).processes p)) (mail_of (slice_get w.processes p))) (next_of (slice_get w.processes p)) is
+first_heard image n (Run p) events w sent effect may flow is = absurd (never (is_less (mail_of (slice_get (chosen image (Run p) w).processes p)) (mail_of (slice_get w.processes p))) (next_of (slice_get w.processes p)) is)
   where
-    go : (took : Bool) (next : Option Tree) → run_was took next ≡ whats.Arrived sent effect → (sent.to ≡ p) × IsFirst (sent.from, sent.to) events sent
-    go true None e = cc
-    go true (Some message) e = cc
-    go false None e = cc
-    go false (Some message) e = cc
+    never : (took : Bool) (next : Option Tree) → run_was took next ≡ whats.Arrived sent effect → ⊥
+    never true (Some message) e = cc
+    never _ _ e = cc
 first_heard image n (Expire p) events w sent effect may flow is = cc
 first_heard image n (Deliver p q) events w sent effect may flow is = go (first (waiting w.lanes.channels (p, q))) refl may is
   where
