@@ -1,5 +1,5 @@
 -- Where the lines of processes begin among events.
-use Rattle.std.proofs.Common.{◌≡◌, ℕ, zero, suc, ◌+◌, ◌<◌, ◌≤◌, ◌⊎◌, inl, inr, List, [], ◌∷◌, ◌++◌, Bool, true, false, map, length, refl, sym, ap, subst, ◌∙◌, arith, append-nil, append_assoc, length-append}
+use Rattle.std.proofs.Common.{◌≡◌, ℕ, zero, suc, ◌+◌, ◌<◌, ◌≤◌, ◌⊎◌, inl, inr, List, [], ◌∷◌, ◌++◌, Bool, map, length, refl, sym, ap, subst, ◌∙◌, arith, append-nil, append_assoc, length-append}
 use Rattle.std.specs.Prelude.{Option, Some, None, option_map, is_some, if◌then◌else◌, nat_lt, slice_get, slice_set}
 use Rattle.std.proofs.lemmas.Bool.{cases_Bool}
 use Rattle.std.proofs.lemmas.Bool.Decides.{nat_tests}
@@ -117,17 +117,13 @@ on_more (Some birth) row bs cs p at h = subst (λ o. IsOn o row) (sym (get_more 
 
 -- a process more, or none
 child_is : (b : Bool) (n m : ℕ) → nat_lt n m ≡ b → n ≤ m → m ≤ n + 1 → (row : ℕ) → length (born_by row (if b then Some n else None)) + n ≡ m
-child_is true n m e least most row = let more : n < m = grind (arith, nat_tests) in omega (arith, more, most)
-child_is false n m e least most row = let less : m ≤ n = grind (arith, nat_tests) in omega (arith, less, least)
+child_is b n m e least most row = grind (arith, nat_tests)
 
 one_of_child : (row k n : ℕ) (o : Option ℕ) (birth : Option ℕ) → slice_get (born_by row o) k ≡ Some birth → (k ≡ 0) × (birth ≡ Some row) × (child : ℕ) × (o ≡ Some child)
-one_of_child row k n None birth at = cc
-one_of_child row zero n (Some child) birth at = (refl, cc, child, refl)
-one_of_child row (suc k) n (Some child) birth at = cc
+one_of_child row k n o birth at = grind arith
 
 child_number : (b : Bool) (n child : ℕ) → (if b then Some n else None) ≡ Some child → child ≡ n
-child_number true n child e = cc
-child_number false n child e = cc
+child_number b n child e = grind arith
 
 module _ (events : List Event) (event : Event) where
   more_births : births (events ++ event ∷ []) ≡ births events ++ born_by (length events) event.child

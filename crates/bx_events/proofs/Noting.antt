@@ -29,12 +29,9 @@ pub same_slot : (p q : ℕ × ℕ) (m n : ℕ) → is_eq (by_number (p, m) (q, n
 same_slot p q m n = grind (arith, nat_tests)
 
 get_last : (xs : List ℕ) (x n : ℕ) (b : Bool) → nat_eq n (length xs) ≡ b → slice_get (xs ++ x ∷ []) n ≡ cond b (Some x) (slice_get xs n)
-get_last [] x zero true e = refl
-get_last [] x zero false e = absurd (grind (arith, nat_tests))
-get_last [] x (suc n) true e = absurd (grind (arith, nat_tests))
-get_last [] x (suc n) false e = refl
-get_last (y ∷ xs) x zero true e = absurd (grind (arith, nat_tests))
-get_last (y ∷ xs) x zero false e = refl
+get_last [] x zero b e = grind (arith, nat_tests)
+get_last [] x (suc n) b e = grind (arith, nat_tests)
+get_last (y ∷ xs) x zero b e = grind (arith, nat_tests)
 get_last (y ∷ xs) x (suc n) b e = get_last xs x n b (grind (arith, nat_tests))
 
 -- it stands behind the others of its channel

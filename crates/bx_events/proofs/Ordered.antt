@@ -1,7 +1,8 @@
 -- The numbers of choices run on from event to event.
 use Rattle.std.proofs.Common.{◌≡◌, inl, inr, ℕ, ◌+◌, ◌-◌, ◌<◌, ◌≤◌, zero, suc, List, [], ◌∷◌, ◌++◌, Bool, true, false, length, refl, sym, ap, ◌∙◌, arith}
 use Rattle.std.specs.Prelude.{Option, Some, None, ◌&&◌, nat_le, Ok, if◌then◌else◌, slice_get, slice_set}
-use Rattle.std.proofs.lemmas.Bool.{and_parts, cases_Bool, le-leb, lt-leb, leb-false, leb-true}
+use Rattle.std.proofs.lemmas.Bool.Decides.{nat_tests}
+use Rattle.std.proofs.lemmas.Bool.{and_parts, cases_Bool, lt-leb, leb-true}
 use Rattle.bx_terms.specs.declared.atom_table.AtomId.{AtomId}
 use Rattle.bx_load.specs.Image.{Loaded}
 use Rattle.bx_world.specs.declared.choices.Choice.{Choice}
@@ -62,9 +63,8 @@ not_yet n a b (x ∷ events) run h =
     let out : holds n x ≡ false = ap (λ (k : Bool). k && nat_le n x.last) begins in
     ap (λ (k : Bool). if k then 1 + times_told n events else times_told n events) out ∙ not_yet n x.last b events run.2 (omega (arith, h, run.0, run.1))
 
-not_second : (a b : Bool) → a ≡ true → (a && b) ≡ false → b ≡ false
-not_second true b h e = e
-not_second false b h e = cc
+beyond : (n : ℕ) (x : Event) → x.first ≤ n → holds n x ≡ false → x.last < n
+beyond n x h e = grind (arith, nat_tests)
 
 one_of : (n a b : ℕ) (events : List Event) → RunOn a events b → a < n → n ≤ b → times_told n events ≡ 1
 one_of n a b [] run more less =
@@ -73,7 +73,7 @@ one_of n a b [] run more less =
     absurd (omega (arith, no))
 one_of n a b (x ∷ events) run more less = elim (cases_Bool (holds n x)) [
   | inl is ↦ rw is (ap (λ m. 1 + m) (not_yet n x.last b events run.2 (leb-true n x.last (and_parts (nat_le x.first n) (nat_le n x.last) is).1)))
-  | inr is ↦ rw is (one_of n x.last b events run.2 (leb-false n x.last (not_second (nat_le x.first n) (nat_le n x.last) (le-leb x.first n (omega (arith, run.0, more))) is)) less)
+  | inr is ↦ rw is (one_of n x.last b events run.2 (beyond n x (omega (arith, run.0, more)) is) less)
 ]
 
 pub told_once : (image : Loaded) (m f : AtomId) (choices : List Choice) (s : Story) (n : ℕ) → story image m f choices ≡ Ok s → 0 < n → n ≤ s.applied → times_told n s.events ≡ 1

@@ -11,16 +11,17 @@ use Rattle.bx_signals.specs.Waiting.{first}
 use Rattle.bx_signals.specs.Channels.{Channels, put, waiting}
 use Rattle.bx_signals.specs.declared.signal.Signal.{Signal}
 use Rattle.bx_signals.proofs.Maps.{equal_pair, waiting_empty, waiting_same, waiting_with}
+use Rattle.bx_proc.specs.Process.{Process}
 use Rattle.bx_world.specs.declared.choices.Choice.{Choice}
 use Rattle.bx_world.specs.declared.choices.Choice.TheVariants.{Run, Deliver, Expire}
 use Rattle.bx_world.specs.declared.turns.Turn.{Turn}
 use Rattle.bx_world.specs.declared.turns.Turn.TheVariants as turns
 use Rattle.bx_world.specs.World.{Life, Live, Exited, State}
 use Rattle.bx_world.specs.Enabled.{able, actor}
-use Rattle.bx_world.specs.Changes.{Change, Coming, after, apply, change, coming, signal_change, signal_coming, turned_to}
+use Rattle.bx_world.specs.Changes.{Change, Coming, after, apply, coming, signal_change, signal_coming, turned_to}
 use Rattle.bx_world.specs.Choosing.{bare, chosen, put_alone}
 use Rattle.bx_world.specs.Deeds.{Deed, Posts, signalled}
-use Rattle.bx_world.specs.Posting.{as_row, first_of, in_channel, put_by, same_pair, taken_by}
+use Rattle.bx_world.specs.Posting.{first_of, in_channel, put_by, same_pair, taken_by}
 use Rattle.bx_world.proofs.Applying.{ComesAs, comes_as}
 use Rattle.bx_world.proofs.Arriving.{came}
 use Rattle.bx_world.proofs.Deeds.{Quiet, plain}
@@ -43,19 +44,16 @@ abbrev Takes : Result Change Trap → Type 0
 Takes (Ok made) = made.takes ≡ true
 Takes (Err kind) = Unit {0}
 
+turn_takes : (x : Process) (d : Deed) (turn : Turn) → Quiet x turn d → Takes (turned_to turn None d)
+turn_takes x d turns.Ran quiet = quiet.1
+turn_takes x d (turns.Ended reason) quiet = quiet
+turn_takes x d (turns.Trapped kind) quiet = tt
+turn_takes x d (turns.Spawns spawn) quiet = quiet.1
+
 signal_takes : (p : ℕ) (o : Option Life) (s : Signal) → Takes (signal_change p o s)
 signal_takes p None s = refl
 signal_takes p (Some (Exited reason)) s = refl
-signal_takes p (Some (Live x)) s = go (signalled p x s) (plain p x s).quiet
-  where
-    go : (d : Deed) → Quiet x d.turn d → Takes (change None d)
-    go d = turning d.turn
-      where
-        turning : (turn : Turn) → Quiet x turn d → Takes (turned_to turn None d)
-        turning turns.Ran quiet = quiet.1
-        turning (turns.Ended reason) quiet = quiet
-        turning (turns.Trapped kind) quiet = tt
-        turning (turns.Spawns spawn) quiet = quiet.1
+signal_takes p (Some (Live x)) s = turn_takes x (signalled p x s) (signalled p x s).turn (plain p x s).quiet
 
 delivery_takes : (p : ℕ) (o : Option Life) (s : Option Signal) (made : Change) → signal_coming p o s ≡ Ok (Ok made) → made.takes ≡ true
 delivery_takes p o None made e = cc
@@ -79,18 +77,13 @@ module _ (p q : ℕ) (s : Signal) where
 
   heard_alone : (made : Change) (w : State) (k : ℕ × ℕ) → made.takes ≡ true → w.lanes.channels ≡ sole → waiting (apply (Deliver p q) made w).lanes.channels k ≡ in_channel q k made.posts
   heard_alone made w k taken is =
-      go (same_pair k (p, q)) (sole_waits k) (ap (λ t. first_of (Deliver p q) t k sole) taken)
-      (ap (λ m. waiting m k ++ in_channel q k made.posts) (sym is) ∙ came (Deliver p q) w k (Ok (Ok made)) (ap (λ m. is_some (first (waiting m (p, q)))) is ∙ ap (λ ss. is_some (first ss)) sole_here)
-      ∙ ap (λ m. first_of (Deliver p q) made.takes k m ++ waiting (apply (Deliver p q) made w).lanes.channels k) is)
-    where
-      go : (b : Bool) → waiting sole k ≡ cond b (s ∷ []) [] → first_of (Deliver p q) made.takes k sole ≡ (if b then as_row (first (waiting sole k)) else [])
-          → waiting sole k ++ in_channel q k made.posts ≡ first_of (Deliver p q) made.takes k sole ++ waiting (apply (Deliver p q) made w).lanes.channels k
-          → waiting (apply (Deliver p q) made w).lanes.channels k ≡ in_channel q k made.posts
-      go true had one all =
-          sym (same_rest s s (in_channel q k made.posts) (waiting (apply (Deliver p q) made w).lanes.channels k)
-          (sym (ap (λ ss. ss ++ in_channel q k made.posts) had) ∙ all ∙ ap (λ ss. ss ++ waiting (apply (Deliver p q) made w).lanes.channels k) (one ∙ ap (λ ss. as_row (first ss)) had)))
-      go false had one all =
-          sym (sym (ap (λ ss. ss ++ in_channel q k made.posts) had) ∙ all ∙ ap (λ ss. ss ++ waiting (apply (Deliver p q) made w).lanes.channels k) one)
+      let all = ap (λ m. waiting m k ++ in_channel q k made.posts) (sym is)
+      ∙ came (Deliver p q) w k (Ok (Ok made)) (ap (λ m. is_some (first (waiting m (p, q)))) is ∙ ap (λ ss. is_some (first ss)) sole_here)
+      ∙ (λ i. first_of (Deliver p q) (taken i) k (is i) ++ waiting (apply (Deliver p q) made w).lanes.channels k) in
+      elim (cases_Bool (same_pair k (p, q))) [
+        | inl e ↦ sym (same_rest s s (in_channel q k made.posts) (waiting (apply (Deliver p q) made w).lanes.channels k) (rw (sole_waits k, e) at all))
+        | inr e ↦ sym (rw (sole_waits k, e) at all)
+      ]
 
 none_sent : (a : ℕ) (k : ℕ × ℕ) (posts : Posts) → (k.0 == a) ≡ false → in_channel a k posts ≡ []
 none_sent a k [] other = refl
