@@ -1,8 +1,9 @@
 -- What an instruction, and what a signal, makes of the mailbox of its process, where that lives on.
-use Rattle.std.proofs.Common.{◌≡◌, ℕ, List, [], ◌∷◌, Bool, true, false, Some, None, refl, ap, ◌∙◌}
+use Rattle.std.proofs.Common.{◌≡◌, inl, inr, ℕ, List, [], ◌∷◌, Bool, true, false, Some, None, refl, ap, ◌∙◌}
 use Rattle.std.specs.Prelude.{if◌then◌else◌, ◌==◌, ◌||◌, not, nat_le}
+use Rattle.std.proofs.lemmas.Bool.{cases_Bool}
 use Rattle.bx_terms.specs.Tree.{Tree, atom, height}
-use Rattle.bx_terms.specs.declared.fixed.TheConstants.{TRUE, KILLED}
+use Rattle.bx_terms.specs.declared.fixed.TheConstants.{TRUE}
 use Rattle.bx_load.specs.Image.{Loaded}
 use Rattle.bx_mail.specs.Mail.{Mail, added}
 use Rattle.bx_mail.specs.History.{Operation, Add, all_done}
@@ -21,7 +22,7 @@ use Rattle.bx_world.specs.declared.requests.Request.TheVariants as requests
 use Rattle.bx_world.specs.declared.turns.Turn.{Turn}
 use Rattle.bx_world.specs.declared.turns.Turn.TheVariants as turns
 use Rattle.bx_world.specs.Requests.{requested}
-use Rattle.bx_world.specs.Deeds.{Deed, leaves, closes, puts, yes, badarg, exit_message, is_kill, is_normal, low_enough, unlinked_done, notes, exits_itself, performs, did, instruction, hears, dies, is_told, exit_comes, signalled}
+use Rattle.bx_world.specs.Deeds.{Deed, leaves, closes, yes, badarg, exit_message, is_kill, is_normal, low_enough, notes, exits_itself, performs, did, instruction, hears, dies, is_told, exit_comes, signalled}
 use Rattle.bx_run_laws.specs.Mailings.{by_exit, unless_killed, by_request, by_effect, by_run, by_signal}
 use Rattle.bx_run_laws.proofs.Attempted.{RanWith, attempted_ran, settled_keeps}
 
@@ -68,29 +69,23 @@ module _ (x : Process) where
   tested true some more d e h k = h
   tested false some more d e h k = k
 
-  either : (mail : Mail) (b : Bool) (d e : Deed) → Leads mail d → Leads mail e → Leads mail (if b then d else e)
-  either mail true d e h k = h
-  either mail false d e h k = k
-
   itself : (image : Loaded) (p : ℕ) (reason : Tree) → Leads (all_done x.mailbox (unless_killed p reason x)) (exits_itself image p reason x)
-  itself image p reason =
-      let told = notes image yes x (low_enough (exit_message p reason)) in
-      tested (is_kill reason) [] (by_exit p reason x) (leaves x (atom KILLED.0)) (if x.trap_exit then told else leaves x reason) tt
-      (tested x.trap_exit (Add (exit_message p reason) ∷ []) [] told (leaves x reason) (notes_so image (exit_message p reason) (nat_le (height (exit_message p reason)) 10000)) tt)
+  itself image p reason = elim (cases_Bool (is_kill reason)) [
+    | inl e ↦ rw e tt
+    | inr e ↦ rw e (tested x.trap_exit (Add (exit_message p reason) ∷ []) [] (notes image yes x (low_enough (exit_message p reason))) (leaves x reason)
+        (notes_so image (exit_message p reason) (nat_le (height (exit_message p reason)) 10000)) tt)
+  ]
 
   -- what a process asks of the world
   performed : (image : Loaded) (p : ℕ) (r : Request) → Leads (all_done x.mailbox (by_request p x (Some r))) (performs image p r x)
   performed image p requests.Refused = closed image badarg x refl
-  performed image p (requests.Send q message) =
-      tested (q == p) (Add message ∷ []) [] (closes (settled_with image (Value message) message x)) (puts q (signals.Message message) (closes (settled image (Value message) x)))
-      (noted_so image message message) (closed image (Value message) x refl)
-  performed image p (requests.Exit q reason) =
-      tested (q == p) (unless_killed p reason x) [] (exits_itself image p reason x) (puts q (signals.Exit reason) (closes (settled image yes x))) (itself image p reason) (closed image yes x refl)
-  performed image p (requests.Link q) =
-      either x.mailbox ((q == p) || among q x.links) (closes (settled image yes x)) (puts q signals.Link (closes (settled image yes (with_link q x)))) (closed image yes x refl) (closed image yes (with_link q x) refl)
-  performed image p (requests.Unlink q) =
-      either x.mailbox ((q == p) || not (among q x.links)) (closes (settled image yes x)) (puts q signals.Unlink (closes (unlinked_done q (settled image yes x)))) (closed image yes x refl)
-      (closes_same x.mailbox (without_link q (settled image yes x).0) (settled image yes x).1 (settled_keeps image yes x))
+  performed image p (requests.Send q message) = elim (cases_Bool (q == p)) [ inl e ↦ rw e (noted_so image message message) | inr e ↦ rw e (closed image (Value message) x refl) ]
+  performed image p (requests.Exit q reason) = elim (cases_Bool (q == p)) [ inl e ↦ rw e (itself image p reason) | inr e ↦ rw e (closed image yes x refl) ]
+  performed image p (requests.Link q) = elim (cases_Bool ((q == p) || among q x.links)) [ inl e ↦ rw e (closed image yes x refl) | inr e ↦ rw e (closed image yes (with_link q x) refl) ]
+  performed image p (requests.Unlink q) = elim (cases_Bool ((q == p) || not (among q x.links))) [
+    | inl e ↦ rw e (closed image yes x refl)
+    | inr e ↦ rw e (closes_same x.mailbox (without_link q (settled image yes x).0) (settled image yes x).1 (settled_keeps image yes x))
+  ]
   performed image p (requests.Display term) = closed image yes x refl
   performed image p (requests.Spawn spawn) = (refl, refl)
 
@@ -111,10 +106,9 @@ module _ (x : Process) where
   exit_so : (p : ℕ) (reason : Tree) (y : Process) → y.mailbox ≡ x.mailbox → Leads (all_done x.mailbox (by_exit p reason x)) (exit_comes p x y reason)
   exit_so p reason y h =
       tested x.trap_exit (Add (exit_message p reason) ∷ []) [] (is_told x y (low_enough (exit_message p reason))) (if is_normal reason then hears y turns.Ran else dies y reason)
-      (told_so (exit_message p reason) y (nat_le (height (exit_message p reason)) 10000) h) (either x.mailbox (is_normal reason) (hears y turns.Ran) (dies y reason) h tt)
+      (told_so (exit_message p reason) y (nat_le (height (exit_message p reason)) 10000) h) (elim (cases_Bool (is_normal reason)) [ inl e ↦ rw e h | inr e ↦ rw e tt ])
 
   pub signalled_so : (p : ℕ) (s : Signal) → Leads (all_done x.mailbox (by_signal p x s)) (signalled p x s)
-  signalled_so p (signals.LinkExit reason) =
-      tested (among p x.links) (by_exit p reason x) [] (exit_comes p x (without_link p x) reason) (hears x turns.Ran) (exit_so p reason (without_link p x) refl) refl
-  signalled_so p (signals.Exit reason) = tested (is_kill reason) [] (by_exit p reason x) (dies x (atom KILLED.0)) (exit_comes p x x reason) tt (exit_so p reason x refl)
+  signalled_so p (signals.LinkExit reason) = elim (cases_Bool (among p x.links)) [ inl e ↦ rw e (exit_so p reason (without_link p x) refl) | inr e ↦ rw e refl ]
+  signalled_so p (signals.Exit reason) = elim (cases_Bool (is_kill reason)) [ inl e ↦ rw e tt | inr e ↦ rw e (exit_so p reason x refl) ]
   signalled_so p _ = refl
