@@ -14,21 +14,17 @@ use Rattle.bx_terms.specs.declared.places.Place.{Place}
 use Rattle.bx_terms.specs.declared.atom_table.AtomId.{AtomId}
 use Rattle.bx_load.specs.Image.{export}
 use Rattle.bx_world.specs.World.{State, begun_at, started}
-use Rattle.bx_world.specs.Enabled.{can}
-use Rattle.bx_world.specs.Choosing.{chosen}
-use Rattle.bx_world.specs.Running.{Ended, advanced, ran, tried, unchosen}
+use Rattle.bx_world.specs.Running.{Ended, ran, tried, unchosen}
 use Rattle.bx_world.proofs.Lawful.{few_applied}
 use Rattle.bx_events.specs.declared.events.Event.{Event}
 use Rattle.bx_events.specs.declared.ledgers.Ledger.{Ledger}
 use Rattle.bx_events.specs.declared.tellers.Teller.{Teller}
-use Rattle.bx_events.specs.declared.actors.Before.{Before}
-use Rattle.bx_events.specs.Actors.{before_of}
 use Rattle.bx_events.specs.Ledgers.{Keeps, Knows}
 use Rattle.bx_events.specs.Pairing.{arrival, arrivals, by_puts, senders, senders_from}
 use Rattle.bx_events.proofs.Noting.{along, keeps_more}
 use Rattle.bx_events.proofs.Told.{by_added, by_choice}
 use Rattle.bx_events.specs.Answers.{telling, Stands, Tells}
-use Rattle.bx_events.specs.Telling.{Telling, added, all_told, alone, is_over, joined, joins_last, last_of, one_told, told, told_by, untold, with_choice, with_joined}
+use Rattle.bx_events.specs.Telling.{Telling, added, all_told, is_over, joined, joins_last, last_of, one_told, told, untold, with_choice, with_joined}
 
 -- ---- rows of choices
 
@@ -69,20 +65,6 @@ pub all_grow : (image : Loaded) (cs : List Choice) (t : Telling) → length t.ev
 all_grow image [] t = omega arith
 all_grow image (c ∷ cs) t = omega (arith, one_grows image c t, all_grow image cs (one_told image c t))
 
--- ---- one choice
-
-pub refused_told : (image : Loaded) (c : Choice) (t : Telling) → is_over t.end ≡ false → can t.end.world c ≡ false → record { end = record t.end { refused = Some c }; events = t.events } ≡ one_told image c t
-refused_told image c t going never = rw (going, never)
-
--- where one that is enabled leads
-pub made_end : (image : Loaded) (c : Choice) (end : Ended) → is_over end ≡ false → can end.world c ≡ true
-    → advanced image c end ≡ record { world = chosen image c end.world; applied = end.applied + 1; refused = None }
-made_end image c end going may = rw (going, may)
-
-pub made_told : (image : Loaded) (c : Choice) (t : Telling) → is_over t.end ≡ false → can t.end.world c ≡ true
-    → record { end = advanced image c t.end; events = added (told image (t.end.applied + 1) c t.events t.end.world) t.events } ≡ one_told image c t
-made_told image c t going may = rw (going, may)
-
 -- ---- answers
 
 -- too many events are too many behind more choices
@@ -98,27 +80,10 @@ next_told image first left cs mid goal is so_far = sym (all_append image first l
 pub one_left : (c : Choice) (times made : ℕ) → made < times → replicate (times - made) c ≡ (c ∷ []) ++ replicate (times - (made + 1)) c
 one_left c times made h = let count : times - made ≡ suc (times - (made + 1)) = omega arith in ap (λ n. replicate n c) count
 
-pub none_left : (image : Loaded) (cs : List Choice) (t goal : Telling) → cs ≡ [] → all_told image cs t ≡ goal → t ≡ goal
-none_left image cs t goal none so_far = ap (λ (row : List Choice). all_told image row t) (sym none) ∙ so_far
-
-pub no_more : (c : Choice) (times made : ℕ) → times ≤ made → replicate (times - made) c ≡ []
-no_more c times made h = let count : times - made ≡ 0 = omega arith in ap (λ n. replicate n c) count
-
 pub told_further : (image : Loaded) (left : List Choice) (mid new goal : Telling) → all_told image left mid ≡ goal → new ≡ mid → all_told image left new ≡ goal
 told_further image left mid new goal so_far is = ap (all_told image left) is ∙ so_far
 
 -- ---- an event that is added
-
-pub made_added : (image : Loaded) (c : Choice) (t : Telling) (end : Ended) (made : State) (before : Before) (event : Event) → is_over t.end ≡ false → can t.end.world c ≡ true → end ≡ advanced image c t.end
-    → made ≡ alone image c t.end.world → before ≡ before_of c t.end.world → event ≡ told_by end.applied c t.events made before end.world
-    → record { end = end; events = added event t.events } ≡ one_told image c t
-made_added image c t end made before event going may is alone_is before_is event_is =
-    let e = is ∙ made_end image c t.end going may in
-    let all : event ≡ told image (t.end.applied + 1) c t.events t.end.world = event_is ∙ (λ i. told_by (e i).applied c t.events (alone_is i) (before_is i) (e i).world) in
-    (λ i. record { end = is i; events = added (all i) t.events }) ∙ made_told image c t going may
-
-pub tells_as : (one goal : Telling) (new : Teller) (result : Result (Unit {0}) Fault) → one ≡ goal → Tells one new result → Tells goal new result
-tells_as one goal new result e h = subst (λ (t : Telling). Tells t new result) e h
 
 -- a joined event puts and hears what the last one did
 senders_set : (q : ℕ × ℕ) (i k : ℕ) (events : List Event) (last event : Event) → slice_get events k ≡ Some last → senders_from q i (slice_set events k (joined last event)) ≡ senders_from q i events
@@ -179,9 +144,6 @@ apart_stands event old new stands apart few same_end is knows =
         few = omega (arith, few, length-append events (event ∷ []), ap length is);
       },
     )
-
-pub too_many : (event : Event) (events : List Event) → joins_last (last_of events) event ≡ false → length events ≡ 20000 → 20000 < length (added event events)
-too_many event events apart many = omega (arith, many, length-append events (event ∷ []), ap length (when_apart events event apart))
 
 -- ---- from the start
 

@@ -35,13 +35,16 @@ get_last (y ∷ xs) x zero b e = grind (arith, nat_tests)
 get_last (y ∷ xs) x (suc n) b e = get_last xs x n b (grind (arith, nat_tests))
 
 -- it stands behind the others of its channel
+behind_put : (put : ℕ × ℕ → List ℕ) (p q : ℕ × ℕ) (at m n : ℕ) → m ≡ length (put p)
+    → cond (same_pair q p && nat_eq n m) (Some at) (slice_get (put q) n) ≡ slice_get (if same_pair q p then put q ++ at ∷ [] else put q) n
+behind_put put p q at m n count = elim (cases_Bool (same_pair q p)) [
+  | inl e ↦ rw e (sym (get_last (put q) at n (nat_eq n m) (ap (nat_eq n) (sym (count ∙ ap (λ (k : ℕ × ℕ). length (put k)) (sym (equal_pair q p e)))))))
+  | inr e ↦ rw e
+]
+
 pub sender_more : (put : ℕ × ℕ → List ℕ) (p q : ℕ × ℕ) (at m n : ℕ) → m ≡ length (put p)
     → cond (is_eq (by_number (p, m) (q, n))) (Some at) (slice_get (put q) n) ≡ slice_get (if same_pair q p then put q ++ at ∷ [] else put q) n
-sender_more put p q at m n count =
-    ap (λ b. cond b (Some at) (slice_get (put q) n)) (same_slot p q m n) ∙ (elim (cases_Bool (same_pair q p)) as (λ _. cond (same_pair q p && nat_eq n m) (Some at) (slice_get (put q) n) ≡ slice_get (if same_pair q p then put q ++ at ∷ [] else put q) n) [
-      | inl e ↦ rw e (sym (get_last (put q) at n (nat_eq n m) (ap (nat_eq n) (sym (count ∙ ap (λ (k : ℕ × ℕ). length (put k)) (sym (equal_pair q p e)))))))
-      | inr e ↦ rw e
-    ])
+sender_more put p q at m n count = ap (λ b. cond b (Some at) (slice_get (put q) n)) (same_slot p q m n) ∙ behind_put put p q at m n count
 
 pub count_more : (b : Bool) (xs : List ℕ) (at n : ℕ) → n ≡ length xs → (if b then n + 1 else n) ≡ length (if b then xs ++ at ∷ [] else xs)
 count_more true xs at n e = omega (arith, e, length-append xs (at ∷ []))

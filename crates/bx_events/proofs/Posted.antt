@@ -226,7 +226,8 @@ module _ (image : Loaded) (n : ℕ) (c : Choice) (events : List Event) (w : Stat
 -- a signal that arrives is the first of its channel
 pub first_heard : (image : Loaded) (n : ℕ) (c : Choice) (events : List Event) (w : State) (sent : Sent) (effect : Effect) → able c w.processes w.lanes ≡ true → ((pair : ℕ × ℕ) → Flow pair events (waiting w.lanes.channels pair))
     → (told image n c events w).what ≡ whats.Arrived sent effect → (sent.to ≡ actor c) × IsFirst (sent.from, sent.to) events sent
-first_heard image n (Run p) events w sent effect may flow is = absurd (never (is_less (mail_of (slice_get (chosen image (Run p) w).processes p)) (mail_of (slice_get w.processes p))) (next_of (slice_get w.processes p)) is)
+first_heard image n (Run p) events w sent effect may flow is =
+    absurd (never (is_less (mail_of (slice_get (chosen image (Run p) w).processes p)) (mail_of (slice_get w.processes p))) (next_of (slice_get w.processes p)) is)
   where
     never : (took : Bool) (next : Option Tree) → run_was took next ≡ whats.Arrived sent effect → ⊥
     never true (Some message) e = cc

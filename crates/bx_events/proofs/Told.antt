@@ -28,7 +28,10 @@ pub by_added : (P : List Event → Type 0) (event : Event) (events : List Event)
 by_added P event events onto behind = elim (cases_Bool (joins_last (last_of events) event)) [ inl e ↦ rw e (onto e) | inr e ↦ rw e (behind e) ]
 
 pub by_choice : (P : Telling → Type 0) (image : Loaded) (c : Choice) (t : Telling) → P t → P (record { end = record t.end { refused = Some c }; events = t.events })
-    → (can t.end.world c ≡ true → P (record { end = record { world = chosen image c t.end.world; applied = t.end.applied + 1; refused = None }; events = added (told image (t.end.applied + 1) c t.events t.end.world) t.events }))
+    → (can t.end.world c ≡ true → P (record {
+      end = record { world = chosen image c t.end.world; applied = t.end.applied + 1; refused = None };
+      events = added (told image (t.end.applied + 1) c t.events t.end.world) t.events;
+    }))
     → P (one_told image c t)
 by_choice P image c t over refused made = elim (cases_Bool (is_over t.end)) [
   | inl e ↦ rw e over
