@@ -1,25 +1,28 @@
 -- A choice that is brought forward by one exchange after another.
-use Rattle.std.proofs.Common.{◌≡◌, ◌∙◌, ℕ, zero, suc, ◌+◌, ◌-◌, ◌<◌, ◌≤◌, List, [], ◌∷◌, ◌++◌, length, take, drop, append_assoc, inl, inr, refl, sym, ap, subst, arith}
-use Rattle.std.specs.Prelude.{slice_get, slice_index_or}
+use Rattle.std.proofs.Common.{◌≡◌, ◌∙◌, ℕ, zero, suc, ◌+◌, ◌-◌, ◌<◌, ◌≤◌, List, [], ◌∷◌, ◌++◌, length, take, drop, append_assoc, inl, inr, refl, sym, ap, subst, arith, add-one}
+use Rattle.std.specs.Prelude.{Bool, slice_get, slice_index_or}
 use Rattle.std.proofs.lemmas.Option.{slice_get-get_or}
-use Rattle.std.proofs.lemmas.List.{drop_more, take_more, length-drop, length-take-le, length-append, take-append-drop, take-append-le, take_all}
+use Rattle.std.proofs.lemmas.List.{drop_more, take_more, length-drop, length-take, length-take-le, length-append, take-append-drop, take_at, drop_at, get_or-take, get_or_append_left, get_or_at}
 use Rattle.std.proofs.lemmas.List.Edits.{length-swap}
 use Rattle.std.proofs.lemmas.Bool.{cases_lt}
-use Rattle.std.proofs.Math.Seq.{drop-append_seam, drop-append-add}
+use Rattle.std.proofs.Math.Seq.{drop-append-add}
 use Rattle.bx_world.specs.declared.choices.Choice.{Choice}
 use Rattle.bx_replay.specs.Courses.{Course, reached}
 use Rattle.bx_replay.specs.Exchanges.{exchanged_at, with_exchange, MayExchange}
 use Rattle.bx_replay.specs.Moving.{brought, exchanged, AllMay, AreWithin, IsExchanged}
+use Rattle.bx_replay.specs.Reaching.{BringsPast}
 use Rattle.bx_replay.proofs.Rows.{swapped}
 use Rattle.bx_replay.proofs.Turning.{around, leads, new as turned, old as straight, short as front_long}
 
--- ---- lists
+-- from one position down to another
+pub down : (P : ℕ → Type 0) (high : ℕ) → P high → ((i : ℕ) → i < high → P (i + 1) → P i) → (i : ℕ) → i ≤ high → P i
+down P high top step i le = by (high - i) i (omega arith)
+  where
+    by : (n i : ℕ) → i + n ≡ high → P i
+    by zero i e = let same : high ≡ i = omega (arith, e) in subst P same top
+    by (suc n) i e = step i (omega (arith, e)) (by n (i + 1) (omega (arith, e)))
 
--- what stands behind a front
-pub get_behind : (ys zs : List Choice) (n k : ℕ) → k ≡ length ys + n → slice_get (ys ++ zs) k ≡ slice_get zs n
-get_behind [] zs n k e = let same : k ≡ n = omega (arith, e) in ap (slice_get zs) same
-get_behind (y ∷ ys) zs n zero e = absurd (omega (arith, e))
-get_behind (y ∷ ys) zs n (suc k) e = get_behind ys zs n k (omega (arith, e))
+-- ---- lists
 
 -- what stands between, and the choice itself
 module _ (xs : List Choice) (from : ℕ) (d : Choice) (within : from < length xs) where
@@ -28,7 +31,7 @@ module _ (xs : List Choice) (from : ℕ) (d : Choice) (within : from < length xs
   moved = slice_index_or xs from d
 
   -- those behind it when it stands at i
-  abbrev behind : ℕ → List Choice
+  abbrev pub behind : ℕ → List Choice
   behind i = take (from - i) (drop i xs) ++ drop (from + 1) xs
 
   pub brought_is : (i : ℕ) → brought from i xs ≡ take i xs ++ moved ∷ behind i
@@ -36,153 +39,113 @@ module _ (xs : List Choice) (from : ℕ) (d : Choice) (within : from < length xs
 
   -- nothing is moved
   pub brought_here : brought from from xs ≡ xs
-  brought_here =
-      let none : from - from ≡ 0 = omega arith in
-      brought_is from
-      ∙ ap (λ n. take from xs ++ moved ∷ (take n (drop from xs) ++ drop (from + 1) xs)) none
-      ∙ ap (λ ys. take from xs ++ ys) (sym (drop_more xs from d within))
-      ∙ take-append-drop from xs
+  brought_here = let none : from - from ≡ 0 = omega arith in cc (brought_is from, drop_more xs from d within, take-append-drop from xs)
 
   module _ (i : ℕ) (less : i < from) where
     -- the one before it
     abbrev other : Choice
     other = slice_index_or xs i d
 
-    pub next_to : brought from (i + 1) xs ≡ take i xs ++ other ∷ moved ∷ behind (i + 1)
-    next_to =
-        brought_is (i + 1) ∙ ap (λ ys. ys ++ moved ∷ behind (i + 1)) (take_more xs i d (omega arith))
-        ∙ append_assoc (take i xs) (other ∷ []) (moved ∷ behind (i + 1))
+    next_to : brought from (i + 1) xs ≡ take i xs ++ other ∷ moved ∷ behind (i + 1)
+    next_to = cc (brought_is (i + 1), take_more xs i d (omega arith), append_assoc (take i xs) (other ∷ []) (moved ∷ behind (i + 1)))
 
     behind_is : behind i ≡ other ∷ behind (i + 1)
-    behind_is =
-        let count : from - i ≡ suc (from - (i + 1)) = omega arith in
-        ap (λ n. take n (drop i xs) ++ drop (from + 1) xs) count
-        ∙ ap (λ ys. take (suc (from - (i + 1))) ys ++ drop (from + 1) xs) (drop_more xs i d (omega arith))
+    behind_is = let count : from - i ≡ suc (from - (i + 1)) = omega arith in cc (drop_more xs i d (omega arith))
 
     short : length (take i xs) ≡ i
     short = length-take-le i xs (omega arith)
 
     pub rest_is : drop i (brought from (i + 1) xs) ≡ other ∷ moved ∷ behind (i + 1)
-    rest_is = ap (drop i) next_to ∙ ap (λ n. drop n (take i xs ++ other ∷ moved ∷ behind (i + 1))) (sym short) ∙ drop-append_seam (take i xs) (other ∷ moved ∷ behind (i + 1))
+    rest_is = ap (drop i) next_to ∙ drop_at (take i xs) _ i short
 
     pub front_is : take i (brought from (i + 1) xs) ≡ take i xs
-    front_is =
-        ap (take i) next_to ∙ take-append-le i (take i xs) (other ∷ moved ∷ behind (i + 1)) (omega (arith, short))
-        ∙ take_all i (take i xs) (omega (arith, short))
+    front_is = ap (take i) next_to ∙ take_at (take i xs) _ i short
 
     -- one exchange more
     pub brought_on : exchanged_at i (brought from (i + 1) xs) ≡ brought from i xs
-    brought_on =
-        let next : i + 1 ≡ suc i = omega arith in
-        swapped i (i + 1) (brought from (i + 1) xs) other moved (behind (i + 1)) next rest_is
-        ∙ ap (λ ys. ys ++ moved ∷ other ∷ behind (i + 1)) front_is
-        ∙ ap (λ ys. take i xs ++ moved ∷ ys) (sym behind_is)
-        ∙ sym (brought_is i)
+    brought_on = cc (swapped i (i + 1) (brought from (i + 1) xs) other moved (behind (i + 1)) (add-one i) rest_is, front_is, behind_is, brought_is i)
 
 pub long_brought : (xs : List Choice) (from at : ℕ) (d : Choice) → from < length xs → at ≤ from → length (brought from at xs) ≡ length xs
-long_brought xs from at d within le =
-    let is = ap length (brought_is xs from d within at) in
-    let kept = length-take-le at xs (omega arith) in
-    let long = length-drop at xs in
-    let mid = length-take-le (from - at) (drop at xs) (omega arith) in
-    omega (
-      arith,
-      length-append (take at xs) (slice_index_or xs from d ∷ (take (from - at) (drop at xs) ++ drop (from + 1) xs)),
-      length-append (take (from - at) (drop at xs)) (drop (from + 1) xs),
-      length-drop (from + 1) xs,
-    )
+long_brought xs from at d within le = ap length (brought_is xs from d within at) ∙ simp (length-append, length-drop, length-take) (omega arith)
 
 -- what stands before it stays
 pub brought_before : (xs : List Choice) (from to : ℕ) (d : Choice) (k : ℕ) → from < length xs → to ≤ from → k < to → slice_get (brought from to xs) k ≡ slice_get xs k
 brought_before xs from to d k within le less =
-    let cut : length (take to xs) ≡ to = length-take-le to xs (omega arith) in
-    ap (λ ys. slice_get ys k) (brought_is xs from d within to)
-    ∙ get_front (take to xs) (slice_index_or xs from d ∷ (take (from - to) (drop to xs) ++ drop (from + 1) xs)) k (omega arith)
-    ∙ sym (get_front (take to xs) (drop to xs) k (omega arith)) ∙ ap (λ ys. slice_get ys k) (take-append-drop to xs)
-  where
-    get_front : (ys zs : List Choice) (n : ℕ) → n < length ys → slice_get (ys ++ zs) n ≡ slice_get ys n
-    get_front [] zs n h = absurd (omega arith)
-    get_front (y ∷ ys) zs zero h = refl
-    get_front (y ∷ ys) zs (suc n) h = get_front ys zs n (omega arith)
+    cc (
+      slice_get-get_or (brought from to xs) k d (omega (arith, long_brought xs from to d within le)), slice_get-get_or xs k d (omega arith), brought_is xs from d within to,
+      get_or_append_left (take to xs) (slice_index_or xs from d ∷ behind xs from d within to) d k (omega (arith, length-take-le to xs (omega arith))), get_or-take to xs k d less,
+    )
 
 -- and the one in whose place it stands is right behind it
 pub brought_next : (xs : List Choice) (from to : ℕ) (d : Choice) → from < length xs → to < from → slice_get (brought from to xs) (to + 1) ≡ slice_get xs to
 brought_next xs from to d within less =
-    let cut : length (take to xs) ≡ to = length-take-le to xs (omega arith) in
-    let rest = take (from - (to + 1)) (drop (to + 1) xs) ++ drop (from + 1) xs in
-    ap (λ ys. slice_get ys (to + 1))
-    (brought_is xs from d within to ∙ ap (λ ys. take to xs ++ slice_index_or xs from d ∷ ys) (behind_is xs from d within to less))
-    ∙ get_behind (take to xs) (slice_index_or xs from d ∷ slice_index_or xs to d ∷ rest) 1 (to + 1) (omega (arith, cut))
-    ∙ sym (slice_get-get_or xs to d (omega arith))
+    let front = take to xs ++ slice_index_or xs from d ∷ [] in
+    cc (
+      slice_get-get_or (brought from to xs) (to + 1) d (omega (arith, long_brought xs from to d within (omega arith))), slice_get-get_or xs to d (omega arith), brought_is xs from d within to, behind_is xs from d within to less,
+      append_assoc (take to xs) (slice_index_or xs from d ∷ []) (behind xs from d within to),
+      get_or_at front (slice_index_or xs to d) (behind xs from d within (to + 1)) d (to + 1) (omega (arith, length-append (take to xs) (slice_index_or xs from d ∷ []), length-take-le to xs (omega arith))),
+    )
+
+-- a choice that was brought forward is brought on
+pub brought_twice : (xs : List Choice) (from at : ℕ) (d : Choice) → from < length xs → at ≤ from → (to : ℕ) → to ≤ at → brought at to (brought from at xs) ≡ brought from to xs
+brought_twice xs from at d within le =
+    let inside : at < length (brought from at xs) = omega (arith, long_brought xs from at d within le) in
+    down (λ to. brought at to (brought from at xs) ≡ brought from to xs) at (brought_here (brought from at xs) at d inside)
+    (λ to less up. cc (up, brought_on (brought from at xs) at d inside to less, brought_on xs from d within to (omega arith)))
 
 -- ---- exchanges
 
 pub none_made : (count : ℕ) (c : Course) → IsExchanged count c c
 none_made count c = record { positions = []; within = tt; may = tt; is = refl }
 
-exchanged_on : (is more : List ℕ) (choices : List Choice) → exchanged (is ++ more) choices ≡ exchanged more (exchanged is choices)
-exchanged_on [] more choices = refl
-exchanged_on (i ∷ is) more choices = exchanged_on is more (exchanged_at i choices)
-
-abbrev after : List ℕ → Course → Course
-after is c = record c { choices = exchanged is c.choices }
-
-may_on : (is more : List ℕ) (c : Course) → AllMay is c → AllMay more (after is c) → AllMay (is ++ more) c
-may_on [] more c h g = g
-may_on (i ∷ is) more c h g = (h.0, may_on is more (with_exchange i c) h.1 g)
-
-within_on : (low high : ℕ) (is more : List ℕ) → low ≤ high → AreWithin low is → AreWithin high more → AreWithin high (is ++ more)
-within_on low high [] more le h g = g
-within_on low high (i ∷ is) more le h g = (omega (arith, h.0), within_on low high is more le h.1 g)
-
-wider : (low high : ℕ) (is : List ℕ) → low ≤ high → AreWithin low is → AreWithin high is
-wider low high [] le h = tt
-wider low high (i ∷ is) le h = (omega (arith, h.0), wider low high is le h.1)
-
--- among more choices
-pub among_more : (low high : ℕ) (old new : Course) → low ≤ high → IsExchanged low old new → IsExchanged high old new
-among_more low high old new le e = record { positions = e.positions; within = wider low high e.positions le e.within; may = e.may; is = e.is }
-
--- one after another
-pub further : (count : ℕ) (old mid new : Course) → IsExchanged count old mid → IsExchanged count mid new → IsExchanged count old new
-further count old mid new one two = record {
-  positions = one.positions ++ two.positions;
-  within = within_on count count one.positions two.positions (omega arith) one.within two.within;
-  may = may_on one.positions two.positions old one.may (subst (λ (m : Course). AllMay two.positions m) one.is two.may);
-  is =
-      two.is ∙ ap (λ (m : Course). after two.positions m) one.is
-      ∙ ap (λ (cs : List Choice). record old { choices = cs }) (sym (exchanged_on one.positions two.positions old.choices));
-}
-
 pub one_made : (count i : ℕ) (c : Course) → i + 1 < count → MayExchange i c → IsExchanged count c (with_exchange i c)
 one_made count i c h may = record { positions = i ∷ []; within = (h, tt); may = (may, tt); is = refl }
 
--- a choice that was brought forward is brought on
-pub brought_twice : (xs : List Choice) (from at : ℕ) (d : Choice) → from < length xs → at ≤ from → (n to : ℕ) → to + n ≡ at → brought at to (brought from at xs) ≡ brought from to xs
-brought_twice xs from at d within le zero to count =
-    let same : to ≡ at = omega arith in
-    let long : length (brought from at xs) ≡ length xs = long_brought xs from at d within le in
-    ap (λ t. brought at t (brought from at xs)) same ∙ brought_here (brought from at xs) at d (omega (arith, long)) ∙ ap (λ t. brought from t xs) (sym same)
-brought_twice xs from at d within le (suc n) to count =
-    let long : length (brought from at xs) ≡ length xs = long_brought xs from at d within le in
-    let more : to + 1 + n ≡ at = omega arith in
-    sym (brought_on (brought from at xs) at d (omega (arith, long)) to (omega arith))
-    ∙ ap (exchanged_at to) (brought_twice xs from at d within le n (to + 1) more)
-    ∙ brought_on xs from d within to (omega arith)
+-- among more choices
+pub among_more : (low high : ℕ) (old new : Course) → low ≤ high → IsExchanged low old new → IsExchanged high old new
+among_more low high old new le e = record { positions = e.positions; within = wider e.positions e.within; may = e.may; is = e.is }
+  where
+    wider : (is : List ℕ) → AreWithin low is → AreWithin high is
+    wider [] h = tt
+    wider (i ∷ is) h = (omega (arith, h.0, le), wider is h.1)
 
--- each exchange may be made of a choice that is brought forward in two parts
-pub steps_on : (count : ℕ) (old mid : Course) (from at rest : ℕ) (d : Choice) → from < length old.choices → at ≤ from → IsExchanged count old mid → mid.choices ≡ brought from at old.choices
-    → ((i : ℕ) → at ≤ i → i < from → MayExchange i (record old { choices = brought from (i + 1) old.choices }))
-    → ((i : ℕ) → rest ≤ i → i < at → MayExchange i (record mid { choices = brought at (i + 1) mid.choices }))
-    → (i : ℕ) → rest ≤ i → i < from → MayExchange i (record old { choices = brought from (i + 1) old.choices })
-steps_on count old mid from at rest d within le e are first more i low high = elim (cases_lt i at) [
-  | inl less ↦
-      let up : i + 1 + (at - (i + 1)) ≡ at = omega (arith, less) in
-      let on = ap (λ (cs : List Choice). brought at (i + 1) cs) are ∙ brought_twice old.choices from at d within le (at - (i + 1)) (i + 1) up in
-      let same = ap (λ (c : Course). record c { choices = brought at (i + 1) mid.choices }) e.is in
-      subst (λ (c : Course). MayExchange i c) (same ∙ ap (λ (cs : List Choice). record old { choices = cs }) on) (more i low less)
-  | inr past ↦ first i past high
-]
+-- one after another
+abbrev after : List ℕ → Course → Course
+after is c = record c { choices = exchanged is c.choices }
+
+pub further : (count : ℕ) (old mid new : Course) → IsExchanged count old mid → IsExchanged count mid new → IsExchanged count old new
+further count old mid new one two = by one.positions old one.within one.may (subst (λ (m : Course). IsExchanged count m new) one.is two)
+  where
+    by : (is : List ℕ) (c : Course) → AreWithin count is → AllMay is c → IsExchanged count (after is c) new → IsExchanged count c new
+    by [] c w m e = e
+    by (i ∷ is) c w m e = let rest = by is (with_exchange i c) w.1 m.1 e in record { positions = i ∷ rest.positions; within = (w.0, rest.within); may = (m.0, rest.may); is = rest.is }
+
+-- a choice that stands at `at`, brought there by exchanges
+pub record Came (from to : ℕ) (old new : Course) (at : ℕ) : Type 0 where
+  pub reach : to ≤ at
+  pub start : at ≤ from
+  pub choices : new.choices ≡ brought from at old.choices
+  pub exchanges : IsExchanged (from + 1) old new
+  pub steps : (i : ℕ) → at ≤ i → i < from → MayExchange i (record old { choices = brought from (i + 1) old.choices })
+
+pub came_first : (from to : ℕ) (d : Choice) (c : Course) → to ≤ from → from < length c.choices → Came from to c c from
+came_first from to d c le within = record { reach = le; start = omega arith; choices = sym (brought_here c.choices from d within); exchanges = none_made (from + 1) c; steps = λ i low high. absurd (omega arith) }
+
+-- it is brought on
+pub came_on : (from to at rest : ℕ) (d : Choice) (old mid new : Course) (more : Bool) → from < length old.choices → Came from to old mid at → BringsPast at to mid new rest more → Came from to old new rest
+came_on from to at rest d old mid new more within came one = record {
+  reach = one.reach;
+  start = omega (arith, one.start, came.start);
+  choices = one.choices ∙ ap (brought at rest) came.choices ∙ brought_twice old.choices from at d within came.start rest one.start;
+  exchanges = further (from + 1) old mid new came.exchanges (among_more (at + 1) (from + 1) mid new (omega (arith, came.start)) one.exchanges);
+  steps = λ i low high. elim (cases_lt i at) [
+    | inl less ↦
+        let on = ap (brought at (i + 1)) came.choices ∙ brought_twice old.choices from at d within came.start (i + 1) (omega arith) in
+        let same = ap (λ (c : Course). record c { choices = brought at (i + 1) mid.choices }) came.exchanges.is in
+        subst (MayExchange i) (same ∙ ap (λ (cs : List Choice). record old { choices = cs }) on) (one.steps i low less)
+    | inr past ↦ came.steps i past high
+  ];
+}
 
 -- ---- what exchanges leave as it was
 
@@ -203,19 +166,17 @@ ends_after count n old new e le = ap (reached n) e.is ∙ go e.positions old e.w
     go (i ∷ is) c w m = go is (with_exchange i c) w.1 m.1 ∙ leads i c (around i c m.0) n (omega (arith, w.0))
 
 -- the choices behind them
-drop_after : (i n : ℕ) (c : Course) → MayExchange i c → i + 1 < n → drop n (exchanged_at i c.choices) ≡ drop n c.choices
-drop_after i n c may le =
-    let a = around i c may in
-    ap (drop n) (turned i c a) ∙ past a.second a.first a.more ∙ sym (past a.first a.second a.more) ∙ ap (drop n) (sym (straight i c a))
-  where
-    past : (x y : Choice) (more : List Choice) → drop n (take i c.choices ++ x ∷ y ∷ more) ≡ drop (n - i - 2) more
-    past x y more =
-        let far : n ≡ length (take i c.choices) + suc (suc (n - i - 2)) = omega (arith, front_long i c (around i c may)) in
-        ap (λ k. drop k (take i c.choices ++ x ∷ y ∷ more)) far ∙ drop-append-add (take i c.choices) (x ∷ y ∷ more) (suc (suc (n - i - 2)))
-
 pub behind_after : (count : ℕ) (old new : Course) → IsExchanged count old new → drop count new.choices ≡ drop count old.choices
 behind_after count old new e = ap (λ (c : Course). drop count c.choices) e.is ∙ go e.positions old e.within e.may
   where
+    one : (i : ℕ) (c : Course) → MayExchange i c → i + 1 < count → drop count (exchanged_at i c.choices) ≡ drop count c.choices
+    one i c may le =
+        let a = around i c may in
+        let front = take i c.choices in
+        let past = suc (suc (count - i - 2)) in
+        let far : count ≡ length front + suc (suc (count - i - 2)) = omega (arith, le, front_long i c a) in
+        cc (turned i c a, straight i c a, drop-append-add front (a.first ∷ a.second ∷ a.more) past, drop-append-add front (a.second ∷ a.first ∷ a.more) past)
+
     go : (is : List ℕ) (c : Course) → AreWithin count is → AllMay is c → drop count (exchanged is c.choices) ≡ drop count c.choices
     go [] c w m = refl
-    go (i ∷ is) c w m = go is (with_exchange i c) w.1 m.1 ∙ drop_after i count c m.0 w.0
+    go (i ∷ is) c w m = go is (with_exchange i c) w.1 m.1 ∙ one i c m.0 w.0

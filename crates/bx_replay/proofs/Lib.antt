@@ -1,5 +1,4 @@
 pub mod Rows
-pub mod Next
 pub mod Pairs
 pub mod Prefixes
 pub mod Stretches

@@ -7,7 +7,8 @@ use Rattle.bx_world.specs.declared.choices.Choice.{Choice}
 use Rattle.bx_world.specs.Running.{Ended, ran, Lacks}
 use Rattle.bx_world.proofs.Lawful.{ran_on}
 use Rattle.bx_replay.specs.Lacking.{LacksAmong}
-use Rattle.bx_replay.proofs.Bringing.{get_behind}
+use Rattle.std.proofs.lemmas.Option.{slice_get-get_or}
+use Rattle.std.proofs.lemmas.List.{length-append, length-replicate, get_or-append-add, get_or_append_left, get_or-replicate, take-append-le, take-replicate}
 
 -- the first of some choices are made, and so many are left
 pub record Front (image : Loaded) (whole left : List Choice) (old new : Ended) : Type 0 where
@@ -26,33 +27,24 @@ run_made image whole rest left choice times old mid new so_far is made = record 
   leads = made ∙ ap (ran image (replicate times choice)) so_far.leads ∙ sym (ran_on image so_far.front (replicate times choice) old);
 }
 
-get_run : (times n : ℕ) (choice : Choice) (left : List Choice) → n < times → slice_get (replicate times choice ++ left) n ≡ Some choice
-get_run zero n choice left h = absurd (omega arith)
-get_run (suc times) zero choice left h = refl
-get_run (suc times) (suc n) choice left h = get_run times n choice left (omega arith)
-
-take_run : (times n : ℕ) (choice : Choice) (left : List Choice) → n < times → take n (replicate times choice ++ left) ≡ replicate n choice
-take_run zero n choice left h = absurd (omega arith)
-take_run (suc times) zero choice left h = refl
-take_run (suc times) (suc n) choice left h = ap (λ (cs : List Choice). choice ∷ cs) (take_run times n choice left (omega arith))
-
 pub run_lacks : (image : Loaded) (whole rest left : List Choice) (choice : Choice) (times : ℕ) (old mid new : Ended) → Front image whole rest old mid → rest ≡ replicate times choice ++ left
     → Lacks image choice times mid new → LacksAmong image whole old new
 run_lacks image whole rest left choice times old mid new so_far is lacks =
     let n = lacks.0 in
     let front = so_far.front in
-    let parts : whole ≡ front ++ (replicate times choice ++ left) = so_far.parts ∙ ap (λ (cs : List Choice). front ++ cs) is in
+    let row = replicate times choice in
+    let parts : whole ≡ front ++ (row ++ left) = so_far.parts ∙ ap (λ (cs : List Choice). front ++ cs) is in
+    let inside : n < length row = omega (arith, lacks.1, length-replicate times choice) in
     record {
       made = length front + n;
       choice = choice;
-      next =
-          ap (λ (cs : List Choice). slice_get cs (length front + n)) parts
-          ∙ get_behind front (replicate times choice ++ left) n (length front + n) refl ∙ get_run times n choice left lacks.1;
-      here =
-          lacks.2 ∙ ap (ran image (replicate n choice)) so_far.leads ∙ sym (ran_on image front (replicate n choice) old)
-          ∙ ap (λ (cs : List Choice). ran image (front ++ cs) old) (sym (take_run times n choice left lacks.1))
-          ∙ ap (λ (cs : List Choice). ran image cs old) (sym (take-append-add front (replicate times choice ++ left) n))
-          ∙ ap (λ (cs : List Choice). ran image (take (length front + n) cs) old) (sym parts);
+      next = cc (
+        parts, slice_get-get_or whole (length front + n) choice (omega (arith, inside, ap length parts, length-append front (row ++ left), length-append row left)), get_or-append-add front (row ++ left) n choice,
+        get_or_append_left row left choice n inside, get_or-replicate times n choice choice lacks.1,
+      );
+      here = cc (
+        lacks.2, so_far.leads, parts, ran_on image front (replicate n choice) old, take-append-add front (row ++ left) n, take-append-le n row left (omega (arith, inside)), take-replicate n times choice (omega (arith, lacks.1)),
+      );
       takes = lacks.3;
     }
 
