@@ -72,8 +72,11 @@ long_brought xs from at d within le = ap length (brought_is xs from d within at)
 pub brought_before : (xs : List Choice) (from to : ℕ) (d : Choice) (k : ℕ) → from < length xs → to ≤ from → k < to → slice_get (brought from to xs) k ≡ slice_get xs k
 brought_before xs from to d k within le less =
     cc (
-      slice_get-get_or (brought from to xs) k d (omega (arith, long_brought xs from to d within le)), slice_get-get_or xs k d (omega arith), brought_is xs from d within to,
-      get_or_append_left (take to xs) (slice_index_or xs from d ∷ behind xs from d within to) d k (omega (arith, length-take-le to xs (omega arith))), get_or-take to xs k d less,
+      slice_get-get_or (brought from to xs) k d (omega (arith, long_brought xs from to d within le)),
+      slice_get-get_or xs k d (omega arith),
+      brought_is xs from d within to,
+      get_or_append_left (take to xs) (slice_index_or xs from d ∷ behind xs from d within to) d k (omega (arith, length-take-le to xs (omega arith))),
+      get_or-take to xs k d less,
     )
 
 -- and the one in whose place it stands is right behind it
@@ -81,7 +84,10 @@ pub brought_next : (xs : List Choice) (from to : ℕ) (d : Choice) → from < le
 brought_next xs from to d within less =
     let front = take to xs ++ slice_index_or xs from d ∷ [] in
     cc (
-      slice_get-get_or (brought from to xs) (to + 1) d (omega (arith, long_brought xs from to d within (omega arith))), slice_get-get_or xs to d (omega arith), brought_is xs from d within to, behind_is xs from d within to less,
+      slice_get-get_or (brought from to xs) (to + 1) d (omega (arith, long_brought xs from to d within (omega arith))),
+      slice_get-get_or xs to d (omega arith),
+      brought_is xs from d within to,
+      behind_is xs from d within to less,
       append_assoc (take to xs) (slice_index_or xs from d ∷ []) (behind xs from d within to),
       get_or_at front (slice_index_or xs to d) (behind xs from d within (to + 1)) d (to + 1) (omega (arith, length-append (take to xs) (slice_index_or xs from d ∷ []), length-take-le to xs (omega arith))),
     )

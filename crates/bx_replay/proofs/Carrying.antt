@@ -1,5 +1,5 @@
 -- Each exchange by which a choice is brought forward may be made, and what is kept stays good.
-use Rattle.std.proofs.Common.{◌≡◌, ◌≢◌, ◌∙◌, ℕ, zero, suc, ◌+◌, ◌-◌, ◌<◌, ◌≤◌, List, [], ◌∷◌, ◌++◌, length, take, drop, append-nil, Bool, true, false, inl, inr, refl, sym, ap, subst, arith}
+use Rattle.std.proofs.Common.{◌≡◌, ◌∙◌, ℕ, ◌+◌, ◌-◌, ◌<◌, ◌≤◌, List, [], ◌∷◌, ◌++◌, length, take, drop, append-nil, Bool, true, false, inl, inr, refl, sym, ap, subst, arith}
 use Rattle.std.specs.Prelude.{slice_index_or, Some, None, ◌==◌, if◌then◌else◌, IsTrue}
 use Rattle.std.proofs.lemmas.Bool.{both_ways, eq-eqb, cases_eq, cases_lt}
 use Rattle.std.proofs.lemmas.List.{drop_all, get_or_default, take_all, take_more}
@@ -7,7 +7,6 @@ use Rattle.bx_load.specs.Image.{Loaded}
 use Rattle.bx_world.specs.declared.choices.Choice.{Choice}
 use Rattle.bx_world.specs.declared.choices.Choice.TheVariants.{Run}
 use Rattle.bx_world.specs.World.{State}
-use Rattle.bx_world.specs.Enabled.{actor, can}
 use Rattle.bx_world.specs.Choosing.{chosen}
 use Rattle.bx_world.specs.Running.{Ended, advanced, ran}
 use Rattle.bx_world.proofs.Lawful.{ran_on}
@@ -15,12 +14,11 @@ use Rattle.bx_world.proofs.Orders.{either_way}
 use Rattle.bx_replay.specs.Courses.{Course, reached}
 use Rattle.bx_replay.specs.Exchanges.{with_exchange, MayExchange}
 use Rattle.bx_replay.specs.Keeping.{AreKept, IsNearest, SameCounts, Turns}
-use Rattle.bx_replay.specs.Moving.{brought, IndependentAt, IsExchanged, Passes}
+use Rattle.bx_replay.specs.Moving.{brought, IsExchanged}
 use Rattle.bx_replay.specs.Reaching.{BringsPast, FreeAt, IsFreeFrom, IsReach, PassesAt, Reaches}
 use Rattle.bx_replay.specs.declared.kept.Kept.{Kept}
 use Rattle.bx_replay.specs.declared.trails.rows.Reach.{Reach}
 use Rattle.bx_replay.proofs.Bringing.{behind, brought_here, brought_on, down, front_is, further, none_made, one_made, rest_is}
-use Rattle.bx_replay.proofs.Keeps.{count_of}
 use Rattle.bx_replay.proofs.Pairs.{goes_on, untrapped}
 use Rattle.bx_replay.proofs.Turning.{count_behind, replaced, turns}
 
@@ -66,9 +64,11 @@ module _ (c : Course) (past : ℕ) (choice : Choice) (within : past < length c.c
         let turned = either_way c.image (reached (i + 1) c).world (slice_index_or c.choices (i + 1) choice) choice there.1 in
         let passes = free i le lower in
         let next : (reached (i + 1) c).world ≡ chosen c.image x (reached i c).world =
-        ap (λ (e : Ended). e.world) (reached_next c i choice (omega arith) ∙ goes_on c.image x (reached i c) passes.refused passes.enabled) in
-        (passes.refused, passes.independent (ap (λ (w : State). w.trap) (sym next) ∙ untrapped (reached (i + 1) c).world choice turned.first_enabled)
-          (ap (λ (w : State). (chosen c.image choice w).trap) (sym next) ∙ turned.first_runs)))
+        ap (λ (e : Ended). e.world) (reached_next c i choice (omega arith) ∙ goes_on c.image x (reached i c) passes.refused passes.enabled) in (
+          passes.refused,
+          passes.independent (ap (λ (w : State). w.trap) (sym next) ∙ untrapped (reached (i + 1) c).world choice turned.first_enabled)
+              (ap (λ (w : State). (chosen c.image choice w).trap) (sym next) ∙ turned.first_runs),
+        ))
 
     pub all_may : (i : ℕ) → rest ≤ i → i < past → MayExchange i (stood (i + 1))
     all_may i le lower = may_pass i lower (all_free i (omega arith) le)
@@ -86,10 +86,13 @@ module _ (c : Course) (past : ℕ) (choice : Choice) (within : past < length c.c
         let first = subst (λ (d : Course). Turns d (stood (past - 1)) (mid (past - 1))) (ap stood back ∙ stood_here) (turn (past - 1) (omega arith) last) in
         down (λ i. rest ≤ i → AreKept (stood i) now) (past - 1) (λ _. put c (stood (past - 1)) are first) (λ i lower up le.
         replaced (stood (i + 1)) (stood i) now now (mid i) (up (omega arith)) (turn i (omega arith) (all_free i (omega arith) le)) (record { long = refl; same = λ k d h. refl })
-        (λ k d h. inr (refl, λ e.
-          let was = same.same k d (omega (arith, same.long)) in
-          let made = count_behind c i (slice_index_or c.choices i choice) choice (omega arith) (all_free i (omega arith) le) in
-          omega (arith, nearest.last k d (omega (arith, same.long)) (omega arith)))))
+        (λ k d h. inr (
+          refl,
+          λ e.
+              let was = same.same k d (omega (arith, same.long)) in
+              let made = count_behind c i (slice_index_or c.choices i choice) choice (omega arith) (all_free i (omega arith) le) in
+              omega (arith, nearest.last k d (omega (arith, same.long)) (omega arith)),
+        )))
         rest (omega arith) (omega arith)
 
 -- ---- how far
@@ -191,4 +194,3 @@ module _ (c : Course) (from to first : ℕ) (reach : Reach) (within : from < len
 pub written_whole : (long : ℕ) (new items : List Choice) → long ≡ length items → length new ≡ length items → take long (new ++ drop (length new) items) ≡ new
 written_whole long new items same all =
     ap (λ ys. take long (new ++ ys)) (drop_all (length new) items (omega arith)) ∙ ap (take long) (append-nil new) ∙ take_all long new (omega arith)
-

@@ -87,8 +87,8 @@ pub longer : (image : Loaded) (start : Ended) (choices more : List Choice) (kept
 longer image start choices more kept are few =
     kept_of (course image start choices) (course image start (choices ++ more)) kept are (omega arith) few
     (λ k d h. let e = are.ends k d h in let n = (slice_index_or kept k d).end.applied in
-      stays (course image start choices) (course image start (choices ++ more)) _ e refl (omega (arith, e.within, length-append choices more))
-      (ap (λ zs. ran image zs start) (take-append-le (n - start.applied) choices more (omega (arith, e.within)))))
+    stays (course image start choices) (course image start (choices ++ more)) _ e refl (omega (arith, e.within, length-append choices more))
+    (ap (λ zs. ran image zs start) (take-append-le (n - start.applied) choices more (omega (arith, e.within)))))
 
 -- the last of the first so many, or the start: all of them lie within
 pub last_is : (c : Course) (kept : List Kept) (start found : Kept) (near : ℕ) → AreKept c kept → c.start ≡ start.end → near ≤ length kept → (near ≡ 0 → found ≡ start) → (0 < near → found ≡ slice_index_or kept (near - 1) found)

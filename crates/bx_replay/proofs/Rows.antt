@@ -12,7 +12,13 @@ swapped i j xs a b more is e =
     let near : length (front ++ a ∷ []) ≡ j = omega (arith, length-append front (a ∷ [])) in
     let next : length (front ++ b ∷ []) ≡ j = omega (arith, length-append front (b ∷ [])) in
     cc (
-      swap_is xs i j a (omega arith) (omega arith), take-append-drop i xs, get_or_at front a (b ∷ more) a i short, get_or_at (front ++ a ∷ []) b more a j near,
-      set_at front a (b ∷ more) b i short, set_at (front ++ b ∷ []) b more a j next,
-      append_assoc front (a ∷ []) (b ∷ more), append_assoc front (b ∷ []) (b ∷ more), append_assoc front (b ∷ []) (a ∷ more),
+      swap_is xs i j a (omega arith) (omega arith),
+      take-append-drop i xs,
+      get_or_at front a (b ∷ more) a i short,
+      get_or_at (front ++ a ∷ []) b more a j near,
+      set_at front a (b ∷ more) b i short,
+      set_at (front ++ b ∷ []) b more a j next,
+      append_assoc front (a ∷ []) (b ∷ more),
+      append_assoc front (b ∷ []) (b ∷ more),
+      append_assoc front (b ∷ []) (a ∷ more),
     )

@@ -1,6 +1,6 @@
 -- Equal choices in a row, made in one call.
-use Rattle.std.proofs.Common.{◌≡◌, ℕ, zero, suc, ◌+◌, ◌<◌, List, [], ◌∷◌, ◌++◌, length, take, replicate, append_assoc, refl, sym, ap, ◌∙◌, arith}
-use Rattle.std.specs.Prelude.{slice_get, OnErr, Result, Ok, Err, Some}
+use Rattle.std.proofs.Common.{◌≡◌, ℕ, ◌+◌, ◌<◌, List, [], ◌++◌, length, replicate, append_assoc, refl, sym, ap, ◌∙◌, arith}
+use Rattle.std.specs.Prelude.{OnErr, Result, Ok, Err}
 use Rattle.std.proofs.Math.Seq.{take-append-add}
 use Rattle.bx_load.specs.Image.{Loaded}
 use Rattle.bx_world.specs.declared.choices.Choice.{Choice}
@@ -39,11 +39,20 @@ run_lacks image whole rest left choice times old mid new so_far is lacks =
       made = length front + n;
       choice = choice;
       next = cc (
-        parts, slice_get-get_or whole (length front + n) choice (omega (arith, inside, ap length parts, length-append front (row ++ left), length-append row left)), get_or-append-add front (row ++ left) n choice,
-        get_or_append_left row left choice n inside, get_or-replicate times n choice choice lacks.1,
+        parts,
+        slice_get-get_or whole (length front + n) choice (omega (arith, inside, ap length parts, length-append front (row ++ left), length-append row left)),
+        get_or-append-add front (row ++ left) n choice,
+        get_or_append_left row left choice n inside,
+        get_or-replicate times n choice choice lacks.1,
       );
       here = cc (
-        lacks.2, so_far.leads, parts, ran_on image front (replicate n choice) old, take-append-add front (row ++ left) n, take-append-le n row left (omega (arith, inside)), take-replicate n times choice (omega (arith, lacks.1)),
+        lacks.2,
+        so_far.leads,
+        parts,
+        ran_on image front (replicate n choice) old,
+        take-append-add front (row ++ left) n,
+        take-append-le n row left (omega (arith, inside)),
+        take-replicate n times choice (omega (arith, lacks.1)),
       );
       takes = lacks.3;
     }

@@ -1,4 +1,4 @@
-use Rattle.std.proofs.Common.{◌≡◌, ◌⊎◌, Bool, true, refl, sym, inl, inr, ap, ◌∙◌, arith}
+use Rattle.std.proofs.Common.{◌⊎◌, Bool, true, refl, sym, inl, inr, ap, ◌∙◌, arith}
 use Rattle.std.specs.Prelude.{◌↔◌, IsTrue}
 use Rattle.std.proofs.lemmas.Grind.{common_steps}
 use Rattle.bx_world.specs.Enabled.{actor}

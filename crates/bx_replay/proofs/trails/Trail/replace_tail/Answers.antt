@@ -1,4 +1,4 @@
-use Rattle.std.proofs.Common.{◌≡◌, ◌+◌}
+use Rattle.std.proofs.Common.{◌≡◌}
 use Rattle.std.specs.Prelude.{is_ok}
 use Rattle.bx_replay.proofs.Keeps.{joined}
 use Rattle.bx_replay.proofs.trails.Trail.replace_tail.Goals as goal

@@ -1,4 +1,4 @@
-use Rattle.std.proofs.Common.{◌+◌, ap, arith}
+use Rattle.std.proofs.Common.{ap, arith}
 use Rattle.bx_replay.specs.Courses.{Course}
 use Rattle.bx_replay.proofs.Carrying.{end_step, free_more, none_yet, reads}
 use Rattle.bx_replay.proofs.Keeps.{few_left}

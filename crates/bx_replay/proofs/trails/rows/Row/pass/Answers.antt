@@ -1,4 +1,4 @@
-use Rattle.std.proofs.Common.{◌≡◌, ◌≤◌, ◌<◌, ◌+◌, ◌-◌, ◌++◌, length, take, drop, refl, ap, subst, ◌∙◌, arith}
+use Rattle.std.proofs.Common.{◌≡◌, ◌≤◌, ◌<◌, ◌+◌, ◌++◌, length, take, drop, refl, ap, subst, ◌∙◌, arith}
 use Rattle.std.specs.Prelude.{Some, nat_eq}
 use Rattle.bx_world.specs.declared.choices.Choice.TheVariants.{Run}
 use Rattle.bx_replay.specs.Courses.{Course}
