@@ -1,69 +1,59 @@
 -- Walks that go on, and walks that are over.
-use Rattle.bx_debug.proofs.Words.{◌≡◌, ℕ, ◌+◌, ◌≤◌, List, ◌++◌, length, take, drop, Option, None, refl, sym, ap, ◌∙◌, subst, arith, Loaded, Choice, State, Ended, ran, Course, walked, come, Leads, Reaches, Walks}
-use Rattle.bx_debug.proofs.Words.{Went, PlaceSet, Stop}
+use Rattle.bx_debug.proofs.Words.{◌≡◌, ℕ, ◌+◌, ◌≤◌, List, ◌++◌, length, take, drop, Option, None, refl, sym, ap, ◌∙◌, subst, arith, Loaded, Choice, State, Ended, ran, Course, true, all_enabled, walked, come, led, Leads, Reaches, Walks}
+use Rattle.bx_debug.proofs.Words.{Went, PlaceSet, Stop, length-append}
+use Rattle.std.proofs.Math.Path.{transport}
+use Rattle.std.proofs.Math.Seq.{take-add}
 use Rattle.std.proofs.lemmas.List.{length-take, length-take-le, take-append-drop, take-take}
 use Rattle.bx_debug.specs.Leading.{Begins}
 use Rattle.bx_debug.proofs.Leads.{ran_from}
-use Rattle.bx_debug.proofs.Stretches.{leads_joined, take_both}
-
-come_of : (end : Ended) → end.refused ≡ None → end ≡ come end.world end.applied
-come_of end none = ap (λ r. record { world = end.world; applied = end.applied; refused = r }) none
+use Rattle.bx_debug.proofs.Stretches.{leads_joined}
 
 -- choices more were applied, of those that stand next
-module _ (places : PlaceSet) (choices : List Choice) (trail : Course) (here next : State) (part : List Choice) (k n : ℕ) (stop : Option Stop) (walks : Walks places choices trail here None)
-    (is : part ≡ take k (drop (length trail.choices) choices)) (far : Reaches trail.image places part here n next stop) where
-  leads : Leads trail.image places choices trail.start.world (length trail.choices + n) next stop
-  leads =
-      let rest = drop (length trail.choices) choices in
-      let whole : part ++ drop k rest ≡ rest = ap (λ (cs : List Choice). cs ++ drop k rest) is ∙ take-append-drop k rest in
-      leads_joined trail.image places choices trail.start.world (length trail.choices) n here next stop walks.leads
-      (subst (λ (cs : List Choice). Leads trail.image places cs here n next stop) whole (far.leads (drop k rest)))
-
-  added : trail.choices ++ take n part ≡ take (length trail.choices + n) choices
+module _ {places : PlaceSet} {choices part front : List Choice} {trail : Course} {image : Loaded} {here next : State} {n : ℕ} {stop : Option Stop} (k : ℕ) (walks : Walks places choices trail here None)
+    (code : image ≡ trail.image) (reached : Reaches image places part here n next stop) (is : part ≡ take k (drop (length trail.choices) choices)) (front_is : front ≡ take n part) where
+  added : trail.choices ++ front ≡ take (length trail.choices + n) choices
   added =
       let rest = drop (length trail.choices) choices in
-      let within = far.within in
+      let within = reached.within in
       let short : n ≤ k = omega (arith, within, ap length is, length-take k rest) in
-      ap (λ zs. trail.choices ++ take n zs) is ∙ ap (λ zs. trail.choices ++ zs) (take-take n k rest short) ∙ ap (λ zs. zs ++ take n rest) walks.taken ∙ sym (take_both (length trail.choices) n choices)
+      ap (λ zs. trail.choices ++ zs) (front_is ∙ ap (take n) is ∙ take-take n k rest short) ∙ ap (λ zs. zs ++ take n rest) walks.taken ∙ sym (take-add (length trail.choices) n choices)
 
-  pub counted : length (trail.choices ++ take n part) ≡ length trail.choices + n
-  counted = ap length added ∙ length-take-le (length trail.choices + n) choices leads.within
+  pub counted : length (trail.choices ++ front) ≡ length trail.choices + n
+  counted = length-append trail.choices front ∙ ap (λ m. length trail.choices + m) (ap length front_is ∙ length-take-le n part reached.within)
 
-  pub few_made : length (trail.choices ++ take n part) ≤ length choices
-  few_made = let within = leads.within in omega (arith, within, counted)
+  pub goes_on : Walks places choices (record trail { choices = trail.choices ++ front }) next stop
+  goes_on =
+      let rest = drop (length trail.choices) choices in
+      let whole : part ++ drop k rest ≡ rest = ap (λ (cs : List Choice). cs ++ drop k rest) is ∙ take-append-drop k rest in
+      record {
+        unrefused = walks.unrefused;
+        taken = added ∙ ap (λ m. take m choices) (sym counted);
+        leads = subst (λ m. Leads trail.image places choices trail.start.world m next stop) (sym counted) (leads_joined walks.leads (transport (λ i. Leads (code i) places (whole i) here n next stop) (reached.leads (drop k rest))));
+      }
 
-  pub ended : come next (trail.start.applied + (length trail.choices + n)) ≡ ran trail.image (trail.choices ++ take n part) trail.start
-  ended =
-      sym (
-      ap (λ (cs : List Choice). ran trail.image cs trail.start) added
-      ∙ ap (ran trail.image (take (length trail.choices + n) choices)) (come_of trail.start walks.unrefused)
-      ∙ ran_from trail.image (take (length trail.choices + n) choices) trail.start.world trail.start.applied leads.made
-      ∙ ap (λ (w : State). come w (trail.start.applied + length (take (length trail.choices + n) choices))) (sym leads.shown)
-      ∙ ap (λ m. come next (trail.start.applied + m)) (length-take-le (length trail.choices + n) choices leads.within)
-      )
-
-  pub goes_on : Walks places choices (record trail { choices = trail.choices ++ take n part }) next stop
-  goes_on = record {
-    unrefused = walks.unrefused;
-    taken = added ∙ ap (λ m. take m choices) (sym counted);
-    leads = subst (λ m. Leads trail.image places choices trail.start.world m next stop) (sym counted) leads;
-  }
+-- where a walk has come is where its choices lead
+pub ended : {places : PlaceSet} {choices : List Choice} {trail : Course} {here : State} {stop : Option Stop} → Walks places choices trail here stop
+    → come here (trail.start.applied + length trail.choices) ≡ ran trail.image trail.choices trail.start
+ended {choices = choices} {trail = trail} walks =
+    let begins : come trail.start.world trail.start.applied ≡ trail.start = ap (λ r. record trail.start { refused = r }) (sym walks.unrefused) in
+    let all = sym walks.taken in
+    ap (λ (w : State). come w (trail.start.applied + length trail.choices)) (walks.leads.shown ∙ ap (λ (cs : List Choice). led trail.image cs trail.start.world) all)
+    ∙ sym (ran_from trail.image trail.choices trail.start.world trail.start.applied (subst (λ (cs : List Choice). all_enabled trail.image cs trail.start.world ≡ true) all walks.leads.made))
+    ∙ ap (ran trail.image trail.choices) begins
 
 -- a walk of no choice, seen from where it stands
-pub begins_here : (image : Loaded) (from here : State) (at : ℕ) (trail : Course) (stop : Stop) → Begins image from at trail here stop → Begins trail.image here trail.start.applied trail here stop
-begins_here image from here at trail stop b = record {
-  code = refl;
-  begins = b.begins ∙ (λ i. come (sym b.shown i) (sym (ap (λ (e : Ended). e.applied) b.begins) i));
-  none = b.none;
-  shown = refl;
-  unstopped = b.unstopped;
-}
+module _ {image : Loaded} {from here : State} {at : ℕ} {trail : Course} {stop : Stop} (b : Begins image from at trail here stop) where
+  pub begins_here : Begins trail.image here trail.start.applied trail here stop
+  begins_here = record {
+    code = refl;
+    begins = b.begins ∙ (λ i. come (sym b.shown i) (sym (ap (λ (e : Ended). e.applied) b.begins) i));
+    none = b.none;
+    shown = refl;
+    unstopped = b.unstopped;
+  }
 
-pub went_from : (image : Loaded) (from here there : State) (at : ℕ) (trail walk : Course) (stop : Stop) → Begins image from at trail here stop → Went trail.image here trail.start.applied walk there → Went image from at walk there
-went_from image from here there at trail walk stop b w =
-    subst (λ (i : Loaded). Went i from at walk there) b.code
-    (subst (λ (v : State). Went trail.image v at walk there) b.shown (subst (λ (n : ℕ). Went trail.image here n walk there) (ap (λ (e : Ended). e.applied) b.begins) w))
+  pub went_from : {there : State} {walk : Course} → Went trail.image here trail.start.applied walk there → Went image from at walk there
+  went_from {there} {walk} w = transport (λ i. Went (b.code i) (b.shown i) (ap (λ (e : Ended). e.applied) b.begins i) walk there) w
 
-pub told_from : (image : Loaded) (places : PlaceSet) (choices : List Choice) (from here : State) (at : ℕ) (trail : Course) (stop : Stop) (told : List Choice × Stop) → Begins image from at trail here stop
-    → walked trail.image places choices here ≡ told → walked image places choices from ≡ told
-told_from image places choices from here at trail stop told b is = (λ i. walked (sym b.code i) places choices (sym b.shown i)) ∙ is
+  pub told_from : (places : PlaceSet) (choices : List Choice) {told : List Choice × Stop} → walked trail.image places choices here ≡ told → walked image places choices from ≡ told
+  told_from places choices is = (λ i. walked (sym b.code i) places choices (sym b.shown i)) ∙ is

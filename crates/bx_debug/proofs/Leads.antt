@@ -1,26 +1,18 @@
 -- Where lists of enabled choices lead.
 use Rattle.bx_debug.proofs.Words.{◌≡◌, ℕ, suc, ◌+◌, ◌≤◌, List, [], ◌∷◌, ◌++◌, length, take, drop, Bool, true, false, refl, sym, ap, ◌∙◌, subst, arith, Option, Some, None, is_some, if◌then◌else◌, Trap, Loaded}
 use Rattle.bx_debug.proofs.Words.{Choice, State, can, chosen, Ended, advanced, ran, unchosen, led, all_enabled, come}
-use Rattle.std.specs.Prelude.{IsSome, Contains}
+use Rattle.std.specs.Prelude.{is_none}
 use Rattle.std.proofs.lemmas.List.{take-append-drop}
 use Rattle.std.proofs.lemmas.Bool.{and_parts, and_from}
-use Rattle.bx_world.specs.Enabled.{enabled}
-use Rattle.bx_world.proofs.Lawful.{few_applied, nothing_enabled}
-use Rattle.bx_world.proofs.Members.{can_is_enabled}
+use Rattle.std.proofs.lemmas.Grind.{common_steps}
+use Rattle.bx_world.proofs.Lawful.{few_applied}
 
 -- in a world that has trapped nothing is enabled
-none_among : (w : State) (choice : Choice) (trap : Option (Trap × ℕ)) → w.trap ≡ trap → can w choice ≡ true → is_some trap ≡ false
-none_among w choice None is able = refl
-none_among w choice (Some t) is able =
-    let among : Contains (enabled w) choice = (can_is_enabled w choice).0 able in
-    let trapped : IsSome w.trap = subst (λ (o : Option (Trap × ℕ)). IsSome o) (sym is) refl in
-    let nothing = nothing_enabled w trapped in
-    let no : length (enabled w) ≡ 0 = ap length nothing in
-    let there = among.1 in
-    absurd (omega arith)
-
 pub untrapped : (w : State) (choice : Choice) → can w choice ≡ true → is_some w.trap ≡ false
-untrapped w choice able = none_among w choice w.trap refl able
+untrapped w choice able = go w.trap (and_parts (is_none w.trap) _ able).0 where
+  go : (trap : Option (Trap × ℕ)) → is_none trap ≡ true → is_some trap ≡ false
+  go None free = refl
+  go (Some t) free = cc
 
 pub led-append : (image : Loaded) (first more : List Choice) (w : State) → led image (first ++ more) w ≡ led image more (led image first w)
 led-append image [] more w = refl
@@ -42,13 +34,8 @@ pub enabled_take : (image : Loaded) (n : ℕ) (choices : List Choice) (w : State
 enabled_take image n choices w a = enabled_first image (take n choices) (drop n choices) w (subst (λ (cs : List Choice). all_enabled image cs w ≡ true) (sym (take-append-drop n choices)) a)
 
 -- an enabled choice is applied by a run
-first_of : (t b : Bool) (x y z : Ended) → t ≡ false → b ≡ true → (if t then x else if b then y else z) ≡ y
-first_of true b x y z h e = cc
-first_of false true x y z h e = refl
-first_of false false x y z h e = cc
-
-advanced_enabled : (image : Loaded) (choice : Choice) (w : State) (n : ℕ) → can w choice ≡ true → advanced image choice (come w n) ≡ come (chosen image choice w) (n + 1)
-advanced_enabled image choice w n able = first_of (is_some w.trap) (can w choice) _ _ _ (untrapped w choice able) able
+pub advanced_enabled : (image : Loaded) (choice : Choice) (w : State) (n : ℕ) → can w choice ≡ true → advanced image choice (come w n) ≡ come (chosen image choice w) (n + 1)
+advanced_enabled image choice w n able = grind (arith, common_steps)
 
 pub ran_from : (image : Loaded) (choices : List Choice) (w : State) (n : ℕ) → all_enabled image choices w ≡ true
     → ran image choices (come w n) ≡ come (led image choices w) (n + length choices)

@@ -94,8 +94,7 @@ step_takes h choice free = walked_some h.image h.places (choice ∷ []) (world_o
 
 pub stepped_is : (h new : History) (choice : Choice) (stop : Stop) → refusal (world_of h) choice ≡ None → gone (choice ∷ []) h ≡ (new, stop) → stepped choice h ≡ Ok (new, tt)
 stepped_is h new choice stop free is =
-    let walk = walked h.image h.places (choice ∷ []) (world_of h) in
-    let one : walk.0 ≡ choice ∷ [] = one_applied h.image h.places choice (world_of h) walk.0 walk.1 free refl in
+    let one = one_applied h.image h.places choice (world_of h) (unrefused choice (world_of h) free) in
     let made : with_made (choice ∷ []) h ≡ new = sym (ap (λ cs. with_made cs h) one) ∙ ap (λ (k : History × Stop). k.0) is in
     ap (λ why. or_refused why (with_made (choice ∷ []) h)) free ∙ (λ i. Ok (made i, tt))
 

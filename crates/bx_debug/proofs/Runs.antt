@@ -3,24 +3,18 @@ use Rattle.bx_debug.proofs.Words.{◌≡◌, ℕ, zero, suc, ◌<◌, ◌≤◌,
 use Rattle.bx_debug.proofs.Words.{stop_before, stop_behind, unless_stopped, walked, after_runs, least, pause_at, run_of, PlaceSet, History, with_made, world_of, Bound, Pause, Stop, Done}
 use Rattle.bx_debug.specs.Pausing.{runs_to}
 use Rattle.bx_debug.proofs.Pausing.{goes_at_once, goes_on, least_before, least_there, least_within}
-use Rattle.bx_debug.proofs.Walking.{walked_on}
+use Rattle.bx_debug.proofs.Walking.{one_applied, walked_on}
 
 -- runs from the second on begin where the first led
 shifted : (image : Loaded) (p : ℕ) (w : State) (n : ℕ) → after_runs image p (chosen image (Run p) w) n ≡ after_runs image p w (suc n)
 shifted image p w zero = refl
 shifted image p w (suc n) = ap (chosen image (Run p)) (shifted image p w n)
 
--- the last one is made, whatever is so behind it
-one_made : (choice : Choice) (before behind : Option Stop) → before ≡ None → (unless_stopped before (behind_choice choice (unless_stopped behind ([], Done)))).0 ≡ choice ∷ []
-one_made choice None None is = refl
-one_made choice None (Some stop) is = refl
-one_made choice (Some stop) behind is = cc
-
 all_made : (image : Loaded) (places : PlaceSet) (p n : ℕ) (w : State) → ((k : ℕ) → k < n → stop_before (Run p) (after_runs image p w k) ≡ None)
     → ((k : ℕ) → suc k < n → stop_behind places (Run p) (after_runs image p w (suc k)) ≡ None) → (walked image places (replicate n (Run p)) w).0 ≡ replicate n (Run p)
 all_made image places p zero w before behind = refl
 all_made image places p (suc zero) w before behind =
-    one_made (Run p) (stop_before (Run p) w) (stop_behind places (Run p) (chosen image (Run p) w)) (before zero (omega arith))
+    one_applied image places (Run p) w (before zero (omega arith))
 all_made image places p (suc (suc n)) w before behind =
     let next = chosen image (Run p) w in
     ap (λ (k : List Choice × Stop). k.0) (walked_on image places (Run p) (replicate (suc n) (Run p)) w (before zero (omega arith)) (behind zero (omega arith)))

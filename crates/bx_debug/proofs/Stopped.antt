@@ -1,11 +1,12 @@
 -- Where choices are stopped, and why.
 use Rattle.bx_debug.proofs.Words.{◌≡◌, ◌≢◌, ℕ, ◌≤◌, List, [], ◌∷◌, ◌++◌, length, Bool, true, false, Option, Some, None, refl, sym, ap, subst, arith, length-append, if◌then◌else◌, Trap, Place, Loaded, Choice, Run}
-use Rattle.bx_debug.proofs.Words.{State, can, chosen, place_in, halted, else_stop, stop_before, break_at, break_behind, stop_behind, behind_choice, walked, led, all_enabled, PlaceSet, is_set, Stop, Done, Break}
+use Rattle.bx_debug.proofs.Words.{State, can, chosen, place_in, halted, else_stop, stop_before, break_at, break_behind, stop_behind, behind_choice, unless_stopped, walked, led, all_enabled, PlaceSet, is_set, Stop, Done, Break}
 use Rattle.bx_debug.proofs.Words.{NotEnabled, Trapped}
+use Rattle.std.proofs.lemmas.Grind.{common_steps}
 use Rattle.std.proofs.lemmas.Bool.{and_from}
 use Rattle.std.proofs.lemmas.List.{nil_from_length}
 use Rattle.bx_debug.specs.Stopping.{IsWhy, TellsWhy}
-use Rattle.bx_debug.proofs.Walking.{enabled_unless, walked_before, walked_behind, walked_on}
+use Rattle.bx_debug.proofs.Walking.{enabled_unless}
 
 -- a walk of one choice and more: it is not applied, or it is applied and stops the walk, or the walk goes on behind it
 walked_cases : (image : Loaded) (places : PlaceSet) (choice : Choice) (more : List Choice) (w : State) (P : List Choice × Stop → Type 0)
@@ -13,14 +14,14 @@ walked_cases : (image : Loaded) (places : PlaceSet) (choice : Choice) (more : Li
     → ((stop : Stop) → stop_before choice w ≡ None → stop_behind places choice (chosen image choice w) ≡ Some stop → P (choice ∷ [], stop))
     → (stop_before choice w ≡ None → stop_behind places choice (chosen image choice w) ≡ None → P (behind_choice choice (walked image places more (chosen image choice w))))
     → P (walked image places (choice ∷ more) w)
-walked_cases image places choice more w P refused stops on = go (stop_before choice w) refl where
-  went : (behind : Option Stop) → stop_behind places choice (chosen image choice w) ≡ behind → stop_before choice w ≡ None → P (walked image places (choice ∷ more) w)
-  went (Some stop) is free = subst P (sym (walked_behind image places choice more w stop free is)) (stops stop free is)
-  went None is free = subst P (sym (walked_on image places choice more w free is)) (on free is)
+walked_cases image places choice more w P refused stops on = go (stop_before choice w) (stop_behind places choice next) refl refl where
+  next : State
+  next = chosen image choice w
 
-  go : (before : Option Stop) → stop_before choice w ≡ before → P (walked image places (choice ∷ more) w)
-  go (Some stop) is = subst P (sym (walked_before image places choice more w stop is)) (refused stop is)
-  go None is = went (stop_behind places choice (chosen image choice w)) refl is
+  go : (before behind : Option Stop) → stop_before choice w ≡ before → stop_behind places choice next ≡ behind → P (unless_stopped before (behind_choice choice (unless_stopped behind (walked image places more next))))
+  go (Some stop) behind is left = refused stop is
+  go None (Some stop) free is = stops stop free is
+  go None None free is = on free is
 
 pub walked_prefix : (image : Loaded) (places : PlaceSet) (choices : List Choice) (w : State) → (rest : List Choice) × (choices ≡ (walked image places choices w).0 ++ rest)
 walked_prefix image places [] w = ([], refl)
@@ -67,35 +68,18 @@ walked_earlier image places (choice ∷ more) w =
     (λ free is. earlier_on image places choice (walked image places more (chosen image choice w)).0 w is further)
 
 -- why a choice is not applied
-why_refused : (places : PlaceSet) (choice : Choice) (more : List Choice) (w : State) (trap : Option (Trap × ℕ)) (able : Bool) (stop : Stop) → w.trap ≡ trap → can w choice ≡ able
-    → else_stop (halted trap) (if able then None else Some (NotEnabled choice)) ≡ Some stop → IsWhy places (choice ∷ more) [] w stop
-why_refused places choice more w (Some t) able stop traps can_be is = let same : Trapped t.0 t.1 ≡ stop = cc in subst (λ (s : Stop). IsWhy places (choice ∷ more) [] w s) same traps
-why_refused places choice more w None true stop traps can_be is = cc
-why_refused places choice more w None false stop traps can_be is =
-    let same : NotEnabled choice ≡ stop = cc in
-    subst (λ (s : Stop). IsWhy places (choice ∷ more) [] w s) same ((more, refl), can_be, traps)
+why_refused : (places : PlaceSet) (choice : Choice) (more : List Choice) (w : State) (stop : Stop) → stop_before choice w ≡ Some stop → IsWhy places (choice ∷ more) [] w stop
+why_refused places choice more w Done is = grind (arith, common_steps)
+why_refused places choice more w (Break p place) is = absurd (grind (arith, common_steps))
+why_refused places choice more w (NotEnabled c) is = ((more, grind (arith, common_steps)), grind (arith, common_steps), grind (arith, common_steps))
+why_refused places choice more w (Trapped kind p) is = grind (arith, common_steps)
 
 -- why it stops behind a choice that was applied
-why_set : (places : PlaceSet) (p : ℕ) (more : List Choice) (w : State) (place : Place) (member : Bool) (stop : Stop) → w.trap ≡ None → place_in p w ≡ Some place → is_set places place ≡ member
-    → (if member then Some (Break p place) else None) ≡ Some stop → IsWhy places (Run p ∷ more) (Run p ∷ []) w stop
-why_set places p more w place true stop traps stands within is =
-    let same : Break p place ≡ stop = cc in
-    subst (λ (s : Stop). IsWhy places (Run p ∷ more) (Run p ∷ []) w s) same (([], refl), stands, within, traps)
-why_set places p more w place false stop traps stands within is = cc
-
-why_stands : (places : PlaceSet) (p : ℕ) (more : List Choice) (w : State) (place : Option Place) (stop : Stop) → w.trap ≡ None → place_in p w ≡ place → break_at places p place ≡ Some stop
-    → IsWhy places (Run p ∷ more) (Run p ∷ []) w stop
-why_stands places p more w None stop traps stands is = cc
-why_stands places p more w (Some place) stop traps stands is = why_set places p more w place (is_set places place) stop traps stands refl is
-
-why_broken : (places : PlaceSet) (choice : Choice) (more : List Choice) (w : State) (stop : Stop) → w.trap ≡ None → break_behind places choice w ≡ Some stop → IsWhy places (choice ∷ more) (choice ∷ []) w stop
-why_broken places (Run p) more w stop traps is = why_stands places p more w (place_in p w) stop traps refl is
-why_broken places other more w stop traps is = cc
-
-why_behind : (places : PlaceSet) (choice : Choice) (more : List Choice) (w : State) (trap : Option (Trap × ℕ)) (stop : Stop) → w.trap ≡ trap → else_stop (halted trap) (break_behind places choice w) ≡ Some stop
-    → IsWhy places (choice ∷ more) (choice ∷ []) w stop
-why_behind places choice more w (Some t) stop traps is = let same : Trapped t.0 t.1 ≡ stop = cc in subst (λ (s : Stop). IsWhy places (choice ∷ more) (choice ∷ []) w s) same traps
-why_behind places choice more w None stop traps is = why_broken places choice more w stop traps is
+why_behind : (places : PlaceSet) (choice : Choice) (more : List Choice) (w : State) (stop : Stop) → stop_behind places choice w ≡ Some stop → IsWhy places (choice ∷ more) (choice ∷ []) w stop
+why_behind places choice more w Done is = grind (arith, common_steps)
+why_behind places choice more w (Break p place) is = (([], grind (arith, common_steps)), grind (arith, common_steps), grind (arith, common_steps), grind (arith, common_steps))
+why_behind places choice more w (NotEnabled c) is = absurd (grind (arith, common_steps))
+why_behind places choice more w (Trapped kind p) is = grind (arith, common_steps)
 
 -- why it stops further on
 why_on : (places : PlaceSet) (choice : Choice) (more made : List Choice) (w : State) (stop : Stop) → IsWhy places more made w stop → IsWhy places (choice ∷ more) (choice ∷ made) w stop
@@ -111,6 +95,6 @@ walked_why image places (choice ∷ more) w =
     let walk = walked image places more next in
     let further = walked_why image places more next in
     walked_cases image places choice more w (TellsWhy image places (choice ∷ more) w)
-    (λ stop is. why_refused places choice more w w.trap (can w choice) stop refl refl is)
-    (λ stop free is. why_behind places choice more next next.trap stop refl is)
+    (why_refused places choice more w)
+    (λ stop free. why_behind places choice more next stop)
     (λ free is. why_on places choice more walk.0 (led image walk.0 next) walk.1 further)

@@ -1,82 +1,34 @@
-use Rattle.bx_debug.proofs.Words.{◌≡◌, ℕ, ◌+◌, ◌-◌, List, ◌++◌, length, take, drop, sym, ap, subst, ◌∙◌, arith, Loaded, Choice, State, Ended, ran, Course, come, Reaches, Walks}
-use Rattle.bx_debug.proofs.Going.{counted, ended, few_made, goes_on}
+use Rattle.bx_debug.proofs.Words.{◌≡◌, ℕ, ◌+◌, ◌-◌, ◌++◌, length, take, drop, sym, ap, ◌∙◌, arith, Ended, Course, come, Walks}
+use Rattle.std.proofs.Math.Path.{transport}
+use Rattle.bx_debug.proofs.Going.{counted, ended, goes_on}
 use Rattle.bx_debug.proofs.walks.Walk.turn.Goals as goal
 
-pub push-requires-clause-few : goal.push-requires-clause-few
-push-requires-clause-few c =
+pub push-requires : goal.push-requires
+push-requires c =
     let made = c.args.self.now.made in
-    let here = c.args.self.now.end.world in
-    let places = c.args.places.now in
-    let choices = c.args.choices.now in
     let first = c.len-first.result in
-    let k = first + c.min.result - first in
     let more = c.in_ok-more.more in
-    let next = c.stretch_by_places.new.end.world in
-    let part = c.part-part.result in
-    let is : part ≡ take k (drop (length made.choices) choices) = c.part-part.ensures ∙ ap (λ (n : ℕ). take k (drop n choices)) c.len-first.ensures.count in
-    let far : Reaches made.image places part here more next c.in_ok-more.stop = subst (λ (i : Loaded). Reaches i places part here more next c.in_ok-more.stop) c.image-image.ensures
-    (subst (λ (cs : List Choice). Reaches c.image-image.result.now places cs here more next c.in_ok-more.stop) c.copy.ensures c.in_ok-more.ensures) in
-    let most = few_made places choices made here next part k more c.in_ok-more.stop c.requires.way is far in
-    omega (arith, most, ap (λ (cs : List Choice). length (made.choices ++ cs)) c.front.ensures, c.requires.few)
-
-pub push-requires-clause-all : goal.push-requires-clause-all
-push-requires-clause-all c =
-    let made = c.args.self.now.made in
-    let here = c.args.self.now.end.world in
-    let places = c.args.places.now in
-    let choices = c.args.choices.now in
-    let first = c.len-first.result in
     let k = first + c.min.result - first in
-    let more = c.in_ok-more.more in
-    let next = c.stretch_by_places.new.end.world in
-    let part = c.part-part.result in
-    let is : part ≡ take k (drop (length made.choices) choices) = c.part-part.ensures ∙ ap (λ (n : ℕ). take k (drop n choices)) c.len-first.ensures.count in
-    let far : Reaches made.image places part here more next c.in_ok-more.stop = subst (λ (i : Loaded). Reaches i places part here more next c.in_ok-more.stop) c.image-image.ensures
-    (subst (λ (cs : List Choice). Reaches c.image-image.result.now places cs here more next c.in_ok-more.stop) c.copy.ensures c.in_ok-more.ensures) in
-    let written : length (made.choices ++ c.front.result) ≡ length made.choices + more =
-    ap (λ (cs : List Choice). length (made.choices ++ cs)) c.front.ensures ∙ counted places choices made here next part k more c.in_ok-more.stop c.requires.way is far in
-    let applied = ap (λ (e : Ended). e.applied) c.start.view_is ∙ ap (λ (e : Ended). e.applied) c.start-start.ensures in
-    ap (λ (e : Ended). e.applied) c.count_applied.ensures
-    ∙ ap (λ (n : ℕ). n + (first + more)) applied
-    ∙ ap (λ (n : ℕ). made.start.applied + (n + more)) c.len-first.ensures.count
-    ∙ ap (λ (n : ℕ). made.start.applied + n) (sym written)
-
-pub push-requires-clause-end : goal.push-requires-clause-end
-push-requires-clause-end c =
-    let made = c.args.self.now.made in
-    let here = c.args.self.now.end.world in
-    let places = c.args.places.now in
-    let choices = c.args.choices.now in
-    let first = c.len-first.result in
-    let k = first + c.min.result - first in
-    let more = c.in_ok-more.more in
-    let next = c.stretch_by_places.new.end.world in
-    let part = c.part-part.result in
-    let is : part ≡ take k (drop (length made.choices) choices) = c.part-part.ensures ∙ ap (λ (n : ℕ). take k (drop n choices)) c.len-first.ensures.count in
-    let far : Reaches made.image places part here more next c.in_ok-more.stop = subst (λ (i : Loaded). Reaches i places part here more next c.in_ok-more.stop) c.image-image.ensures
-    (subst (λ (cs : List Choice). Reaches c.image-image.result.now places cs here more next c.in_ok-more.stop) c.copy.ensures c.in_ok-more.ensures) in
-    let applied = ap (λ (e : Ended). e.applied) c.start.view_is ∙ ap (λ (e : Ended). e.applied) c.start-start.ensures in
-    c.count_applied.ensures
-    ∙ ap (λ (n : ℕ). come next (n + (first + more))) applied
-    ∙ ap (λ (n : ℕ). come next (made.start.applied + (n + more))) c.len-first.ensures.count
-    ∙ ended places choices made here next part k more c.in_ok-more.stop c.requires.way is far
-    ∙ ap (λ (cs : List Choice). ran made.image (made.choices ++ cs) made.start) (sym c.front.ensures)
+    let is : c.copy.result ≡ take k (drop (length made.choices) c.args.choices.now) = c.copy.ensures ∙ c.part-part.ensures ∙ ap (λ (n : ℕ). take k (drop n c.args.choices.now)) c.len-first.ensures.count in
+    let front_is : c.front.result ≡ take more c.copy.result = c.front.ensures ∙ ap (take more) (sym c.copy.ensures) in
+    let on = goes_on k c.requires.way c.image-image.ensures c.in_ok-more.ensures is front_is in
+    let within = on.leads.within in
+    let long = counted k c.requires.way c.image-image.ensures c.in_ok-more.ensures is front_is in
+    let applied = ap (λ (e : Ended). e.applied) (c.start.view_is ∙ c.start-start.ensures) in
+    let count : c.start.result.now.applied + (first + more) ≡ made.start.applied + length (made.choices ++ c.front.result) = omega (arith, applied, c.len-first.ensures.count, long) in
+    let end = c.count_applied.ensures ∙ ap (come c.stretch_by_places.new.end.world) count in
+    record {
+      few = omega (arith, within, c.requires.few);
+      all = ap (λ (e : Ended). e.applied) end;
+      end = end ∙ ended on;
+    }
 
 pub returns-clause-way : goal.returns-clause-way
 returns-clause-way c =
     let made = c.args.self.now.made in
-    let here = c.args.self.now.end.world in
-    let places = c.args.places.now in
-    let choices = c.args.choices.now in
     let first = c.len-first.result in
     let k = first + c.min.result - first in
-    let more = c.in_ok-more.more in
-    let next = c.stretch_by_places.new.end.world in
-    let part = c.part-part.result in
-    let is : part ≡ take k (drop (length made.choices) choices) = c.part-part.ensures ∙ ap (λ (n : ℕ). take k (drop n choices)) c.len-first.ensures.count in
-    let far : Reaches made.image places part here more next c.in_ok-more.stop = subst (λ (i : Loaded). Reaches i places part here more next c.in_ok-more.stop) c.image-image.ensures
-    (subst (λ (cs : List Choice). Reaches c.image-image.result.now places cs here more next c.in_ok-more.stop) c.copy.ensures c.in_ok-more.ensures) in
-    let on = goes_on places choices made here next part k more c.in_ok-more.stop c.requires.way is far in
-    subst (λ (t : Course). Walks places choices t c.count_applied.new.end.world c.in_ok-more.stop) (sym c.in_ok-push.ensures.ok)
-    (subst (λ (w : State). Walks places choices (record made { choices = made.choices ++ c.front.result }) w c.in_ok-more.stop) (sym (ap (λ (e : Ended). e.world) c.count_applied.ensures))
-    (subst (λ (cs : List Choice). Walks places choices (record made { choices = made.choices ++ cs }) next c.in_ok-more.stop) (sym c.front.ensures) on))
+    let is : c.copy.result ≡ take k (drop (length made.choices) c.args.choices.now) = c.copy.ensures ∙ c.part-part.ensures ∙ ap (λ (n : ℕ). take k (drop n c.args.choices.now)) c.len-first.ensures.count in
+    let front_is = c.front.ensures ∙ ap (take c.in_ok-more.more) (sym c.copy.ensures) in
+    transport (λ i. Walks c.args.places.now c.args.choices.now (sym c.in_ok-push.ensures.ok i) (sym (ap (λ (e : Ended). e.world) c.count_applied.ensures) i) c.in_ok-more.stop)
+    (goes_on k c.requires.way c.image-image.ensures c.in_ok-more.ensures is front_is)
