@@ -75,7 +75,7 @@ here_of image start s m = record { begins = refl; within = m.within; made = m.ma
 -- exchanges that may be made before the position
 exchanged_made : (image : Loaded) (start : State) (s : History) (new : Course) → IsExchanged s.at (course_of s) new → Made image start s → Made image start (record s { choices = new.choices })
 exchanged_made image start s new e m =
-    let now = session_exchanged (course_of s) new s.at (led s.image (behind s) s.start) (here_of image start s m) e in
+    let now = session_exchanged (here_of image start s m) e in
     let code = ap (λ (c : Course). c.image) e.is in
     let begins = ap (λ (c : Course). c.start.world) e.is in
     record {

@@ -3,4 +3,4 @@ use Rattle.bx_debug.proofs.Moving.{shown_there}
 use Rattle.bx_debug.proofs.sessions.Session.refusal.Goals as goal
 
 pub returns : goal.returns
-returns c = c.refusal.ensures ∙ ap (λ w. refusal w c.args.choice) (shown_there _ c.self.inside.trail c.self.inside.at _ c.self.inside.places c.self.view_is c.self.invariant)
+returns c = c.refusal.ensures ∙ ap (λ w. refusal w c.args.choice) (shown_there c.self.invariant c.self.view_is)

@@ -4,11 +4,10 @@ use Rattle.bx_debug.proofs.sessions.Session.step.Goals as goal
 
 pub make-requires : goal.make-requires
 make-requires c =
-    let one : c.push.new.self ≡ c.args.choice ∷ [] = c.in_ok-push.ensures.ok ∙ ap (λ (cs : List Choice). cs ++ replicate 1 c.args.choice) c.new-choices.ensures in
+    let one = c.in_ok-push.ensures.ok ∙ ap (λ (cs : List Choice). cs ++ c.args.choice ∷ []) c.new-choices.ensures in
     subst (λ (cs : List Choice). GoTakes cs c.args.self.now) (sym one) (step_takes c.args.self.now c.args.choice (sym c.refusal.ensures ∙ c.in_default.is))
 
 pub returns : goal.returns
 returns c =
-    let one : c.push.new.self ≡ c.args.choice ∷ [] = c.in_ok-push.ensures.ok ∙ ap (λ (cs : List Choice). cs ++ replicate 1 c.args.choice) c.new-choices.ensures in
-    stepped_is c.args.self.now c.make.new.self c.args.choice c.in_ok-make.field-0 (sym c.refusal.ensures ∙ c.in_default.is)
-    (subst (λ (cs : List Choice). gone cs c.args.self.now ≡ (c.make.new.self, c.in_ok-make.field-0)) one c.in_ok-make.ensures.ok)
+    let one = c.in_ok-push.ensures.ok ∙ ap (λ (cs : List Choice). cs ++ c.args.choice ∷ []) c.new-choices.ensures in
+    stepped_is c.args.self.now c.args.choice (sym c.refusal.ensures ∙ c.in_default.is) (ap (λ (cs : List Choice). gone cs c.args.self.now) (sym one) ∙ c.in_ok-make.ensures.ok)

@@ -3,9 +3,8 @@ use Rattle.bx_debug.proofs.Moving.{run_shown, shown_there}
 use Rattle.bx_debug.proofs.sessions.Session.world.Goals as goal
 
 pub returns-clause-shown : goal.returns-clause-shown
-returns-clause-shown c = shown_there _ c.self.inside.trail c.self.inside.at _ c.self.inside.places c.self.view_is c.self.invariant
+returns-clause-shown c = shown_there c.self.invariant c.self.view_is
 
 pub returns-clause-run : goal.returns-clause-run
 returns-clause-run c =
-    subst (λ (h : History). ran h.image (behind h) (unchosen h.start) ≡ record { world = c.self.inside.world; applied = h.at; refused = None }) c.self.view_is
-    (run_shown c.self.inside.trail c.self.inside.at c.self.inside.world c.self.invariant)
+    subst (λ (h : History). ran h.image (behind h) (unchosen h.start) ≡ record { world = c.self.inside.world; applied = h.at; refused = None }) c.self.view_is (run_shown c.self.invariant)
