@@ -20,15 +20,11 @@ led-append image (choice ∷ first) more w = led-append image first more (chosen
 
 pub enabled_both : (image : Loaded) (first more : List Choice) (w : State) → all_enabled image first w ≡ true → all_enabled image more (led image first w) ≡ true → all_enabled image (first ++ more) w ≡ true
 enabled_both image [] more w a b = b
-enabled_both image (choice ∷ first) more w a b =
-    let parts = and_parts (can w choice) (all_enabled image first (chosen image choice w)) a in
-    and_from (can w choice) _ parts.0 (enabled_both image first more (chosen image choice w) parts.1 b)
+enabled_both image (choice ∷ first) more w a b = let rest = enabled_both image first more (chosen image choice w) in grind (arith, common_steps, rest)
 
 pub enabled_first : (image : Loaded) (first more : List Choice) (w : State) → all_enabled image (first ++ more) w ≡ true → all_enabled image first w ≡ true
 enabled_first image [] more w a = refl
-enabled_first image (choice ∷ first) more w a =
-    let parts = and_parts (can w choice) (all_enabled image (first ++ more) (chosen image choice w)) a in
-    and_from (can w choice) _ parts.0 (enabled_first image first more (chosen image choice w) parts.1)
+enabled_first image (choice ∷ first) more w a = let rest = enabled_first image first more (chosen image choice w) in grind (arith, common_steps, rest)
 
 pub enabled_take : (image : Loaded) (n : ℕ) (choices : List Choice) (w : State) → all_enabled image choices w ≡ true → all_enabled image (take n choices) w ≡ true
 enabled_take image n choices w a = enabled_first image (take n choices) (drop n choices) w (subst (λ (cs : List Choice). all_enabled image cs w ≡ true) (sym (take-append-drop n choices)) a)
@@ -53,16 +49,9 @@ pub ran_all : (image : Loaded) (choices : List Choice) (w : State) → all_enabl
 ran_all image choices w a = ran_from image choices w 0 a ∙ (let none : 0 + length choices ≡ length choices = omega arith in ap (come (led image choices w)) none)
 
 -- where a run applied as many choices as it was given, each was enabled
-was_enabled : (t b : Bool) (n : ℕ) (x y z : Ended) → x.applied ≡ n → z.applied ≡ n → n + 1 ≤ (if t then x else if b then y else z).applied → b ≡ true
-was_enabled true b n x y z hx hz h = absurd (omega arith)
-was_enabled false true n x y z hx hz h = refl
-was_enabled false false n x y z hx hz h = absurd (omega arith)
-
 pub all_applied : (image : Loaded) (choices : List Choice) (w : State) (n : ℕ) → (ran image choices (come w n)).applied ≡ n + length choices → all_enabled image choices w ≡ true
 all_applied image [] w n all = refl
 all_applied image (choice ∷ more) w n all =
     let few = few_applied image more (advanced image choice (come w n)) in
-    let least : n + 1 ≤ (advanced image choice (come w n)).applied = omega arith in
-    let able : can w choice ≡ true = was_enabled (is_some w.trap) (can w choice) n (come w n) (come (chosen image choice w) (n + 1)) (record { world = w; applied = n; refused = Some choice }) refl refl least in
-    let next = advanced_enabled image choice w n able in
-    and_from (can w choice) _ able (all_applied image more (chosen image choice w) (n + 1) (ap (λ (e : Ended). (ran image more e).applied) (sym next) ∙ all ∙ omega arith))
+    let able : can w choice ≡ true = grind (arith, common_steps, few) in
+    and_from (can w choice) _ able (all_applied image more (chosen image choice w) (n + 1) (ap (λ (e : Ended). (ran image more e).applied) (sym (advanced_enabled image choice w n able)) ∙ all ∙ omega arith))
