@@ -12,6 +12,4 @@ may_so k s e =
     (ltb-true 0 k some.0, ltb-true k s.at within.0, telling.may_so (k - 1) (course_of s) within.1)
 
 pub so_may : (k : ℕ) (s : History) → MaySwap k s → may_swap k s ≡ true
-so_may k s h =
-    and_from (nat_lt 0 k) (nat_lt k s.at && may_exchange (k - 1) (course_of s)) (lt-ltb 0 k h.0)
-    (and_from (nat_lt k s.at) (may_exchange (k - 1) (course_of s)) (lt-ltb k s.at h.1) (telling.so_may (k - 1) (course_of s) h.2))
+so_may k s h = and_from (nat_lt 0 k) _ (lt-ltb 0 k h.0) (and_from (nat_lt k s.at) _ (lt-ltb k s.at h.1) (telling.so_may (k - 1) (course_of s) h.2))

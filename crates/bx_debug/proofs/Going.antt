@@ -1,6 +1,6 @@
 -- Walks that go on, and walks that are over.
-use Rattle.bx_debug.proofs.Words.{◌≡◌, ℕ, ◌+◌, ◌≤◌, List, ◌++◌, length, take, drop, Option, None, refl, sym, ap, ◌∙◌, subst, arith, Loaded, Choice, State, Ended, ran, Course, true, all_enabled, walked, come, led, Leads, Reaches, Walks}
-use Rattle.bx_debug.proofs.Words.{Went, PlaceSet, Stop, length-append}
+use Rattle.bx_debug.proofs.Words.{◌≡◌, ℕ, ◌+◌, ◌≤◌, List, ◌++◌, length, take, drop, Option, None, refl, sym, ap, ◌∙◌, subst, arith, Loaded, Choice, State, Ended, ran, Course, true, all_enabled, walked, come, led}
+use Rattle.bx_debug.proofs.Words.{Leads, Reaches, Walks, Went, PlaceSet, Stop, length-append}
 use Rattle.std.proofs.Math.Path.{transport}
 use Rattle.std.proofs.Math.Seq.{take-add}
 use Rattle.std.proofs.lemmas.List.{length-take, length-take-le, take-append-drop, take-take}

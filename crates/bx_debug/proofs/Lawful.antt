@@ -1,7 +1,7 @@
 -- What is true of every session.
-use Rattle.bx_debug.proofs.Words.{◌≡◌, ℕ, ◌+◌, ◌-◌, ◌<◌, ◌≤◌, List, [], ◌∷◌, ◌++◌, length, replicate, take, Bool, true, false, Option, Some, None, Ok, Err, refl, sym, ap, ◌∙◌, subst, arith, length-append, ◌==◌}
-use Rattle.bx_debug.proofs.Words.{◌||◌, is_some, if◌then◌else◌, nat_lt, Loaded, Choice, State, can, refusal, Ended, ran, unchosen, Course, reached, with_exchange, IsExchanged, ends_after, one_made, tidied_of}
-use Rattle.bx_debug.proofs.Words.{undone_of, exchanged_is, may_swap, walked, led, all_enabled, IsSession, runs_to, History, behind, world_of, with_made, or_refused, stepped, course_of, tidy_of, undone, come}
+use Rattle.bx_debug.proofs.Words.{◌≡◌, ℕ, ◌+◌, ◌-◌, ◌<◌, ◌≤◌, List, [], ◌∷◌, length, replicate, Bool, true, false, Option, Some, None, Ok, Err, refl, sym, ap, ◌∙◌, subst, arith, length-append, ◌==◌, ◌||◌}
+use Rattle.bx_debug.proofs.Words.{if◌then◌else◌, nat_lt, Loaded, Choice, State, can, refusal, Ended, ran, unchosen, Course, reached, with_exchange, IsExchanged, ends_after, one_made, tidied_of, undone_of, exchanged_is}
+use Rattle.bx_debug.proofs.Words.{may_swap, walked, led, all_enabled, IsSession, runs_to, History, behind, world_of, with_made, or_refused, stepped, course_of, tidy_of, undone, come}
 use Rattle.std.proofs.Common.{Result}
 use Rattle.std.proofs.lemmas.List.{take_at, length-take-le}
 use Rattle.std.proofs.lemmas.Bool.{le-ltb, ltb-false, and_from}

@@ -1,6 +1,6 @@
 -- Where lists of enabled choices lead.
-use Rattle.bx_debug.proofs.Words.{◌≡◌, ℕ, suc, ◌+◌, ◌≤◌, List, [], ◌∷◌, ◌++◌, length, take, drop, Bool, true, false, refl, sym, ap, ◌∙◌, subst, arith, Option, Some, None, is_some, if◌then◌else◌, Trap, Loaded}
-use Rattle.bx_debug.proofs.Words.{Choice, State, can, chosen, Ended, advanced, ran, unchosen, led, all_enabled, come}
+use Rattle.bx_debug.proofs.Words.{◌≡◌, ℕ, suc, ◌+◌, List, [], ◌∷◌, ◌++◌, length, take, drop, true, false, refl, sym, ap, ◌∙◌, subst, arith, Option, Some, None, is_some, Trap, Loaded, Choice, State, can, chosen, Ended}
+use Rattle.bx_debug.proofs.Words.{advanced, ran, unchosen, led, all_enabled, come}
 use Rattle.std.specs.Prelude.{is_none}
 use Rattle.std.proofs.lemmas.List.{take-append-drop}
 use Rattle.std.proofs.lemmas.Bool.{and_parts, and_from}

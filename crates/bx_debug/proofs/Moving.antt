@@ -1,7 +1,7 @@
 -- Sessions whose position moves, and to which choices are added.
-use Rattle.bx_debug.proofs.Words.{◌≡◌, ◌≢◌, ℕ, ◌+◌, ◌≤◌, List, [], ◌∷◌, ◌++◌, length, take, true, Option, None, refl, sym, ap, ◌∙◌, subst, arith, Some, Ok, length-append, Loaded, Choice, State, refusal, Ended}
-use Rattle.bx_debug.proofs.Words.{ran, unchosen, Course, reached, led, all_enabled, come, IsSession, Went, PlaceSet, History, behind, world_of, with_made, gone, or_refused, stepped, GoTakes, stop_at_once, walked, Stop, Bound}
-use Rattle.bx_debug.proofs.Words.{Pause, pause_before}
+use Rattle.bx_debug.proofs.Words.{◌≡◌, ◌≢◌, ℕ, ◌+◌, ◌≤◌, List, [], ◌∷◌, ◌++◌, length, take, true, Option, None, refl, sym, ap, ◌∙◌, subst, arith, Some, Ok, length-append, Loaded, Choice, State, refusal, Ended, ran}
+use Rattle.bx_debug.proofs.Words.{unchosen, Course, reached, led, all_enabled, come, IsSession, Went, PlaceSet, History, behind, world_of, with_made, gone, or_refused, stepped, GoTakes, stop_at_once, walked, Stop}
+use Rattle.bx_debug.proofs.Words.{Bound, Pause, pause_before}
 use Rattle.std.proofs.Math.Path.{transport}
 use Rattle.std.proofs.lemmas.List.{take_all, length-take-le}
 use Rattle.bx_debug.specs.Sessions.{went}

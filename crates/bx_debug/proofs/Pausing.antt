@@ -1,5 +1,5 @@
 -- How often a process runs, by what is so behind each run.
-use Rattle.bx_debug.proofs.Words.{◌≡◌, ◌⊎◌, inl, inr, ℕ, zero, suc, ◌+◌, ◌<◌, ◌≤◌, List, ◌∷◌, replicate, true, Option, Some, None, refl, sym, ap, ◌∙◌, subst, arith, is_some, Place, Loaded, Run, chosen, State, stop_before}
+use Rattle.bx_debug.proofs.Words.{◌≡◌, ◌⊎◌, inl, inr, ℕ, zero, suc, ◌+◌, ◌<◌, ◌≤◌, ◌∷◌, replicate, true, Option, Some, None, sym, ap, ◌∙◌, subst, arith, is_some, Place, Loaded, Run, chosen, State, stop_before}
 use Rattle.bx_debug.proofs.Words.{stop_behind, after_runs, least, pause_at, pause_before, pause_of, run_of, PlaceSet, History, GoTakes, gone, world_of, Bound, Pause, Stop, Done}
 use Rattle.std.proofs.Common.{add-one}
 use Rattle.std.proofs.lemmas.Bool.{cases_lt}

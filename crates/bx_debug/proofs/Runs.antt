@@ -1,6 +1,6 @@
 -- All runs of a process that are made one after another.
-use Rattle.bx_debug.proofs.Words.{◌≡◌, ℕ, zero, suc, ◌<◌, ◌≤◌, List, [], ◌∷◌, replicate, true, Option, Some, None, refl, sym, ap, ◌∙◌, subst, arith, is_some, Loaded, Choice, Run, chosen, State, behind_choice}
-use Rattle.bx_debug.proofs.Words.{stop_before, stop_behind, unless_stopped, walked, after_runs, least, pause_at, run_of, PlaceSet, History, with_made, world_of, Bound, Pause, Stop, Done}
+use Rattle.bx_debug.proofs.Words.{◌≡◌, ℕ, zero, suc, ◌<◌, ◌≤◌, List, ◌∷◌, replicate, true, Option, None, refl, sym, ap, ◌∙◌, subst, arith, is_some, Loaded, Choice, Run, chosen, State, stop_before, stop_behind, walked}
+use Rattle.bx_debug.proofs.Words.{after_runs, least, pause_at, run_of, PlaceSet, History, with_made, world_of, Bound, Pause, Stop}
 use Rattle.bx_debug.specs.Pausing.{runs_to}
 use Rattle.bx_debug.proofs.Pausing.{goes_at_once, goes_on, least_before, least_there, least_within}
 use Rattle.bx_debug.proofs.Walking.{one_applied, walked_on}

@@ -1,7 +1,6 @@
 -- Where choices are stopped, and why.
-use Rattle.bx_debug.proofs.Words.{◌≡◌, ◌≢◌, ℕ, ◌≤◌, List, [], ◌∷◌, ◌++◌, length, Bool, true, false, Option, Some, None, refl, sym, ap, subst, arith, length-append, if◌then◌else◌, Trap, Place, Loaded, Choice, Run}
-use Rattle.bx_debug.proofs.Words.{State, can, chosen, place_in, halted, else_stop, stop_before, break_at, break_behind, stop_behind, behind_choice, unless_stopped, walked, led, all_enabled, PlaceSet, is_set, Stop, Done, Break}
-use Rattle.bx_debug.proofs.Words.{NotEnabled, Trapped}
+use Rattle.bx_debug.proofs.Words.{◌≡◌, ◌≢◌, ◌≤◌, List, [], ◌∷◌, ◌++◌, length, true, Option, Some, None, refl, ap, subst, arith, length-append, Loaded, Choice, State, can, chosen, stop_before, stop_behind}
+use Rattle.bx_debug.proofs.Words.{behind_choice, unless_stopped, walked, led, all_enabled, PlaceSet, Stop, Done, Break, NotEnabled, Trapped}
 use Rattle.std.proofs.lemmas.Grind.{common_steps}
 use Rattle.std.proofs.lemmas.Bool.{and_from}
 use Rattle.std.proofs.lemmas.List.{nil_from_length}

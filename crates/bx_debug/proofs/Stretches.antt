@@ -1,6 +1,6 @@
 -- Choices that are walked part by part.
-use Rattle.bx_debug.proofs.Words.{◌≡◌, suc, ◌+◌, ◌-◌, ◌<◌, ◌≤◌, ℕ, replicate, Chooses, List, [], ◌∷◌, ◌++◌, length, take, drop, true, false, Option, Some, None, refl, sym, ap, ◌∙◌, subst, append_assoc, arith, length-append, is_some, Loaded, Choice}
-use Rattle.bx_debug.proofs.Words.{State, can, chosen, resumed, stop_before, stop_behind, unless_stopped, walked, led, all_enabled, Leads, Reaches, PlaceSet, Stop}
+use Rattle.bx_debug.proofs.Words.{◌≡◌, suc, ◌+◌, ◌-◌, ◌<◌, ◌≤◌, ℕ, replicate, Chooses, List, [], ◌∷◌, ◌++◌, length, take, drop, true, false, Option, Some, None, refl, sym, ap, ◌∙◌, subst, append_assoc, arith}
+use Rattle.bx_debug.proofs.Words.{length-append, is_some, Loaded, Choice, State, can, chosen, resumed, stop_before, stop_behind, unless_stopped, walked, led, all_enabled, Leads, Reaches, PlaceSet, Stop}
 use Rattle.std.proofs.Math.Seq.{take-add}
 use Rattle.std.proofs.lemmas.Bool.{and_from}
 use Rattle.std.proofs.lemmas.List.{drop-append-le, drop-drop, drop_at, length-drop}

@@ -1,7 +1,6 @@
 -- Sessions of which choices are exchanged.
-use Rattle.bx_debug.proofs.Words.{◌≡◌, ℕ, ◌+◌, ◌-◌, ◌<◌, ◌≤◌, Bool, true, false, List, length, take, Ok, Err, refl, sym, ap, ◌∙◌, subst, arith, ◌==◌, ◌||◌, nat_lt, if◌then◌else◌, Choice, State, Ended, ran}
-use Rattle.bx_debug.proofs.Words.{Course, reached, with_exchange, IsExchanged, ends_after, long_after, one_made, tidied_of, undone_of, exchanged_is, all_enabled, IsSession, PlaceSet}
-use Rattle.bx_debug.proofs.Words.{course_of, History, tidy_of, undo_of, undone}
+use Rattle.bx_debug.proofs.Words.{◌≡◌, ℕ, ◌+◌, ◌-◌, ◌<◌, ◌≤◌, Bool, false, Ok, Err, refl, sym, ap, ◌∙◌, subst, arith, ◌==◌, ◌||◌, nat_lt, if◌then◌else◌, State, Ended, ran, Course, reached, with_exchange, IsExchanged}
+use Rattle.bx_debug.proofs.Words.{ends_after, long_after, one_made, tidied_of, undone_of, exchanged_is, IsSession, PlaceSet, course_of, History, tidy_of, undo_of, undone}
 use Rattle.std.proofs.lemmas.Bool.Decides.{nat_tests}
 use Rattle.bx_terms.specs.declared.faults.Fault.TheVariants.{NotIndependent}
 use Rattle.bx_replay.specs.Exchanges.{MayExchange}

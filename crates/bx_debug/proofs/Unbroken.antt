@@ -1,7 +1,7 @@
 -- Choices given one after another to a run, where no breakpoint is set: none is looked behind, and why it went no further is known
 -- at the end.
-use Rattle.bx_debug.proofs.Words.{◌≡◌, ◌≢◌, ℕ, ◌+◌, List, [], ◌∷◌, Bool, true, false, Option, Some, None, refl, sym, ap, ◌∙◌, subst, arith, is_some, Loaded, Choice, State, can, chosen, Ended, advanced, ran, come, halted}
-use Rattle.bx_debug.proofs.Words.{else_stop, stop_before, Reaches, Stop, NotEnabled}
+use Rattle.bx_debug.proofs.Words.{◌≡◌, ◌≢◌, ℕ, ◌+◌, List, [], ◌∷◌, Bool, true, false, Option, Some, None, refl, sym, ap, ◌∙◌, subst, arith, Loaded, Choice, State, can, chosen, Ended, advanced, ran, come, halted}
+use Rattle.bx_debug.proofs.Words.{else_stop, stop_before, Reaches, Stop}
 use Rattle.std.specs.FinSet as set
 use Rattle.std.proofs.lemmas.Grind.{common_steps}
 use Rattle.std.proofs.lemmas.List.{append-nil}

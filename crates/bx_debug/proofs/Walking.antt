@@ -1,6 +1,6 @@
 -- Walks, choice by choice.
-use Rattle.bx_debug.proofs.Words.{◌≡◌, ◌≢◌, List, [], ◌∷◌, true, Option, Some, None, refl, sym, ap, ◌∙◌, arith, if◌then◌else◌, Loaded, Choice, State, can, chosen, refusal, Place, Run, place_in}
-use Rattle.bx_debug.proofs.Words.{PlaceSet, numbers, pair_cmp, break_at, break_behind, stop_at_once, stop_before, stop_behind, unless_stopped, behind_choice, walked, Stop, Break, Done}
+use Rattle.bx_debug.proofs.Words.{◌≡◌, ◌≢◌, List, [], ◌∷◌, true, Option, Some, None, refl, ap, ◌∙◌, arith, if◌then◌else◌, Loaded, Choice, State, can, chosen, refusal, Place, Run, place_in, PlaceSet, numbers, pair_cmp}
+use Rattle.bx_debug.proofs.Words.{break_at, break_behind, stop_at_once, stop_before, stop_behind, unless_stopped, behind_choice, walked, Stop, Break, Done}
 use Rattle.std.proofs.lemmas.Grind.{common_steps}
 use Rattle.std.specs.FinSet as set
 

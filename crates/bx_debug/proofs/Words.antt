@@ -1,12 +1,12 @@
 -- The words that more than one proof here uses, passed on from where they stand.
 pub use Rattle.std.proofs.Common.{◌≡◌, ℕ, ◌-◌, true, ◌+◌, ◌≤◌, List, ◌++◌, length, take, drop, Option, None, refl, sym, ap, ◌∙◌, subst, arith, ◌<◌, [], ◌∷◌, replicate, Bool, false, Some, Ok, Err, length-append}
-pub use Rattle.std.proofs.Common.{suc, ◌≢◌, ◌⊎◌, inl, inr, zero, get_or, append_assoc, rules}
+pub use Rattle.std.proofs.Common.{suc, ◌≢◌, ◌⊎◌, inl, inr, zero, append_assoc, rules}
 pub use Rattle.std.specs.Prelude.{◌&&◌, nat_lt, ◌==◌, ◌||◌, is_some, if◌then◌else◌}
 pub use Rattle.bx_debug.specs.Exchanging.{may_swap}
 pub use Rattle.bx_debug.specs.Going.{walked, stop_at_once, else_stop, halted, stop_before, stop_behind, behind_choice, unless_stopped, break_at, break_behind, resumed}
 pub use Rattle.bx_debug.specs.Leading.{come, Leads, Reaches, Walks, Went, led, all_enabled, IsSession, Chooses}
 pub use Rattle.bx_debug.specs.Pausing.{runs_to, after_runs, least, pause_at, pause_before, pause_of, run_of}
-pub use Rattle.bx_debug.specs.Places.{PlaceSet, pair_cmp, is_set, numbers}
+pub use Rattle.bx_debug.specs.Places.{PlaceSet, pair_cmp, numbers}
 pub use Rattle.bx_debug.specs.Sessions.{History, behind, world_of, with_made, or_refused, stepped, gone, GoTakes}
 pub use Rattle.bx_debug.specs.Swapping.{course_of}
 pub use Rattle.bx_debug.specs.Tidying.{tidy_of, undone, undo_of}

@@ -1,4 +1,4 @@
-use Rattle.bx_debug.proofs.Words.{◌≡◌, arith}
+use Rattle.bx_debug.proofs.Words.{arith}
 use Rattle.bx_debug.proofs.Pausing.{ran_found, ran_most, ran_none, ran_on}
 use Rattle.bx_debug.proofs.pauses.Runner.runs.Goals as goal
 

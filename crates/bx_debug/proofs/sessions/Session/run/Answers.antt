@@ -1,4 +1,4 @@
-use Rattle.bx_debug.proofs.Words.{◌≡◌, List, ◌++◌, Ok, None, replicate, rules, sym, ap, subst, ◌∙◌, Choice, Run, pause_before, pause_of, runs_to, gone, GoTakes, world_of}
+use Rattle.bx_debug.proofs.Words.{List, ◌++◌, Ok, replicate, rules, sym, ap, subst, ◌∙◌, Choice, Run, pause_before, pause_of, runs_to, gone, GoTakes, world_of}
 use Rattle.bx_debug.specs.Pausing.{RunTakes}
 use Rattle.bx_debug.proofs.Moving.{paused_there, seen_there}
 use Rattle.bx_debug.proofs.Pausing.{goes_at_once, ran_nowhere, ran_so, run_takes}

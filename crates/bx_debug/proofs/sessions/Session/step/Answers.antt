@@ -1,4 +1,4 @@
-use Rattle.bx_debug.proofs.Words.{◌≡◌, List, [], ◌∷◌, ◌++◌, replicate, sym, ap, subst, ◌∙◌, Choice, gone, GoTakes}
+use Rattle.bx_debug.proofs.Words.{List, [], ◌∷◌, ◌++◌, sym, ap, subst, ◌∙◌, Choice, gone, GoTakes}
 use Rattle.bx_debug.proofs.Moving.{step_takes, stepped_is}
 use Rattle.bx_debug.proofs.sessions.Session.step.Goals as goal
 

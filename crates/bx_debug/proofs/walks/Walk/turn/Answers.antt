@@ -1,4 +1,4 @@
-use Rattle.bx_debug.proofs.Words.{◌≡◌, ℕ, ◌+◌, ◌-◌, ◌++◌, length, take, drop, sym, ap, ◌∙◌, arith, Ended, Course, come, Walks}
+use Rattle.bx_debug.proofs.Words.{◌≡◌, ℕ, ◌+◌, ◌-◌, ◌++◌, length, take, drop, sym, ap, ◌∙◌, arith, Ended, come, Walks}
 use Rattle.std.proofs.Math.Path.{transport}
 use Rattle.bx_debug.proofs.Going.{counted, ended, goes_on}
 use Rattle.bx_debug.proofs.walks.Walk.turn.Goals as goal
