@@ -1,4 +1,4 @@
-use Rattle.bx_debug.proofs.Words.{◌≡◌, ◌+◌, ◌-◌, ◌∙◌, [], replicate, sym, ap, arith}
+use Rattle.bx_debug.proofs.Words.{◌≡◌, ◌+◌, ◌-◌, ◌∙◌, [], replicate, refl, sym, ap, arith}
 use Rattle.bx_debug.proofs.Stretches.{chose_none, chose_some, far_ends, far_none, far_on, next_one, reaches_none}
 use Rattle.bx_debug.proofs.walks.stretch_run.Goals as goal
 

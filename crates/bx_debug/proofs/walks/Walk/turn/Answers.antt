@@ -15,7 +15,7 @@ push-requires c =
     let within = on.leads.within in
     let long = counted k c.requires.way c.image-image.ensures c.in_ok-more.ensures is front_is in
     let applied = ap (λ (e : Ended). e.applied) (c.start.view_is ∙ c.start-start.ensures) in
-    let count : c.start.result.now.applied + (first + more) ≡ made.start.applied + length (made.choices ++ c.front.result) = omega (arith, applied, c.len-first.ensures.count, long) in
+    let count : c.start.inside.applied + (first + more) ≡ made.start.applied + length (made.choices ++ c.front.result) = omega (arith, applied, c.len-first.ensures.count, long) in
     let end = c.count_applied.ensures ∙ ap (come c.stretch_by_places.new.end.world) count in
     record {
       few = omega (arith, within, c.requires.few);
