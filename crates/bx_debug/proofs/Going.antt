@@ -28,7 +28,8 @@ module _ {places : PlaceSet} {choices part front : List Choice} {trail : Course}
       record {
         unrefused = walks.unrefused;
         taken = added ∙ ap (λ m. take m choices) (sym counted);
-        leads = subst (λ m. Leads trail.image places choices trail.start.world m next stop) (sym counted) (leads_joined walks.leads (transport (λ i. Leads (code i) places (whole i) here n next stop) (reached.leads (drop k rest))));
+        leads = subst (λ m. Leads trail.image places choices trail.start.world m next stop) (sym counted)
+            (leads_joined walks.leads (transport (λ i. Leads (code i) places (whole i) here n next stop) (reached.leads (drop k rest))));
       }
 
 -- where a walk has come is where its choices lead

@@ -88,10 +88,10 @@ called_made Tidy {s} m = exchanged m (tidied_of s.at (course_of s)) (tidied_so s
 called_made (Undo k) {s} m =
     kept m (k == 0 || nat_lt s.at k) (faults.NotIndependent k) (undone k s)
     (λ stands.
-        let less : k - 1 < s.at = grind (arith, nat_tests) in
-        let aside = undone_so s.at (k - 1) (course_of s) less in
-        let now = exchanged m (undone_of s.at (k - 1) (course_of s)).0 aside.exchanged in
-        moved now (undone_of s.at (k - 1) (course_of s)).1 (omega (arith, now.within, aside.less)))
+    let less : k - 1 < s.at = grind (arith, nat_tests) in
+    let aside = undone_so s.at (k - 1) (course_of s) less in
+    let now = exchanged m (undone_of s.at (k - 1) (course_of s)).0 aside.exchanged in
+    moved now (undone_of s.at (k - 1) (course_of s)).1 (omega (arith, now.within, aside.less)))
 called_made (SetBreak place) m = record { code = m.code; begins = m.begins; within = m.within; made = m.made }
 called_made (ClearBreak place) m = record { code = m.code; begins = m.begins; within = m.within; made = m.made }
 

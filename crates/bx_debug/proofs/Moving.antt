@@ -30,7 +30,8 @@ module _ {trail : Course} {at : ℕ} {here : State} (s : IsSession trail at here
   shown_there view_is = ap (λ (end : Ended). end.world) (sym run_shown) ∙ ap world_of view_is
 
   -- what is so of its code, its breakpoints and its world
-  pub seen_there : {A : Type 0} (f : Loaded → PlaceSet → State → A) {h : History} {places : PlaceSet} {image : Loaded} → image ≡ trail.image → history trail at places ≡ h → f image places here ≡ f h.image h.places (world_of h)
+  pub seen_there : {A : Type 0} (f : Loaded → PlaceSet → State → A) {h : History} {places : PlaceSet} {image : Loaded} → image ≡ trail.image → history trail at places ≡ h
+      → f image places here ≡ f h.image h.places (world_of h)
   seen_there f code view_is = λ i. f ((code ∙ ap (λ (g : History). g.image) view_is) i) (ap (λ (g : History). g.places) view_is i) (shown_there view_is i)
 
   pub paused_there : (bound : Bound) (p : ℕ) {h : History} {places : PlaceSet} {image : Loaded} {why found : Option Pause} → image ≡ trail.image → history trail at places ≡ h
@@ -42,7 +43,8 @@ module _ {trail : Course} {at : ℕ} {here : State} (s : IsSession trail at here
   begins_there w = let none = ap (λ (e : Ended). e.applied) s.begins in let count = ap (λ (e : Ended). e.applied) w.begins in (w.begins ∙ sym reached_here, omega (arith, none, count))
 
   -- choices that were made from the position on stand in the place of those behind it
-  pub session_made : {walk new : Course} {to : ℕ} {there : State} → Went trail.image here at walk there → new ≡ record trail { choices = take at trail.choices ++ walk.choices } → to ≡ length new.choices → IsSession new to there
+  pub session_made : {walk new : Course} {to : ℕ} {there : State} → Went trail.image here at walk there → new ≡ record trail { choices = take at trail.choices ++ walk.choices } → to ≡ length new.choices
+      → IsSession new to there
   session_made {walk} {new} {to} {there} w is whole =
       let front = take at trail.choices in
       let choices : List Choice = front ++ walk.choices in
@@ -51,19 +53,20 @@ module _ {trail : Course} {at : ℕ} {here : State} (s : IsSession trail at here
         begins = s.begins;
         within = omega arith;
         made = enabled_both trail.image front walk.choices start (enabled_take trail.image at trail.choices start s.made) (subst (λ (v : State). all_enabled trail.image walk.choices v ≡ true) s.shown w.made);
-        shown = w.shown ∙ ap (led trail.image walk.choices) s.shown ∙ sym (led-append trail.image front walk.choices start) ∙ ap (λ (cs : List Choice). led trail.image cs start) (sym (take_all (length choices) choices (omega arith)));
+        shown = w.shown ∙ ap (led trail.image walk.choices) s.shown ∙ sym (led-append trail.image front walk.choices start)
+            ∙ ap (λ (cs : List Choice). led trail.image cs start) (sym (take_all (length choices) choices (omega arith)));
       } in
       transport (λ i. IsSession (sym is i) (sym (whole ∙ ap (λ (c : Course). length c.choices) is) i) there) joined
 
   -- where it goes
-  pub session_gone : (walk : Course) (given : List Choice) {new : Course} {to : ℕ} {h : History} {places : PlaceSet} {stop : Stop} → history trail at places ≡ h → walked trail.image places given here ≡ (walk.choices, stop) → GoTakes given h
-      → new ≡ record trail { choices = take at trail.choices ++ walk.choices } → to ≡ length new.choices → gone given h ≡ (history new to places, stop)
+  pub session_gone : (walk : Course) (given : List Choice) {new : Course} {to : ℕ} {h : History} {places : PlaceSet} {stop : Stop} → history trail at places ≡ h → walked trail.image places given here ≡ (walk.choices, stop)
+      → GoTakes given h → new ≡ record trail { choices = take at trail.choices ++ walk.choices } → to ≡ length new.choices → gone given h ≡ (history new to places, stop)
   session_gone walk given {h = h} {places = places} {stop = stop} view_is told takes is whole =
       let there_told = sym (seen_there (λ i ps w. walked i ps given w) refl view_is) ∙ told in
       let made_is =
-          ap (with_made walk.choices) (sym view_is)
-          ∙ some_made (history trail at places) walk.choices (λ none. takes (ap (λ (k : List Choice × Stop). k.0) there_told ∙ none)) s.within
-          ∙ (λ i. history (sym is i) (sym (whole ∙ ap (λ (c : Course). length c.choices) is) i) places)
+      ap (with_made walk.choices) (sym view_is)
+      ∙ some_made (history trail at places) walk.choices (λ none. takes (ap (λ (k : List Choice × Stop). k.0) there_told ∙ none)) s.within
+      ∙ (λ i. history (sym is i) (sym (whole ∙ ap (λ (c : Course). length c.choices) is) i) places)
       in
       ap (went h) there_told ∙ (λ i. (made_is i, stop))
     where
