@@ -60,7 +60,8 @@ module _ {trail : Course} {at : ℕ} {here : State} (s : IsSession trail at here
 
   -- where it goes
   pub session_gone : (walk : Course) (given : List Choice) {new : Course} {to : ℕ} {h : History} {places : PlaceSet} {stop : Stop} → history trail at places ≡ h
-      → walked trail.image places given here ≡ (walk.choices, stop) → GoTakes given h → new ≡ record trail { choices = take at trail.choices ++ walk.choices } → to ≡ length new.choices → gone given h ≡ (history new to places, stop)
+      → walked trail.image places given here ≡ (walk.choices, stop) → GoTakes given h
+      → new ≡ record trail { choices = take at trail.choices ++ walk.choices } → to ≡ length new.choices → gone given h ≡ (history new to places, stop)
   session_gone walk given {h = h} {places = places} {stop = stop} view_is told takes is whole =
       let there_told = sym (seen_there (λ i ps w. walked i ps given w) refl view_is) ∙ told in
       let made_is =
