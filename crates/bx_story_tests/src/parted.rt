@@ -135,10 +135,7 @@ fn parts_are_four_for_each_worker(rt: HostRuntime) -> Result<(), Fail> {
 fn parts_that_make_no_plan_are_refused_as_the_plan_is(rt: HostRuntime) -> Result<(), Fail> {
     let twice = spread(rt.alloc(), "a: r0\n", 983, "a: r0*2\n")?;
     let (report, counts) = told_by(&rt, rt.alloc(), 2, twice.as_str())?;
-    assert_eq!(&rt;
-        report.as_str(),
-        "bxemu: R25 NameTwice line 985 in plan\n"
-    );
+    assert_eq!(&rt; report.as_str(), "bxemu: R25 NameTwice line 985 in plan\n");
     assert_eq!(&rt; counts, [1, 3, 3, 0, 1]);
     let bad = spread(rt.alloc(), "a: r0\n", 983, "b: r0*\n")?;
     let (report, _) = told_by(&rt, rt.alloc(), 2, bad.as_str())?;

@@ -103,7 +103,9 @@ fn debug_subcommand<'a>(alloc: Global) -> Result<Command<'a>, AllocError>
     ensures local { IfOk result (λ c. (fields_of c).has_globals ≡ false) }
 {
     Command::new(alloc, "debug")
-        .about("Opens a session: each line of standard input is a command that steps, moves or shows")
+        .about(
+            "Opens a session: each line of standard input is a command that steps, moves or shows",
+        )
         .after_help(SESSION_HELP)
         .arg(start_option(alloc))?
         .arg(files_argument(alloc))
