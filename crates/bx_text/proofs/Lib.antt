@@ -23,6 +23,5 @@ pub mod Short
 pub mod Skipping
 pub mod Slices
 pub mod Sound
-pub mod Steps
 pub mod Tails
 pub mod Texts

@@ -1,411 +1,255 @@
 -- What is read is what the grammar spells.
-use Rattle.std.proofs.Common.{◌≡◌, ℕ, zero, suc, ◌+◌, Bool, true, false, ◌⊎◌, inl, inr, List, [], ◌∷◌, ◌++◌, length, Option, Some, None, Result, Ok, Err, refl, sym, ap, ◌∙◌, subst, if◌then◌else◌}
+use Rattle.std.proofs.Common.{arith, ◌≡◌, ℕ, zero, suc, ◌+◌, Bool, true, ◌⊎◌, inl, inr, List, [], ◌∷◌, ◌++◌, length, Option, Some, None, Result, Ok, refl, sym, ap, subst}
 use Rattle.bx_terms.specs.Outcomes.{◌>>=◌}
 use Rattle.bx_terms.specs.declared.faults.Fault.{Fault}
 use Rattle.bx_text.specs.declared.tokens.Mark.TheVariants.{CloseTuple, CloseList, CloseBinary, Comma, Bar, Arrow, Colon, Slash, Stop, Fun}
 use Rattle.bx_text.specs.declared.node.Sort.{Sort}
 use Rattle.bx_text.specs.declared.node.Sort.TheVariants as sort
-use Rattle.std.proofs.lemmas.Bool.{eqb-true}
+use Rattle.std.proofs.lemmas.Bool.{eqb-true, cond_both}
+use Rattle.std.proofs.lemmas.Slice.Eq.{bytes_eq-Decides}
 use Rattle.std.specs.Str.Lossy.{utf8_valid_len}
-use Rattle.std.specs.Prelude.{◌==◌, ℤ}
+use Rattle.std.specs.Prelude.{◌==◌, ℤ, codes}
 use Rattle.bx_text.specs.Place.{Place}
 use Rattle.bx_text.specs.Token as token
 use Rattle.bx_text.specs.Token.{Body, spelled, Token, Lexeme}
 use Rattle.bx_text.specs.Lexing.{lexeme_at}
-use Rattle.bx_text.specs.Tree.{Tree, integer, tuple, list, other, nil, chain}
-use Rattle.bx_text.specs.Terms.{Follow, next, end, span, closed, closes_tuple, closes_list, is_comma, is_bar, is_stop, closes_binary, is_arrow, is_colon, is_slash, is_atom, is_integer, is_utf8_name, taken, kept_at, want, passed, value_at, pair_at, go_through, parts, parts_at, map_on, map_at, content_by, sized, encoded, behind_token, segment_at, binary_on, binary_at, fun_at, letters, letters_of, text_next, texts, texts_on, strings_at, string_at, follow_at, element_at, go_on, many, elements_at, tuple_on, tuple_at, tail_of, tail_at, end_at, rest_on, rest_at, list_at, bracket_by, atom_by, begin_by, group_at, term_at}
+use Rattle.bx_text.specs.Tree.{Tree, list, other, nil, chain}
+use Rattle.bx_text.specs.Terms.{Follow, next, end, span, closed, closes_tuple, closes_list, is_comma, is_bar, is_stop, closes_binary, is_arrow, is_colon, is_slash, is_atom, is_integer, is_utf8_name, taken, kept_at, want, passed, value_at, pair_at, go_through, parts, parts_at, map_on, map_at, content_by, sized, encoded, behind_token, segment_at, binary_on, binary_at, fun_at, letters, letters_of, text_next, texts, texts_on, strings_at, string_at, follow_at, element_at, go_on, many, elements_at, tuple_on, tuple_at, tail_of, tail_at, end_at, rest_on, rest_at, list_at, bracket_by, begin_by, group_at, term_at}
 use Rattle.bx_text.specs.Grammar.{NoString, Strings, no_string, a_string, Spells, an_integer, an_atom, strings, empty_tuple, a_tuple, empty_list, a_list, a_list_with_tail, a_float, an_empty_map, a_map, an_empty_binary, a_binary, a_fun, Row, one, more, Pairs, one_pair, more_pairs, Kept, Content, a_number, a_text, Size, no_size, a_size, Encoding, no_encoding, in_utf8, Segment, a_segment, Segments, one_segment, more_segments}
-use Rattle.bx_text.proofs.Outcomes.{ok_same, bind_ok}
+use Rattle.bx_text.proofs.Outcomes.{Yields, yes, no, reads, also, bound, read, assoc}
 use Rattle.bx_text.proofs.Quoting.{text_is}
+use Rattle.bx_text.proofs.Texts.{valid_is}
 
 -- which token passes a test
 pub comma_is : (k : Token) → is_comma k ≡ true → k ≡ token.mark Comma
-comma_is (token.mark Comma) e = refl
-comma_is k e = cc
+comma_is k e = grind arith
 
 bar_is : (k : Token) → is_bar k ≡ true → k ≡ token.mark Bar
-bar_is (token.mark Bar) e = refl
-bar_is k e = cc
+bar_is k e = grind arith
 
 pub tuple_close_is : (k : Token) → closes_tuple k ≡ true → k ≡ token.mark CloseTuple
-tuple_close_is (token.mark CloseTuple) e = refl
-tuple_close_is k e = cc
+tuple_close_is k e = grind arith
 
 list_close_is : (k : Token) → closes_list k ≡ true → k ≡ token.mark CloseList
-list_close_is (token.mark CloseList) e = refl
-list_close_is k e = cc
+list_close_is k e = grind arith
 
 binary_close_is : (k : Token) → closes_binary k ≡ true → k ≡ token.mark CloseBinary
-binary_close_is (token.mark CloseBinary) e = refl
-binary_close_is k e = cc
+binary_close_is k e = grind arith
 
 arrow_is : (k : Token) → is_arrow k ≡ true → k ≡ token.mark Arrow
-arrow_is (token.mark Arrow) e = refl
-arrow_is k e = cc
+arrow_is k e = grind arith
 
 colon_is : (k : Token) → is_colon k ≡ true → k ≡ token.mark Colon
-colon_is (token.mark Colon) e = refl
-colon_is k e = cc
+colon_is k e = grind arith
 
 slash_is : (k : Token) → is_slash k ≡ true → k ≡ token.mark Slash
-slash_is (token.mark Slash) e = refl
-slash_is k e = cc
+slash_is k e = grind arith
 
 pub stop_is : (k : Token) → is_stop k ≡ true → k ≡ token.mark Stop
-stop_is (token.mark Stop) e = refl
-stop_is k e = cc
+stop_is k e = grind arith
 
 atom_is : (k : Token) → is_atom k ≡ true → (b : Body) × (k ≡ token.atom b)
 atom_is (token.atom b) e = (b, refl)
 atom_is k e = cc
 
+utf8_is : (k : Token) → is_utf8_name k ≡ true → (b : Body) × (k ≡ token.atom b) × (spelled b ≡ codes "utf8")
+utf8_is (token.atom b) e = (b, refl, (bytes_eq-Decides (spelled b) (codes "utf8")).0 e)
+utf8_is k e = cc
+
 integer_is : (k : Token) → is_integer k ≡ true → (n : ℤ) × (k ≡ token.integer n)
 integer_is (token.integer n) e = (n, refl)
 integer_is k e = cc
 
--- a test of a token went one way
-pub tested : {A : Type 0} (b : Bool) (r : Result A Fault) (e : Fault) (y : A) → (if b then r else Err e) ≡ Ok y → (b ≡ true) × (r ≡ Ok y)
-tested true r e y h = (refl, h)
-tested false r e y h = cc
+-- behind a token that passes a test
+pub shut : {B : Type 0} {Q : B → Type 0} (test : Token → Bool) (m : Lexeme) (f : Place → Result B Fault) → (test m.token ≡ true → Yields Q (f m.after)) → Yields Q (closed test m >>= f)
+shut {Q = Q} test m f g = cond_both (test m.token) (Ok m.after) _ (λ r. Yields Q (r >>= f)) g (λ _. no)
 
-closed_by : (closes : Token → Bool) (m : Lexeme) (q : Place) → closed closes m ≡ Ok q → (closes m.token ≡ true) × (m.after ≡ q)
-closed_by closes m q h = let t = tested (closes m.token) (Ok m.after) _ q h in (t.0, ok_same m.after q t.1)
+pub wanted : {B : Type 0} {Q : B → Type 0} (test : Token → Bool) (p : Place) (f : Place → Result B Fault) → ((m : Lexeme) → lexeme_at p ≡ Ok m → test m.token ≡ true → Yields Q (f m.after)) → Yields Q (want test p >>= f)
+wanted test p f g = assoc (lexeme_at p) (closed test) f (read (lexeme_at p) _ (λ m n. shut test m f (g m n)))
 
--- the next token, which passed a test, and the place behind it
-pub want_from : (test : Token → Bool) (p q : Place) → want test p ≡ Ok q → (m : Lexeme) × (lexeme_at p ≡ Ok m) × (test m.token ≡ true) × (m.after ≡ q)
-want_from test p q h =
-    let b = bind_ok (lexeme_at p) (closed test) q h in
-    let c = closed_by test b.0 q b.2 in
-    (b.0, b.1, c.0, c.1)
+-- terms, which the grammar spells
+abbrev pub Said : ℕ → Lexeme → Tree × Place → Type 0
+Said d l x = Spells d l x.0 x.1
 
-pub passed_from : {A : Type 0} (r : Result (A × Place) Fault) (q : Place) → passed r ≡ Ok q → (x : A × Place) × (r ≡ Ok x) × (x.1 ≡ q)
-passed_from r q h = let b = bind_ok r (λ x. Ok x.1) q h in (b.0, b.1, ok_same b.0.1 q b.2)
+abbrev pub IsSound : ℕ → Type 0
+IsSound d = (l : Lexeme) → Yields (Said d l) (term_at d l)
 
-kept_from : (k : Sort) (l : Lexeme) (q : Place) (x : Tree × Place) → kept_at k l q ≡ Ok x → Kept l q × (◌≡◌ {A = Tree × Place} (other (span l q) k (taken l q), q) x)
-kept_from k l q x h =
-    let t = tested (utf8_valid_len (taken l q) == length (taken l q)) (Ok (other (span l q) k (taken l q), q)) _ x h in
-    (eqb-true (utf8_valid_len (taken l q)) (length (taken l q)) t.0, ok_same {A = Tree × Place} (other (span l q) k (taken l q), q) x t.1)
+kept_so : {d : ℕ} (k : Sort) (l : Lexeme) (q : Place) → (Kept l q → Spells d l (other (span l q) k (taken l q)) q) → Yields (Said d l) (kept_at k l q)
+kept_so {d} k l q f =
+    cond_both (utf8_valid_len (taken l q) == length (taken l q)) _ _ (Yields (Said d l)) (λ t. yes (f (valid_is (taken l q) (eqb-true (utf8_valid_len (taken l q)) (length (taken l q)) t)))) (λ _. no)
 
 -- strings
-string_step : (p : Place) (k : Place → Result (List Tree × Place) Fault) (x : List Tree × Place) (o : Option Lexeme) → ((p : Place) (x : List Tree × Place) → k p ≡ Ok x → Strings p x.0 x.1)
-    → ((o ≡ None) × NoString p) ⊎ ((l : Lexeme) × (o ≡ Some l) × (lexeme_at p ≡ Ok l) × ((w : Body) × (l.token ≡ token.text w))) → texts_on k p o ≡ Ok x → Strings p x.0 x.1
-string_step p k x o ih (inl (n, s)) h =
-    let P : List Tree × Place → Type 0 = λ y. Strings p y.0 y.1 in
-    subst P (ok_same {A = List Tree × Place} ([], p) x (subst (λ o. texts_on k p o ≡ Ok x) n h)) (no_string s)
-string_step p k x o ih (inr (l, s, n, (w, t))) h =
-    let b = bind_ok (k l.after) (λ y. Ok (letters_of l l.token ++ y.0, y.1)) x (subst (λ o. texts_on k p o ≡ Ok x) s h) in
-    let P : List Tree × Place → Type 0 = λ y. Strings p y.0 y.1 in
-    let e : letters (span l l.after) (spelled w) ≡ letters_of l l.token = sym (ap (letters_of l) t) in
-    subst P (ok_same {A = List Tree × Place} (letters_of l l.token ++ b.0.0, b.0.1) x b.2)
-    (subst (λ ts. Strings p (ts ++ b.0.0) b.0.1) e (a_string n t (ih l.after b.0 b.1)))
+texts_so : (k : ℕ) (p : Place) → Yields (λ (x : List Tree × Place). Strings p x.0 x.1) (texts k p)
+texts_so zero p = no
+texts_so (suc k) p = read (text_next p) (texts_on (texts k) p) (λ o e. by (texts_so k) o (text_is p o e))
+  where
+    P : List Tree × Place → Type 0
+    P x = Strings p x.0 x.1
 
-strings_from : (k : ℕ) (p : Place) (x : List Tree × Place) → texts k p ≡ Ok x → Strings p x.0 x.1
-strings_from zero p x h = cc
-strings_from (suc k) p x h =
-    let b = bind_ok (text_next p) (texts_on (texts k) p) x h in
-    string_step p (texts k) x b.0 (λ p x h. strings_from k p x h) (text_is p b.0 b.1) b.2
+    by : ((p : Place) → Yields (λ (x : List Tree × Place). Strings p x.0 x.1) (texts k p)) → (o : Option Lexeme) → ((o ≡ None) × NoString p) ⊎ ((l : Lexeme) × (o ≡ Some l) × (lexeme_at p ≡ Ok l) × ((w : Body) × (l.token ≡ token.text w))) → Yields P (texts_on (texts k) p o)
+    by again o (inl (n, s)) = subst (λ o. Yields P (texts_on (texts k) p o)) (sym n) (yes (no_string s))
+    by again o (inr (l, s, n, (w, t))) =
+        subst (λ o. Yields P (texts_on (texts k) p o)) (sym s)
+        (bound _ (again l.after) (λ x h. yes (subst (λ ts. Strings p (ts ++ x.0) x.1) (sym (ap (letters_of l) t)) (a_string n t h))))
+
+strings_so : (l : Lexeme) (w : Body) → l.token ≡ token.text w → Yields (λ (x : List Tree × Place). (ts : List Tree) × Strings l.after ts x.1 × (letters (span l l.after) (spelled w) ++ ts ≡ x.0)) (strings_at l)
+strings_so l w t = bound _ (texts_so (length l.after.rest + 1) l.after) (λ x h. yes (x.0, h, ap (λ k. letters_of l k ++ x.0) (sym t)))
+
+string_so : (d : ℕ) (l : Lexeme) (w : Body) → l.token ≡ token.text w → Yields (Said (suc d) l) (string_at l)
+string_so d l w t = bound _ (strings_so l w t) (λ x (ts, h, e). yes (subst (λ us. Spells (suc d) l (list (span l x.1) (chain us nil)) x.1) e (strings t h)))
 
 -- what follows an element
+abbrev pub GoesOn : Lexeme → Follow → Type 0
+GoesOn m (next n) = (m.token ≡ token.mark Comma) × (lexeme_at m.after ≡ Ok n)
+GoesOn m (end k) = m ≡ k
+
 abbrev pub Goes : Place → Follow → Type 0
-Goes r f = ((m : Lexeme) × (n : Lexeme) × (f ≡ next n) × (lexeme_at r ≡ Ok m) × (m.token ≡ token.mark Comma) × (lexeme_at m.after ≡ Ok n)) ⊎ ((m : Lexeme) × (f ≡ end m) × (lexeme_at r ≡ Ok m))
+Goes r f = (m : Lexeme) × (lexeme_at r ≡ Ok m) × GoesOn m f
 
-follow_by : (b : Bool) (r : Place) (m : Lexeme) (f : Follow) → is_comma m.token ≡ b → lexeme_at r ≡ Ok m → (if b then (lexeme_at m.after >>= λ n. Ok (next n)) else Ok (end m)) ≡ Ok f → Goes r f
-follow_by true r m f b e h = let g = bind_ok (lexeme_at m.after) (λ n. Ok (next n)) f h in inl (m, g.0, sym (ok_same (next g.0) f g.2), e, comma_is m.token b, g.1)
-follow_by false r m f b e h = inr (m, sym (ok_same (end m) f h), e)
+behind_so : (m : Lexeme) → Yields (GoesOn m) (behind_token m)
+behind_so m = cond_both (is_comma m.token) _ _ (Yields (GoesOn m)) (λ c. read (lexeme_at m.after) (λ n. Ok (next n)) (λ n a. yes (comma_is m.token c, a))) (λ _. yes refl)
 
-pub follow_is : (r : Place) (f : Follow) → follow_at r ≡ Ok f → Goes r f
-follow_is r f h =
-    let b = bind_ok (lexeme_at r) (λ m. if is_comma m.token then (lexeme_at m.after >>= λ n. Ok (next n)) else Ok (end m)) f h in
-    follow_by (is_comma b.0.token) r b.0 f refl b.1 b.2
+pub follow_so : (r : Place) → Yields (Goes r) (follow_at r)
+follow_so r = read (lexeme_at r) behind_token (λ m e. also (λ f g. (m, e, g)) (behind_so m))
 
--- elements of terms, which the grammar spells
-abbrev IsSound : ℕ → Type 0
-IsSound d = (l : Lexeme) (x : Tree × Place) → term_at d l ≡ Ok x → Spells d l x.0 x.1
+-- elements
+element_so : (d : ℕ) → IsSound d → (l : Lexeme) → Yields (λ (y : Tree × Follow). (r : Place) × Spells d l y.0 r × Goes r y.1) (element_at (term_at d) l)
+element_so d sound l = bound _ (sound l) (λ x s. bound _ (follow_so x.1) (λ f g. yes (x.1, s, g)))
 
-abbrev IsSoundRow : ℕ → (Lexeme → Result (List Tree × Lexeme) Fault) → Type 0
-IsSoundRow d rows = (l : Lexeme) (x : List Tree × Lexeme) → rows l ≡ Ok x → Row d l x.0 x.1
+rows_so : (d : ℕ) → IsSound d → (k : ℕ) (l : Lexeme) → Yields (λ (x : List Tree × Lexeme). Row d l x.0 x.1) (many (term_at d) k l)
+rows_so d sound zero l = no
+rows_so d sound (suc k) l = bound _ (element_so d sound l) (λ y x. on (rows_so d sound k) y.0 y.1 x)
+  where
+    on : ((l : Lexeme) → Yields (λ (x : List Tree × Lexeme). Row d l x.0 x.1) (many (term_at d) k l)) → (t : Tree) (f : Follow) → (r : Place) × Spells d l t r × Goes r f → Yields (λ (x : List Tree × Lexeme). Row d l x.0 x.1) (go_on (many (term_at d) k) t f)
+    on rows t (next n) (r, s, (m, a, (c, b))) = bound _ (rows n) (λ x w. yes (more s a c b w))
+    on rows t (end n) (r, s, (m, a, e)) = yes (subst (Row d l (t ∷ [])) e (one s a))
 
-row_step : (d : ℕ) (rows : Lexeme → Result (List Tree × Lexeme) Fault) (l : Lexeme) (t : Tree) (r : Place) (f : Follow) (x : List Tree × Lexeme) → IsSoundRow d rows → Spells d l t r → Goes r f
-    → go_on rows t f ≡ Ok x → Row d l x.0 x.1
-row_step d rows l t r f x ih s (inl (m, n, e, a, c, b)) h =
-    let g = bind_ok (rows n) (λ y. Ok (t ∷ y.0, y.1)) x (subst (λ f. go_on rows t f ≡ Ok x) e h) in
-    let P : List Tree × Lexeme → Type 0 = λ y. Row d l y.0 y.1 in
-    subst P (ok_same {A = List Tree × Lexeme} (t ∷ g.0.0, g.0.1) x g.2) (more s a c b (ih n g.0 g.1))
-row_step d rows l t r f x ih s (inr (m, e, a)) h =
-    let P : List Tree × Lexeme → Type 0 = λ y. Row d l y.0 y.1 in
-    subst P (ok_same {A = List Tree × Lexeme} (t ∷ [], m) x (subst (λ f. go_on rows t f ≡ Ok x) e h)) (one s a)
-
-row_on : (d : ℕ) (rows : Lexeme → Result (List Tree × Lexeme) Fault) (l : Lexeme) (x : List Tree × Lexeme) → IsSound d → IsSoundRow d rows
-    → (element_at (term_at d) l >>= λ y. go_on rows y.0 y.1) ≡ Ok x → Row d l x.0 x.1
-row_on d rows l x sound ih h =
-    let b = bind_ok (element_at (term_at d) l) (λ y. go_on rows y.0 y.1) x h in
-    let c = bind_ok (term_at d l) (λ y. follow_at y.1 >>= λ f. Ok (y.0, f)) b.0 b.1 in
-    let e = bind_ok (follow_at c.0.1) (λ f. Ok (c.0.0, f)) b.0 c.2 in
-    let same = ok_same {A = Tree × Follow} (c.0.0, e.0) b.0 e.2 in
-    let P : Tree × Follow → Type 0 = λ y. go_on rows y.0 y.1 ≡ Ok x in
-    row_step d rows l c.0.0 c.0.1 e.0 x ih (sound l c.0 c.1) (follow_is c.0.1 e.0 e.1) (subst P (sym same) b.2)
-
-rows_are : (d : ℕ) → IsSound d → (k : ℕ) → IsSoundRow d (many (term_at d) k)
-rows_are d sound zero l x h = cc
-rows_are d sound (suc k) l x h = row_on d (many (term_at d) k) l x sound (rows_are d sound k) h
+all_so : (d : ℕ) → IsSound d → (l : Lexeme) → Yields (λ (x : List Tree × Lexeme). Row d l x.0 x.1) (elements_at (term_at d) l)
+all_so d sound l = rows_so d sound (length l.after.rest + 1) l
 
 -- tuples
-tuple_by : (b : Bool) (d : ℕ) (l m : Lexeme) (x : Tree × Place) → IsSound d → l.token ≡ token.open_tuple → lexeme_at l.after ≡ Ok m → closes_tuple m.token ≡ b
-    → (if b then Ok (tuple (span l m.after) nil, m.after) else (elements_at (term_at d) m >>= λ y. closed closes_tuple y.1 >>= λ q. Ok (tuple (span l q) (chain y.0 nil), q))) ≡ Ok x → Spells (suc d) l x.0 x.1
-tuple_by true d l m x sound t n c h =
-    let P : Tree × Place → Type 0 = λ y. Spells (suc d) l y.0 y.1 in
-    subst P (ok_same {A = Tree × Place} (tuple (span l m.after) nil, m.after) x h) (empty_tuple t n (tuple_close_is m.token c))
-tuple_by false d l m x sound t n c h =
-    let b = bind_ok (elements_at (term_at d) m) (λ y. closed closes_tuple y.1 >>= λ q. Ok (tuple (span l q) (chain y.0 nil), q)) x h in
-    let e = bind_ok (closed closes_tuple b.0.1) (λ q. Ok (tuple (span l q) (chain b.0.0 nil), q)) x b.2 in
-    let f = closed_by closes_tuple b.0.1 e.0 e.1 in
-    let P : Tree × Place → Type 0 = λ y. Spells (suc d) l y.0 y.1 in
-    let Q : Place → Type 0 = λ q. Spells (suc d) l (tuple (span l q) (chain b.0.0 nil)) q in
-    subst P (ok_same {A = Tree × Place} (tuple (span l e.0) (chain b.0.0 nil), e.0) x e.2)
-    (subst Q f.1 (a_tuple t n (rows_are d sound (length m.after.rest + 1) m b.0 b.1) (tuple_close_is b.0.1.token f.0)))
-
-tuple_from : (d : ℕ) (l : Lexeme) (x : Tree × Place) → IsSound d → l.token ≡ token.open_tuple → tuple_at (term_at d) l ≡ Ok x → Spells (suc d) l x.0 x.1
-tuple_from d l x sound t h = let b = bind_ok (lexeme_at l.after) (tuple_on (term_at d) l) x h in tuple_by (closes_tuple b.0.token) d l b.0 x sound t b.1 refl b.2
+tuple_so : (d : ℕ) → IsSound d → (l : Lexeme) → l.token ≡ token.open_tuple → Yields (Said (suc d) l) (tuple_at (term_at d) l)
+tuple_so d sound l t =
+    read (lexeme_at l.after) (tuple_on (term_at d) l) (λ m n. cond_both (closes_tuple m.token) _ _ (Yields (Said (suc d) l)) (λ c. yes (empty_tuple t n (tuple_close_is m.token c)))
+    (λ _. bound _ (all_so d sound m) (λ x r. shut closes_tuple x.1 _ (λ c. yes (a_tuple t n r (tuple_close_is x.1.token c))))))
 
 -- lists: what follows the opening mark, for the list that it makes
 abbrev IsRest : ℕ → Lexeme → Tree × Place → Type 0
 IsRest d l y = Spells (suc d) l (list (span l y.1) y.0) y.1
 
-end_by : (b : Bool) (d : ℕ) (l first m : Lexeme) (ts : List Tree) (y : Tree × Place) → IsSound d → l.token ≡ token.open_list → lexeme_at l.after ≡ Ok first → Row d first ts m → is_bar m.token ≡ b
-    → (if b then (lexeme_at m.after >>= tail_at (term_at d) >>= λ x. lexeme_at x.1 >>= closed closes_list >>= λ q. Ok (x.0, q)) else (closed closes_list m >>= λ q. Ok (nil, q))) ≡ Ok y
-    → IsRest d l (chain ts y.0, y.1)
-end_by true d l first m ts y sound t n row c h =
-    let b = bind_ok (lexeme_at m.after >>= tail_at (term_at d)) (λ x. lexeme_at x.1 >>= closed closes_list >>= λ q. Ok (x.0, q)) y h in
-    let e = bind_ok (lexeme_at m.after) (tail_at (term_at d)) b.0 b.1 in
-    let u = bind_ok (term_at d e.0) (λ x. Ok (tail_of x.0, x.1)) b.0 e.2 in
-    let same = ok_same {A = Tree × Place} (tail_of u.0.0, u.0.1) b.0 u.2 in
-    let f = bind_ok (lexeme_at b.0.1 >>= closed closes_list) (λ q. Ok (b.0.0, q)) y b.2 in
-    let g = bind_ok (lexeme_at b.0.1) (closed closes_list) f.0 f.1 in
-    let k = closed_by closes_list g.0 f.0 g.2 in
-    let place : lexeme_at u.0.1 ≡ Ok g.0 = ap lexeme_at (ap (λ (z : Tree × Place). z.1) same) ∙ g.1 in
-    let whole = a_list_with_tail t n row (bar_is m.token c) e.1 (sound e.0 u.0 u.1) place (list_close_is g.0.token k.0) in
-    let P : Tree × Place → Type 0 = λ z. IsRest d l (chain ts z.0, z.1) in
-    let Q : Place → Type 0 = λ q. IsRest d l (chain ts (tail_of u.0.0), q) in
-    let R : Tree → Type 0 = λ z. IsRest d l (chain ts z, f.0) in
-    subst P (ok_same {A = Tree × Place} (b.0.0, f.0) y f.2) (subst R (ap (λ (z : Tree × Place). z.0) same) (subst Q k.1 whole))
-end_by false d l first m ts y sound t n row c h =
-    let b = bind_ok (closed closes_list m) (λ q. Ok (nil, q)) y h in
-    let k = closed_by closes_list m b.0 b.1 in
-    let P : Tree × Place → Type 0 = λ z. IsRest d l (chain ts z.0, z.1) in
-    let Q : Place → Type 0 = λ q. IsRest d l (chain ts nil, q) in
-    subst P (ok_same {A = Tree × Place} (nil, b.0) y b.2) (subst Q k.1 (a_list t n row (list_close_is m.token k.0)))
+tail_so : (d : ℕ) → IsSound d → (p : Place) → Yields (λ (y : Tree × Place). (k : Lexeme) × (u : Tree) × (lexeme_at p ≡ Ok k) × Spells d k u y.1 × (tail_of u ≡ y.0)) (lexeme_at p >>= tail_at (term_at d))
+tail_so d sound p = read (lexeme_at p) (tail_at (term_at d)) (λ k a. bound _ (sound k) (λ u s. yes (k, u.0, a, s, refl)))
 
-rest_by : (b : Bool) (d : ℕ) (l m : Lexeme) (y : Tree × Place) → IsSound d → l.token ≡ token.open_list → lexeme_at l.after ≡ Ok m → closes_list m.token ≡ b
-    → (if b then Ok (nil, m.after) else (elements_at (term_at d) m >>= λ x. end_at (term_at d) x.1 >>= λ z. Ok (chain x.0 z.0, z.1))) ≡ Ok y → IsRest d l y
-rest_by true d l m y sound t n c h = subst (IsRest d l) (ok_same {A = Tree × Place} (nil, m.after) y h) (empty_list t n (list_close_is m.token c))
-rest_by false d l m y sound t n c h =
-    let b = bind_ok (elements_at (term_at d) m) (λ x. end_at (term_at d) x.1 >>= λ z. Ok (chain x.0 z.0, z.1)) y h in
-    let e = bind_ok (end_at (term_at d) b.0.1) (λ z. Ok (chain b.0.0 z.0, z.1)) y b.2 in
-    subst (IsRest d l) (ok_same {A = Tree × Place} (chain b.0.0 e.0.0, e.0.1) y e.2)
-    (end_by (is_bar b.0.1.token) d l m b.0.1 b.0.0 e.0 sound t n (rows_are d sound (length m.after.rest + 1) m b.0 b.1) refl e.1)
+end_so : (d : ℕ) → IsSound d → (l first m : Lexeme) (ts : List Tree) → l.token ≡ token.open_list → lexeme_at l.after ≡ Ok first → Row d first ts m → Yields (λ (y : Tree × Place). IsRest d l (chain ts y.0, y.1)) (end_at (term_at d) m)
+end_so d sound l first m ts t n row =
+    cond_both (is_bar m.token) _ _ (Yields (λ (y : Tree × Place). IsRest d l (chain ts y.0, y.1)))
+    (λ b. bound _ (tail_so d sound m.after) (λ y (k, u, a, s, e). wanted closes_list y.1 _
+    (λ q z c. yes (subst (λ v. IsRest d l (chain ts v, q.after)) e (a_list_with_tail t n row (bar_is m.token b) a s z (list_close_is q.token c))))))
+    (λ _. shut closes_list m _ (λ c. yes (a_list t n row (list_close_is m.token c))))
 
-list_from : (d : ℕ) (l : Lexeme) (x : Tree × Place) → IsSound d → l.token ≡ token.open_list → list_at (term_at d) l ≡ Ok x → Spells (suc d) l x.0 x.1
-list_from d l x sound t h =
-    let b = bind_ok (rest_at (term_at d) l.after) (λ y. Ok (list (span l y.1) y.0, y.1)) x h in
-    let e = bind_ok (lexeme_at l.after) (rest_on (term_at d)) b.0 b.1 in
-    let P : Tree × Place → Type 0 = λ y. Spells (suc d) l y.0 y.1 in
-    subst P (ok_same {A = Tree × Place} (list (span l b.0.1) b.0.0, b.0.1) x b.2) (rest_by (closes_list e.0.token) d l e.0 b.0 sound t e.1 refl e.2)
-
-string_from : (d : ℕ) (l : Lexeme) (w : Body) (x : Tree × Place) → l.token ≡ token.text w → string_at l ≡ Ok x → Spells (suc d) l x.0 x.1
-string_from d l w x t h =
-    let b = bind_ok (strings_at l) (λ y. Ok (list (span l y.1) (chain y.0 nil), y.1)) x h in
-    let e = bind_ok (texts (length l.after.rest + 1) l.after) (λ y. Ok (letters_of l l.token ++ y.0, y.1)) b.0 b.1 in
-    let same = ok_same {A = List Tree × Place} (letters_of l l.token ++ e.0.0, e.0.1) b.0 e.2 in
-    let worded : letters (span l l.after) (spelled w) ≡ letters_of l l.token = sym (ap (letters_of l) t) in
-    let P : Tree × Place → Type 0 = λ y. Spells (suc d) l y.0 y.1 in
-    let Q : List Tree × Place → Type 0 = λ y. Spells (suc d) l (list (span l y.1) (chain y.0 nil)) y.1 in
-    let R : List Tree → Type 0 = λ ts. Q (ts ++ e.0.0, e.0.1) in
-    subst P (ok_same {A = Tree × Place} (list (span l b.0.1) (chain b.0.0 nil), b.0.1) x b.2)
-    (subst Q same (subst R worded (strings t (strings_from (length l.after.rest + 1) l.after e.0 e.1))))
+list_so : (d : ℕ) → IsSound d → (l : Lexeme) → l.token ≡ token.open_list → Yields (Said (suc d) l) (list_at (term_at d) l)
+list_so d sound l t = bound _ rest (λ x h. yes h)
+  where
+    rest : Yields (IsRest d l) (rest_at (term_at d) l.after)
+    rest =
+        read (lexeme_at l.after) (rest_on (term_at d)) (λ m n. cond_both (closes_list m.token) _ _ (Yields (IsRest d l)) (λ c. yes (empty_list t n (list_close_is m.token c)))
+        (λ _. bound _ (all_so d sound m) (λ x r. bound _ (end_so d sound l m x.1 x.0 t n r) (λ z h. yes h))))
 
 -- maps
+abbrev pub ValueAt : ℕ → Place → Place → Type 0
+ValueAt d p q = (v : Lexeme) × (u : Tree) × (lexeme_at p ≡ Ok v) × Spells d v u q
+
+pub value_so : (d : ℕ) → IsSound d → (p : Place) → Yields (ValueAt d p) (value_at (term_at d) p)
+value_so d sound p = assoc (lexeme_at p) (term_at d) _ (read (lexeme_at p) _ (λ v a. bound _ (sound v) (λ x s. yes (v, x.0, a, s))))
+
 abbrev PairOf : ℕ → Lexeme → Follow → Type 0
-PairOf d l f =
-    (r : Place) × (q : Place) × (arrow : Lexeme) × (v : Lexeme) × (t : Tree) × (u : Tree) × Spells d l t r × (lexeme_at r ≡ Ok arrow) × (arrow.token ≡ token.mark Arrow) × (lexeme_at arrow.after ≡ Ok v)
-    × Spells d v u q × Goes q f
+PairOf d l f = (t : Tree) × (r : Place) × (arrow : Lexeme) × (q : Place) × Spells d l t r × (lexeme_at r ≡ Ok arrow) × (arrow.token ≡ token.mark Arrow) × ValueAt d arrow.after q × Goes q f
 
-pair_from : (d : ℕ) (l : Lexeme) (f : Follow) → IsSound d → pair_at (term_at d) l ≡ Ok f → PairOf d l f
-pair_from d l f sound h =
-    let term = term_at d in
-    let a = bind_ok (passed (term l) >>= want is_arrow >>= value_at term) follow_at f h in
-    let b = bind_ok (passed (term l) >>= want is_arrow) (value_at term) a.0 a.1 in
-    let c = bind_ok (passed (term l)) (want is_arrow) b.0 b.1 in
-    let key = passed_from (term l) c.0 c.1 in
-    let arrow = want_from is_arrow c.0 b.0 c.2 in
-    let value = passed_from (lexeme_at b.0 >>= term) a.0 b.2 in
-    let first = bind_ok (lexeme_at b.0) term value.0 value.1 in (
-      key.0.1,
-      value.0.1,
-      arrow.0,
-      first.0,
-      key.0.0,
-      value.0.0,
-      sound l key.0 key.1,
-      ap lexeme_at key.2 ∙ arrow.1,
-      arrow_is arrow.0.token arrow.2,
-      ap lexeme_at arrow.3 ∙ first.1,
-      sound first.0 value.0 first.2,
-      subst (λ q. Goes q f) (sym value.2) (follow_is a.0 f a.2),
-    )
+pair_so : (d : ℕ) → IsSound d → (l : Lexeme) → Yields (PairOf d l) (pair_at (term_at d) l)
+pair_so d sound l =
+    assoc (passed (term_at d l) >>= want is_arrow) (value_at (term_at d)) follow_at (assoc (passed (term_at d l)) (want is_arrow) _ (assoc (term_at d l) (λ x. Ok x.1) _
+    (bound _ (sound l) (λ x s. wanted is_arrow x.1 _ (λ arrow a c. bound _ (value_so d sound arrow.after) (λ q v. also (λ f g. (x.0, x.1, arrow, q, s, a, arrow_is arrow.token c, v, g)) (follow_so q)))))))
 
-abbrev IsSoundParts : (Lexeme → Lexeme → Type 0) → (Lexeme → Result Lexeme Fault) → Type 0
-IsSoundParts many rows = (l m : Lexeme) → rows l ≡ Ok m → many l m
+pairs_so : (d : ℕ) → IsSound d → (k : ℕ) (l : Lexeme) → Yields (Pairs d l) (parts (pair_at (term_at d)) k l)
+pairs_so d sound zero l = no
+pairs_so d sound (suc k) l = bound _ (pair_so d sound l) (on (pairs_so d sound k))
+  where
+    on : ((l : Lexeme) → Yields (Pairs d l) (parts (pair_at (term_at d)) k l)) → (f : Follow) → PairOf d l f → Yields (Pairs d l) (go_through (parts (pair_at (term_at d)) k) f)
+    on rest (next n) (t, r, arrow, q, s, a, c, (v, u, b, w), (m, x, (y, z))) = also (λ e p. more_pairs s a c b w x y z p) (rest n)
+    on rest (end n) (t, r, arrow, q, s, a, c, (v, u, b, w), (m, x, e)) = yes (subst (Pairs d l) e (one_pair s a c b w x))
 
-pairs_step : (d : ℕ) (rows : Lexeme → Result Lexeme Fault) (l : Lexeme) (f : Follow) (m : Lexeme) → IsSoundParts (Pairs d) rows → PairOf d l f → go_through rows f ≡ Ok m → Pairs d l m
-pairs_step d rows l f m ih (r, q, arrow, v, t, u, s, a, c, b, w, inl (comma, n, e, x, y, z)) h =
-    more_pairs s a c b w x y z (ih n m (subst (λ f. go_through rows f ≡ Ok m) e h))
-pairs_step d rows l f m ih (r, q, arrow, v, t, u, s, a, c, b, w, inr (k, e, x)) h =
-    subst (Pairs d l) (ok_same k m (subst (λ f. go_through rows f ≡ Ok m) e h)) (one_pair s a c b w x)
-
-pairs_are : (d : ℕ) → IsSound d → (k : ℕ) → IsSoundParts (Pairs d) (parts (pair_at (term_at d)) k)
-pairs_are d sound zero l m h = cc
-pairs_are d sound (suc k) l m h =
-    let b = bind_ok (pair_at (term_at d) l) (go_through (parts (pair_at (term_at d)) k)) m h in
-    pairs_step d (parts (pair_at (term_at d)) k) l b.0 m (pairs_are d sound k) (pair_from d l b.0 sound b.1) b.2
-
-map_by : (b : Bool) (d : ℕ) (l m : Lexeme) (x : Tree × Place) → IsSound d → l.token ≡ token.open_map → lexeme_at l.after ≡ Ok m → closes_tuple m.token ≡ b
-    → (if b then kept_at sort.Map l m.after else (parts_at (pair_at (term_at d)) m >>= closed closes_tuple >>= kept_at sort.Map l)) ≡ Ok x → Spells (suc d) l x.0 x.1
-map_by true d l m x sound t n c h =
-    let k = kept_from sort.Map l m.after x h in
-    let P : Tree × Place → Type 0 = λ y. Spells (suc d) l y.0 y.1 in
-    subst P k.1 (an_empty_map t n (tuple_close_is m.token c) k.0)
-map_by false d l m x sound t n c h =
-    let a = bind_ok (parts_at (pair_at (term_at d)) m >>= closed closes_tuple) (kept_at sort.Map l) x h in
-    let b = bind_ok (parts_at (pair_at (term_at d)) m) (closed closes_tuple) a.0 a.1 in
-    let f = closed_by closes_tuple b.0 a.0 b.2 in
-    let k = kept_from sort.Map l b.0.after x (ap (kept_at sort.Map l) f.1 ∙ a.2) in
-    let P : Tree × Place → Type 0 = λ y. Spells (suc d) l y.0 y.1 in
-    subst P k.1 (a_map t n (pairs_are d sound (length m.after.rest + 1) m b.0 b.1) (tuple_close_is b.0.token f.0) k.0)
-
-map_from : (d : ℕ) (l : Lexeme) (x : Tree × Place) → IsSound d → l.token ≡ token.open_map → map_at (term_at d) l ≡ Ok x → Spells (suc d) l x.0 x.1
-map_from d l x sound t h = let b = bind_ok (lexeme_at l.after) (map_on (term_at d) l) x h in map_by (closes_tuple b.0.token) d l b.0 x sound t b.1 refl b.2
+map_so : (d : ℕ) → IsSound d → (l : Lexeme) → l.token ≡ token.open_map → Yields (Said (suc d) l) (map_at (term_at d) l)
+map_so d sound l t =
+    read (lexeme_at l.after) (map_on (term_at d) l) (λ m n. cond_both (closes_tuple m.token) _ _ (Yields (Said (suc d) l)) (λ c. kept_so sort.Map l m.after (λ w. an_empty_map t n (tuple_close_is m.token c) w))
+    (λ _. assoc (parts_at (pair_at (term_at d)) m) (closed closes_tuple) (kept_at sort.Map l) (bound _ (pairs_so d sound (length m.after.rest + 1) m)
+    (λ e r. shut closes_tuple e _ (λ c. kept_so sort.Map l e.after (λ w. a_map t n r (tuple_close_is e.token c) w))))))
 
 -- binaries
-content_from : (d : ℕ) (l : Lexeme) (k : Token) (q : Place) → l.token ≡ k → content_by d l k ≡ Ok q → Content d l q
-content_from d l (token.integer n) q t h = subst (Content d l) (ok_same l.after q h) (a_number t)
-content_from zero l (token.text w) q t h = cc
-content_from (suc d) l (token.text w) q t h =
-    let p = passed_from (strings_at l) q h in
-    let e = bind_ok (texts (length l.after.rest + 1) l.after) (λ y. Ok (letters_of l l.token ++ y.0, y.1)) p.0 p.1 in
-    let same = ok_same {A = List Tree × Place} (letters_of l l.token ++ e.0.0, e.0.1) p.0 e.2 in
-    subst (Content (suc d) l) (ap (λ (y : List Tree × Place). y.1) same ∙ p.2) (a_text t (strings_from (length l.after.rest + 1) l.after e.0 e.1))
-content_from d l s q t h = cc
+content_so : (d : ℕ) (l : Lexeme) (k : Token) → l.token ≡ k → Yields (Content d l) (content_by d l k)
+content_so d l (token.integer n) t = yes (a_number t)
+content_so (suc d) l (token.text w) t = bound _ (strings_so l w t) (λ x h. yes (a_text t h.1))
+content_so d l s t = no
 
-sized_by : (b : Bool) (m e : Lexeme) → is_colon m.token ≡ b → (if b then (want is_integer m.after >>= lexeme_at) else Ok m) ≡ Ok e → Size m e
-sized_by true m e c h =
-    let b = bind_ok (want is_integer m.after) lexeme_at e h in
-    let w = want_from is_integer m.after b.0 b.1 in
-    a_size (colon_is m.token c) w.1 (integer_is w.0.token w.2).1 (ap lexeme_at w.3 ∙ b.2)
-sized_by false m e c h = subst (Size m) (ok_same m e h) (no_size c)
+sized_so : (m : Lexeme) → Yields (Size m) (sized m)
+sized_so m =
+    cond_both (is_colon m.token) _ _ (Yields (Size m)) (λ c. wanted is_integer m.after lexeme_at (λ n a i. also (λ k b. a_size (colon_is m.token c) a (integer_is n.token i).1 b) (reads (lexeme_at n.after)))) (λ c. yes (no_size c))
 
-encoded_by : (b : Bool) (m e : Lexeme) → is_slash m.token ≡ b → (if b then (want is_utf8_name m.after >>= lexeme_at) else Ok m) ≡ Ok e → Encoding m e
-encoded_by true m e c h =
-    let b = bind_ok (want is_utf8_name m.after) lexeme_at e h in
-    let w = want_from is_utf8_name m.after b.0 b.1 in
-    in_utf8 (slash_is m.token c) w.1 w.2 (ap lexeme_at w.3 ∙ b.2)
-encoded_by false m e c h = subst (Encoding m) (ok_same m e h) (no_encoding c)
+encoded_so : (m : Lexeme) → Yields (Encoding m) (encoded m)
+encoded_so m =
+    cond_both (is_slash m.token) _ _ (Yields (Encoding m))
+    (λ c. wanted is_utf8_name m.after lexeme_at (λ n a i. let u = utf8_is n.token i in also (λ k b. in_utf8 (slash_is m.token c) a u.1 u.2 b) (reads (lexeme_at n.after)))) (λ c. yes (no_encoding c))
 
--- what follows a segment
-abbrev GoesOn : Lexeme → Follow → Type 0
-GoesOn m f = ((n : Lexeme) × (f ≡ next n) × (m.token ≡ token.mark Comma) × (lexeme_at m.after ≡ Ok n)) ⊎ (f ≡ end m)
+segment_so : (d : ℕ) (l : Lexeme) → Yields (λ f. (e : Lexeme) × Segment d l e × GoesOn e f) (segment_at d l)
+segment_so d l =
+    let r = content_by d l l.token in
+    assoc (r >>= lexeme_at >>= sized) encoded behind_token (assoc (r >>= lexeme_at) sized _ (assoc r lexeme_at _ (bound _ (content_so d l l.token refl) (λ q c. read (lexeme_at q) _ (λ m a. bound _ (sized_so m)
+    (λ n s. bound _ (encoded_so n) (λ e o. also (λ f g. (e, a_segment c a s o, g)) (behind_so e))))))))
 
-behind_by : (b : Bool) (m : Lexeme) (f : Follow) → is_comma m.token ≡ b → (if b then (lexeme_at m.after >>= λ n. Ok (next n)) else Ok (end m)) ≡ Ok f → GoesOn m f
-behind_by true m f b h = let g = bind_ok (lexeme_at m.after) (λ n. Ok (next n)) f h in inl (g.0, sym (ok_same (next g.0) f g.2), comma_is m.token b, g.1)
-behind_by false m f b h = inr (sym (ok_same (end m) f h))
+segments_so : (d k : ℕ) (l : Lexeme) → Yields (Segments d l) (parts (segment_at d) k l)
+segments_so d zero l = no
+segments_so d (suc k) l = bound _ (segment_so d l) (on (segments_so d k))
+  where
+    on : ((l : Lexeme) → Yields (Segments d l) (parts (segment_at d) k l)) → (f : Follow) → (e : Lexeme) × Segment d l e × GoesOn e f → Yields (Segments d l) (go_through (parts (segment_at d) k) f)
+    on rest (next n) (e, s, (c, a)) = also (λ m r. more_segments s c a r) (rest n)
+    on rest (end n) (e, s, is) = yes (subst (Segments d l) is (one_segment s))
 
-segment_from : (d : ℕ) (l : Lexeme) (f : Follow) → segment_at d l ≡ Ok f → (e : Lexeme) × Segment d l e × GoesOn e f
-segment_from d l f h =
-    let a = bind_ok (content_by d l l.token >>= lexeme_at >>= sized >>= encoded) behind_token f h in
-    let b = bind_ok (content_by d l l.token >>= lexeme_at >>= sized) encoded a.0 a.1 in
-    let c = bind_ok (content_by d l l.token >>= lexeme_at) sized b.0 b.1 in
-    let e = bind_ok (content_by d l l.token) lexeme_at c.0 c.1 in (
-      a.0,
-      a_segment (content_from d l l.token e.0 refl e.1) e.2 (sized_by (is_colon c.0.token) c.0 b.0 refl c.2) (encoded_by (is_slash b.0.token) b.0 a.0 refl b.2),
-      behind_by (is_comma a.0.token) a.0 f refl a.2,
-    )
-
-segments_step : (d : ℕ) (rows : Lexeme → Result Lexeme Fault) (l e : Lexeme) (f : Follow) (m : Lexeme) → IsSoundParts (Segments d) rows → Segment d l e → GoesOn e f → go_through rows f ≡ Ok m → Segments d l m
-segments_step d rows l e f m ih s (inl (n, g, c, a)) h = more_segments s c a (ih n m (subst (λ f. go_through rows f ≡ Ok m) g h))
-segments_step d rows l e f m ih s (inr g) h = subst (Segments d l) (ok_same e m (subst (λ f. go_through rows f ≡ Ok m) g h)) (one_segment s)
-
-segments_are : (d k : ℕ) → IsSoundParts (Segments d) (parts (segment_at d) k)
-segments_are d zero l m h = cc
-segments_are d (suc k) l m h =
-    let b = bind_ok (segment_at d l) (go_through (parts (segment_at d) k)) m h in
-    let s = segment_from d l b.0 b.1 in
-    segments_step d (parts (segment_at d) k) l s.0 b.0 m (segments_are d k) s.1 s.2 b.2
-
-binary_by : (b : Bool) (d : ℕ) (l m : Lexeme) (x : Tree × Place) → l.token ≡ token.open_binary → lexeme_at l.after ≡ Ok m → closes_binary m.token ≡ b
-    → (if b then kept_at sort.Binary l m.after else (parts_at (segment_at d) m >>= closed closes_binary >>= kept_at sort.Binary l)) ≡ Ok x → Spells (suc d) l x.0 x.1
-binary_by true d l m x t n c h =
-    let k = kept_from sort.Binary l m.after x h in
-    let P : Tree × Place → Type 0 = λ y. Spells (suc d) l y.0 y.1 in
-    subst P k.1 (an_empty_binary t n (binary_close_is m.token c) k.0)
-binary_by false d l m x t n c h =
-    let a = bind_ok (parts_at (segment_at d) m >>= closed closes_binary) (kept_at sort.Binary l) x h in
-    let b = bind_ok (parts_at (segment_at d) m) (closed closes_binary) a.0 a.1 in
-    let f = closed_by closes_binary b.0 a.0 b.2 in
-    let k = kept_from sort.Binary l b.0.after x (ap (kept_at sort.Binary l) f.1 ∙ a.2) in
-    let P : Tree × Place → Type 0 = λ y. Spells (suc d) l y.0 y.1 in
-    subst P k.1 (a_binary t n (segments_are d (length m.after.rest + 1) m b.0 b.1) (binary_close_is b.0.token f.0) k.0)
-
-binary_from : (d : ℕ) (l : Lexeme) (x : Tree × Place) → l.token ≡ token.open_binary → binary_at d l ≡ Ok x → Spells (suc d) l x.0 x.1
-binary_from d l x t h = let b = bind_ok (lexeme_at l.after) (binary_on d l) x h in binary_by (closes_binary b.0.token) d l b.0 x t b.1 refl b.2
+binary_so : (d : ℕ) (l : Lexeme) → l.token ≡ token.open_binary → Yields (Said (suc d) l) (binary_at d l)
+binary_so d l t =
+    read (lexeme_at l.after) (binary_on d l) (λ m n. cond_both (closes_binary m.token) _ _ (Yields (Said (suc d) l)) (λ c. kept_so sort.Binary l m.after (λ w. an_empty_binary t n (binary_close_is m.token c) w))
+    (λ _. assoc (parts_at (segment_at d) m) (closed closes_binary) (kept_at sort.Binary l) (bound _ (segments_so d (length m.after.rest + 1) m)
+    (λ e r. shut closes_binary e _ (λ c. kept_so sort.Binary l e.after (λ w. a_binary t n r (binary_close_is e.token c) w))))))
 
 -- external funs
-fun_from : (d : ℕ) (l : Lexeme) (x : Tree × Place) → l.token ≡ token.mark Fun → fun_at l ≡ Ok x → Spells d l x.0 x.1
-fun_from d l x t h =
-    let a = bind_ok (want is_atom l.after >>= want is_colon >>= want is_atom >>= want is_slash >>= want is_integer) (kept_at sort.Fun l) x h in
-    let b = bind_ok (want is_atom l.after >>= want is_colon >>= want is_atom >>= want is_slash) (want is_integer) a.0 a.1 in
-    let c = bind_ok (want is_atom l.after >>= want is_colon >>= want is_atom) (want is_slash) b.0 b.1 in
-    let e = bind_ok (want is_atom l.after >>= want is_colon) (want is_atom) c.0 c.1 in
-    let f = bind_ok (want is_atom l.after) (want is_colon) e.0 e.1 in
-    let module_name = want_from is_atom l.after f.0 f.1 in
-    let colon = want_from is_colon f.0 e.0 f.2 in
-    let name = want_from is_atom e.0 c.0 e.2 in
-    let slash = want_from is_slash c.0 b.0 c.2 in
-    let arity = want_from is_integer b.0 a.0 b.2 in
-    let k = kept_from sort.Fun l arity.0.after x (ap (kept_at sort.Fun l) arity.3 ∙ a.2) in
-    let P : Tree × Place → Type 0 = λ y. Spells d l y.0 y.1 in
-    subst P k.1
-    (a_fun t module_name.1 (atom_is module_name.0.token module_name.2).1 (ap lexeme_at module_name.3 ∙ colon.1) (colon_is colon.0.token colon.2) (ap lexeme_at colon.3 ∙ name.1)
-    (atom_is name.0.token name.2).1 (ap lexeme_at name.3 ∙ slash.1) (slash_is slash.0.token slash.2) (ap lexeme_at slash.3 ∙ arity.1) (integer_is arity.0.token arity.2).1 k.0)
+fun_so : (d : ℕ) (l : Lexeme) → l.token ≡ token.mark Fun → Yields (Said d l) (fun_at l)
+fun_so d l t =
+    let r = want is_atom l.after in
+    assoc (r >>= want is_colon >>= want is_atom >>= want is_slash) (want is_integer) (kept_at sort.Fun l) (assoc (r >>= want is_colon >>= want is_atom) (want is_slash) _ (assoc (r >>= want is_colon) (want is_atom) _ (assoc r (want is_colon) _
+    (wanted is_atom l.after _ (λ f a x. wanted is_colon f.after _ (λ g b y. wanted is_atom g.after _ (λ h c z. wanted is_slash h.after _ (λ s e o. wanted is_integer s.after _ (λ n j i. kept_so sort.Fun l n.after
+    (λ w. a_fun t a (atom_is f.token x).1 b (colon_is g.token y) c (atom_is h.token z).1 e (slash_is s.token o) j (integer_is n.token i).1 w))))))))))
 
-float_from : (d : ℕ) (l : Lexeme) (x : Tree × Place) → l.token ≡ token.float → kept_at sort.Float l l.after ≡ Ok x → Spells d l x.0 x.1
-float_from d l x t h =
-    let k = kept_from sort.Float l l.after x h in
-    let P : Tree × Place → Type 0 = λ y. Spells d l y.0 y.1 in
-    subst P k.1 (a_float t k.0)
+-- terms
+bracket_so : (d : ℕ) (l : Lexeme) (k : Token) → IsSound d → l.token ≡ k → Yields (Said (suc d) l) (bracket_by d (term_at d) l k)
+bracket_so d l (token.text w) sound t = string_so d l w t
+bracket_so d l token.open_tuple sound t = tuple_so d sound l t
+bracket_so d l token.open_list sound t = list_so d sound l t
+bracket_so d l token.open_map sound t = map_so d sound l t
+bracket_so d l token.open_binary sound t = binary_so d l t
+bracket_so d l s sound t = no
 
-bracket_from : (d : ℕ) (l : Lexeme) (k : Token) (x : Tree × Place) → IsSound d → l.token ≡ k → bracket_by d (term_at d) l k ≡ Ok x → Spells (suc d) l x.0 x.1
-bracket_from d l (token.text w) x sound t h = string_from d l w x t h
-bracket_from d l token.open_tuple x sound t h = tuple_from d l x sound t h
-bracket_from d l token.open_list x sound t h = list_from d l x sound t h
-bracket_from d l token.open_map x sound t h = map_from d l x sound t h
-bracket_from d l token.open_binary x sound t h = binary_from d l x t h
-bracket_from d l s x sound t h = cc
+begun : (d : ℕ) (l : Lexeme) (k : Token) → ((l : Lexeme) → Yields (Said d l) (group_at d l)) → l.token ≡ k → Yields (Said d l) (begin_by (group_at d) l k)
+begun d l (token.integer n) group t = yes (an_integer t)
+begun d l token.float group t = kept_so sort.Float l l.after (λ w. a_float t w)
+begun d l (token.atom w) group t = yes (an_atom t)
+begun d l (token.mark Fun) group t = fun_so d l t
+begun d l (token.mark m) group t = no
+begun d l s group t = group l
 
-abbrev IsGroup : ℕ → Type 0
-IsGroup d = (l : Lexeme) (x : Tree × Place) → group_at d l ≡ Ok x → Spells d l x.0 x.1
+groups : (d : ℕ) (l : Lexeme) → Yields (Said d l) (group_at d l)
+groups zero l = no
+groups (suc d) l = bracket_so d l l.token (λ l. begun d l l.token (groups d) refl) refl
 
-begun : (d : ℕ) (l : Lexeme) (k : Token) (x : Tree × Place) → IsGroup d → l.token ≡ k → begin_by (group_at d) l k ≡ Ok x → Spells d l x.0 x.1
-begun d l (token.integer n) x group t h =
-    let P : Tree × Place → Type 0 = λ y. Spells d l y.0 y.1 in subst P (ok_same {A = Tree × Place} (integer (span l l.after) n, l.after) x h) (an_integer t)
-begun d l token.float x group t h = float_from d l x t h
-begun d l (token.atom w) x group t h =
-    let P : Tree × Place → Type 0 = λ y. Spells d l y.0 y.1 in subst P (ok_same {A = Tree × Place} (atom_by l w, l.after) x h) (an_atom t)
-begun d l (token.mark Fun) x group t h = fun_from d l x t h
-begun d l (token.mark m) x group t h = cc
-begun d l s x group t h = group l x h
-
-groups : (d : ℕ) → IsGroup d
-groups zero l x h = cc
-groups (suc d) l x h = bracket_from d l l.token x (λ l x h. begun d l l.token x (groups d) refl h) refl h
+pub terms_so : (d : ℕ) → IsSound d
+terms_so d l = begun d l l.token (groups d) refl
 
 pub sound : (d : ℕ) (l : Lexeme) (x : Tree × Place) → term_at d l ≡ Ok x → Spells d l x.0 x.1
-sound d l x h = begun d l l.token x (groups d) refl h
+sound d l x h = (terms_so d l).each x h

@@ -20,5 +20,6 @@ pub mod Terms
 pub mod Token
 pub mod Tree
 pub mod View
+pub mod Rules
 pub mod Grammar
 pub mod Printed

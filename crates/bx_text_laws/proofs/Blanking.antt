@@ -7,7 +7,7 @@ use Rattle.std.specs.Str.Lossy.{utf8_valid_len}
 use Rattle.bx_text.proofs.Skipping.{line_skipped}
 use Rattle.bx_text_laws.specs.Blanks.{space}
 use Rattle.bx_text_laws.proofs.Frame.{on, lines-append}
-use Rattle.bx_text_laws.proofs.Quotes.{valid_is}
+use Rattle.bx_text.proofs.Texts.{valid_is}
 
 abbrev NoFeed : List ℕ → Type 0
 NoFeed text = AllByRecursion (λ b. b ≢ 10) text

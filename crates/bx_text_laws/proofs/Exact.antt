@@ -1,19 +1,19 @@
 -- A spelling that a delimiter follows is taken, and no more.
-use Rattle.bx_text_laws.proofs.Commons.{◌≡◌, ◌≢◌, ℕ, suc, ◌+◌, ◌<◌, Bool, true, false, eqb, ◌||◌, pos, neg_ℤ, List, [], ◌∷◌, ◌++◌, take, drop, length, Ok, refl, sym, ap, ◌∙◌, subst, arith, codes}
-use Rattle.bx_text_laws.proofs.Commons.{append_assoc, drop_at, length-append, inl, inr, encode_utf8_all, list_all, prefix_len, both_ways, or_right, cond_both, nat_tests, ◌>>=◌, is_digit, is_name, number}
-use Rattle.bx_text_laws.proofs.Commons.{Place, after, Token, token_at, quoted_at, exponent_len, name_len, behind, word, is_comma, is_bar, is_arrow, is_colon, is_slash, closes_tuple, closes_list}
-use Rattle.bx_text_laws.proofs.Commons.{closes_binary, IsQuote, Quoted, Spelling, Minus, no_minus, a_minus, Exponent, InUtf8, full_stop, the_word_fun, negative, float, bare_atom, quoted_atom, string}
+use Rattle.bx_text_laws.proofs.Commons.{◌≡◌, ◌≢◌, ℕ, suc, ◌+◌, ◌<◌, Bool, true, false, eqb, ◌||◌, pos, neg_ℤ, List, [], ◌∷◌, ◌++◌, take, drop, length, Ok, refl, ap, ◌∙◌, subst, arith, codes}
+use Rattle.bx_text_laws.proofs.Commons.{append_assoc, drop_at, length-append, list_all, prefix_len, both_ways, or_right, cond_both, nat_tests, is_digit, is_name}
+use Rattle.bx_text_laws.proofs.Commons.{Place, after, Token, token_at, exponent_len, name_len, word, is_comma, is_bar, is_arrow, is_colon, is_slash, closes_tuple, closes_list}
+use Rattle.bx_text_laws.proofs.Commons.{closes_binary, Spelling, Minus, no_minus, a_minus, Exponent, full_stop, the_word_fun, negative, float, bare_atom, quoted_atom, string}
 use Rattle.bx_text_laws.proofs.Commons.{meant}
 use Rattle.bx_text.specs.Named as named
+use Rattle.std.proofs.Common.{ℤ, negsuc}
+use Rattle.bx_text.specs.Printed.{whole_decimal, integer_text}
 use Rattle.bx_text.specs.Token as token
 use Rattle.bx_text_laws.specs.Spelling.{integer}
 use Rattle.bx_text_laws.proofs.Frame.{on}
 use Rattle.bx_text_laws.proofs.Runs.{digits_of, unsigned}
 use Rattle.bx_text_laws.proofs.NumbersFound.{exponent_is, float_reads}
-use Rattle.bx_text_laws.proofs.Free.{free, free_text}
-use Rattle.bx_text_laws.proofs.Readings.{quoted_free}
-use Rattle.bx_text_laws.proofs.Quotes.{gives, behind_rest, grouped}
-use Rattle.bx_text_laws.proofs.Printing.{Delimits, Exactly, numeral_exact, exactly_is, word_exact}
+use Rattle.bx_text_laws.proofs.Quotes.{atom_quoting, text_quoting, quote_exact}
+use Rattle.bx_text_laws.proofs.Printing.{Delimits, Exactly, decimal_is, numeral_exact, word_exact}
 
 -- no exponent begins where no name does
 no_exponent_from : (rest : List ℕ) → name_len rest ≡ 0 → exponent_len rest ≡ 0
@@ -33,21 +33,6 @@ float_exact {front} {es} mi ds fs rest a l b k ex d at line =
     omega (arith, (exponent_is ex rest).1 d.digits (no_exponent_from rest d.name), length-append front (ds ++ (46 ∷ (fs ++ es))), length-append ds (46 ∷ (fs ++ es)), length-append fs es) in
     subst (λ text. (u : Token) × (q : Place) × (token_at (on text at line) ≡ Ok (u, q)) × (q.rest ≡ rest) × (meant u ≡ token.float)) whole
     (token.float, _, float_reads mi ds fs (es ++ rest) at line a l b k, ap (λ ws. drop N ws) whole ∙ drop_at bytes rest N long, refl)
-
--- between quotes
-enclosed : (q : ℕ) (make : token.Body → Token) → IsQuote q → q < 128 → ((b : token.Body) → meant (make b) ≡ make (token.plain (token.spelled b)))
-    → ((bs : List ℕ) (at line : ℕ) → token_at (on (q ∷ bs) at line) ≡ (quoted_at q (on (q ∷ bs) at line) >>= λ y. Ok (make y.0, y.1)))
-    → (cs vs bytes rest : List ℕ) → Quoted q cs vs → InUtf8 cs bytes → Exactly (q ∷ (bytes ++ q ∷ [])) (make (token.plain (encode_utf8_all vs))) rest
-enclosed q make is low means first cs vs bytes rest r u at line =
-    let p : Place = on (q ∷ (bytes ++ q ∷ rest)) at line in
-    let (b, e, m) = gives q cs vs bytes rest at line is (ap (free q) (sym u.1) ∙ free_text q cs low ∙ quoted_free r is) r u in
-    rw (grouped q bytes rest) (
-      make b,
-      behind p (bytes ++ q ∷ rest) (length bytes),
-      first (bytes ++ q ∷ rest) at line ∙ ap (λ r. r >>= λ y. Ok (make y.0, y.1)) e,
-      behind_rest q bytes rest,
-      means b ∙ ap (λ w. make (token.plain w)) m,
-    )
 
 -- the word `fun`
 pub fun_len : (rest : List ℕ) → name_len (codes "fun" ++ rest) ≡ 3 + name_len rest
@@ -82,18 +67,16 @@ pub exact_by : {bytes : List ℕ} {t : Token} → Spelling bytes t → t ≢ nam
 exact_by full_stop n rest d = absurd (n refl)
 exact_by the_word_fun n rest d = fun_exactly rest (d refl)
 exact_by (integer {ds = ds} {n = m} k) n rest d =
-    let e = digits_of k refl in
-    exactly_is ds rest (token.integer (number ds)) (token.integer (pos m)) (ap (λ z. token.integer z) (unsigned ds e.0 ∙ ap (λ n. pos n) e.1)) (numeral_exact no_minus ds rest e.0 e.2 (d refl))
+    let (a, e, l) = digits_of k refl in subst (λ z. Exactly ds (token.integer z) rest) (unsigned ds a ∙ ap (λ n. pos n) e) (numeral_exact no_minus ds rest a l (d refl))
 exact_by (negative {ds = ds} {n = m} k) n rest d =
-    let e = digits_of k refl in
-    exactly_is (45 ∷ ds) rest (token.integer (number (45 ∷ ds))) (token.integer (neg_ℤ (pos m))) (ap (λ n. token.integer (neg_ℤ (pos n))) e.1) (numeral_exact a_minus ds rest e.0 e.2 (d refl))
+    let (a, e, l) = digits_of k refl in subst (λ n. Exactly (45 ∷ ds) (token.integer (neg_ℤ (pos n))) rest) e (numeral_exact a_minus ds rest a l (d refl))
 exact_by (float {ds = ds} {fs = fs} mi (m, k) (j, l) ex) n rest d =
     let a = digits_of k refl in
     let b = digits_of l refl in
     float_exact mi ds fs rest a.0 a.2 b.0 b.2 ex (d refl)
 exact_by (bare_atom x cs {bytes = bytes} small a utf8 other) n rest d = word_exact x cs bytes rest small a utf8 other (d refl)
-exact_by (quoted_atom {cs = cs} {vs = vs} {bytes = bytes} q utf8) n rest d = enclosed 39 token.atom (inl refl) (omega arith) (λ b. refl) (λ bs at line. refl) cs vs bytes rest q utf8
-exact_by (string {cs = cs} {vs = vs} {bytes = bytes} q utf8) n rest d = enclosed 34 token.text (inr refl) (omega arith) (λ b. refl) (λ bs at line. refl) cs vs bytes rest q utf8
+exact_by (quoted_atom {cs = cs} {vs = vs} {bytes = bytes} q utf8) n rest d = quote_exact 39 token.atom atom_quoting cs vs bytes rest q utf8
+exact_by (string {cs = cs} {vs = vs} {bytes = bytes} q utf8) n rest d = quote_exact 34 token.text text_quoting cs vs bytes rest q utf8
 exact_by {bytes = bytes} {t = t} s n rest d = λ at line. (t, after (on (bytes ++ rest) at line) (length bytes), refl, drop_at bytes rest (length bytes) refl, refl)
 
 pub solid_exact : {bytes : List ℕ} {t : Token} → Spelling bytes t → ends t ≡ true → (rest : List ℕ) → Exactly bytes t rest
@@ -101,3 +84,8 @@ solid_exact {t = t} s e rest = exact_by s (λ f. both_ways (ends t) (ap ends f) 
 
 pub exact : {bytes : List ℕ} {t : Token} → Spelling bytes t → t ≢ named.full_stop → (rest : List ℕ) → Delimits rest → Exactly bytes t rest
 exact s n rest d = exact_by s n rest (λ _. d)
+
+pub integer_exact : (n : ℤ) (rest : List ℕ) → Delimits rest → Exactly (integer_text n) (token.integer n) rest
+unfolding integer_text whole_decimal
+integer_exact (pos n) rest d = exact (integer (decimal_is (suc n) n (omega arith))) (λ e. cc) rest d
+integer_exact (negsuc n) rest d = exact (negative (decimal_is (suc (suc n)) (suc n) (omega arith))) (λ e. cc) rest d

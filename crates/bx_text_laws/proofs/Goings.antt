@@ -7,7 +7,7 @@ use Rattle.bx_text_laws.specs.Lexemes.{NextFails}
 use Rattle.bx_text_laws.specs.Faults as faults
 use Rattle.bx_text_laws.specs.Faults.{Bracket, a_tuple, a_list, a_map, a_binary, opening, closing, Wanted, Move, misplaced, too_deep, taken, instead, Meets, Does, Refused}
 use Rattle.bx_text_laws.proofs.NextFailing.{next_fails}
-use Rattle.bx_text_laws.proofs.Sentences.{plainly, step, back}
+use Rattle.bx_text_laws.proofs.Sentences.{given, plainly, step, back}
 use Rattle.bx_text_laws.proofs.Between.{Clean, clean_here, clean_on, clean_token}
 
 -- a token does one thing
@@ -50,10 +50,10 @@ does_one (inr (x, e)) (inr (y, f)) = e ∙ sym f
 
 -- the next token is one and no other
 found_same : (p : Place) (l k : Lexeme) → lexeme_at p ≡ Ok l → Stood p k → plainly l ≡ k
-found_same p l k n st = let b = back p k st in ap plainly (ok_same l b.lexeme (sym n ∙ b.next)) ∙ b.plain
+found_same p l k n st = let (v, m, h) = back p k st in ap plainly (ok_same l (given v k) (sym n ∙ h)) ∙ ap (λ t. given t k) m
 
 not_both : (p : Place) (k : Lexeme) (g : Fault) → lexeme_at p ≡ Err g → Stood p k → ⊥
-not_both p k g n st = let b = back p k st in let no : ◌≡◌ {A = Result Lexeme Fault} (Err g) (Ok b.lexeme) = sym n ∙ b.next in cc
+not_both p k g n st = let (v, m, h) = back p k st in let no : ◌≡◌ {A = Result Lexeme Fault} (Err g) (Ok (given v k)) = sym n ∙ h in cc
 
 -- where there is one, what it does decides
 abbrev pub Onward : Move → List Wanted → Place → Lexeme → Fault → Type 0

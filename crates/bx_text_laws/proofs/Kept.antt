@@ -1,7 +1,7 @@
 -- What is kept as it was written stands in each text where what follows does not go on in it.
 use Rattle.bx_text_laws.proofs.Commons.{◌≡◌, ℕ, List, [], ◌++◌, refl, sym, ap, ◌∙◌, subst, arith, Span, Sort, Place, Lexeme, Tree, other, nothing, StandsAs, Stood, Term}
 use Rattle.bx_text.specs.Terms.{taken}
-use Rattle.bx_text_laws.specs.Terms as terms
+use Rattle.bx_text.specs.Rules as rules
 use Rattle.bx_text_laws.proofs.Frame.{on}
 use Rattle.bx_text_laws.proofs.Moving.{Run, Closes, taken_is}
 use Rattle.bx_text_laws.proofs.Moved.{TermFrom, term_run}
@@ -12,7 +12,7 @@ TakenAs (other s k w) l q = w ≡ taken l q
 TakenAs t l q = Unit {0}
 
 term_taken : {d : ℕ} {l : Lexeme} {t : Tree} {q : Place} → Term d l t q → TakenAs t l q
-term_taken (terms.a_float t w) = refl
+term_taken (rules.a_float t w) = refl
 term_taken s = search
 
 -- the place of the first token itself

@@ -61,10 +61,6 @@ left_good es (inr u) = elim (state is_bad false (λ v. refl, λ v. refl) refl (�
 abbrev pub Slash : List ℕ → Type 0
 Slash es = (es ≡ []) ⊎ (es ≡ 92 ∷ [])
 
-pub left_slash : (es : List ℕ) → Left es → may_go_on (fold step named.nothing es) ≡ true → Slash es
-left_slash es (inl e) g = inl e
-left_slash es (inr u) g = elim (state may_go_on false (λ v. refl, λ v. refl) refl (λ v. refl) refl (λ v. refl) refl u) [ inl e ↦ inr e | inr e ↦ let no : true ≡ false = sym g ∙ e in cc ]
-
 pub slash_left : (es : List ℕ) → Slash es → Left es
 slash_left es (inl e) = inl e
 slash_left es (inr e) = inr (subst Unfinished (sym e) slash)

@@ -1,5 +1,5 @@
 -- What is printed of an integer or an atom is taken as the same one, where a delimiter follows.
-use Rattle.std.proofs.Common.{◌≡◌, ◌≢◌, ℕ, zero, suc, ◌+◌, ◌*◌, ◌/◌, ◌%◌, ◌≤◌, ◌<◌, Bool, true, false, not, eqb, ◌&&◌, ◌||◌, ℤ, pos, negsuc, neg_ℤ, List, [], ◌∷◌, ◌++◌, take, drop, length, refl, sym, ap, ◌∙◌, subst, arith, codes, append_assoc, append-nil, drop_at, take_at, length-append, ◌⊎◌, inl, inr, chars, IsUtf8, encode_utf8_all}
+use Rattle.std.proofs.Common.{◌≡◌, ◌≢◌, ℕ, zero, suc, ◌+◌, ◌*◌, ◌/◌, ◌%◌, ◌≤◌, ◌<◌, Bool, true, false, not, eqb, ◌&&◌, ◌||◌, List, [], ◌∷◌, ◌++◌, take, drop, length, refl, sym, ap, ◌∙◌, subst, arith, codes, append_assoc, append-nil, drop_at, take_at, length-append, ◌⊎◌, inl, inr, chars, IsUtf8, encode_utf8_all}
 use Rattle.std.specs.Prelude.{nat_lt}
 use Rattle.std.specs.List.{list_all, prefix_len, flat_map, AllByRecursion}
 use Rattle.std.specs.Char.{encode_utf8}
@@ -16,23 +16,20 @@ use Rattle.bx_text.specs.Bytes.{is_digit}
 use Rattle.bx_text.specs.Number.{number}
 use Rattle.bx_text.specs.Place.{after}
 use Rattle.bx_text.specs.Token as token
-use Rattle.bx_text.specs.Token.{Token}
-use Rattle.bx_text.specs.Lexing.{token_at, number_by, fraction_len, name_len, word}
-use Rattle.bx_text.specs.Printed.{digits_within, whole_decimal, integer_text}
+use Rattle.bx_text.specs.Lexing.{fraction_len, name_len, word}
+use Rattle.bx_text.specs.Printed.{digits_within}
 use Rattle.bx_text_laws.specs.Characters.{IsSmall, IsNameCharacter}
 use Rattle.bx_text_laws.specs.Numerals.{Digit, Numeral, one_digit, digit_more}
 use Rattle.bx_text_laws.specs.Quoted as quoted
 use Rattle.bx_text_laws.specs.Quoted.{Quoted, Named, IsOther, line_feed, carriage_return, tab}
-use Rattle.bx_text_laws.specs.Spelling.{Minus, no_minus, a_minus, InUtf8}
+use Rattle.bx_text_laws.specs.Spelling.{Minus, InUtf8}
 use Rattle.bx_text_laws.specs.Tokens.{meant}
 use Rattle.bx_text_laws.proofs.Frame.{on}
-use Rattle.bx_text_laws.proofs.Runs.{run_append, digits_of}
-use Rattle.bx_text_laws.proofs.NumbersFound.{first_number, digits_on}
+use Rattle.bx_text_laws.proofs.NumbersFound.{integer_reads}
 use Rattle.bx_text_laws.proofs.Words.{word_taken, no_fun}
 use Rattle.bx_text_laws.proofs.Readings.{no_octal_is}
 pub use Rattle.bx_text_laws.proofs.Quotes.{Exactly}
 use Rattle.bx_text_laws.proofs.Quotes.{atom_quoting, quote_exact}
-use Rattle.bx_text_laws.proofs.Longest.{unsigned}
 
 -- no digit, name character or fraction begins
 pub record Delimits (rest : List ℕ) : Type 0 where
@@ -44,7 +41,7 @@ pub record Delimits (rest : List ℕ) : Type 0 where
 digit_is : (n : ℕ) → n < 10 → Digit 10 (48 + n) n
 digit_is n h = (h, inl (refl, h))
 
-decimal_is : (k n : ℕ) → n < k → Numeral 10 (digits_within k n) n
+pub decimal_is : (k n : ℕ) → n < k → Numeral 10 (digits_within k n) n
 unfolding digits_within
 decimal_is zero n h = absurd (omega arith)
 decimal_is (suc k) n h = by (nat_lt n 10) refl (λ low. decimal_is k (n / 10) low)
@@ -62,32 +59,8 @@ decimal_is (suc k) n h = by (nat_lt n 10) refl (λ low. decimal_is k (n / 10) lo
 
 pub numeral_exact : {front : List ℕ} → Minus front → (ds rest : List ℕ) → list_all is_digit ds ≡ true → 0 < length ds → Delimits rest → Exactly (front ++ ds) (token.integer (number (front ++ ds))) rest
 numeral_exact {front} mi ds rest a l d at line =
-    let text : List ℕ = (front ++ ds) ++ rest in
-    let n : ℕ = length front + length ds in
-    let left : drop n text ≡ rest = drop_at (front ++ ds) rest n (length-append front ds) in
-    let begun : token_at (on text at line) ≡ number_by (on text at line) n (fraction_len (drop n text)) =
-    subst (λ text. token_at (on text at line) ≡ number_by (on text at line) n (fraction_len (drop n text))) (sym (append_assoc front ds rest))
-    (first_number mi ds rest at line a l ∙ digits_on front (ds ++ rest) at line (length ds) (omega (arith, run_append is_digit ds rest a, d.digits)) l) in (
-      token.integer (number (take n text)),
-      after (on text at line) n,
-      begun ∙ ap (λ f. number_by (on text at line) n f) (ap fraction_len left ∙ d.fraction),
-      left,
-      ap (λ w. token.integer (number w)) (take_at (front ++ ds) rest n (length-append front ds)),
-    )
-
-pub exactly_is : (bytes rest : List ℕ) (t u : Token) → t ≡ u → Exactly bytes t rest → Exactly bytes u rest
-exactly_is bytes rest t u e x = subst (λ t. Exactly bytes t rest) e x
-
-pub integer_exact : (n : ℤ) (rest : List ℕ) → Delimits rest → Exactly (integer_text n) (token.integer n) rest
-unfolding integer_text whole_decimal
-integer_exact (pos n) rest d =
-    let k = digits_of (decimal_is (suc n) n (omega arith)) refl in
-    exactly_is (digits_within (suc n) n) rest (token.integer (number (digits_within (suc n) n))) (token.integer (pos n))
-    (ap (λ z. token.integer z) (unsigned (digits_within (suc n) n) k.0 ∙ ap (λ n. pos n) k.1)) (numeral_exact no_minus (digits_within (suc n) n) rest k.0 k.2 d)
-integer_exact (negsuc n) rest d =
-    let k = digits_of (decimal_is (suc (suc n)) (suc n) (omega arith)) refl in
-    exactly_is (45 ∷ digits_within (suc (suc n)) (suc n)) rest (token.integer (number (45 ∷ digits_within (suc (suc n)) (suc n)))) (token.integer (negsuc n))
-    (ap (λ n. token.integer (neg_ℤ (pos n))) k.1) (numeral_exact a_minus (digits_within (suc (suc n)) (suc n)) rest k.0 k.2 d)
+    let left : drop (length front + length ds) ((front ++ ds) ++ rest) ≡ rest = drop_at (front ++ ds) rest (length front + length ds) (length-append front ds) in
+    rw (append_assoc front ds rest) (_, _, integer_reads mi ds rest at line a l d.digits d.fraction, rw (append_assoc front ds rest) at left, refl)
 
 -- bare atoms
 pub word_exact : (c : ℕ) (cs bytes rest : List ℕ) → IsSmall c → AllByRecursion IsNameCharacter cs → InUtf8 (c ∷ cs) bytes → bytes ≢ codes "fun" → Delimits rest → Exactly bytes (token.atom (token.plain bytes)) rest

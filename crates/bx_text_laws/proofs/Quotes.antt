@@ -1,5 +1,5 @@
 -- Quoted atoms and strings.
-use Rattle.std.proofs.Common.{◌≡◌, ◌≢◌, ℕ, ◌+◌, ◌≤◌, ◌<◌, Bool, true, false, cond, eqb, List, [], ◌∷◌, ◌++◌, take, drop, length, Result, Ok, Err, refl, sym, ap, ◌∙◌, subst, arith, append_assoc, drop_at, take_at, take_all, length-append, append-nil, encode_utf8_all, chars, IsUtf8, le_refl, inl, inr}
+use Rattle.std.proofs.Common.{◌≡◌, ◌≢◌, ℕ, ◌+◌, ◌≤◌, ◌<◌, Bool, true, false, cond, eqb, List, [], ◌∷◌, ◌++◌, take, drop, length, Result, Ok, Err, refl, sym, ap, ◌∙◌, subst, arith, append_assoc, drop_at, take_at, length-append, append-nil, encode_utf8_all, chars, IsUtf8, inl, inr}
 use Rattle.std.specs.List.{fold, list_all, prefix_len}
 use Rattle.std.specs.Char.{encode_utf8}
 use Rattle.std.specs.Str.Lossy.{utf8_valid_len}
@@ -20,6 +20,7 @@ use Rattle.bx_text.specs.Token.{Token, Body, spelled}
 use Rattle.bx_text.specs.Lexing as lexing
 use Rattle.bx_text.specs.Lexing.{token_at, quoted_at, closing_at, escaped_at, ended_at, behind, body_len, cut}
 use Rattle.bx_text.proofs.Outcomes.{ok_same, bind_ok}
+use Rattle.bx_text.proofs.Texts.{valid_is}
 use Rattle.bx_text_laws.specs.Quoted as quoted
 use Rattle.bx_text_laws.specs.Quoted.{IsQuote, Quoted}
 use Rattle.bx_text_laws.specs.Refusals.{NoCharacter}
@@ -30,13 +31,9 @@ use Rattle.bx_text_laws.proofs.Runs.{run_split, run_append, push_all}
 use Rattle.bx_text_laws.proofs.Free.{free, free_plain, shape, Shape, free_text, body_of, body_split, Split, Ended}
 use Rattle.bx_text_laws.proofs.Escapes.{run, whole}
 use Rattle.bx_text_laws.proofs.Means.{means}
-use Rattle.bx_text_laws.proofs.Seams.{valid_front, seam, to_seam, from_seam, AsciiNext, ascii, more_bytes, fewer_bytes}
+use Rattle.bx_text_laws.proofs.Seams.{seam, to_seam, from_seam, AsciiNext, ascii, more_bytes, fewer_bytes}
 use Rattle.bx_text_laws.proofs.Readings.{quoted_free}
 use Rattle.bx_text_laws.proofs.Unclosed.{then_letter, quote_slash, spans, all_quoted}
-
--- UTF-8
-pub valid_is : (bs : List ℕ) → utf8_valid_len bs ≡ length bs → IsUtf8 bs
-valid_is bs e = subst IsUtf8 (ap (λ n. take n bs) e ∙ take_all (length bs) bs (le_refl (length bs))) (valid_front bs)
 
 -- the place behind a quoted token
 pub feeds_lines : (bs : List ℕ) → lines bs ≡ feeds bs
@@ -274,7 +271,7 @@ a_quote q make k b bs at line x e h =
 pub atom_quoting : Quoting 39 token.atom
 atom_quoting = record { quote = inl refl; first = λ bs at line. refl; means = λ b. refl; spells = λ cs vs bytes r u. quoted_atom r u; follows = λ b rest e. cc }
 
-text_quoting : Quoting 34 token.text
+pub text_quoting : Quoting 34 token.text
 text_quoting = record { quote = inr refl; first = λ bs at line. refl; means = λ b. refl; spells = λ cs vs bytes r u. string r u; follows = λ b rest e. cc }
 
 pub a_quoted_atom : (b : ℕ) (bs : List ℕ) (at line : ℕ) (x : Token × Place) → eqb b 39 ≡ true → (quoted_at 39 (on (b ∷ bs) at line) >>= λ y. Ok (token.atom y.0, y.1)) ≡ Ok x → Spelled (on (b ∷ bs) at line) x

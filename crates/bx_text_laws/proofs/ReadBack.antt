@@ -1,5 +1,5 @@
 -- What is printed is read as the same term.
-use Rattle.std.proofs.Common.{◌≡◌, ◌<◌, arith, ℕ, suc, ◌+◌, Bool, true, false, cond, eqb, ℤ, List, [], ◌∷◌, ◌++◌, Result, Ok, Err, refl, sym, ap, ◌∙◌, subst, codes, append_assoc, IsUtf8}
+use Rattle.std.proofs.Common.{◌≡◌, ◌<◌, arith, ℕ, suc, ◌+◌, Bool, true, false, cond, eqb, ℤ, List, [], ◌∷◌, ◌++◌, Result, Ok, Err, refl, sym, ap, ◌∙◌, subst, codes, append_assoc, IsUtf8, le_refl}
 use Rattle.std.proofs.lemmas.Bool.{eqb-true, false_from_ne_true}
 use Rattle.std.proofs.lemmas.Bool.Decides.{nat_tests}
 use Rattle.bx_terms.specs.Outcomes.{◌>>=◌}
@@ -14,22 +14,24 @@ use Rattle.bx_text.specs.Token as token
 use Rattle.bx_text.specs.Token.{Token, Lexeme, spelled}
 use Rattle.bx_text.specs.Lexing.{kind_of, token_by, token_at, lexeme_from, lexeme_at}
 use Rattle.bx_text.specs.Terms.{span, tail_of}
-use Rattle.bx_text.specs.Grammar.{Spells, an_integer, an_atom, empty_tuple, a_tuple, empty_list, a_list, a_list_with_tail, Row, one, more, a_form}
+use Rattle.bx_text.specs.Grammar.{Next, NoString, Spells, an_integer, an_atom, empty_tuple, a_tuple, empty_list, a_list, a_list_with_tail, Row, one, more, a_form}
 use Rattle.bx_text.specs.Printed.{integer_text, node_text, row_text, rest_text}
 use Rattle.bx_text.specs.Tree.{Tree, integer, atom, tuple, list, other, nil, cons, chain}
 use Rattle.bx_text.proofs.Grammatical.{forms_are}
 use Rattle.bx_text.specs.declared.node.Sort.{Sort}
 use Rattle.bx_text_laws.specs.Shown.{IsReadBack, StandsAs, Shown, ShownRow, ShownList, ShownRest, nowhere, unplaced}
+use Rattle.bx_text_laws.specs.Terms.{Stood, NoText}
 use Rattle.bx_text_laws.specs.Tokens.{meant}
 use Rattle.bx_text_laws.proofs.Frame.{on}
 use Rattle.bx_text_laws.proofs.Longest.{same_place}
 use Rattle.bx_text_laws.proofs.Blanking.{tests_by, not_line}
 use Rattle.bx_text_laws.proofs.Finding.{standing}
 use Rattle.bx_text_laws.proofs.Meant.{atom_meant}
-use Rattle.bx_text_laws.proofs.Sentences.{back, term_back}
+use Rattle.bx_text_laws.proofs.Sentences.{given, here, not_here, term}
 use Rattle.bx_text_laws.proofs.Moving.{Closes, closes_by}
 use Rattle.bx_text_laws.proofs.Kept.{kept_moves}
-use Rattle.bx_text_laws.proofs.Printing.{Delimits, integer_exact, atom_exact}
+use Rattle.bx_text_laws.proofs.Exact.{integer_exact}
+use Rattle.bx_text_laws.proofs.Printing.{Delimits, atom_exact}
 
 -- the next token, where one begins
 blank_kind : (b : ℕ) → is_space b ≡ true → kind_of b ≡ kind_of 32
@@ -88,8 +90,8 @@ atom_read d w t rest e utf8 k at line =
 other_read : (d : ℕ) (k : Sort) (w : List ℕ) (t : Tree) (rest : List ℕ) → unplaced t ≡ other nowhere k w → StandsAs d k w → Closes rest → Reads d w rest t
 other_read d k w t rest e h c at line =
     let x = kept_moves d k w h rest c at line in
-    let b = back (on (w ++ rest) at line) x.0 x.3 in
-    record { first = b.lexeme; tree = other x.1 k w; end = x.2; next = b.next; spells = term_back x.4 b.lexeme b.plain; left = x.5; same = sym e }
+    let (v, same, n) = here (on (w ++ rest) at line) x.0 x.3 in
+    record { first = given v x.0; tree = other x.1 k w; end = x.2; next = n; spells = term Stood Next NoText NoString here not_here x.4 v same d (le_refl d); left = x.5; same = sym e }
 
 -- what follows an element never goes on in it
 mark_closes : (b : ℕ) (Y : List ℕ) → Delimits (b ∷ Y) → 37 < b → Closes (b ∷ Y)

@@ -1,12 +1,13 @@
 -- Where bytes stop being UTF-8.
 use Rattle.bx_text_laws.proofs.Commons.{◌≡◌, ◌≢◌, ℕ, zero, suc, ◌+◌, ◌-◌, ◌≤◌, ◌<◌, List, [], ◌∷◌, ◌++◌, take, drop, get_or, length, refl, sym, ap, ◌∙◌, subst, arith, drop_at, take_at, take_all}
-use Rattle.bx_text_laws.proofs.Commons.{length-append, append-nil, le_refl, ◌⊎◌, inl, inr, IsUtf8, is_utf8, valid_len_up_to, both_ways, cases_lt, cond_both, encode_ascii, IsUtf8-nil, IsUtf8-append}
-use Rattle.bx_text_laws.proofs.Commons.{IsUtf8-encode, IsUtf8-take, IsUtf8-drop, IsUtf8-from_is_utf8, is_utf8-from_IsUtf8, IsCharBoundary-before_ascii, IsCharBoundary-from_take, utf8_valid_len_le}
+use Rattle.bx_text_laws.proofs.Commons.{length-append, append-nil, le_refl, ◌⊎◌, inl, inr, IsUtf8, cases_lt, encode_ascii, IsUtf8-nil, IsUtf8-append}
+use Rattle.bx_text_laws.proofs.Commons.{IsUtf8-encode, IsUtf8-take, IsUtf8-drop, IsCharBoundary-before_ascii, IsCharBoundary-from_take, utf8_valid_len_le}
 use Rattle.bx_text_laws.proofs.Commons.{utf8_valid_len-IsValidUpTo}
 use Rattle.std.specs.Str.Lossy.{utf8_valid_len}
 use Rattle.std.proofs.Math.Seq.{take-append-add, take-length}
 use Rattle.std.proofs.Math.Utf8.{low_scalar}
 use Rattle.std.proofs.lemmas.List.{take-append-le, take-append-drop, length-take-le, get_or_at}
+use Rattle.bx_text.proofs.Texts.{up_to}
 use Rattle.bx_text_laws.specs.Refusals.{NoCharacter}
 
 -- one text in two ways
@@ -23,14 +24,6 @@ pub ascii : (b : ℕ) (bs : List ℕ) → b < 128 → NoCharacter (b ∷ bs) →
 ascii b bs l n = n.longest 1 (omega arith) (subst IsUtf8 (encode_ascii b l) (IsUtf8-encode b (low_scalar b (omega (arith, l)))))
 
 -- the longest front that is UTF-8
-up_to : (bs : List ℕ) (n : ℕ) → IsUtf8 (take (valid_len_up_to bs n) bs) × ((k : ℕ) → IsUtf8 (take k bs) → k ≤ n → k ≤ valid_len_up_to bs n)
-up_to bs zero = (IsUtf8-nil, λ k u l. l)
-up_to bs (suc n) =
-    let P : ℕ → Type 0 = λ m. IsUtf8 (take m bs) × ((k : ℕ) → IsUtf8 (take k bs) → k ≤ suc n → k ≤ m) in
-    let below = up_to bs n in
-    cond_both (is_utf8 (take (suc n) bs)) _ _ P (λ e. (IsUtf8-from_is_utf8 (take (suc n) bs) e, λ k u l. l))
-    (λ e. (below.0, λ k u l. let last : k ≢ suc n = λ is. both_ways (is_utf8 (take (suc n) bs)) e (is_utf8-from_IsUtf8 (take (suc n) bs) (subst (λ k. IsUtf8 (take k bs)) is u)) in below.1 k u (omega (arith, l, last))))
-
 pub valid_front : (bs : List ℕ) → IsUtf8 (take (utf8_valid_len bs) bs)
 unfolding utf8_valid_len
 valid_front bs = (up_to bs (length bs)).0

@@ -1,16 +1,16 @@
 -- What the reader's tests of a token say of what the token does.
-use Rattle.std.proofs.Common.{arith, ◌≡◌, ℕ, Bool, true, false, [], ◌∷◌, codes, Ok, refl, inl, inr}
+use Rattle.std.proofs.Common.{arith, ◌≡◌, ℕ, Bool, true, false, [], ◌∷◌, codes, Ok, refl, ap, inl, inr}
 use Rattle.std.proofs.lemmas.Bool.{both_ways, cond_both}
+use Rattle.std.proofs.lemmas.Slice.Eq.{bytes_eq-Decides}
 use Rattle.bx_text.specs.Place.{Place}
 use Rattle.bx_text.specs.Named as named
 use Rattle.bx_text.specs.Token as token
-use Rattle.bx_text.specs.Token.{Body, Token, Lexeme}
+use Rattle.bx_text.specs.Token.{Token, Lexeme, spelled}
 use Rattle.bx_text.specs.Lexing.{lexeme_at}
 use Rattle.bx_text.specs.Terms.{closed, want, closes_tuple, closes_list, closes_binary, is_comma, is_bar, is_stop, is_arrow, is_colon, is_slash, is_atom, is_integer, is_utf8_name}
 use Rattle.bx_text_laws.specs.Tokens.{meant}
 use Rattle.bx_text_laws.specs.Faults as faults
 use Rattle.bx_text_laws.specs.Faults.{Bracket, a_list, a_binary, Wanted, a_term, first_in, more_in, a_value, a_size, an_encoding, a_name, a_number, the, parts, Move, misplaced, taken, instead, Meets, Does}
-use Rattle.bx_text_laws.proofs.Sentences.{utf8_named, utf8_back}
 use Rattle.bx_text_laws.proofs.Goings.{Going, Nothing, Here, taking, misplaces, then, next_at, from_token, done_place}
 
 -- a test of what is wanted
@@ -46,6 +46,14 @@ list_close_tells = record { yes = λ t e. inl (faults.it (grind arith)); other =
 
 is_the : {v t : Token} {m : Move} → Meets (the v) t m → t ≡ v
 is_the (faults.it e) = e
+
+utf8_named : (t : Token) → is_utf8_name t ≡ true → meant t ≡ token.atom (token.plain (codes "utf8"))
+utf8_named (token.atom b) e = ap (λ w. token.atom (token.plain w)) ((bytes_eq-Decides (spelled b) (codes "utf8")).0 e)
+utf8_named t e = cc
+
+utf8_back : (t : Token) → meant t ≡ token.atom (token.plain (codes "utf8")) → is_utf8_name t ≡ true
+utf8_back (token.atom b) e = let text : spelled b ≡ codes "utf8" = cc in (bytes_eq-Decides (spelled b) (codes "utf8")).1 text
+utf8_back t e = cc
 
 pub utf8_tells : Tells (the (token.atom (token.plain (codes "utf8")))) is_utf8_name Any
 utf8_tells = record {

@@ -1,7 +1,7 @@
 -- What was read is printed and read back.
 use Rattle.bx_text_laws.proofs.Commons.{◌≡◌, ℕ, zero, suc, ◌*◌, ◌^◌, ◌%◌, ◌≤◌, ◌<◌, true, pos, List, [], ◌∷◌, ◌++◌, map, length, length-append, Some, Ok, refl, ap, subst, arith, IsUtf8, chars}
 use Rattle.bx_text_laws.proofs.Commons.{encode_utf8_all, AllByRecursion, all_scalars, and_parts, and_from, Span, Place, Token, Lexeme, span, letters, tail_of, Tree, other, nil, chain, Quoted, Named}
-use Rattle.bx_text_laws.proofs.Commons.{StandsAs, Shown, ShownRow, ShownList, ShownRest, IsReadBack, Spelling, Sort, Stood, Texts, Held, Parts, Term, Elements, Pairs, Sentence, Numeral, one_digit}
+use Rattle.bx_text_laws.proofs.Commons.{StandsAs, Shown, ShownRow, ShownList, ShownRest, IsReadBack, Spelling, Sort, Stood, NoText, Texts, Term, Elements, Sentence, Numeral, one_digit, Body, spelled}
 use Rattle.bx_text_laws.proofs.Commons.{digit_more}
 use Rattle.std.proofs.Math.Utf8.{low_scalar}
 use Rattle.std.proofs.Math.Nat.{pow-zero, pow-succ', pow-le-pow_right, mul-le-mul_left}
@@ -10,9 +10,9 @@ use Rattle.bx_text.specs.Forms.{form_at}
 use Rattle.bx_text.specs.Tree.{integer}
 use Rattle.bx_text_laws.specs.Quoted as quoted
 use Rattle.bx_text_laws.specs.Spelling as spelling
-use Rattle.bx_text_laws.specs.Terms as terms
+use Rattle.bx_text.specs.Rules as rules
 use Rattle.bx_text_laws.proofs.ReadBack.{read_back}
-use Rattle.bx_text_laws.proofs.Sentences.{forms_are_sentences}
+use Rattle.bx_text_laws.proofs.Sentences.{forms_are_sentences, term}
 
 -- quoted characters are characters
 value_below : {b n : ℕ} {ds : List ℕ} → Numeral b ds n → n < b ^ length ds
@@ -46,10 +46,10 @@ quoted_scalars (quoted.other {c = c} {cs = cs} {vs = vs} h k) a =
     let both = and_parts _ (all_scalars cs) (scalars_past (92 ∷ []) (c ∷ cs) a) in and_from _ (all_scalars vs) both.0 (quoted_scalars k both.1)
 
 -- an atom's text is in UTF-8
-atom_utf8 : {bytes : List ℕ} {t : Token} → Spelling bytes t → (w : List ℕ) → t ≡ token.atom (token.plain w) → IsUtf8 w
-atom_utf8 (spelling.bare_atom c cs {bytes = bytes} h a u o) w e = let is : bytes ≡ w = cc in subst IsUtf8 is (c ∷ cs, (u.0, u.1))
-atom_utf8 (spelling.quoted_atom {vs = vs} r u) w e = let is : encode_utf8_all vs ≡ w = cc in subst IsUtf8 is (vs, (quoted_scalars r u.0, refl))
-atom_utf8 s w e = cc
+atom_utf8 : {bytes : List ℕ} {t : Token} → Spelling bytes t → (b : Body) → t ≡ token.atom b → IsUtf8 (spelled b)
+atom_utf8 (spelling.bare_atom c cs {bytes = bytes} h a u o) b e = let is : token.plain bytes ≡ b = cc in subst (λ b. IsUtf8 (spelled b)) is (c ∷ cs, (u.0, u.1))
+atom_utf8 (spelling.quoted_atom {vs = vs} r u) b e = let is : token.plain (encode_utf8_all vs) ≡ b = cc in subst (λ b. IsUtf8 (spelled b)) is (vs, (quoted_scalars r u.0, refl))
+atom_utf8 s b e = cc
 
 abbrev Somewhere : Lexeme → Type 0
 Somewhere l = (p : Place) × Stood p l
@@ -58,40 +58,8 @@ spoken : (l : Lexeme) → Somewhere l → (bytes : List ℕ) × Spelling bytes l
 spoken l (p, (q, passed, (bytes, b, more, st), f, n, e)) = (bytes, b.1)
 
 -- deeper is no harm
-held_up : {d : ℕ} {l : Lexeme} {q : Place} → Held d l q → (e : ℕ) → d ≤ e → Held e l q
-held_up (terms.a_number t) e h = terms.a_number t
-held_up (terms.some_texts t s) (suc e) h = terms.some_texts t s
-held_up s zero h = absurd (omega arith)
-
-parts_up : {d : ℕ} {l m : Lexeme} → Parts d l m → (e : ℕ) → d ≤ e → Parts e l m
-parts_up (terms.one_part (terms.a_part h a s k)) e l = terms.one_part (terms.a_part (held_up h e l) a s k)
-parts_up (terms.more_parts (terms.a_part h a s k) t b r) e l = terms.more_parts (terms.a_part (held_up h e l) a s k) t b (parts_up r e l)
-
-mutual
-  term_up : {d : ℕ} {l : Lexeme} {t : Tree} {q : Place} → Term d l t q → (e : ℕ) → d ≤ e → Term e l t q
-  term_up (terms.an_integer t) e h = terms.an_integer t
-  term_up (terms.an_atom t) e h = terms.an_atom t
-  term_up (terms.a_float t w) e h = terms.a_float t w
-  term_up (terms.a_fun t a x b y c z e o h j r) i k = terms.a_fun t a x b y c z e o h j r
-  term_up (terms.texts t s) (suc e) h = terms.texts t s
-  term_up (terms.empty_tuple t a z) (suc e) h = terms.empty_tuple t a z
-  term_up (terms.a_tuple t a w z) (suc e) h = terms.a_tuple t a (elements_up w e (omega arith)) z
-  term_up (terms.empty_list t a z) (suc e) h = terms.empty_list t a z
-  term_up (terms.a_list t a w z) (suc e) h = terms.a_list t a (elements_up w e (omega arith)) z
-  term_up (terms.a_list_with_tail t a w b c u y z) (suc e) h = terms.a_list_with_tail t a (elements_up w e (omega arith)) b c (term_up u e (omega arith)) y z
-  term_up (terms.an_empty_map t a z w) (suc e) h = terms.an_empty_map t a z w
-  term_up (terms.a_map t a r z w) (suc e) h = terms.a_map t a (pairs_up r e (omega arith)) z w
-  term_up (terms.an_empty_binary t a z w) (suc e) h = terms.an_empty_binary t a z w
-  term_up (terms.a_binary t a r z w) (suc e) h = terms.a_binary t a (parts_up r e (omega arith)) z w
-  term_up s zero h = absurd (omega arith)
-
-  elements_up : {d : ℕ} {l m : Lexeme} {ts : List Tree} → Elements d l ts m → (e : ℕ) → d ≤ e → Elements e l ts m
-  elements_up (terms.one t st) e h = terms.one (term_up t e h) st
-  elements_up (terms.more t st k n r) e h = terms.more (term_up t e h) st k n (elements_up r e h)
-
-  pairs_up : {d : ℕ} {l m : Lexeme} → Pairs d l m → (e : ℕ) → d ≤ e → Pairs e l m
-  pairs_up (terms.one_pair t a k b u z) e h = terms.one_pair (term_up t e h) a k b (term_up u e h) z
-  pairs_up (terms.more_pairs t a k b u z j i w) e h = terms.more_pairs (term_up t e h) a k b (term_up u e h) z j i (pairs_up w e h)
+term_up : {d : ℕ} {l : Lexeme} {t : Tree} {q : Place} → Term d l t q → (e : ℕ) → d ≤ e → Term e l t q
+term_up {l = l} t e h = term Stood Stood NoText NoText (λ p l st. (l.token, refl, st)) (λ p n. n) t l.token refl e h
 
 -- rows of shown terms
 row_of : (d : ℕ) (ts : List Tree) → AllByRecursion (Shown d) ts → ShownRow d (chain ts nil)
@@ -116,8 +84,8 @@ letters_shown d s [] ts a = a
 letters_shown d s (c ∷ cs) ts a = (tt, letters_shown d s cs ts a)
 
 texts_shown : {p q : Place} {ts : List Tree} → Texts p ts q → (d : ℕ) → AllByRecursion (Shown d) ts
-texts_shown (terms.no_text n) d = tt
-texts_shown (terms.a_text {l = l} {w = w} {ts = ts} st t s) d = letters_shown d (span l l.after) (chars w) ts (texts_shown s d)
+texts_shown (rules.no_string n) d = tt
+texts_shown (rules.a_string {l = l} {b = b} {ts = ts} st t s) d = letters_shown d (span l l.after) (chars (spelled b)) ts (texts_shown s d)
 
 some_elements : {d : ℕ} {l m : Lexeme} {ts : List Tree} → Elements d l ts m → 0 < length ts
 some_elements s = grind arith
@@ -128,21 +96,21 @@ kept_shown {l = l} {s = s} {k = k} {w = w} {q = q} t (p, st) e h = let x : Stand
 -- it is shown, and so is what is a tail of it
 mutual
   term_shown : {d : ℕ} {l : Lexeme} {t : Tree} {q : Place} → Term d l t q → Somewhere l → (e : ℕ) → d ≤ e → Shown e t × ShownRest e (tail_of t)
-  term_shown (terms.an_integer t) s e h = (tt, tt)
-  term_shown (terms.an_atom {l = l} {w = w} t) s e h = let u : IsUtf8 w = atom_utf8 (spoken l s).1 w t in (u, u)
-  term_shown (terms.a_float t w) s e h = kept_shown (terms.a_float t w) s e h
-  term_shown (terms.an_empty_map t a z w) s e h = kept_shown (terms.an_empty_map t a z w) s e h
-  term_shown (terms.a_map t a r z w) s e h = kept_shown (terms.a_map t a r z w) s e h
-  term_shown (terms.an_empty_binary t a z w) s e h = kept_shown (terms.an_empty_binary t a z w) s e h
-  term_shown (terms.a_binary t a r z w) s e h = kept_shown (terms.a_binary t a r z w) s e h
-  term_shown (terms.a_fun t a x b y c z i o k j r) s e h = kept_shown (terms.a_fun t a x b y c z i o k j r) s e h
-  term_shown (terms.texts {l = l} {w = w} {ts = ts} t r) s (suc e) h =
-      let all : (d : ℕ) → AllByRecursion (Shown d) (letters (span l l.after) w ++ ts) = λ d. letters_shown d (span l l.after) (chars w) ts (texts_shown r d) in
+  term_shown (rules.an_integer t) s e h = (tt, tt)
+  term_shown (rules.an_atom {l = l} {b = b} t) s e h = let u : IsUtf8 (spelled b) = atom_utf8 (spoken l s).1 b t in (u, u)
+  term_shown (rules.a_float t w) s e h = kept_shown (rules.a_float t w) s e h
+  term_shown (rules.an_empty_map t a z w) s e h = kept_shown (rules.an_empty_map t a z w) s e h
+  term_shown (rules.a_map t a r z w) s e h = kept_shown (rules.a_map t a r z w) s e h
+  term_shown (rules.an_empty_binary t a z w) s e h = kept_shown (rules.an_empty_binary t a z w) s e h
+  term_shown (rules.a_binary t a r z w) s e h = kept_shown (rules.a_binary t a r z w) s e h
+  term_shown (rules.a_fun t a x b y c z i o k j r) s e h = kept_shown (rules.a_fun t a x b y c z i o k j r) s e h
+  term_shown (rules.strings {l = l} {b = b} {ts = ts} t r) s (suc e) h =
+      let all : (d : ℕ) → AllByRecursion (Shown d) (letters (span l l.after) (spelled b) ++ ts) = λ d. letters_shown d (span l l.after) (chars (spelled b)) ts (texts_shown r d) in
       (proper_of e _ (all e), rest_of (suc e) _ nil (all (suc e)) tt)
-  term_shown (terms.a_tuple {l = l} {ts = ts} t a w z) s (suc e) h = let r : ShownRow e (chain ts nil) = row_of e ts (elements_shown w (l.after, a) e (omega arith)) in (r, r)
-  term_shown (terms.a_list {l = l} {ts = ts} t a w z) s (suc e) h =
+  term_shown (rules.a_tuple {l = l} {ts = ts} t a w z) s (suc e) h = let r : ShownRow e (chain ts nil) = row_of e ts (elements_shown w (l.after, a) e (omega arith)) in (r, r)
+  term_shown (rules.a_list {l = l} {ts = ts} t a w z) s (suc e) h =
       (proper_of e ts (elements_shown w (l.after, a) e (omega arith)), rest_of (suc e) ts nil (elements_shown w (l.after, a) (suc e) (omega arith)) tt)
-  term_shown (terms.a_list_with_tail {l = l} {bar = bar} {ts = ts} {t = tail} t a w b c u y z) s (suc e) h = (
+  term_shown (rules.a_list_with_tail {l = l} {bar = bar} {ts = ts} {t = tail} t a w b c u y z) s (suc e) h = (
     list_of e ts (tail_of tail) (some_elements w) (elements_shown w (l.after, a) e (omega arith)) (term_shown u (bar.after, c) e (omega arith)).1,
     rest_of (suc e) ts (tail_of tail) (elements_shown w (l.after, a) (suc e) (omega arith)) (term_shown u (bar.after, c) (suc e) (omega arith)).1,
   )
@@ -150,11 +118,11 @@ mutual
   term_shown t s (suc e) h = (tt, tt)
 
   elements_shown : {d : ℕ} {l m : Lexeme} {ts : List Tree} → Elements d l ts m → Somewhere l → (e : ℕ) → d ≤ e → AllByRecursion (Shown e) ts
-  elements_shown (terms.one t st) s e h = ((term_shown t s e h).0, tt)
-  elements_shown (terms.more {comma = comma} t st k n r) s e h = ((term_shown t s e h).0, elements_shown r (comma.after, n) e h)
+  elements_shown (rules.one t st) s e h = ((term_shown t s e h).0, tt)
+  elements_shown (rules.more {comma = comma} t st k n r) s e h = ((term_shown t s e h).0, elements_shown r (comma.after, n) e h)
 
 sentence_shown : {d : ℕ} {p q : Place} {t : Tree} → Sentence d p t q → Shown d t
-sentence_shown (terms.a_sentence {d = d} {p = p} st t a z) = (term_shown t (p, st) d (omega arith)).0
+sentence_shown (rules.a_form {d = d} {p = p} st t a z) = (term_shown t (p, st) d (omega arith)).0
 
 pub read_and_back : (p : Place) (t : Tree) (q : Place) → form_at p ≡ Ok (Some (t, q)) → IsReadBack t
 read_and_back p t q h = read_back t (sentence_shown ((forms_are_sentences p t q).0 h))
