@@ -1,7 +1,7 @@
 -- The bytes between quotes, a part at a time.
-use Rattle.std.proofs.Common.{◌≡◌, ℕ, zero, suc, ◌+◌, ◌<◌, Bool, true, false, cond, eqb, List, [], ◌∷◌, drop, refl, sym, ap, subst, arith}
+use Rattle.std.proofs.Common.{◌≡◌, ℕ, zero, suc, ◌+◌, ◌<◌, List, [], ◌∷◌, drop, refl, sym, ap, arith}
 use Rattle.std.proofs.lemmas.List.{drop-drop}
-use Rattle.bx_text.specs.Lexing.{body_len, escaped_len, control_len, control_width, part_width}
+use Rattle.bx_text.specs.Lexing.{body_len, part_width}
 
 by_width : (q : ℕ) (bs : List ℕ) (w : ℕ) → part_width q bs ≡ suc w → body_len q bs ≡ suc w + body_len q (drop (suc w) bs)
 by_width q [] w e = absurd (omega arith)

@@ -3,7 +3,7 @@ use Rattle.std.proofs.Common.{◌≡◌, ℕ, zero, suc, ◌+◌, ◌*◌, ℤ, 
 use Rattle.std.proofs.lemmas.List.{drop_more}
 use Rattle.bx_text.specs.declared.node.Span.{Span}
 use Rattle.bx_text.specs.declared.node.Form.{Form}
-use Rattle.bx_text.specs.declared.node.Form.TheVariants.{Integer, Large, Atom, Tuple, List as Listed, Text, Other}
+use Rattle.bx_text.specs.declared.node.Form.TheVariants.{Integer, Large}
 use Rattle.bx_text.specs.Form.{form_tree, IsForm}
 use Rattle.bx_text.specs.Falls.{tail_le}
 use Rattle.bx_text.specs.Number.{number, is_large}

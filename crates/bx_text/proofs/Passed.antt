@@ -7,7 +7,7 @@ use Rattle.bx_text.specs.Token as token
 use Rattle.bx_text.specs.Token.{Body, Lexeme}
 use Rattle.bx_text.specs.Lexing.{lexeme_at}
 use Rattle.bx_text.specs.Tree.{Tree, tuple, list, nil, chain}
-use Rattle.bx_text.specs.Terms.{Reading, Follow, next, end, span, closed, closes_tuple, closes_list, is_bar, follow_at, want, passed, go_through, parts, parts_at, go_on, many, elements_at, tuple_on, tuple_at, tail_of, tail_at, end_at, rest_on, list_at, letters_of, text_next, texts, texts_on, strings_at, string_at, bracket_by, begin, group_at, term_at}
+use Rattle.bx_text.specs.Terms.{Reading, Follow, next, span, closed, closes_tuple, closes_list, is_bar, follow_at, want, passed, go_through, parts, parts_at, go_on, many, elements_at, tuple_on, tuple_at, tail_of, tail_at, end_at, rest_on, list_at, letters_of, text_next, texts, texts_on, strings_at, string_at, bracket_by, begin, group_at, term_at}
 use Rattle.bx_text.specs.Passing.{element_passed, tuple_passed, end_passed, list_passed}
 use Rattle.bx_text.specs.Grammar.{IsToken}
 use Rattle.bx_text.proofs.Outcomes.{gives_err, bind_ok}

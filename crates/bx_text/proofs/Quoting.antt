@@ -1,17 +1,16 @@
 -- A string is what begins with a double quote.
-use Rattle.std.proofs.Common.{◌≡◌, ℕ, ◌+◌, Bool, true, false, cond, ◌||◌, eqb, leb, List, [], ◌∷◌, length, drop, Option, Some, None, Result, Ok, Err, refl, sym, ap, ◌∙◌, subst, if◌then◌else◌, codes, ◌⊎◌, inl, inr}
+use Rattle.std.proofs.Common.{◌≡◌, ℕ, ◌+◌, Bool, true, false, cond, eqb, List, [], ◌∷◌, length, drop, Option, Some, None, Result, Ok, Err, refl, sym, ap, ◌∙◌, subst, if◌then◌else◌, codes, ◌⊎◌, inl, inr}
 use Rattle.std.specs.List.{prefix_len}
 use Rattle.std.specs.Str.{bytes_eq}
 use Rattle.std.specs.Str.Lossy.{utf8_valid_len}
 use Rattle.std.proofs.lemmas.Bool.{eqb-true, both_ways, true_from_ne_false, cond-false, cond_both}
 use Rattle.bx_terms.specs.Outcomes.{◌>>=◌}
 use Rattle.bx_terms.specs.declared.faults.Fault.{Fault}
-use Rattle.bx_terms.specs.declared.faults.Fault.TheVariants.{NotUtf8, BadToken, Truncated}
-use Rattle.bx_text.specs.declared.tokens.Mark.TheVariants.{Stop, Fun, Arrow, CloseBinary}
+use Rattle.bx_text.specs.declared.tokens.Mark.TheVariants.{Arrow, CloseBinary}
 use Rattle.bx_text.specs.declared.kinds.Kind.{Kind}
 use Rattle.bx_text.specs.declared.kinds.Kind.TheVariants as kind
-use Rattle.bx_text.specs.Bytes.{begins, is_digit, is_lower, is_accented_lower}
-use Rattle.bx_text.specs.Place.{Place, after}
+use Rattle.bx_text.specs.Bytes.{begins, is_digit, is_accented_lower}
+use Rattle.bx_text.specs.Place.{Place}
 use Rattle.bx_text.specs.Blank.{skip}
 use Rattle.bx_text.specs.Token as token
 use Rattle.bx_text.specs.Token.{Body, Token, Lexeme}

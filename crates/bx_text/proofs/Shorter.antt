@@ -1,20 +1,19 @@
 -- Reading goes on: blanks take no byte back, and each token takes one at least.
-use Rattle.std.proofs.Common.{◌≡◌, ℕ, suc, ◌+◌, ◌≤◌, ◌<◌, Bool, true, false, cond, ◌||◌, eqb, leb, List, [], ◌∷◌, take, drop, length, Result, Ok, Err, refl, sym, ap, ◌∙◌, subst, arith, length-drop}
+use Rattle.std.proofs.Common.{◌≡◌, ℕ, suc, ◌+◌, ◌≤◌, ◌<◌, Bool, true, false, cond, eqb, leb, List, [], ◌∷◌, take, drop, length, Result, Ok, Err, refl, sym, ap, ◌∙◌, subst, arith, length-drop}
 use Rattle.std.specs.List.{prefix_len}
 use Rattle.std.specs.Str.Lossy.{utf8_valid_len}
 use Rattle.std.proofs.lemmas.Bool.{cond_both}
 use Rattle.std.proofs.lemmas.Bool.Decides.{nat_tests}
 use Rattle.bx_terms.specs.Outcomes.{◌>>=◌}
 use Rattle.bx_terms.specs.declared.faults.Fault.{Fault}
-use Rattle.bx_terms.specs.declared.faults.Fault.TheVariants.{NotUtf8, BadToken, Truncated}
-use Rattle.bx_text.specs.declared.tokens.Mark.TheVariants.{Stop, Arrow, CloseBinary}
+use Rattle.bx_text.specs.declared.tokens.Mark.TheVariants.{Arrow, CloseBinary}
 use Rattle.bx_text.specs.declared.kinds.Kind.{Kind}
 use Rattle.bx_text.specs.declared.kinds.Kind.TheVariants as kind
 use Rattle.bx_text.specs.Bytes.{begins, is_space, is_digit, is_lower, is_name, is_accented, is_accented_lower, is_plain}
-use Rattle.bx_text.specs.Place.{Place, after}
+use Rattle.bx_text.specs.Place.{Place}
 use Rattle.bx_text.specs.Blank.{skip, skip_from, skip_line, line_of}
-use Rattle.bx_text.specs.Token.{Body, plain, escaped, Token, float, atom, text, open_tuple, open_list, open_map, open_binary, mark, Lexeme}
-use Rattle.bx_text.specs.Lexing.{kind_of, punctuation_of, name_len, accent_len, word_at, foreign_at, number_by, number_at, pair_on, closing_at, ended_at, escaped_at, behind, body_len, fraction_len, exponent_len, quoted_at, token_by, token_on, token_at, lexeme_from, lexeme_at, ends}
+use Rattle.bx_text.specs.Token.{Body, Token, atom, text, open_map, open_binary, mark, Lexeme}
+use Rattle.bx_text.specs.Lexing.{punctuation_of, name_len, foreign_at, number_at, pair_on, closing_at, ended_at, body_len, fraction_len, exponent_len, quoted_at, token_by, token_on, token_at, lexeme_from, lexeme_at, ends}
 use Rattle.bx_text.specs.Escapes.{open_in, is_whole}
 use Rattle.bx_text.proofs.Outcomes.{ok_same, bind_ok}
 

@@ -9,7 +9,7 @@ use Rattle.std.proofs.lemmas.Fmt.{decimal_digit, decimal_step}
 use lib.Signed.{mag}
 use Rattle.bx_text.specs.Bytes.{is_digit}
 use Rattle.bx_text.specs.Number.{decimal, signed, is_large, with_digit}
-use Rattle.bx_text.specs.Tree.{Tree, integer, atom, tuple, list, other, nil, cons, IsWhole, IsEnd}
+use Rattle.bx_text.specs.Tree.{Tree, nil, cons, IsWhole, IsEnd}
 use Rattle.bx_text.specs.Printed.{is_zero, sign_text, digits_within, whole_decimal, integer_text, node_text, row_text, rest_text}
 use Rattle.bx_text.proofs.Digits.{both, digits_utf8}
 

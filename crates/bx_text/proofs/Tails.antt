@@ -1,19 +1,13 @@
 -- Tails of lists, whose own elements and tail go on with the list's.
-use Rattle.std.proofs.Common.{◌≡◌, ℕ, zero, suc, Bool, true, false, List, [], ◌++◌, Result, Ok, Err, refl, sym, ap, ◌∙◌, subst, if◌then◌else◌}
+use Rattle.std.proofs.Common.{◌≡◌, ℕ, suc, Bool, true, false, List, ◌++◌, Result, Ok, Err, refl, sym, ap, ◌∙◌, subst, if◌then◌else◌}
 use Rattle.bx_terms.specs.Outcomes.{Gives, ◌>>=◌}
 use Rattle.bx_terms.specs.declared.faults.Fault.{Fault}
-use Rattle.bx_terms.specs.declared.faults.Fault.TheVariants.{NotUtf8}
 use Rattle.bx_text.specs.Place.{Place}
 use Rattle.bx_text.specs.Token as token
 use Rattle.bx_text.specs.Token.{Token, Lexeme}
-use Rattle.bx_text.specs.declared.tokens.Mark.TheVariants.{Fun}
-use Rattle.bx_text.specs.declared.node.Sort.{Sort}
-use Rattle.bx_text.specs.declared.node.Sort.TheVariants as sort
-use Rattle.std.specs.Str.Lossy.{utf8_valid_len}
-use Rattle.std.specs.Prelude.{◌==◌, length}
-use Rattle.bx_text.specs.Tree.{Tree, tuple, list, other, nil, chain}
+use Rattle.bx_text.specs.Tree.{Tree, list, nil, chain}
 use Rattle.bx_text.specs.Lexing.{lexeme_at}
-use Rattle.bx_text.specs.Terms.{Reading, span, closed, closes_tuple, closes_list, is_bar, spells_list, elements_at, tuple_on, tail_of, tail_at, end_at, rest_on, rest_at, strings_at, kept_at, taken, want, is_atom, is_colon, is_slash, is_integer, fun_at, closes_binary, map_on, pair_at, parts_at, binary_on, segment_at, bracket_by, begin_by, begin, group_at, term_at}
+use Rattle.bx_text.specs.Terms.{Reading, span, closed, closes_list, is_bar, spells_list, elements_at, tail_of, tail_at, end_at, rest_on, rest_at, strings_at, bracket_by, begin_by, begin, group_at, term_at}
 use Rattle.bx_text.specs.Rows.{prefixed, chained, closing, splicing}
 use Rattle.bx_text.specs.Grammar.{Spells, strings, empty_list, a_list, a_list_with_tail}
 use Rattle.bx_text.proofs.Outcomes.{ok_same, gives_err}
