@@ -1,9 +1,8 @@
 -- Forms and the grammar.
-use Rattle.std.proofs.Common.{◌≡◌, ℕ, Bool, List, [], ◌∷◌, Option, Some, None, Ok, Err, refl, sym, ap, ◌∙◌, if◌then◌else◌}
+use Rattle.std.proofs.Common.{◌≡◌, ℕ, List, [], ◌∷◌, Option, Some, None, Ok, refl, sym, ap, ◌∙◌}
 use Rattle.std.specs.Prelude.{◌↔◌}
 use Rattle.std.proofs.lemmas.Bool.{cond_both}
 use Rattle.bx_terms.specs.Outcomes.{◌>>=◌}
-use Rattle.bx_terms.specs.declared.faults.Fault.TheVariants.{BadTerm}
 use Rattle.bx_text.specs.Place.{Place}
 use Rattle.bx_text.specs.Blank.{skip}
 use Rattle.bx_text.specs.Token.{Lexeme}
@@ -39,10 +38,7 @@ form_is (a_form {d = d} {p = p} {r = r} {l = l} {m = m} {t = t} n s e c) =
     ap (λ r. r >>= λ q. form_on d q.rest q) b.1 ∙ on_list b.0.rest b.0 refl b.2
   where
     whole : form_by d l ≡ Ok (Some (t, m.after))
-    whole =
-        ap (λ u. u >>= λ x. lexeme_at x.1 >>= stopped x.0) (complete s)
-        ∙ ap (λ u. u >>= stopped t) e
-        ∙ ap (λ (b : Bool). if b then Ok (Some (t, m.after)) else Err (BadTerm m.line)) (ap is_stop c)
+    whole = rw (complete s, e, c) refl
 
     on_list : (cs : List ℕ) (q : Place) → q.rest ≡ cs → lexeme_from q ≡ Ok l → form_on d q.rest q ≡ Ok (Some (t, m.after))
     on_list [] q r f = let z = sym (ap (λ cs. token_on cs q >>= λ x. Ok (record { token = x.0; from = q.at; line = q.line; begin = q.rest; after = x.1 })) r) ∙ f in cc
@@ -50,7 +46,7 @@ form_is (a_form {d = d} {p = p} {r = r} {l = l} {m = m} {t = t} n s e c) =
         ap (λ cs. form_on d cs q) r ∙ ap (λ u. u >>= form_by d) f ∙ whole
 
 pub blank_is : (d : ℕ) (p : Place) → OnlyBlank p → form_within d p ≡ Ok None
-blank_is d p (q, s, n) = ap (λ r. r >>= λ q. form_on d q.rest q) s ∙ ap (λ cs. form_on d cs q) n
+blank_is d p (q, s, n) = rw (s, n) refl
 
 pub forms_are : (p : Place) (t : Tree) (q : Place) → (form_at p ≡ Ok (Some (t, q))) ↔ Form 256 p t q
 forms_are p t q = ((forms_so 256 p).each (Some (t, q)), λ f. form_is f)

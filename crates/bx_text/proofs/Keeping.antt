@@ -1,10 +1,9 @@
 -- What is kept as it was read is spelled by some text.
-use Rattle.std.proofs.Common.{◌≡◌, ℕ, suc, Bool, true, false, eqb, List, length, Result, Ok, Err, arith, ap, ◌∙◌, if◌then◌else◌}
+use Rattle.std.proofs.Common.{◌≡◌, ℕ, suc, true, false, eqb, List, length, Result, Ok, refl, arith, ap, ◌∙◌}
 use Rattle.std.proofs.lemmas.Bool.Decides.{nat_tests}
 use Rattle.std.specs.Str.Lossy.{utf8_valid_len}
 use Rattle.bx_terms.specs.Outcomes.{◌>>=◌}
 use Rattle.bx_terms.specs.declared.faults.Fault.{Fault}
-use Rattle.bx_terms.specs.declared.faults.Fault.TheVariants.{BadTerm, NotUtf8}
 use Rattle.bx_text.specs.declared.node.Sort.{Sort}
 use Rattle.bx_text.specs.declared.node.Sort.TheVariants as sort
 use Rattle.bx_text.specs.Place.{Place}
@@ -13,7 +12,7 @@ use Rattle.bx_text.specs.Token as token
 use Rattle.bx_text.specs.Token.{Lexeme}
 use Rattle.bx_text.specs.Lexing.{lexeme_from, lexeme_at}
 use Rattle.bx_text.specs.Tree.{Tree, other}
-use Rattle.bx_text.specs.Terms.{Follow, next, end, span, taken, kept_at, closed, closes_tuple, closes_binary, want, follow_at, element_at, pair_at, is_arrow, passed, value_at, parts_at, segment_at, map_on, binary_on, bracket_by, begin_by, group_at, term_at}
+use Rattle.bx_text.specs.Terms.{Follow, next, end, span, taken, kept_at, closed, closes_tuple, closes_binary, want, follow_at, element_at, pair_at, is_arrow, passed, value_at, parts_at, segment_at, term_at}
 use Rattle.bx_text.specs.Rows.{joined}
 use Rattle.bx_text.specs.Grammar.{IsToken, IsKept, SpelledAs}
 use Rattle.bx_text.proofs.Outcomes.{Yields, yes, also, bound, read}
@@ -49,48 +48,19 @@ same_test m n e = grind (arith, nat_tests)
 
 pub kept_spelled : (k : Sort) (l : Lexeme) (q : Place) → IsKept k l q → utf8_valid_len (taken l q) ≡ length (taken l q) → SpelledAs k (taken l q)
 kept_spelled k l q ((p, n), (d, e)) v =
-    let good : kept_at k l q ≡ Ok (other (span l q) k (taken l q), q) =
-    ap (λ (t : Bool). if t then Ok (other (span l q) k (taken l q), q) else Err (NotUtf8 l.line)) (same_test (utf8_valid_len (taken l q)) (length (taken l q)) v) in
+    let good : kept_at k l q ≡ Ok (other (span l q) k (taken l q), q) = rw (same_test _ _ v) refl in
     (d, p, l, span l q, q, n, sound d l (other (span l q) k (taken l q), q) (e ∙ good))
 
-map_begins : (d : ℕ) (l m : Lexeme) → l.token ≡ token.open_map → lexeme_at l.after ≡ Ok m → term_at (suc d) l ≡ map_on (term_at d) l m
-map_begins d l m t n =
-    ap (begin_by (group_at (suc d)) l) t ∙ ap (bracket_by d (term_at d) l) t ∙ ap (λ r. r >>= map_on (term_at d) l) n
-
 pub empty_map_kept : (d : ℕ) (l m : Lexeme) → IsToken l → l.token ≡ token.open_map → lexeme_at l.after ≡ Ok m → closes_tuple m.token ≡ true → IsKept sort.Map l m.after
-empty_map_kept d l m s t n c =
-    (s, (suc d, map_begins d l m t n ∙ ap (λ (b : Bool). if b then kept_at sort.Map l m.after else (parts_at (pair_at (term_at d)) m >>= closed closes_tuple >>= kept_at sort.Map l)) c))
+empty_map_kept d l m s t n c = (s, (suc d, rw (t, n, c) refl))
 
 pub map_kept : (d : ℕ) (l m e : Lexeme) (q : Place) → IsToken l → l.token ≡ token.open_map → lexeme_at l.after ≡ Ok m → closes_tuple m.token ≡ false → parts_at (pair_at (term_at d)) m ≡ Ok e
     → closed closes_tuple e ≡ Ok q → IsKept sort.Map l q
-map_kept d l m e q s t n c h g = (
-  s,
-  (
-    suc d,
-    map_begins d l m t n
-        ∙ ap (λ (b : Bool). if b then kept_at sort.Map l m.after else (parts_at (pair_at (term_at d)) m >>= closed closes_tuple >>= kept_at sort.Map l)) c
-        ∙ ap (λ r. r >>= closed closes_tuple >>= kept_at sort.Map l) h
-        ∙ ap (λ r. r >>= kept_at sort.Map l) g,
-  ),
-)
-
-binary_begins : (d : ℕ) (l m : Lexeme) → l.token ≡ token.open_binary → lexeme_at l.after ≡ Ok m → term_at (suc d) l ≡ binary_on d l m
-binary_begins d l m t n =
-    ap (begin_by (group_at (suc d)) l) t ∙ ap (bracket_by d (term_at d) l) t ∙ ap (λ r. r >>= binary_on d l) n
+map_kept d l m e q s t n c h g = (s, (suc d, rw (t, n, c, h, g) refl))
 
 pub empty_binary_kept : (d : ℕ) (l m : Lexeme) → IsToken l → l.token ≡ token.open_binary → lexeme_at l.after ≡ Ok m → closes_binary m.token ≡ true → IsKept sort.Binary l m.after
-empty_binary_kept d l m s t n c =
-    (s, (suc d, binary_begins d l m t n ∙ ap (λ (b : Bool). if b then kept_at sort.Binary l m.after else (parts_at (segment_at d) m >>= closed closes_binary >>= kept_at sort.Binary l)) c))
+empty_binary_kept d l m s t n c = (s, (suc d, rw (t, n, c) refl))
 
 pub binary_kept : (d : ℕ) (l m e : Lexeme) → IsToken l → l.token ≡ token.open_binary → lexeme_at l.after ≡ Ok m → closes_binary m.token ≡ false → parts_at (segment_at d) m ≡ Ok e
     → closes_binary e.token ≡ true → IsKept sort.Binary l e.after
-binary_kept d l m e s t n c h g = (
-  s,
-  (
-    suc d,
-    binary_begins d l m t n
-        ∙ ap (λ (b : Bool). if b then kept_at sort.Binary l m.after else (parts_at (segment_at d) m >>= closed closes_binary >>= kept_at sort.Binary l)) c
-        ∙ ap (λ r. r >>= closed closes_binary >>= kept_at sort.Binary l) h
-        ∙ ap (λ r. r >>= kept_at sort.Binary l) (ap (λ (t : Bool). if t then Ok e.after else Err (BadTerm e.line)) g),
-  ),
-)
+binary_kept d l m e s t n c h g = (s, (suc d, rw (t, n, c, h, g) refl))

@@ -1,5 +1,5 @@
 -- A string is what begins with a double quote.
-use Rattle.std.proofs.Common.{◌≡◌, ℕ, ◌+◌, Bool, true, false, cond, eqb, List, [], ◌∷◌, length, drop, Option, Some, None, Result, Ok, Err, refl, sym, ap, ◌∙◌, subst, if◌then◌else◌, codes, ◌⊎◌, inl, inr}
+use Rattle.std.proofs.Common.{◌≡◌, ℕ, ◌+◌, Bool, true, false, cond, eqb, List, [], ◌∷◌, length, drop, Option, Some, None, Result, Ok, Err, refl, sym, ap, ◌∙◌, subst, if◌then◌else◌, codes}
 use Rattle.std.specs.List.{prefix_len}
 use Rattle.std.specs.Str.{bytes_eq}
 use Rattle.std.specs.Str.Lossy.{utf8_valid_len}
@@ -14,10 +14,10 @@ use Rattle.bx_text.specs.Place.{Place}
 use Rattle.bx_text.specs.Blank.{skip}
 use Rattle.bx_text.specs.Token as token
 use Rattle.bx_text.specs.Token.{Body, Token, Lexeme}
-use Rattle.bx_text.specs.Lexing.{kind_of, bare_at, word_at, foreign_at, digits_at, pair_on, fraction_len, quoted_at, token_by, token_on, token_at, lexeme_from, lexeme_at, ends}
+use Rattle.bx_text.specs.Lexing.{kind_of, bare_at, word_at, foreign_at, digits_at, pair_on, fraction_len, quoted_at, token_by, token_on, lexeme_from, lexeme_at, ends}
 use Rattle.bx_text.specs.Terms.{is_quote, text_next}
 use Rattle.bx_text.specs.Grammar.{NoString}
-use Rattle.bx_text.proofs.Outcomes.{ok_same, bind_ok}
+use Rattle.bx_text.proofs.Outcomes.{bind_ok, Yields, yes, no, reads, bound, read}
 
 abbrev is_double : Kind → Bool
 is_double kind.DoubleQuote = true
@@ -76,50 +76,37 @@ kind_other kind.Nothing p n = tt
 kind_other kind.DoubleQuote p n = cc
 kind_other k p n = refl
 
+-- where a token is a string, it begins with a quote
+quote_from : (q : Place) (cs : List ℕ) → Yields (λ (x : Token × Place). is_text x.0 ≡ true → begins is_quote cs ≡ true) (token_on cs q)
+quote_from q [] = no
+quote_from q (c ∷ cs) = record { each = λ x e h. true_from_ne_false (is_quote c) (λ n. both_ways (is_text x.0) (subst NoText e (kind_other (kind_of c) q (no_double c n))) h) }
+
 quote_first : (q : Place) (l : Lexeme) (w : Body) → lexeme_from q ≡ Ok l → l.token ≡ token.text w → begins is_quote q.rest ≡ true
-quote_first q l w e t =
-    let b = bind_ok (token_at q) (λ x. Ok (record { token = x.0; from = q.at; line = q.line; begin = q.rest; after = x.1 })) l e in
-    let s : b.0.0 ≡ l.token = ap (λ (m : Lexeme). m.token) (ok_same (record { token = b.0.0; from = q.at; line = q.line; begin = q.rest; after = b.0.1 }) l b.2) in
-    on_list q.rest b.0 b.1 (ap is_text (s ∙ t))
+quote_first q l w e t = whole.each l e (ap is_text t)
   where
-    on_list : (cs : List ℕ) (x : Token × Place) → token_on cs q ≡ Ok x → is_text x.0 ≡ true → begins is_quote cs ≡ true
-    on_list [] x e h = cc
-    on_list (c ∷ cs) x e h = true_from_ne_false (is_quote c) (λ n. both_ways (is_text x.0) (subst NoText e (kind_other (kind_of c) q (no_double c n))) h)
+    whole : Yields (λ (l : Lexeme). is_text l.token ≡ true → begins is_quote q.rest ≡ true) (lexeme_from q)
+    whole = bound _ (quote_from q q.rest) (λ x h. yes h)
 
 pub text_some : (p : Place) (l : Lexeme) (w : Body) → lexeme_at p ≡ Ok l → l.token ≡ token.text w → text_next p ≡ Ok (Some l)
-text_some p l w n t =
-    let b = bind_ok (skip p) lexeme_from l n in
-    ap (λ r. r >>= λ q. if begins is_quote q.rest then (lexeme_from q >>= λ l. Ok (Some l)) else Ok None) b.1
-    ∙ ap (λ (c : Bool). if c then (lexeme_from b.0 >>= λ l. Ok (Some l)) else Ok None) (quote_first b.0 l w b.2 t)
-    ∙ ap (λ r. r >>= λ l. Ok (Some l)) b.2
+text_some p l w n t = let b = bind_ok (skip p) lexeme_from l n in rw (b.1, quote_first b.0 l w b.2 t, b.2) refl
 
 -- and what begins with one is a string
-from_quote : (q : Place) (l : Lexeme) → begins is_quote q.rest ≡ true → lexeme_from q ≡ Ok l → (w : Body) × (l.token ≡ token.text w)
-from_quote q l b e =
-    let f = bind_ok (token_at q) (λ x. Ok (record { token = x.0; from = q.at; line = q.line; begin = q.rest; after = x.1 })) l e in
-    let s : f.0.0 ≡ l.token = ap (λ (m : Lexeme). m.token) (ok_same (record { token = f.0.0; from = q.at; line = q.line; begin = q.rest; after = f.0.1 }) l f.2) in
-    let g = on_list q.rest f.0 b f.1 in
-    (g.0, sym s ∙ g.1)
+from_quote : (q : Place) (cs : List ℕ) → begins is_quote cs ≡ true → Yields (λ (x : Token × Place). (w : Body) × (x.0 ≡ token.text w)) (token_on cs q)
+from_quote q [] b = no
+from_quote q (c ∷ cs) b = subst (λ c. Yields (λ (x : Token × Place). (w : Body) × (x.0 ≡ token.text w)) (token_by (kind_of c) q)) (sym (eqb-true c 34 b)) quoted
   where
-    quoted : (x : Token × Place) → token_by (kind_of 34) q ≡ Ok x → (w : Body) × (x.0 ≡ token.text w)
-    quoted x e =
-        let b = bind_ok (quoted_at 34 q) (λ y. Ok (token.text y.0, y.1)) x e in
-        (b.0.0, sym (ap (λ (y : Token × Place). y.0) (ok_same (token.text b.0.0, b.0.1) x b.2)))
-
-    on_list : (cs : List ℕ) (x : Token × Place) → begins is_quote cs ≡ true → token_on cs q ≡ Ok x → (w : Body) × (x.0 ≡ token.text w)
-    on_list [] x b e = cc
-    on_list (c ∷ cs) x b e = quoted x (subst (λ c. token_by (kind_of c) q ≡ Ok x) (eqb-true c 34 b) e)
-
-by_quote : (c : Bool) (p q : Place) (o : Option Lexeme) → begins is_quote q.rest ≡ c → skip p ≡ Ok q → (if c then (lexeme_from q >>= λ l. Ok (Some l)) else Ok None) ≡ Ok o
-    → ((o ≡ None) × NoString p) ⊎ ((l : Lexeme) × (o ≡ Some l) × (lexeme_at p ≡ Ok l) × ((w : Body) × (l.token ≡ token.text w)))
-by_quote true p q o b s e =
-    let f = bind_ok (lexeme_from q) (λ l. Ok (Some l)) o e in
-    inr (f.0, sym (ok_same (Some f.0) o f.2), ap (λ r. r >>= lexeme_from) s ∙ f.1, from_quote q f.0 b f.1)
-by_quote false p q o b s e = inl (sym (ok_same None o e), (q, s, b))
+    quoted : Yields (λ (x : Token × Place). (w : Body) × (x.0 ≡ token.text w)) (token_by (kind_of 34) q)
+    quoted = bound _ (reads (quoted_at 34 q)) (λ y h. yes (y.0, refl))
 
 -- what follows strings is a string or none
-pub text_is : (p : Place) (o : Option Lexeme) → text_next p ≡ Ok o
-    → ((o ≡ None) × NoString p) ⊎ ((l : Lexeme) × (o ≡ Some l) × (lexeme_at p ≡ Ok l) × ((w : Body) × (l.token ≡ token.text w)))
-text_is p o e =
-    let f = bind_ok (skip p) (λ q. if begins is_quote q.rest then (lexeme_from q >>= λ l. Ok (Some l)) else Ok None) o e in
-    by_quote (begins is_quote f.0.rest) p f.0 o refl f.1 f.2
+abbrev pub TextIs : Place → Option Lexeme → Type 0
+TextIs p None = NoString p
+TextIs p (Some l) = (lexeme_at p ≡ Ok l) × ((w : Body) × (l.token ≡ token.text w))
+
+pub text_so : (p : Place) → Yields (TextIs p) (text_next p)
+text_so p =
+    read (skip p) (λ q. if begins is_quote q.rest then (lexeme_from q >>= λ l. Ok (Some l)) else Ok None)
+    (λ q s. cond_both (begins is_quote q.rest) _ _ (Yields (TextIs p)) (λ b. read (lexeme_from q) (λ l. Ok (Some l)) (λ l f. yes (ap (λ r. r >>= lexeme_from) s ∙ f, (string q b).each l f))) (λ b. yes (q, s, b)))
+  where
+    string : (q : Place) → begins is_quote q.rest ≡ true → Yields (λ (l : Lexeme). (w : Body) × (l.token ≡ token.text w)) (lexeme_from q)
+    string q b = bound _ (from_quote q q.rest b) (λ x h. yes h)

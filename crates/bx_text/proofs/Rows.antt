@@ -51,36 +51,26 @@ chain_append (x ∷ xs) ys u = ap (cons x) (chain_append xs ys u)
 
 -- what a flag says of what follows
 pub text_none : (b : Bool) (m : Lexeme) (r : Result (Option Lexeme) Fault) → b ≡ false → r ≡ Ok (next_text b m) → r ≡ Ok None
-text_none true m r e h = cc
-text_none false m r e h = h
+text_none b m r e h = rw e at h
 
 pub text_found : (b : Bool) (m : Lexeme) (r : Result (Option Lexeme) Fault) → b ≡ true → r ≡ Ok (next_text b m) → r ≡ Ok (Some m)
-text_found true m r e h = h
-text_found false m r e h = cc
+text_found b m r e h = rw e at h
 
 pub part_last : (b : Bool) (m : Lexeme) (r : Result Follow Fault) → b ≡ false → r ≡ Ok (follow_by b m) → r ≡ Ok (terms.end m)
-part_last true m r e h = cc
-part_last false m r e h = h
+part_last b m r e h = rw e at h
 
 pub part_next : (b : Bool) (m : Lexeme) (r : Result Follow Fault) → b ≡ true → r ≡ Ok (follow_by b m) → r ≡ Ok (terms.next m)
-part_next true m r e h = h
-part_next false m r e h = cc
+part_next b m r e h = rw e at h
 
 pub row_last : (b : Bool) (xs : List Tree) (m : Lexeme) (r : Result (List Tree × Follow) Fault) → b ≡ false → r ≡ Ok (xs, follow_by b m) → r ≡ Ok (xs, terms.end m)
-row_last true xs m r e h = cc
-row_last false xs m r e h = h
+row_last b xs m r e h = rw e at h
 
 pub row_next : (b : Bool) (xs : List Tree) (m : Lexeme) (r : Result (List Tree × Follow) Fault) → b ≡ true → r ≡ Ok (xs, follow_by b m) → r ≡ Ok (xs, terms.next m)
-row_next true xs m r e h = h
-row_next false xs m r e h = cc
+row_next b xs m r e h = rw e at h
 
 -- no string more
 pub texts_none : (size turn : ℕ) (xs : List Tree) (p q : Place) → turn < size → text_next p ≡ Ok None → q ≡ p → prefixed xs (texts (size - turn) p) ≡ Ok (xs, q)
-texts_none size turn xs p q t e s =
-    ap (λ k. prefixed xs (texts k p)) (turns size turn t)
-    ∙ ap (λ r. prefixed xs (r >>= texts_on (texts (size - (turn + 1))) p)) e
-    ∙ ap (λ ys. Ok (ys, p)) (append-nil xs)
-    ∙ ap (λ z. Ok (xs, z)) (sym s)
+texts_none size turn xs p q t e s = rw (turns size turn t, e, append-nil xs, s) refl
 
 pub row_gives : (xs : List Tree) (r s : Result (List Tree × Place) Fault) → xs ≡ [] → prefixed xs r ≡ s → r ≡ s
 row_gives xs r s n h = sym (ap (λ xs. prefixed xs r) n ∙ prefixed_none r) ∙ h

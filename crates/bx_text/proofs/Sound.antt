@@ -1,5 +1,5 @@
 -- What is read is what the grammar spells.
-use Rattle.std.proofs.Common.{arith, ◌≡◌, ℕ, zero, suc, ◌+◌, Bool, true, ◌⊎◌, inl, inr, List, [], ◌∷◌, ◌++◌, length, Option, Some, None, Result, Ok, refl, sym, ap, subst}
+use Rattle.std.proofs.Common.{arith, ◌≡◌, ℕ, zero, suc, ◌+◌, Bool, true, List, [], ◌∷◌, ◌++◌, length, Option, Some, None, Result, Ok, refl, sym, ap, subst}
 use Rattle.bx_terms.specs.Outcomes.{◌>>=◌}
 use Rattle.bx_terms.specs.declared.faults.Fault.{Fault}
 use Rattle.bx_text.specs.declared.tokens.Mark.TheVariants.{CloseTuple, CloseList, CloseBinary, Comma, Bar, Arrow, Colon, Slash, Stop, Fun}
@@ -14,10 +14,10 @@ use Rattle.bx_text.specs.Token as token
 use Rattle.bx_text.specs.Token.{Body, spelled, Token, Lexeme}
 use Rattle.bx_text.specs.Lexing.{lexeme_at}
 use Rattle.bx_text.specs.Tree.{Tree, list, other, nil, chain}
-use Rattle.bx_text.specs.Terms.{Follow, next, end, span, closed, closes_tuple, closes_list, is_comma, is_bar, is_stop, closes_binary, is_arrow, is_colon, is_slash, is_atom, is_integer, is_utf8_name, taken, kept_at, want, passed, value_at, pair_at, go_through, parts, parts_at, map_on, map_at, content_by, sized, encoded, behind_token, segment_at, binary_on, binary_at, fun_at, letters, letters_of, text_next, texts, texts_on, strings_at, string_at, follow_at, element_at, go_on, many, elements_at, tuple_on, tuple_at, tail_of, tail_at, end_at, rest_on, rest_at, list_at, bracket_by, begin_by, group_at, term_at}
-use Rattle.bx_text.specs.Grammar.{NoString, Strings, no_string, a_string, Spells, an_integer, an_atom, strings, empty_tuple, a_tuple, empty_list, a_list, a_list_with_tail, a_float, an_empty_map, a_map, an_empty_binary, a_binary, a_fun, Row, one, more, Pairs, one_pair, more_pairs, Kept, Content, a_number, a_text, Size, no_size, a_size, Encoding, no_encoding, in_utf8, Segment, a_segment, Segments, one_segment, more_segments}
+use Rattle.bx_text.specs.Terms.{Follow, next, end, span, closed, closes_tuple, closes_list, is_comma, is_bar, is_stop, closes_binary, is_arrow, is_colon, is_slash, is_atom, is_integer, is_utf8_name, taken, kept_at, want, passed, value_at, pair_at, go_through, parts, parts_at, map_on, map_at, content_by, sized, encoded, behind_token, segment_at, binary_on, binary_at, fun_at, letters, letters_of, texts, texts_on, strings_at, string_at, follow_at, element_at, go_on, many, elements_at, tuple_on, tuple_at, tail_of, tail_at, end_at, rest_on, rest_at, list_at, bracket_by, begin_by, group_at, term_at}
+use Rattle.bx_text.specs.Grammar.{Strings, no_string, a_string, Spells, an_integer, an_atom, strings, empty_tuple, a_tuple, empty_list, a_list, a_list_with_tail, a_float, an_empty_map, a_map, an_empty_binary, a_binary, a_fun, Row, one, more, Pairs, one_pair, more_pairs, Kept, Content, a_number, a_text, Size, no_size, a_size, Encoding, no_encoding, in_utf8, Segment, a_segment, Segments, one_segment, more_segments}
 use Rattle.bx_text.proofs.Outcomes.{Yields, yes, no, reads, also, bound, read, assoc}
-use Rattle.bx_text.proofs.Quoting.{text_is}
+use Rattle.bx_text.proofs.Quoting.{TextIs, text_so}
 use Rattle.bx_text.proofs.Texts.{valid_is}
 
 -- which token passes a test
@@ -81,16 +81,11 @@ kept_so {d} k l q f =
 -- strings
 texts_so : (k : ℕ) (p : Place) → Yields (λ (x : List Tree × Place). Strings p x.0 x.1) (texts k p)
 texts_so zero p = no
-texts_so (suc k) p = read (text_next p) (texts_on (texts k) p) (λ o e. by (texts_so k) o (text_is p o e))
+texts_so (suc k) p = bound _ (text_so p) (by (texts_so k))
   where
-    P : List Tree × Place → Type 0
-    P x = Strings p x.0 x.1
-
-    by : ((p : Place) → Yields (λ (x : List Tree × Place). Strings p x.0 x.1) (texts k p)) → (o : Option Lexeme) → ((o ≡ None) × NoString p) ⊎ ((l : Lexeme) × (o ≡ Some l) × (lexeme_at p ≡ Ok l) × ((w : Body) × (l.token ≡ token.text w))) → Yields P (texts_on (texts k) p o)
-    by again o (inl (n, s)) = subst (λ o. Yields P (texts_on (texts k) p o)) (sym n) (yes (no_string s))
-    by again o (inr (l, s, n, (w, t))) =
-        subst (λ o. Yields P (texts_on (texts k) p o)) (sym s)
-        (bound _ (again l.after) (λ x h. yes (subst (λ ts. Strings p (ts ++ x.0) x.1) (sym (ap (letters_of l) t)) (a_string n t h))))
+    by : ((p : Place) → Yields (λ (x : List Tree × Place). Strings p x.0 x.1) (texts k p)) → (o : Option Lexeme) → TextIs p o → Yields (λ (x : List Tree × Place). Strings p x.0 x.1) (texts_on (texts k) p o)
+    by again None s = yes (no_string s)
+    by again (Some l) (n, (w, t)) = bound _ (again l.after) (λ x h. yes (subst (λ ts. Strings p (ts ++ x.0) x.1) (sym (ap (letters_of l) t)) (a_string n t h)))
 
 strings_so : (l : Lexeme) (w : Body) → l.token ≡ token.text w → Yields (λ (x : List Tree × Place). (ts : List Tree) × Strings l.after ts x.1 × (letters (span l l.after) (spelled w) ++ ts ≡ x.0)) (strings_at l)
 strings_so l w t = bound _ (texts_so (length l.after.rest + 1) l.after) (λ x h. yes (x.0, h, ap (λ k. letters_of l k ++ x.0) (sym t)))

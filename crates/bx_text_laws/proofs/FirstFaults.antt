@@ -18,13 +18,12 @@ use Rattle.bx_text.specs.Terms.{Reading, span, taken, is_quote, is_comma, is_bar
 use Rattle.bx_text.specs.Terms as reader
 use Rattle.bx_text.specs.Grammar.{NoString}
 use Rattle.bx_text.proofs.Outcomes.{ok_same}
-use Rattle.bx_text.proofs.Quoting.{text_is}
+use Rattle.bx_text.proofs.Quoting.{text_so}
 use Rattle.bx_text_laws.specs.Tokens.{meant}
 use Rattle.bx_text_laws.specs.Spelling as spelling
 use Rattle.bx_text_laws.specs.Spelling.{Spelling}
 use Rattle.bx_text_laws.specs.Faults as faults
 use Rattle.bx_text_laws.specs.Faults.{Bracket, a_tuple, a_list, a_map, a_binary, Wanted, a_term, more_strings, first_in, more_in, a_value, a_size, an_encoding, a_name, a_number, the, parts, inside, Move, misplaced, Meets, Does, Refused}
-use Rattle.bx_text_laws.proofs.Finding.{standing}
 use Rattle.bx_text_laws.proofs.Finding as finding
 use Rattle.bx_text_laws.proofs.Longest.{sound}
 use Rattle.bx_text_laws.proofs.Failing.{err_from}
@@ -82,11 +81,8 @@ text_next_goes p = by (text_next p) refl
 
     by : (r : Result (Option Lexeme) Fault) → text_next p ≡ r → Going StringLeft (StringAt p) (more_strings ∷ []) p p r
     by (Err g) e = fails (λ us full f. its_own more_strings us p g f (text_fault p g e))
-    by (Ok o) e =
-        elim (text_is p o e) [
-          | inl x ↦ subst Goes (sym x.0) (goes p refl (clean_here p) (λ us full f. strings_end p x.1 us full f))
-          | inr x ↦ subst Goes (sym x.1) (text x.0 x.3.0 x.2 x.3.1)
-        ]
+    by (Ok None) e = goes p refl (clean_here p) (λ us full f. strings_end p ((text_so p).each None e) us full f)
+    by (Ok (Some l)) e = let (n, (w, t)) = (text_so p).each (Some l) e in text l w n t
 
 texts_goes : (k : ℕ) (p : Place) → length p.rest < k → Going Nothing Ends (more_strings ∷ []) p p (texts k p)
 texts_goes zero p lt = absurd (omega arith)
