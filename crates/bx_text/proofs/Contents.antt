@@ -73,18 +73,19 @@ unlike_large s t v f g e p q unlike same = by_form g q unlike (sym (ap (form_tre
     by_form (Large w) q unlike same = unlike w refl
     by_form s q unlike same = cc
 
--- tuples are as their rows
-pub same_tuples : (s t : Span) (xs ys : List Tree) → s ≡ t → (xs ≡ ys) ↔ (tuple s (chain xs nil) ≡ tuple t (chain ys nil))
-same_tuples s t xs ys at = (λ e. cc, λ e. let rows : chain xs nil ≡ chain ys nil = cc in (parted xs ys nil nil tt tt rows).0)
+-- tuples are as their rows, where the rows were told apart
+pub tuples_told : {T : Type 0} (s t : Span) (xs ys vs ws : List Tree) (x y : Tree) → s ≡ t → tuple s (chain xs nil) ≡ x → tuple t (chain ys nil) ≡ y → vs ≡ xs → ws ≡ ys → (T ↔ (vs ≡ ws)) → T ↔ (x ≡ y)
+tuples_told s t xs ys vs ws x y at mine others first second told =
+    (λ e. let same : vs ≡ ws = told.0 e in cc, λ e. let rows : chain xs nil ≡ chain ys nil = cc in told.1 (first ∙ (parted xs ys nil nil tt tt rows).0 ∙ sym second))
 
--- lists with one tail are as their rows
-pub same_lists : (s t : Span) (xs ys : List Tree) (u v : Tree) → s ≡ t → IsEnd u → IsEnd v → u ≡ v → (xs ≡ ys) ↔ (list s (chain xs u) ≡ list t (chain ys v))
-same_lists s t xs ys u v at p q end =
-    (λ e. cc, λ e. let rows : chain xs u ≡ chain ys v = cc in (parted xs ys u v p q rows).0)
+-- and so are lists with one tail
+pub lists_told : {T : Type 0} (s t : Span) (xs ys vs ws : List Tree) (u v x y : Tree) → s ≡ t → list s (chain xs u) ≡ x → list t (chain ys v) ≡ y → IsEnd u → IsEnd v → u ≡ v → vs ≡ xs → ws ≡ ys → (T ↔ (vs ≡ ws)) → T ↔ (x ≡ y)
+lists_told s t xs ys vs ws u v x y at mine others p q end first second told =
+    (λ e. let same : vs ≡ ws = told.0 e in cc, λ e. let rows : chain xs u ≡ chain ys v = cc in told.1 (first ∙ (parted xs ys u v p q rows).0 ∙ sym second))
 
 -- the same lists have one tail
-pub same_ends : (s t : Span) (xs ys : List Tree) (u v : Tree) → IsEnd u → IsEnd v → list s (chain xs u) ≡ list t (chain ys v) → u ≡ v
-same_ends s t xs ys u v p q e = let rows : chain xs u ≡ chain ys v = cc in (parted xs ys u v p q rows).1
+pub same_ends : (s t : Span) (xs ys : List Tree) (u v x y : Tree) → list s (chain xs u) ≡ x → list t (chain ys v) ≡ y → IsEnd u → IsEnd v → x ≡ y → u ≡ v
+same_ends s t xs ys u v x y mine others p q e = let rows : chain xs u ≡ chain ys v = cc in (parted xs ys u v p q rows).1
 
 -- a list's tail and its elements are smaller than the list
 pub tail_falls : (s : Span) (xs : List Tree) (u x : Tree) → list s (chain xs u) ≡ x → 2 * nodes u + 1 < 2 * nodes x
