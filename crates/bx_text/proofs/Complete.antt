@@ -11,7 +11,8 @@ use Rattle.bx_text.specs.Place.{Place}
 use Rattle.bx_text.specs.Token.{Lexeme}
 use Rattle.bx_text.specs.Tree.{Tree, other}
 use Rattle.bx_text.specs.Terms.{span, closes_tuple, closes_list, closes_binary, is_comma, taken, kept_at, pair_at, behind_token, parts, content_by, sized, encoded, segment_at, text_next, texts, many, term_at}
-use Rattle.bx_text.specs.Grammar.{NoString, Strings, no_string, a_string, Spells, an_integer, an_atom, strings, empty_tuple, a_tuple, empty_list, a_list, a_list_with_tail, a_float, an_empty_map, a_map, an_empty_binary, a_binary, a_fun, Row, one, more, Pairs, one_pair, more_pairs, Kept, Content, a_number, a_text, Size, no_size, a_size, Encoding, no_encoding, in_utf8, Segment, a_segment, Segments, one_segment, more_segments}
+use Rattle.bx_text.specs.Rules as rules
+use Rattle.bx_text.specs.Grammar.{Next, NoString, Strings, no_string, a_string, Spells, an_integer, an_atom, strings, empty_tuple, a_tuple, empty_list, a_list, a_list_with_tail, a_float, an_empty_map, a_map, an_empty_binary, a_binary, a_fun, Row, one, more, one_pair, more_pairs, Kept, a_number, a_text, no_size, a_size, no_encoding, in_utf8, a_segment, one_segment, more_segments}
 use Rattle.bx_text.proofs.Shorter.{next_shorter}
 use Rattle.bx_text.proofs.Quoting.{text_some}
 
@@ -30,22 +31,22 @@ strings_le : {p q : Place} {ts : List Tree} → Strings p ts q → length q.rest
 strings_le (no_string n) = omega arith
 strings_le (a_string {p = p} {l = l} n t s) = omega (arith, next_shorter p l n, strings_le s)
 
-content_le : {d : ℕ} {l : Lexeme} {q : Place} → Content d l q → length q.rest ≤ length l.after.rest
+content_le : {d : ℕ} {l : Lexeme} {q : Place} → rules.Content Next NoString d l q → length q.rest ≤ length l.after.rest
 content_le (a_number e) = omega arith
 content_le (a_text e s) = strings_le s
 
-size_le : {m n : Lexeme} → Size m n → length n.after.rest ≤ length m.after.rest
+size_le : {m n : Lexeme} → rules.Size Next NoString m n → length n.after.rest ≤ length m.after.rest
 size_le (no_size e) = omega arith
 size_le (a_size {m = m} {n = n} {k = k} e a i b) = omega (arith, next_shorter m.after n a, next_shorter n.after k b)
 
-encoding_le : {m n : Lexeme} → Encoding m n → length n.after.rest ≤ length m.after.rest
+encoding_le : {m n : Lexeme} → rules.Encoding Next NoString m n → length n.after.rest ≤ length m.after.rest
 encoding_le (no_encoding e) = omega arith
 encoding_le (in_utf8 {m = m} {n = n} {k = k} e a i w b) = omega (arith, next_shorter m.after n a, next_shorter n.after k b)
 
-segment_lt : {d : ℕ} {l m : Lexeme} → Segment d l m → length m.after.rest < length l.after.rest
+segment_lt : {d : ℕ} {l m : Lexeme} → rules.Segment Next NoString d l m → length m.after.rest < length l.after.rest
 segment_lt (a_segment {m = m} {q = q} c n s e) = omega (arith, content_le c, next_shorter q m n, size_le s, encoding_le e)
 
-segments_lt : {d : ℕ} {l m : Lexeme} → Segments d l m → length m.after.rest < length l.after.rest
+segments_lt : {d : ℕ} {l m : Lexeme} → rules.Segments Next NoString d l m → length m.after.rest < length l.after.rest
 segments_lt (one_segment s) = segment_lt s
 segments_lt (more_segments {comma = comma} {next = next} s c n r) = omega (arith, segment_lt s, next_shorter comma.after next n, segments_lt r)
 
@@ -70,7 +71,7 @@ mutual
   row_lt (one {m = m} {r = q} s n) = omega (arith, term_le s, next_shorter q m n)
   row_lt (more {comma = comma} {next = next} {r = q} s n c f r) = omega (arith, term_le s, next_shorter q comma n, next_shorter comma.after next f, row_lt r)
 
-  pairs_lt : {d : ℕ} {l m : Lexeme} → Pairs d l m → length m.after.rest < length l.after.rest
+  pairs_lt : {d : ℕ} {l m : Lexeme} → rules.Pairs Next NoString d l m → length m.after.rest < length l.after.rest
   pairs_lt (one_pair {arrow = arrow} {v = v} {m = m} {r = r} {q = q} s a c b w n) = omega (arith, term_le s, next_shorter r arrow a, next_shorter arrow.after v b, term_le w, next_shorter q m n)
   pairs_lt (more_pairs {arrow = arrow} {v = v} {comma = comma} {next = next} {r = r} {q = q} s a c b w n e f p) =
       omega (arith, term_le s, next_shorter r arrow a, next_shorter arrow.after v b, term_le w, next_shorter q comma n, next_shorter comma.after next f, pairs_lt p)
@@ -83,18 +84,18 @@ row_opens : {d : ℕ} {l m : Lexeme} {ts : List Tree} → Row d l ts m → (clos
 row_opens (one s n) = opens s
 row_opens (more s n c f r) = opens s
 
-pairs_open : {d : ℕ} {l m : Lexeme} → Pairs d l m → closes_tuple l.token ≡ false
+pairs_open : {d : ℕ} {l m : Lexeme} → rules.Pairs Next NoString d l m → closes_tuple l.token ≡ false
 pairs_open (one_pair s a c b w n) = (opens s).0
 pairs_open (more_pairs s a c b w n e f p) = (opens s).0
 
-content_opens : {d : ℕ} {l : Lexeme} {q : Place} → Content d l q → closes_binary l.token ≡ false
+content_opens : {d : ℕ} {l : Lexeme} {q : Place} → rules.Content Next NoString d l q → closes_binary l.token ≡ false
 content_opens (a_number e) = ap closes_binary e
 content_opens (a_text e s) = ap closes_binary e
 
-segment_opens : {d : ℕ} {l m : Lexeme} → Segment d l m → closes_binary l.token ≡ false
+segment_opens : {d : ℕ} {l m : Lexeme} → rules.Segment Next NoString d l m → closes_binary l.token ≡ false
 segment_opens (a_segment c n s e) = content_opens c
 
-segments_open : {d : ℕ} {l m : Lexeme} → Segments d l m → closes_binary l.token ≡ false
+segments_open : {d : ℕ} {l m : Lexeme} → rules.Segments Next NoString d l m → closes_binary l.token ≡ false
 segments_open (one_segment s) = segment_opens s
 segments_open (more_segments s c n r) = segment_opens s
 
@@ -105,22 +106,22 @@ kept_is k l q u =
     let t : (utf8_valid_len (taken l q) == length (taken l q)) ≡ true = grind (arith, nat_tests) in rw t refl
 
 -- a binary's segments
-content_is : {d : ℕ} {l : Lexeme} {q : Place} → Content d l q → content_by d l l.token ≡ Ok q
+content_is : {d : ℕ} {l : Lexeme} {q : Place} → rules.Content Next NoString d l q → content_by d l l.token ≡ Ok q
 content_is (a_number e) = rw e refl
 content_is (a_text {l = l} e s) = rw (e, texts_are s (length l.after.rest + 1) (omega arith)) refl
 
-size_is : {m n : Lexeme} → Size m n → sized m ≡ Ok n
+size_is : {m n : Lexeme} → rules.Size Next NoString m n → sized m ≡ Ok n
 size_is (no_size e) = rw e refl
 size_is (a_size e a i b) = rw (e, a, i, b) refl
 
-encoding_is : {m n : Lexeme} → Encoding m n → encoded m ≡ Ok n
+encoding_is : {m n : Lexeme} → rules.Encoding Next NoString m n → encoded m ≡ Ok n
 encoding_is (no_encoding e) = rw e refl
 encoding_is (in_utf8 e a i w b) = rw (e, a, i, (bytes_eq-Decides _ (codes "utf8")).1 w, b) refl
 
-segment_is : {d : ℕ} {l m : Lexeme} → Segment d l m → segment_at d l ≡ behind_token m
+segment_is : {d : ℕ} {l m : Lexeme} → rules.Segment Next NoString d l m → segment_at d l ≡ behind_token m
 segment_is (a_segment c a s o) = rw (content_is c, a, size_is s, encoding_is o) refl
 
-segments_is : {d : ℕ} {l m : Lexeme} → Segments d l m → is_comma m.token ≡ false → (k : ℕ) → length l.after.rest < k → parts (segment_at d) k l ≡ Ok m
+segments_is : {d : ℕ} {l m : Lexeme} → rules.Segments Next NoString d l m → is_comma m.token ≡ false → (k : ℕ) → length l.after.rest < k → parts (segment_at d) k l ≡ Ok m
 segments_is (one_segment s) c zero f = absurd (omega arith)
 segments_is (more_segments s b a r) c zero f = absurd (omega arith)
 segments_is (one_segment s) c (suc k) f = rw (segment_is s, c) refl
@@ -150,7 +151,7 @@ mutual
   complete_row (more {comma = comma} {next = next} {r = q} s n b h r) c (suc k) f =
       rw (complete s, n, b, h, complete_row r c k (omega (arith, term_le s, next_shorter q comma n, next_shorter comma.after next h))) refl
 
-  complete_pairs : {d : ℕ} {l m : Lexeme} → Pairs d l m → is_comma m.token ≡ false → (k : ℕ) → length l.after.rest < k → parts (pair_at (term_at d)) k l ≡ Ok m
+  complete_pairs : {d : ℕ} {l m : Lexeme} → rules.Pairs Next NoString d l m → is_comma m.token ≡ false → (k : ℕ) → length l.after.rest < k → parts (pair_at (term_at d)) k l ≡ Ok m
   complete_pairs (one_pair s a c b w n) e zero f = absurd (omega arith)
   complete_pairs (more_pairs s a c b w n g h p) e zero f = absurd (omega arith)
   complete_pairs (one_pair s a c b w n) e (suc k) f = rw (complete s, a, c, b, complete w, n, e) refl

@@ -15,7 +15,8 @@ use Rattle.bx_text.specs.Token.{Body, spelled, Token, Lexeme}
 use Rattle.bx_text.specs.Lexing.{lexeme_at}
 use Rattle.bx_text.specs.Tree.{Tree, list, other, nil, chain}
 use Rattle.bx_text.specs.Terms.{Follow, next, end, span, closed, closes_tuple, closes_list, is_comma, is_bar, is_stop, closes_binary, is_arrow, is_colon, is_slash, is_atom, is_integer, is_utf8_name, taken, kept_at, want, passed, value_at, pair_at, go_through, parts, parts_at, map_on, map_at, content_by, sized, encoded, behind_token, segment_at, binary_on, binary_at, fun_at, letters, letters_of, texts, texts_on, strings_at, string_at, follow_at, element_at, go_on, many, elements_at, tuple_on, tuple_at, tail_of, tail_at, end_at, rest_on, rest_at, list_at, bracket_by, begin_by, group_at, term_at}
-use Rattle.bx_text.specs.Grammar.{Strings, no_string, a_string, Spells, an_integer, an_atom, strings, empty_tuple, a_tuple, empty_list, a_list, a_list_with_tail, a_float, an_empty_map, a_map, an_empty_binary, a_binary, a_fun, Row, one, more, Pairs, one_pair, more_pairs, Kept, Content, a_number, a_text, Size, no_size, a_size, Encoding, no_encoding, in_utf8, Segment, a_segment, Segments, one_segment, more_segments}
+use Rattle.bx_text.specs.Rules as rules
+use Rattle.bx_text.specs.Grammar.{Next, NoString, Strings, no_string, a_string, Spells, an_integer, an_atom, strings, empty_tuple, a_tuple, empty_list, a_list, a_list_with_tail, a_float, an_empty_map, a_map, an_empty_binary, a_binary, a_fun, Row, one, more, one_pair, more_pairs, Kept, a_number, a_text, no_size, a_size, no_encoding, in_utf8, a_segment, one_segment, more_segments}
 use Rattle.bx_text.proofs.Outcomes.{Yields, yes, no, reads, also, bound, read, assoc}
 use Rattle.bx_text.proofs.Quoting.{TextIs, text_so}
 use Rattle.bx_text.proofs.Texts.{valid_is}
@@ -165,13 +166,13 @@ pair_so d sound l =
     assoc (passed (term_at d l) >>= want is_arrow) (value_at (term_at d)) follow_at (assoc (passed (term_at d l)) (want is_arrow) _ (assoc (term_at d l) (λ x. Ok x.1) _
     (bound _ (sound l) (λ x s. wanted is_arrow x.1 _ (λ arrow a c. bound _ (value_so d sound arrow.after) (λ q v. also (λ f g. (x.0, x.1, arrow, q, s, a, arrow_is arrow.token c, v, g)) (follow_so q)))))))
 
-pairs_so : (d : ℕ) → IsSound d → (k : ℕ) (l : Lexeme) → Yields (Pairs d l) (parts (pair_at (term_at d)) k l)
+pairs_so : (d : ℕ) → IsSound d → (k : ℕ) (l : Lexeme) → Yields (rules.Pairs Next NoString d l) (parts (pair_at (term_at d)) k l)
 pairs_so d sound zero l = no
 pairs_so d sound (suc k) l = bound _ (pair_so d sound l) (on (pairs_so d sound k))
   where
-    on : ((l : Lexeme) → Yields (Pairs d l) (parts (pair_at (term_at d)) k l)) → (f : Follow) → PairOf d l f → Yields (Pairs d l) (go_through (parts (pair_at (term_at d)) k) f)
+    on : ((l : Lexeme) → Yields (rules.Pairs Next NoString d l) (parts (pair_at (term_at d)) k l)) → (f : Follow) → PairOf d l f → Yields (rules.Pairs Next NoString d l) (go_through (parts (pair_at (term_at d)) k) f)
     on rest (next n) (t, r, arrow, q, s, a, c, (v, u, b, w), (m, x, (y, z))) = also (λ e p. more_pairs s a c b w x y z p) (rest n)
-    on rest (end n) (t, r, arrow, q, s, a, c, (v, u, b, w), (m, x, e)) = yes (subst (Pairs d l) e (one_pair s a c b w x))
+    on rest (end n) (t, r, arrow, q, s, a, c, (v, u, b, w), (m, x, e)) = yes (subst (rules.Pairs Next NoString d l) e (one_pair s a c b w x))
 
 map_so : (d : ℕ) → IsSound d → (l : Lexeme) → l.token ≡ token.open_map → Yields (Said (suc d) l) (map_at (term_at d) l)
 map_so d sound l t =
@@ -180,33 +181,33 @@ map_so d sound l t =
     (λ e r. shut closes_tuple e _ (λ c. kept_so sort.Map l e.after (λ w. a_map t n r (tuple_close_is e.token c) w))))))
 
 -- binaries
-content_so : (d : ℕ) (l : Lexeme) (k : Token) → l.token ≡ k → Yields (Content d l) (content_by d l k)
+content_so : (d : ℕ) (l : Lexeme) (k : Token) → l.token ≡ k → Yields (rules.Content Next NoString d l) (content_by d l k)
 content_so d l (token.integer n) t = yes (a_number t)
 content_so (suc d) l (token.text w) t = bound _ (strings_so l w t) (λ x h. yes (a_text t h.1))
 content_so d l s t = no
 
-sized_so : (m : Lexeme) → Yields (Size m) (sized m)
+sized_so : (m : Lexeme) → Yields (rules.Size Next NoString m) (sized m)
 sized_so m =
-    cond_both (is_colon m.token) _ _ (Yields (Size m)) (λ c. wanted is_integer m.after lexeme_at (λ n a i. also (λ k b. a_size (colon_is m.token c) a (integer_is n.token i).1 b) (reads (lexeme_at n.after)))) (λ c. yes (no_size c))
+    cond_both (is_colon m.token) _ _ (Yields (rules.Size Next NoString m)) (λ c. wanted is_integer m.after lexeme_at (λ n a i. also (λ k b. a_size (colon_is m.token c) a (integer_is n.token i).1 b) (reads (lexeme_at n.after)))) (λ c. yes (no_size c))
 
-encoded_so : (m : Lexeme) → Yields (Encoding m) (encoded m)
+encoded_so : (m : Lexeme) → Yields (rules.Encoding Next NoString m) (encoded m)
 encoded_so m =
-    cond_both (is_slash m.token) _ _ (Yields (Encoding m))
+    cond_both (is_slash m.token) _ _ (Yields (rules.Encoding Next NoString m))
     (λ c. wanted is_utf8_name m.after lexeme_at (λ n a i. let u = utf8_is n.token i in also (λ k b. in_utf8 (slash_is m.token c) a u.1 u.2 b) (reads (lexeme_at n.after)))) (λ c. yes (no_encoding c))
 
-segment_so : (d : ℕ) (l : Lexeme) → Yields (λ f. (e : Lexeme) × Segment d l e × GoesOn e f) (segment_at d l)
+segment_so : (d : ℕ) (l : Lexeme) → Yields (λ f. (e : Lexeme) × rules.Segment Next NoString d l e × GoesOn e f) (segment_at d l)
 segment_so d l =
     let r = content_by d l l.token in
     assoc (r >>= lexeme_at >>= sized) encoded behind_token (assoc (r >>= lexeme_at) sized _ (assoc r lexeme_at _ (bound _ (content_so d l l.token refl) (λ q c. read (lexeme_at q) _ (λ m a. bound _ (sized_so m)
     (λ n s. bound _ (encoded_so n) (λ e o. also (λ f g. (e, a_segment c a s o, g)) (behind_so e))))))))
 
-segments_so : (d k : ℕ) (l : Lexeme) → Yields (Segments d l) (parts (segment_at d) k l)
+segments_so : (d k : ℕ) (l : Lexeme) → Yields (rules.Segments Next NoString d l) (parts (segment_at d) k l)
 segments_so d zero l = no
 segments_so d (suc k) l = bound _ (segment_so d l) (on (segments_so d k))
   where
-    on : ((l : Lexeme) → Yields (Segments d l) (parts (segment_at d) k l)) → (f : Follow) → (e : Lexeme) × Segment d l e × GoesOn e f → Yields (Segments d l) (go_through (parts (segment_at d) k) f)
+    on : ((l : Lexeme) → Yields (rules.Segments Next NoString d l) (parts (segment_at d) k l)) → (f : Follow) → (e : Lexeme) × rules.Segment Next NoString d l e × GoesOn e f → Yields (rules.Segments Next NoString d l) (go_through (parts (segment_at d) k) f)
     on rest (next n) (e, s, (c, a)) = also (λ m r. more_segments s c a r) (rest n)
-    on rest (end n) (e, s, is) = yes (subst (Segments d l) is (one_segment s))
+    on rest (end n) (e, s, is) = yes (subst (rules.Segments Next NoString d l) is (one_segment s))
 
 binary_so : (d : ℕ) (l : Lexeme) → l.token ≡ token.open_binary → Yields (Said (suc d) l) (binary_at d l)
 binary_so d l t =

@@ -24,26 +24,6 @@ NoString p = (q : Place) × (skip p ≡ Ok q) × (begins is_quote q.rest ≡ fal
 abbrev pub Strings : Place → List Tree → Place → Type 0
 Strings = rules.Strings Next NoString
 
--- what a binary's segment holds, from the token l on, and the place behind it
-abbrev pub Content : ℕ → Lexeme → Place → Type 0
-Content = rules.Content Next NoString
-
--- an optional size from the token m on, and the token behind it
-abbrev pub Size : Lexeme → Lexeme → Type 0
-Size = rules.Size Next NoString
-
--- an optional encoding, the same
-abbrev pub Encoding : Lexeme → Lexeme → Type 0
-Encoding = rules.Encoding Next NoString
-
--- a segment from the token l on, and the token behind it
-abbrev pub Segment : ℕ → Lexeme → Lexeme → Type 0
-Segment = rules.Segment Next NoString
-
--- segments from the token l on, a comma between two, and the token m behind the last
-abbrev pub Segments : ℕ → Lexeme → Lexeme → Type 0
-Segments = rules.Segments Next NoString
-
 -- the term that the tokens from l on spell, where brackets nest at most d deep, and the place behind it
 abbrev pub Spells : ℕ → Lexeme → Tree → Place → Type 0
 Spells = rules.Spells Next NoString
@@ -51,10 +31,6 @@ Spells = rules.Spells Next NoString
 -- elements from the token l on, a comma between two, and the token m behind the last
 abbrev pub Row : ℕ → Lexeme → List Tree → Lexeme → Type 0
 Row = rules.Row Next NoString
-
--- a map's pairs from the token l on, a comma between two, and the token m behind the last
-abbrev pub Pairs : ℕ → Lexeme → Lexeme → Type 0
-Pairs = rules.Pairs Next NoString
 
 -- a term from p on and its full stop, where brackets nest at most d deep, and the place behind the stop
 abbrev pub Form : ℕ → Place → Tree → Place → Type 0

@@ -22,7 +22,7 @@ pub use Rattle.bx_text_laws.specs.Shown.{IsReadBack, IsStanding, Shown, ShownLis
 pub use Rattle.bx_text_laws.specs.Spelling.{Begins, Digits, Exponent, InUtf8, MayFollow, Minus, Sign, Spelling, StopsAt, a_minus, an_exponent, arrow, bar, bare_atom, close_binary, close_list}
 pub use Rattle.bx_text_laws.specs.Spelling.{close_parenthesis, close_tuple, colon, comma, float, full_stop, minus, negative, no_exponent, no_minus, no_sign, open_binary, open_list, open_map}
 pub use Rattle.bx_text_laws.specs.Spelling.{open_parenthesis, open_tuple, plus, quoted_atom, string, the_word_fun}
-pub use Rattle.bx_text_laws.specs.Terms.{Elements, Encoded, Held, NoQuote, NoText, OnlyBlanks, Pairs, Part, Parts, Sentence, Sized, Stood, Term, Texts}
+pub use Rattle.bx_text_laws.specs.Terms.{NoQuote, NoText, OnlyBlanks, Sentence, Stood, Term, Texts}
 pub use Rattle.bx_text_laws.specs.Tokens.{Longest, NoLonger, Stands, Takes, lines, meant}
 pub use Rattle.std.proofs.Common.{Bool, Err, IsUtf8, List, None, Ok, Result, Some, [], add-zero, ap, append-nil, append_assoc, arith, chars, codes, cond, drop, drop-drop, drop_at, encode_utf8_all, eqb}
 pub use Rattle.std.proofs.Common.{false, get_or, if◌then◌else◌, inl, inr, le_of_eq, le_refl, leb, length, length-append, length-drop, ltb, map, neg_ℤ, not, pos, refl, subst, suc, sym, take, take_all}

@@ -1,7 +1,7 @@
 -- A term put where other bytes follow it.
 use Rattle.bx_text_laws.proofs.Commons.{◌≡◌, ◌≢◌, ℕ, suc, ◌+◌, true, false, ◌≤◌, List, [], ◌∷◌, ◌++◌, take, length, refl, sym, ap, ◌∙◌, subst, arith, codes, append_assoc, length-append, IsUtf8, both_ways}
 use Rattle.bx_text_laws.proofs.Commons.{Span, Sort, Place, after, name_len, word, Token, Body, Lexeme, spelled, span, letters, tail_of, is_colon, is_slash, is_stop, Tree, atom, tuple, list, other, nil, chain, Spelling}
-use Rattle.bx_text_laws.proofs.Commons.{Stood, NoText, Texts, Held, Sized, Encoded, Part, Parts, Term, Elements, Pairs}
+use Rattle.bx_text_laws.proofs.Commons.{Stood, NoText, Texts, Term}
 use Rattle.bx_text.specs.declared.node.Sort.TheVariants as sort
 use Rattle.bx_text.specs.Named as named
 use Rattle.bx_text.specs.Token as token
@@ -27,16 +27,16 @@ abbrev From : (Lexeme → Lexeme → Type 0) → Lexeme → Place → Place → 
 From P m p2 r2 = (k f : Lexeme) × Stood p2 k × P k f × (f.token ≡ m.token) × (f.after ≡ r2)
 
 -- a binary's segments
-encoded_run : {n e : Lexeme} → Encoded n e → (p : Place) → Stood p n → shuts e.token ≡ true → Shut p e.after Any (From (λ b f. (b.token ≡ n.token) × Encoded b f) e)
+encoded_run : {n e : Lexeme} → rules.Encoding Stood NoText n e → (p : Place) → Stood p n → shuts e.token ≡ true → Shut p e.after Any (From (λ b f. (b.token ≡ n.token) × rules.Encoding Stood NoText b f) e)
 encoded_run (rules.no_encoding {m = m} t) p st c = shutting (shut_token {May = Any} p m st c) (λ p2 q2 x. (x.0, x.0, x.1, (x.2, rules.no_encoding (ap is_slash x.2 ∙ t)), x.2, x.3))
 encoded_run (rules.in_utf8 {m = m} {n = n} {k = k} t a i u b) p st c =
     shutting (shut_more p m st (ap shuts t) (before_shut m.after n a (no_stop n.token i refl) (shut_token {May = Any} n.after k b c)))
     (λ p2 r2 (q2, x, w). (x.0, w.2.0, x.1, (x.2, rules.in_utf8 (x.2 ∙ t) (from_there w.1.0 x.3 w.1.1) (w.1.2 ∙ i) u (from_there w.2.0 w.1.3 w.2.1)), w.2.2, w.2.3))
 
 abbrev SizedFrom : Lexeme → Lexeme → Place → Place → Type 0
-SizedFrom m e p2 r2 = From (λ a f. (a.token ≡ m.token) × (b : Lexeme) × Sized a b × Encoded b f) e p2 r2
+SizedFrom m e p2 r2 = From (λ a f. (a.token ≡ m.token) × (b : Lexeme) × rules.Size Stood NoText a b × rules.Encoding Stood NoText b f) e p2 r2
 
-sized_run : {m n e : Lexeme} → Sized m n → Encoded n e → (p : Place) → Stood p m → shuts e.token ≡ true → Shut p e.after Any (SizedFrom m e)
+sized_run : {m n e : Lexeme} → rules.Size Stood NoText m n → rules.Encoding Stood NoText n e → (p : Place) → Stood p m → shuts e.token ≡ true → Shut p e.after Any (SizedFrom m e)
 sized_run (rules.no_size {m = m} t) k p st c = shutting (encoded_run k p st c) (λ p2 r2 x. (x.0, x.1, x.2, (x.3.0, x.0, rules.no_size (ap is_colon x.3.0 ∙ t), x.3.1), x.4, x.5))
 sized_run (rules.a_size {m = m} {n = n} {k = k} {i = i} t a j b) y p st c =
     shutting (shut_more p m st (ap shuts t) (before_shut m.after n a (no_stop n.token j refl) (encoded_run y n.after b c)))
@@ -55,20 +55,20 @@ texts_run (rules.a_string {p = p} {q = q} {l = l} {b = b} {ts = ts} st t s) =
     doing (solid_before p l st (ap ends t) (texts_run s)) (λ p2 r2 (q2, x, y). (letters (span x.0 x.0.after) (spelled b) ++ y.0, rules.a_string x.1 (x.2 ∙ t) (subst (λ r. Texts r y.0 r2) (sym x.3) y.1)))
 
 abbrev HeldFrom : ℕ → (Place → Place → Type 0) → Place → Place → Type 0
-HeldFrom d E p2 r2 = (k : Lexeme) × (q2 : Place) × Stood p2 k × Held d k q2 × E q2 r2
+HeldFrom d E p2 r2 = (k : Lexeme) × (q2 : Place) × Stood p2 k × rules.Content Stood NoText d k q2 × E q2 r2
 
-held_run : {d : ℕ} {l : Lexeme} {q r : Place} {E : Place → Place → Type 0} → Held d l q → (p : Place) → Stood p l → Shut q r Any E → Run p r Any (HeldFrom d E)
+held_run : {d : ℕ} {l : Lexeme} {q r : Place} {E : Place → Place → Type 0} → rules.Content Stood NoText d l q → (p : Place) → Stood p l → Shut q r Any E → Run p r Any (HeldFrom d E)
 held_run (rules.a_number {d = d} {l = l} {n = n} t) p st two =
-    doing (before_shut p l st (no_stop l.token t refl) two) (λ p2 r2 (q2, x, y). (x.0, q2, x.1, subst (λ q. Held d x.0 q) x.3 (rules.a_number (x.2 ∙ t)), y))
+    doing (before_shut p l st (no_stop l.token t refl) two) (λ p2 r2 (q2, x, y). (x.0, q2, x.1, subst (λ q. rules.Content Stood NoText d x.0 q) x.3 (rules.a_number (x.2 ∙ t)), y))
 held_run (rules.a_text {d = d} {l = l} t s) p st two =
     doing (solid_before p l st (ap ends t) (then (texts_run s) two.run (λ Y a. (two.shut Y a).text)))
     (λ p2 r2 (q2, x, w). (x.0, w.0, x.1, rules.a_text (x.2 ∙ t) (subst (λ r. Texts r w.1.0 w.0) (sym x.3) w.1.1), w.2))
 
-part_run : {d : ℕ} {l e : Lexeme} → Part d l e → (p : Place) → Stood p l → shuts e.token ≡ true → Run p e.after Any (From (Part d) e)
+part_run : {d : ℕ} {l e : Lexeme} → rules.Segment Stood NoText d l e → (p : Place) → Stood p l → shuts e.token ≡ true → Run p e.after Any (From (rules.Segment Stood NoText d) e)
 part_run (rules.a_segment {q = q} h a s k) p st c =
     doing (held_run h p st (sized_run s k q a c)) (λ p2 r2 x. (x.0, x.4.1, x.2, rules.a_segment x.3 x.4.2 x.4.3.2 x.4.3.3, x.4.4, x.4.5))
 
-parts_run : {d : ℕ} {l m : Lexeme} → Parts d l m → (p : Place) → Stood p l → shuts m.token ≡ true → Run p m.after Any (From (Parts d) m)
+parts_run : {d : ℕ} {l m : Lexeme} → rules.Segments Stood NoText d l m → (p : Place) → Stood p l → shuts m.token ≡ true → Run p m.after Any (From (rules.Segments Stood NoText d) m)
 parts_run (rules.one_segment x) p st c = doing (part_run x p st c) (λ p2 r2 y. (y.0, y.1, y.2, rules.one_segment y.3, y.4, y.5))
 parts_run (rules.more_segments {comma = comma} x t a r) p st c =
     doing (then (part_run x p st (ap shuts t)) (parts_run r comma.after a c) (λ Y u. tt))
@@ -140,7 +140,7 @@ kept_built d l q a k e q2 is same w make =
 
 -- elements with their trees
 abbrev Listed : ℕ → Lexeme → Lexeme → Type 0
-Listed d k f = (us : List Tree) × Elements d k us f
+Listed d k f = (us : List Tree) × rules.Row Stood NoText d k us f
 
 mutual
   pub term_run : {d : ℕ} {l : Lexeme} {t : Tree} {q : Place} → Term d l t q → (p : Place) → Stood p l → Run p q Closes (TermFrom d t)
@@ -202,7 +202,7 @@ mutual
       kept_built d l n.after sort.Fun k n2.0.after q2 n2.3 same r
       (λ u. rules.a_fun (tk ∙ t) f2.1 (f2.2 ∙ x) (from_there c2.0 f2.3 c2.1) (c2.2 ∙ y) (from_there g2.0 c2.3 g2.1) (g2.2 ∙ z) (from_there s2.0 g2.3 s2.1) (s2.2 ∙ o) (from_there n2.0 s2.3 n2.1) (n2.2 ∙ j) u))
 
-  elements_run : {d : ℕ} {l m : Lexeme} {ts : List Tree} → Elements d l ts m → (p : Place) → Stood p l → shuts m.token ≡ true → Run p m.after Any (From (Listed d) m)
+  elements_run : {d : ℕ} {l m : Lexeme} {ts : List Tree} → rules.Row Stood NoText d l ts m → (p : Place) → Stood p l → shuts m.token ≡ true → Run p m.after Any (From (Listed d) m)
   elements_run (rules.one {m = m} {r = r} x y) p st c =
       let last = shut_token {May = Any} r m y c in
       doing (then (term_run x p st) last.run last.shut) (λ p2 r2 (q2, x, y). (x.0, y.0, x.2, (x.1 ∷ [], rules.one x.3 y.1), y.2, y.3))
@@ -211,7 +211,7 @@ mutual
       doing (then (term_run x p st) behind.run behind.shut)
       (λ p2 r2 (q2, x, w). let (q3, y, z) = w in (x.0, z.1, x.2, (x.1 ∷ z.3.0, rules.more x.3 y.1 (y.2 ∙ k) (from_there z.0 y.3 z.2) z.3.1), z.4, z.5))
 
-  pairs_run : {d : ℕ} {l m : Lexeme} → Pairs d l m → (p : Place) → Stood p l → shuts m.token ≡ true → Run p m.after Any (From (Pairs d) m)
+  pairs_run : {d : ℕ} {l m : Lexeme} → rules.Pairs Stood NoText d l m → (p : Place) → Stood p l → shuts m.token ≡ true → Run p m.after Any (From (rules.Pairs Stood NoText d) m)
   pairs_run (rules.one_pair {arrow = arrow} {m = m} {r = r} {q = q} x a k b y z) p st c =
       let last = shut_token {May = Any} q m z c in
       let behind = shut_more {May = Any} r arrow a (ap shuts k) (then (term_run y arrow.after b) last.run last.shut) in

@@ -1,7 +1,7 @@
 -- What was read is printed and read back.
 use Rattle.bx_text_laws.proofs.Commons.{◌≡◌, ℕ, zero, suc, ◌*◌, ◌^◌, ◌%◌, ◌≤◌, ◌<◌, true, pos, List, [], ◌∷◌, ◌++◌, map, length, length-append, Some, Ok, refl, ap, subst, arith, IsUtf8, chars}
 use Rattle.bx_text_laws.proofs.Commons.{encode_utf8_all, AllByRecursion, all_scalars, and_parts, and_from, Span, Place, Token, Lexeme, span, letters, tail_of, Tree, other, nil, chain, Quoted, Named}
-use Rattle.bx_text_laws.proofs.Commons.{StandsAs, Shown, ShownRow, ShownList, ShownRest, IsReadBack, Spelling, Sort, Stood, NoText, Texts, Term, Elements, Sentence, Numeral, one_digit, Body, spelled}
+use Rattle.bx_text_laws.proofs.Commons.{StandsAs, Shown, ShownRow, ShownList, ShownRest, IsReadBack, Spelling, Sort, Stood, NoText, Texts, Term, Sentence, Numeral, one_digit, Body, spelled}
 use Rattle.bx_text_laws.proofs.Commons.{digit_more}
 use Rattle.std.proofs.Math.Utf8.{low_scalar}
 use Rattle.std.proofs.Math.Nat.{pow-zero, pow-succ', pow-le-pow_right, mul-le-mul_left}
@@ -87,7 +87,7 @@ texts_shown : {p q : Place} {ts : List Tree} → Texts p ts q → (d : ℕ) → 
 texts_shown (rules.no_string n) d = tt
 texts_shown (rules.a_string {l = l} {b = b} {ts = ts} st t s) d = letters_shown d (span l l.after) (chars (spelled b)) ts (texts_shown s d)
 
-some_elements : {d : ℕ} {l m : Lexeme} {ts : List Tree} → Elements d l ts m → 0 < length ts
+some_elements : {d : ℕ} {l m : Lexeme} {ts : List Tree} → rules.Row Stood NoText d l ts m → 0 < length ts
 some_elements s = grind arith
 
 kept_shown : {d : ℕ} {l : Lexeme} {s : Span} {k : Sort} {w : List ℕ} {q : Place} → Term d l (other s k w) q → Somewhere l → (e : ℕ) → d ≤ e → StandsAs e k w × StandsAs e k w
@@ -117,7 +117,7 @@ mutual
   term_shown t s zero h = absurd (omega arith)
   term_shown t s (suc e) h = (tt, tt)
 
-  elements_shown : {d : ℕ} {l m : Lexeme} {ts : List Tree} → Elements d l ts m → Somewhere l → (e : ℕ) → d ≤ e → AllByRecursion (Shown e) ts
+  elements_shown : {d : ℕ} {l m : Lexeme} {ts : List Tree} → rules.Row Stood NoText d l ts m → Somewhere l → (e : ℕ) → d ≤ e → AllByRecursion (Shown e) ts
   elements_shown (rules.one t st) s e h = ((term_shown t s e h).0, tt)
   elements_shown (rules.more {comma = comma} t st k n r) s e h = ((term_shown t s e h).0, elements_shown r (comma.after, n) e h)
 

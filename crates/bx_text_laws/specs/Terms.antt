@@ -26,37 +26,9 @@ NoText p = (q : Place) × Passes p q × NoQuote q.rest
 abbrev pub Texts : Place → List Tree → Place → Type 0
 Texts = rules.Strings Stood NoText
 
--- what a binary's segment holds, from the token l on, and the place behind it
-abbrev pub Held : ℕ → Lexeme → Place → Type 0
-Held = rules.Content Stood NoText
-
--- an optional size from the token m on, and the token behind it
-abbrev pub Sized : Lexeme → Lexeme → Type 0
-Sized = rules.Size Stood NoText
-
--- an optional encoding, the same
-abbrev pub Encoded : Lexeme → Lexeme → Type 0
-Encoded = rules.Encoding Stood NoText
-
--- a segment from the token l on, and the token behind it
-abbrev pub Part : ℕ → Lexeme → Lexeme → Type 0
-Part = rules.Segment Stood NoText
-
--- segments from the token l on, a comma between two, and the token m behind the last
-abbrev pub Parts : ℕ → Lexeme → Lexeme → Type 0
-Parts = rules.Segments Stood NoText
-
 -- the term that the tokens from l on are, where brackets nest at most d deep, and the place behind it
 abbrev pub Term : ℕ → Lexeme → Tree → Place → Type 0
 Term = rules.Spells Stood NoText
-
--- elements from the token l on, a comma between two, and the token m behind the last
-abbrev pub Elements : ℕ → Lexeme → List Tree → Lexeme → Type 0
-Elements = rules.Row Stood NoText
-
--- a map's pairs from the token l on, a comma between two, and the token m behind the last
-abbrev pub Pairs : ℕ → Lexeme → Lexeme → Type 0
-Pairs = rules.Pairs Stood NoText
 
 -- a term from p on and its full stop, where brackets nest at most d deep, and the place behind the stop
 abbrev pub Sentence : ℕ → Place → Tree → Place → Type 0
