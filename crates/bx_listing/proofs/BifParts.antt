@@ -1,11 +1,7 @@
 -- The parts of a form, as slices of them.
-use Rattle.std.proofs.Common.{◌≡◌, ℕ, ◌≤◌, ◌-◌, length, take, drop, get_or, List, ◌∷◌, false, Option, Some, refl, ap, ◌∙◌, arith}
-use Rattle.std.proofs.Math.Seq.{take-length}
-use Rattle.bx_text.specs.Tree.{Tree}
-use Rattle.bx_ops.specs.GuardBifs.{guard_bif_with}
-use Rattle.bx_ops.specs.declared.opcode.Op.{Op}
-use Rattle.bx_listing.specs.Shape.{word, list_elements}
-use Rattle.bx_listing.specs.Ways.{is_raise, bif_op, bif_found, bif_form, bif_called, gc_bif_op, gc_bif_form, gc_bif_called}
+use Rattle.bx_listing.proofs.Known.{◌≡◌, ℕ, ◌≤◌, ◌-◌, length, take, drop, get_or, List, ◌∷◌, false, Option, Some, refl, ap, ◌∙◌, arith, take-length, Tree}
+use Rattle.bx_listing.proofs.Known.{guard_bif_with, Op, word, list_elements, is_raise, bif_op, bif_found, bif_form, bif_called, gc_bif_op, gc_bif_form}
+use Rattle.bx_listing.proofs.Known.{gc_bif_called}
 
 all_left : (n k : ℕ) (ts : List Tree) → n ≡ length ts → take n ts ≡ ts
 all_left n k ts e = ap (λ n. take n ts) e ∙ take-length ts

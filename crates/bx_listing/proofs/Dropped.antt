@@ -1,34 +1,14 @@
 -- Forms that are dropped: what is read behind them is what is read with them.
-use Rattle.std.proofs.Common.{◌≡◌, ℕ, ◌<◌, Bool, true, false, List, [], ◌∷◌, ◌++◌, length, inr, Option, Some, None, codes, Result, Ok, refl, sym, ap, subst, ◌∙◌, arith}
-use Rattle.std.specs.Prelude.{nat_lt, if◌then◌else◌}
-use Rattle.std.proofs.lemmas.Bool.Decides.{nat_tests}
-use Rattle.bx_terms.specs.Outcomes.{Gives, ◌>>=◌}
-use Rattle.bx_terms.specs.declared.faults.Fault.{Fault}
-use Rattle.bx_text.specs.declared.node.Span.{Span}
-use Rattle.bx_text.specs.Place.{Place}
-use Rattle.bx_text.specs.Tree.{Tree, atom, tuple, nil, cons}
-use Rattle.bx_text.specs.Forms.{takes_memory}
-use Rattle.bx_text.proofs.Outcomes.{gives_same}
-use Rattle.bx_text.specs.Pairs.{IsPairForm}
-use Rattle.bx_listing.specs.Reading.{Table, Outcome, read, refused, and_then, give}
-use Rattle.bx_listing.specs.Shape.{Shape, tagged, bare, other}
-use Rattle.bx_listing.specs.declared.words.FormWord.{FormWord}
+use Rattle.bx_listing.proofs.Known.{length-append, ◌≡◌, ℕ, ◌<◌, Bool, true, false, List, [], ◌∷◌, ◌++◌, length, inr, Option, Some, None, codes, Result, Ok}
+use Rattle.bx_listing.proofs.Known.{refl, sym, ap, subst, ◌∙◌, arith, nat_lt, if◌then◌else◌, nat_tests, Gives, Fault, Span, Place, Tree, atom, tuple, nil, cons}
+use Rattle.bx_listing.proofs.Known.{takes_memory, Table, read, give, Shape, tagged, FormWord, form_word, Item, item, function_form, ListedFunction, Forms, form}
+use Rattle.bx_listing.proofs.Known.{moved, forms, forms_on, shape, is_attributes, IsForm, ReadsForms, taken, taken_at, behind_attributes, behind_labels}
+use Rattle.bx_listing.proofs.Known.{behind_head, and_so, with_optional, with_form, part_of, form_part, part, functions, located, IsDropped, MakeSame}
+use Rattle.bx_listing.proofs.Lemmas.{given, after_read, forms_next, taken_form, lined_read}
+use Rattle.bx_terms.specs.Outcomes.{◌>>=◌}
+use Rattle.bx_text.{proofs.Outcomes.gives_same, specs.Pairs.IsPairForm}
+use Rattle.bx_listing.specs.Forms.{next_form}
 use Rattle.bx_listing.specs.declared.words.FormWord.TheVariants as words
-use Rattle.bx_listing.specs.Words.{form_word}
-use Rattle.bx_listing.specs.Items.{Item}
-use Rattle.bx_listing.specs.ItemForms.{item}
-use Rattle.bx_listing.specs.HeadForms.{function_form}
-use Rattle.bx_listing.specs.ListedCode.{ListedFunction}
-use Rattle.bx_listing.specs.Forms.{Forms, form, moved, next_form, forms, forms_on}
-use Rattle.bx_listing.specs.Shape.{shape}
-use Rattle.bx_listing.specs.HeadForms.{is_attributes}
-use Rattle.bx_listing.specs.Taking.{IsForm, ReadsForms}
-use Rattle.bx_listing.specs.Listing.{taken, taken_at, behind_attributes, behind_labels, behind_head, and_so, with_optional, with_form, part_of, form_part, part, functions}
-use Rattle.bx_listing.specs.Locations.{located}
-use Rattle.bx_listing.specs.Dropped.{IsDropped, MakeSame}
-use Rattle.bx_listing.proofs.Forms.{forms_next}
-use Rattle.bx_listing.proofs.FormMemory.{taken_form}
-use Rattle.bx_listing.proofs.GoodReadings.{lined_read}
 
 abbrev pair_of : List ℕ → Span → Span → Tree → Tree
 pair_of word s r t = tuple s (cons (atom r word) (cons t nil))
@@ -64,14 +44,11 @@ attributes_read v r last p q f e is h =
     gives_same (takes_memory q) (ReadsForms p) v r _ _ (λ k. inr (taken_form last (forms p) (taken_at f q) e)) (sym (here ∙ on)) h
 
 pub annotation_dropped : (p q : Place) → IsDropped (codes "%") p q → MakeSame (forms p) (forms q)
-annotation_dropped p q (s, r, t, e) = (λ done texts some. by done texts some, λ here. ap (located here) whole)
+annotation_dropped p q (s, r, t, e) = (by, λ here. ap (located here) (forms_are (codes "%") p q s r t e))
   where
-    whole : forms p ≡ form s.line (pair_of (codes "%") s r t) (forms q)
-    whole = forms_are (codes "%") p q s r t e
-
     by : (done : List ListedFunction) (texts : Table) → 0 < length done → (functions done (forms p)).run texts ≡ (functions done (forms q)).run texts
     by [] texts some = absurd (omega (arith, some))
-    by (f ∷ fs) texts some = ap (λ x. (functions (f ∷ fs) x).run texts) whole
+    by (f ∷ fs) texts some = ap (λ x. (functions (f ∷ fs) x).run texts) (forms_are (codes "%") p q s r t e)
 
 pub same_none : (fs : Forms) → MakeSame fs fs
 same_none fs = (λ done texts some. refl, λ here. refl)
@@ -80,29 +57,19 @@ pub same_more : (fs gs hs : Forms) → MakeSame fs gs → MakeSame gs hs → Mak
 same_more fs gs hs a b = (λ done texts some. a.0 done texts some ∙ b.0 done texts some, λ here. a.1 here ∙ b.1 here)
 
 -- behind a form that is good there is a function
-longer : (done : List ListedFunction) (f : ListedFunction) → 0 < length (done ++ f ∷ [])
-longer [] f = omega arith
-longer (g ∷ done) f = omega arith
-
 kept_item : (line : ℕ) (i : Option Item) (f : ListedFunction) (fs : List ListedFunction) → 0 < length (with_optional line i (f ∷ fs))
 kept_item line None f fs = omega arith
 kept_item line (Some i) f [] = omega arith
 kept_item line (Some i) f (g ∷ fs) = omega arith
 
-begun_some : (done more : List ListedFunction) (mid : Table) (o : Outcome ListedFunction) → and_then o (λ f. give (done ++ f ∷ [])) ≡ read mid more → 0 < length more
-begun_some done more mid (read texts f) e = let same : more ≡ done ++ f ∷ [] = cc in subst (λ fs. 0 < length fs) (sym same) (longer done f)
-begun_some done more mid (refused texts fault) e = absurd (cc)
-
-item_some : (line : ℕ) (f : ListedFunction) (fs more : List ListedFunction) (mid : Table) (o : Outcome (Option Item)) → and_then o (λ i. give (with_optional line i (f ∷ fs))) ≡ read mid more → 0 < length more
-item_some line f fs more mid (read texts i) e = let same : more ≡ with_optional line i (f ∷ fs) = cc in subst (λ gs. 0 < length gs) (sym same) (kept_item line i f fs)
-item_some line f fs more mid (refused texts fault) e = absurd (cc)
-
 form_some : (line : ℕ) (done more : List ListedFunction) (s : Shape) (texts mid : Table) → (with_form line done s).run texts ≡ read mid more → 0 < length more
 form_some line [] more s texts mid e = absurd (cc)
-form_some line (f ∷ fs) more s texts mid e = item_some line f fs more mid ((item s).run texts) e
+form_some line (f ∷ fs) more s texts mid e =
+    after_read ((item s).run texts) (λ i. give (with_optional line i (f ∷ fs))) mid more (λ t i e1 h. given (λ gs c. 0 < length gs) (with_optional line i (f ∷ fs)) more t mid h (kept_item line i f fs)) e
 
 word_some : (line : ℕ) (done more : List ListedFunction) (text : List ℕ) (parts : List Tree) (w : FormWord) (texts mid : Table) → (part_of line done text parts w).run texts ≡ read mid more → 0 < length more
-word_some line done more text parts words.Function texts mid e = begun_some done more mid ((function_form parts).run texts) e
+word_some line done more text parts words.Function texts mid e =
+    after_read ((function_form parts).run texts) (λ f. give (done ++ f ∷ [])) mid more (λ t f e1 h. given (λ fs c. 0 < length fs) (done ++ f ∷ []) more t mid h (omega (arith, length-append done (f ∷ [])))) e
 word_some line done more text parts _ texts mid e = form_some line done more (tagged text parts) texts mid e
 
 pub part_some : (line : ℕ) (done more : List ListedFunction) (s : Shape) (texts mid : Table) → (part line done s).run texts ≡ read mid more → 0 < length more
@@ -110,5 +77,4 @@ part_some line done more s texts mid h = by s (lined_read line ((form_part line 
   where
     by : (s : Shape) → (form_part line done s).run texts ≡ read mid more → 0 < length more
     by (tagged text parts) e = word_some line done more text parts (form_word text) texts mid e
-    by (bare text) e = form_some line done more (bare text) texts mid e
-    by other e = form_some line done more other texts mid e
+    by s e = form_some line done more s texts mid e

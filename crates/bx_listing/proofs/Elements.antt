@@ -1,16 +1,10 @@
 -- What a row of elements is, and what a tuple that begins with an atom holds.
-use Rattle.std.proofs.Common.{◌≡◌, ℕ, ◌<◌, ◌≤◌, ◌-◌, length, take, drop, get_or, List, [], ◌∷◌, Some, None, refl, sym, ap, subst, ◌∙◌, arith}
-use Rattle.std.specs.Prelude.{option_map}
-use Rattle.std.proofs.Math.Seq.{take-length}
-use Rattle.bx_text.specs.declared.node.Span.{Span}
+use Rattle.bx_listing.proofs.Known.{◌≡◌, ℕ, ◌<◌, ◌≤◌, ◌-◌, length, take, drop, get_or, List, [], ◌∷◌, Some, None, refl, sym, ap, subst, ◌∙◌, arith, option_map}
+use Rattle.bx_listing.proofs.Known.{take-length, Span, seen, Tree, atom, tuple, list, nil, cons, chain, nodes, tagged, shape, elements, word, proper}
+use Rattle.bx_listing.proofs.Known.{list_elements, operand_word, untyped, untyped_of}
 use Rattle.bx_text.specs.declared.node.View.{View}
 use Rattle.bx_text.specs.declared.node.View.TheVariants as views
-use Rattle.bx_text.specs.View.{seen}
-use Rattle.bx_text.specs.Tree.{Tree, atom, tuple, list, nil, cons, chain, nodes}
-use Rattle.bx_listing.specs.Shape.{tagged, shape, elements, word, proper, list_elements}
 use Rattle.bx_listing.specs.declared.words.OperandWord.TheVariants as words
-use Rattle.bx_listing.specs.Words.{operand_word}
-use Rattle.bx_listing.specs.Operands.{untyped, untyped_of}
 
 -- an element that is read as a node
 pub element_at : (ts : List Tree) (i : ℕ) (t e : Tree) → t ≡ e → e ≡ get_or ts i e → t ≡ get_or ts i t
@@ -68,11 +62,7 @@ view_elements s r t u v es e h = sym (no_proper (seen r v) es (no_nil v r)) ∙ 
   where
     no_nil : (v : View) (r : Span) → proper (seen r v) ≡ None
     no_nil (views.Integer n) r = refl
-    no_nil (views.Large n) r = refl
-    no_nil (views.Atom n) r = refl
-    no_nil (views.Tuple n) r = refl
-    no_nil (views.List n m) r = refl
-    no_nil (views.Other n m) r = refl
+    no_nil _ r = refl
 
     no_proper : (w : Tree) (es : List Tree) → proper w ≡ None → list_elements (list s (chain es w)) ≡ None
     no_proper w [] none = none

@@ -1,27 +1,15 @@
 -- The first fault of forms that are no listing.
-use Rattle.std.proofs.Common.{◌≡◌, ℕ, Bool, true, false, List, [], ◌∷◌, ◌++◌, Ok, Err, codes, pos, refl, sym, ap, subst, ◌∙◌, if◌then◌else◌}
-use Rattle.bx_terms.specs.declared.atom_table.AtomId.{AtomId}
-use Rattle.bx_terms.specs.declared.faults.Fault.{Fault}
-use Rattle.bx_terms.specs.declared.faults.Fault.TheVariants as faults
-use Rattle.bx_terms.specs.AtomTable.{IsAtomTable}
+use Rattle.bx_listing.proofs.Known.{Reading, ◌≡◌, ℕ, Bool, true, false, List, [], ◌∷◌, ◌++◌, Ok, Err, codes, pos, refl, sym, ap, subst, ◌∙◌, if◌then◌else◌}
+use Rattle.bx_listing.proofs.Known.{AtomId, Fault, numbered, Span, Tree, integer, atom, tuple, list, nil, cons, place_in, Export, Table, Outcome, read, refused}
+use Rattle.bx_listing.proofs.Known.{and_then, ◌>>=◌, give, from_result, named, with_line, lined, on_line, shape, module_form, exports_form, is_attributes}
+use Rattle.bx_listing.proofs.Known.{is_labels, Forms, ends, broken, form, forms, last_line, ListedFunction, ListedModule, taken, and_so, form_part, part}
+use Rattle.bx_listing.proofs.Known.{functions, behind_labels, listed, behind_exports, behind_name, listing}
+use Rattle.bx_listing.proofs.Lemmas.{and_then_assoc, Written, an_integer_term, an_atom_term, a_tuple_term, a_list_term, no_elements, an_element_first, no_rest}
+use Rattle.bx_listing.proofs.{Lemmas.FormsWritten, Lemmas.forms_written, ListedOperands.names_read, Listed.listing_is, Listed.listing_read}
+use Rattle.bx_terms.{specs.AtomTable.IsAtomTable, specs.FixedAtoms.fixed_atoms, specs.Naming.atom as numbered_atom, proofs.AtomLaws.fixed_in}
 use Rattle.std.specs.Str.{chars}
-use Rattle.bx_terms.specs.FixedAtoms.{fixed_atoms}
-use Rattle.bx_terms.specs.Naming.{atom as numbered_atom, numbered}
-use Rattle.bx_terms.proofs.AtomLaws.{fixed_in}
-use Rattle.bx_text.specs.declared.node.Span.{Span}
-use Rattle.bx_text.specs.Tree.{Tree, integer, atom, tuple, list, nil, cons}
-use Rattle.bx_text.specs.Place.{place_in}
-use Rattle.bx_listing.specs.declared.code_form.Export.{Export}
-use Rattle.bx_listing.specs.Reading.{Table, Outcome, read, refused, and_then, ◌>>=◌, give, from_result, named, with_line, lined, on_line}
-use Rattle.bx_listing.specs.Shape.{shape}
-use Rattle.bx_listing.specs.HeadForms.{module_form, exports_form, is_attributes, is_labels}
-use Rattle.bx_listing.specs.Forms.{Forms, ends, broken, form, forms, last_line}
-use Rattle.bx_listing.specs.ListedCode.{ListedFunction, ListedModule}
-use Rattle.bx_listing.specs.Listing.{taken, and_so, form_part, part, functions, behind_labels, listed, behind_exports, behind_name, listing}
 use Rattle.bx_listing.specs.Refused.{followed, Begins, OnLine, IsWrong, IsFirstFault}
-use Rattle.bx_listing.proofs.Written.{Written, an_integer_term, an_atom_term, a_tuple_term, a_list_term, no_elements, an_element_first, no_rest, FormsWritten, forms_written}
-use Rattle.bx_listing.proofs.ListedOperands.{names_read}
-use Rattle.bx_listing.proofs.Listed.{listing_is, listing_read}
+use Rattle.bx_terms.specs.declared.faults.Fault.TheVariants as faults
 
 abbrev WasRead : {A : Type 0} → Outcome A → Type 0
 WasRead (read t x) = Unit {0}
@@ -69,9 +57,6 @@ at_once reading last rest fault can h = record { good = []; rest = rest; all_are
 fault_same : {A : Type 0} (b c : Table) (one two : Fault) → ◌≡◌ {A = Outcome A} (refused b one) (refused c two) → two ≡ one
 fault_same b c one two e = cc
 
-no_refusal : {A C : Type 0} (b c : Table) (x : A) (fault : Fault) → read b x ≡ refused c fault → C
-no_refusal b c x fault e = absurd (cc)
-
 -- a refusal of a form names its line
 with_line_on : (line : ℕ) (fault : Fault) → OnLine line (with_line line fault)
 with_line_on line (faults.TooManyAtoms at) = refl
@@ -84,160 +69,105 @@ lined_on {A = A} line (refused b refusal) c fault e = subst (OnLine line) (sym (
 refused_so : {A : Type 0} {o : Outcome A} (b : Table) (fault : Fault) → o ≡ refused b fault → WasRefused o
 refused_so b fault e = subst WasRefused (sym e) tt
 
-functions_split : (last : ℕ) (all : Forms) (done : List ListedFunction) (b c : Table) (fault : Fault) → (functions done all).run b ≡ refused c fault → Split (λ f. (functions done f).run b) last all fault
-functions_split last ends done b c fault h = no_refusal b c done fault h
-functions_split last (broken refusal) done b c fault h =
-    at_once (λ f. (functions done f).run b) last (broken refusal) fault (ends, tt, tt) (fault_same {A = List ListedFunction} b c refusal fault h)
-functions_split last (form line t rest) done b c fault h = by (functions_split last rest) ((part line done (shape t)).run b) refl h
-  where
-    by : ((done : List ListedFunction) (b c : Table) (fault : Fault) → (functions done rest).run b ≡ refused c fault → Split (λ f. (functions done f).run b) last rest fault)
-        → (o : Outcome (List ListedFunction)) → (part line done (shape t)).run b ≡ o → and_then o (λ done. functions done rest) ≡ refused c fault
-        → Split (λ f. (functions done f).run b) last (form line t rest) fault
-    by go (read d more) e h =
-        further (λ f. (functions done f).run b) (λ f. (functions more f).run d) last line t rest fault (λ f. ap (λ o. and_then o (λ done. functions done f)) e) (go more d c fault h)
-    by go (refused d refusal) e h =
-        at_once (λ f. (functions done f).run b) last (form line t rest) fault (ends, tt, tt) (
-          subst (OnLine line) (sym (fault_same {A = List ListedFunction} d c refusal fault h)) (lined_on line ((form_part line done (shape t)).run b) d refusal e),
-          λ more. refused_so d refusal (ap (λ o. and_then o (λ done. functions done more)) e),
-        )
+-- the listing, once these functions were read
+abbrev behind_functions : AtomId → List Export → List ListedFunction → Forms → Reading ListedModule
+behind_functions name exports done rest = functions done rest >>= λ fs. give (record { name = name; exports = exports; functions = fs })
 
-read_on : {A B : Type 0} (o : Outcome A) (g : A → B) → WasRead o → WasRead (and_then o (λ x. give (g x)))
-read_on (read b x) g h = tt
-read_on (refused b fault) g h = h
+-- the next form is read or refused; what follows it is read on
+at_form : {X A : Type 0} (reads : Forms → Outcome A) (next : X → Forms → Reading A) (last line : ℕ) (t : Tree) (rest : Forms) (o : Outcome X) (c : Table) (fault : Fault)
+    → ((f : Forms) → reads (form line t f) ≡ and_then o (λ x. next x f)) → ((d : Table) (refusal : Fault) → o ≡ refused d refusal → OnLine line refusal) → CanEnd reads []
+    → ((d : Table) (x : X) → (next x rest).run d ≡ refused c fault → Split (λ f. (next x f).run d) last rest fault) → reads (form line t rest) ≡ refused c fault → Split reads last (form line t rest) fault
+at_form reads next last line t rest (read d x) c fault same on can go h = further reads (λ f. (next x f).run d) last line t rest fault same (go d x (sym (same rest) ∙ h))
+at_form {A = A} reads next last line t rest (refused d refusal) c fault same on can go h =
+    at_once reads last (form line t rest) fault can
+    (subst (OnLine line) (sym (fault_same {A = A} d c refusal fault (sym (same rest) ∙ h))) (on d refusal refl), λ more. refused_so d refusal (same more))
 
-refused_on : {A B : Type 0} (o : Outcome A) (g : A → B) → WasRefused o → WasRefused (and_then o (λ x. give (g x)))
-refused_on (read b x) g h = absurd h
-refused_on (refused b fault) g h = tt
+listed_split : (last : ℕ) (name : AtomId) (exports : List Export) (all : Forms) (done : List ListedFunction) (b c : Table) (fault : Fault) → (behind_functions name exports done all).run b ≡ refused c fault
+    → Split (λ f. (behind_functions name exports done f).run b) last all fault
+listed_split last name exports ends done b c fault h = absurd (cc)
+listed_split last name exports (broken refusal) done b c fault h =
+    at_once (λ f. (behind_functions name exports done f).run b) last (broken refusal) fault (ends, tt, tt) (fault_same {A = ListedModule} b c refusal fault h)
+listed_split last name exports (form line t rest) done b c fault h =
+    at_form (λ f. (behind_functions name exports done f).run b) (behind_functions name exports) last line t rest ((part line done (shape t)).run b) c fault
+    (λ f. sym (and_then_assoc ((part line done (shape t)).run b) (λ done. functions done f) (λ fs. give (record { name = name; exports = exports; functions = fs }))))
+    (lined_on line ((form_part line done (shape t)).run b)) (ends, tt, tt) (λ d more. listed_split last name exports rest more d c fault) h
 
-wrong_on : {A B : Type 0} (reading : Forms → Outcome A) (g : A → B) (last : ℕ) (rest : Forms) (fault : Fault) → GoesWrong reading last rest fault → GoesWrong (λ f. and_then (reading f) (λ x. give (g x))) last rest fault
-wrong_on reading g last (form line t rest) fault h = (h.0, λ more. refused_on (reading (form line t more)) g (h.1 more))
-wrong_on reading g last _ fault h = h
-
-split_on : {A B : Type 0} (reading : Forms → Outcome A) (g : A → B) (last : ℕ) (all : Forms) (fault : Fault) → Split reading last all fault → Split (λ f. and_then (reading f) (λ x. give (g x))) last all fault
-split_on reading g last all fault s = record {
-  good = s.good;
-  rest = s.rest;
-  all_are = s.all_are;
-  can_end = (s.can_end.0, s.can_end.1, read_on (reading (followed s.good s.can_end.0)) g s.can_end.2);
-  wrong = wrong_on (λ f. reading (followed s.good f)) g last s.rest fault s.wrong;
-}
-
-first_refused : {A B : Type 0} (o : Outcome A) (g : A → B) (c : Table) (fault : Fault) → and_then o (λ x. give (g x)) ≡ refused c fault → o ≡ refused c fault
-first_refused (read b x) g c fault h = no_refusal b c (g x) fault h
-first_refused {B = B} (refused b refusal) g c fault h = let same : ◌≡◌ {A = Outcome B} (refused b refusal) (refused c fault) = h in cc
-
-listed_split : (last : ℕ) (name : AtomId) (exports : List Export) (all : Forms) (b c : Table) (fault : Fault) → (listed name exports all).run b ≡ refused c fault → Split (λ f. (listed name exports f).run b) last all fault
-listed_split last name exports all b c fault h =
-    split_on (λ f. (functions [] f).run b) (λ fs. record { name = name; exports = exports; functions = fs }) last all fault
-    (functions_split last all [] b c fault (first_refused ((functions [] all).run b) (λ fs. record { name = name; exports = exports; functions = fs }) c fault h))
+-- where a form must be there
+at_first : {X A : Type 0} (reads : Forms → Outcome A) (o : ℕ → Tree → Outcome X) (next : X → Forms → Reading A) (last : ℕ) (all : Forms) (b c : Table) (fault : Fault)
+    → reads ends ≡ refused b (faults.BadForm last) → ((refusal : Fault) → reads (broken refusal) ≡ refused b refusal) → ((line : ℕ) (t : Tree) (f : Forms) → reads (form line t f) ≡ and_then (o line t) (λ x. next x f))
+    → ((line : ℕ) (t : Tree) (d : Table) (refusal : Fault) → o line t ≡ refused d refusal → OnLine line refusal) → CanEnd reads []
+    → ((d : Table) (x : X) (rest : Forms) → (next x rest).run d ≡ refused c fault → Split (λ f. (next x f).run d) last rest fault) → reads all ≡ refused c fault → Split reads last all fault
+at_first {A = A} reads o next last ends b c fault none stopped same on can go h = at_once reads last ends fault can (fault_same {A = A} b c (faults.BadForm last) fault (sym none ∙ h))
+at_first {A = A} reads o next last (broken refusal) b c fault none stopped same on can go h =
+    at_once reads last (broken refusal) fault can (fault_same {A = A} b c refusal fault (sym (stopped refusal) ∙ h))
+at_first reads o next last (form line t rest) b c fault none stopped same on can go h = at_form reads next last line t rest (o line t) c fault (same line t) (on line t) can (λ d x. go d x rest) h
 
 -- forms that end a listing
 no_span : Span
 no_span = record { from = 0; to = 0; line = 0 }
 
+abbrev pair : List ℕ → Tree → Tree
+pair word t = tuple no_span (cons (atom no_span word) (cons t nil))
+
+pair_written : {word : List ℕ} {t : Tree} → Written t → Written (pair word t)
+pair_written w = a_tuple_term (an_element_first an_atom_term (an_element_first w no_elements))
+
 abbrev some_labels : Tree
-some_labels = tuple no_span (cons (atom no_span (codes "labels")) (cons (integer no_span (pos 0)) nil))
+some_labels = pair (codes "labels") (integer no_span (pos 0))
 
 abbrev no_exports : Tree
-no_exports = tuple no_span (cons (atom no_span (codes "exports")) (cons (list no_span nil) nil))
+no_exports = pair (codes "exports") (list no_span nil)
 
 abbrev some_module : Tree
-some_module = tuple no_span (cons (atom no_span (codes "module")) (cons (atom no_span (codes "true")) nil))
+some_module = pair (codes "module") (atom no_span (codes "true"))
 
-labels_written : Written some_labels
-labels_written = a_tuple_term (an_element_first an_atom_term (an_element_first an_integer_term no_elements))
+-- a form behind the exports, which may be attributes, and else is the labels
+abbrev head_form : ℕ → Bool → Bool → Table → Outcome Bool
+head_form line true labels b = read b true
+head_form line false true b = read b false
+head_form line false false b = refused b (faults.BadForm line)
 
-exports_written : Written no_exports
-exports_written = a_tuple_term (an_element_first an_atom_term (an_element_first (a_list_term no_rest) no_elements))
+head_on : (line : ℕ) (attributes labels : Bool) (b d : Table) (refusal : Fault) → head_form line attributes labels b ≡ refused d refusal → OnLine line refusal
+head_on line false false b d refusal e = subst (OnLine line) (sym (fault_same {A = Bool} b d (faults.BadForm line) refusal e)) refl
+head_on line _ _ b d refusal e = absurd (cc)
 
-module_written : Written some_module
-module_written = a_tuple_term (an_element_first an_atom_term (an_element_first an_atom_term no_elements))
+labels_same : {A : Type 0} (next : Bool → Forms → Reading A) (line : ℕ) (labels : Bool) (f : Forms) (b : Table)
+    → (from_result (if labels then Ok f else Err (faults.BadForm line)) >>= next false).run b ≡ and_then (head_form line false labels b) (λ x. next x f)
+labels_same next line true f b = refl
+labels_same next line false f b = refl
 
 labels_split : (last : ℕ) (name : AtomId) (exports : List Export) (all : Forms) (b c : Table) (fault : Fault) → (from_result (and_so (taken last all) behind_labels) >>= listed name exports).run b ≡ refused c fault
     → Split (λ f. (from_result (and_so (taken last f) behind_labels) >>= listed name exports).run b) last all fault
-labels_split last name exports all b c fault h = by all h
-  where
-    reads : Forms → Outcome ListedModule
-    reads f = (from_result (and_so (taken last f) behind_labels) >>= listed name exports).run b
+labels_split last name exports all b c fault =
+    at_first (λ f. (from_result (and_so (taken last f) behind_labels) >>= listed name exports).run b) (λ line t. head_form line false (is_labels (shape t)) b) (λ _. listed name exports) last all b c fault refl (λ r. refl)
+    (λ line t f. labels_same (λ _. listed name exports) line (is_labels (shape t)) f b) (λ line t. head_on line false (is_labels (shape t)) b) (form 0 some_labels ends, (pair_written an_integer_term, tt), tt)
+    (λ d x rest. listed_split last name exports rest [] d c fault)
 
-    can : CanEnd reads []
-    can = (form 0 some_labels ends, (labels_written, tt), tt)
-
-    tested : (line : ℕ) (t : Tree) (rest : Forms) (yes : Bool) → is_labels (shape t) ≡ yes → (from_result (if yes then Ok rest else Err (faults.BadForm line)) >>= listed name exports).run b ≡ refused c fault
-        → Split reads last (form line t rest) fault
-    tested line t rest true e h =
-        further reads (λ f. (listed name exports f).run b) last line t rest fault
-        (λ f. ap (λ (yes : Bool). (from_result (if yes then Ok f else Err (faults.BadForm line)) >>= listed name exports).run b) e) (listed_split last name exports rest b c fault h)
-    tested line t rest false e h =
-        at_once reads last (form line t rest) fault can (
-          subst (OnLine line) (sym (fault_same {A = ListedModule} b c (faults.BadForm line) fault h)) refl,
-          λ more. refused_so b (faults.BadForm line) (ap (λ (yes : Bool). (from_result (if yes then Ok more else Err (faults.BadForm line)) >>= listed name exports).run b) e),
-        )
-
-    by : (all : Forms) → reads all ≡ refused c fault → Split reads last all fault
-    by ends h = at_once reads last ends fault can (fault_same {A = ListedModule} b c (faults.BadForm last) fault h)
-    by (broken refusal) h = at_once reads last (broken refusal) fault can (fault_same {A = ListedModule} b c refusal fault h)
-    by (form line t rest) h = tested line t rest (is_labels (shape t)) refl h
+abbrev behind_form : ℕ → AtomId → List Export → Bool → Forms → Reading ListedModule
+behind_form last name exports true f = from_result (and_so (taken last f) behind_labels) >>= listed name exports
+behind_form last name exports false f = listed name exports f
 
 head_split : (last : ℕ) (name : AtomId) (exports : List Export) (all : Forms) (b c : Table) (fault : Fault) → (behind_exports last name all exports).run b ≡ refused c fault
     → Split (λ f. (behind_exports last name f exports).run b) last all fault
-head_split last name exports all b c fault h = by all h
+head_split last name exports all b c fault =
+    at_first (λ f. (behind_exports last name f exports).run b) (λ line t. head_form line (is_attributes (shape t)) (is_labels (shape t)) b) (behind_form last name exports) last all b c fault refl (λ r. refl)
+    (λ line t f. same line t (is_attributes (shape t)) f) (λ line t. head_on line (is_attributes (shape t)) (is_labels (shape t)) b) (form 0 some_labels ends, (pair_written an_integer_term, tt), tt) go
   where
-    reads : Forms → Outcome ListedModule
-    reads f = (behind_exports last name f exports).run b
+    same : (line : ℕ) (t : Tree) (attributes : Bool) (f : Forms)
+        → (from_result (if attributes then and_so (taken last f) behind_labels else behind_labels (record { line = line; tree = t; rest = f })) >>= listed name exports).run b
+        ≡ and_then (head_form line attributes (is_labels (shape t)) b) (λ x. behind_form last name exports x f)
+    same line t true f = refl
+    same line t false f = labels_same (behind_form last name exports) line (is_labels (shape t)) f b
 
-    can : CanEnd reads []
-    can = (form 0 some_labels ends, (labels_written, tt), tt)
-
-    chosen : ℕ → Tree → Bool → Forms → Outcome ListedModule
-    chosen line t test f = (from_result (if test then and_so (taken last f) behind_labels else behind_labels (record { line = line; tree = t; rest = f })) >>= listed name exports).run b
-
-    counted : ℕ → Bool → Forms → Outcome ListedModule
-    counted line test f = (from_result (if test then Ok f else Err (faults.BadForm line)) >>= listed name exports).run b
-
-    as_labels : (line : ℕ) (t : Tree) (rest : Forms) (yes : Bool) → is_attributes (shape t) ≡ false → is_labels (shape t) ≡ yes → counted line yes rest ≡ refused c fault → Split reads last (form line t rest) fault
-    as_labels line t rest true a e h =
-        further reads (λ f. (listed name exports f).run b) last line t rest fault
-        (λ f. ap (λ (yes : Bool). chosen line t yes f) a ∙ ap (λ (yes : Bool). counted line yes f) e) (listed_split last name exports rest b c fault h)
-    as_labels line t rest false a e h =
-        at_once reads last (form line t rest) fault can (
-          subst (OnLine line) (sym (fault_same {A = ListedModule} b c (faults.BadForm line) fault h)) refl,
-          λ more. refused_so b (faults.BadForm line) (ap (λ (yes : Bool). chosen line t yes more) a ∙ ap (λ (yes : Bool). counted line yes more) e),
-        )
-
-    tested : (line : ℕ) (t : Tree) (rest : Forms) (yes : Bool) → is_attributes (shape t) ≡ yes → chosen line t yes rest ≡ refused c fault → Split reads last (form line t rest) fault
-    tested line t rest true e h =
-        further reads (λ f. (from_result (and_so (taken last f) behind_labels) >>= listed name exports).run b) last line t rest fault
-        (λ f. ap (λ (yes : Bool). chosen line t yes f) e) (labels_split last name exports rest b c fault h)
-    tested line t rest false e h = as_labels line t rest (is_labels (shape t)) e refl h
-
-    by : (all : Forms) → reads all ≡ refused c fault → Split reads last all fault
-    by ends h = at_once reads last ends fault can (fault_same {A = ListedModule} b c (faults.BadForm last) fault h)
-    by (broken refusal) h = at_once reads last (broken refusal) fault can (fault_same {A = ListedModule} b c refusal fault h)
-    by (form line t rest) h = tested line t rest (is_attributes (shape t)) refl h
+    go : (d : Table) (x : Bool) (rest : Forms) → (behind_form last name exports x rest).run d ≡ refused c fault → Split (λ f. (behind_form last name exports x f).run d) last rest fault
+    go d true rest = labels_split last name exports rest d c fault
+    go d false rest = listed_split last name exports rest [] d c fault
 
 exports_split : (last : ℕ) (name : AtomId) (all : Forms) (b c : Table) (fault : Fault) → (behind_name last all name).run b ≡ refused c fault → Split (λ f. (behind_name last f name).run b) last all fault
-exports_split last name all b c fault h = by all h
-  where
-    reads : Forms → Outcome ListedModule
-    reads f = (behind_name last f name).run b
-
-    can : CanEnd reads []
-    can = (form 0 no_exports (form 0 some_labels ends), (exports_written, (labels_written, tt)), tt)
-
-    tested : (line : ℕ) (t : Tree) (rest : Forms) (o : Outcome (List Export)) → (on_line line (exports_form (shape t))).run b ≡ o → and_then o (behind_exports last name rest) ≡ refused c fault → Split reads last (form line t rest) fault
-    tested line t rest (read d exports) e h =
-        further reads (λ f. (behind_exports last name f exports).run d) last line t rest fault (λ f. ap (λ o. and_then o (behind_exports last name f)) e) (head_split last name exports rest d c fault h)
-    tested line t rest (refused d refusal) e h =
-        at_once reads last (form line t rest) fault can (
-          subst (OnLine line) (sym (fault_same {A = ListedModule} d c refusal fault h)) (lined_on line ((exports_form (shape t)).run b) d refusal e),
-          λ more. refused_so d refusal (ap (λ o. and_then o (behind_exports last name more)) e),
-        )
-
-    by : (all : Forms) → reads all ≡ refused c fault → Split reads last all fault
-    by ends h = at_once reads last ends fault can (fault_same {A = ListedModule} b c (faults.BadForm last) fault h)
-    by (broken refusal) h = at_once reads last (broken refusal) fault can (fault_same {A = ListedModule} b c refusal fault h)
-    by (form line t rest) h = tested line t rest ((on_line line (exports_form (shape t))).run b) refl h
+exports_split last name all b c fault =
+    at_first (λ f. (behind_name last f name).run b) (λ line t. (on_line line (exports_form (shape t))).run b) (λ exports f. behind_exports last name f exports) last all b c fault refl (λ r. refl)
+    (λ line t f. refl) (λ line t. lined_on line ((exports_form (shape t)).run b)) (form 0 no_exports (form 0 some_labels ends), (pair_written (a_list_term no_rest), (pair_written an_integer_term, tt)), tt)
+    (λ d exports rest. head_split last name exports rest d c fault)
 
 -- a table of atoms holds `true`
 true_named : (b : Table) → IsAtomTable b → (named (codes "true")).run b ≡ read b (numbered_atom 0)
@@ -245,31 +175,16 @@ unfolding fixed_atoms chars
 true_named b table = names_read (codes "true") b b (numbered_atom 0) (ap (λ n. numbered n b (codes "true")) (fixed_in b (numbered_atom 0) (codes "true") table refl).1)
 
 listing_split : (last : ℕ) (all : Forms) (b c : Table) (fault : Fault) → IsAtomTable b → (listing last all).run b ≡ refused c fault → Split (λ f. (listing last f).run b) last all fault
-listing_split last all b c fault table h = by all h
+listing_split last all b c fault table =
+    at_first (λ f. (listing last f).run b) (λ line t. (on_line line (module_form (shape t))).run b) (λ name f. behind_name last f name) last all b c fault refl (λ r. refl)
+    (λ line t f. refl) (λ line t. lined_on line ((module_form (shape t)).run b)) can (λ d name rest. exports_split last name rest d c fault)
   where
-    reads : Forms → Outcome ListedModule
-    reads f = (listing last f).run b
-
-    can : CanEnd reads []
+    can : CanEnd (λ f. (listing last f).run b) []
     can = (
       form 0 some_module (form 0 no_exports (form 0 some_labels ends)),
-      (module_written, (exports_written, (labels_written, tt))),
-      subst WasRead (sym (ap (λ o. and_then (lined 0 o) (behind_name last (form 0 no_exports (form 0 some_labels ends)))) (true_named b table))) tt,
+      (pair_written an_atom_term, (pair_written (a_list_term no_rest), (pair_written an_integer_term, tt))),
+      rw (true_named b table) tt,
     )
-
-    tested : (line : ℕ) (t : Tree) (rest : Forms) (o : Outcome AtomId) → (on_line line (module_form (shape t))).run b ≡ o → and_then o (behind_name last rest) ≡ refused c fault → Split reads last (form line t rest) fault
-    tested line t rest (read d name) e h =
-        further reads (λ f. (behind_name last f name).run d) last line t rest fault (λ f. ap (λ o. and_then o (behind_name last f)) e) (exports_split last name rest d c fault h)
-    tested line t rest (refused d refusal) e h =
-        at_once reads last (form line t rest) fault can (
-          subst (OnLine line) (sym (fault_same {A = ListedModule} d c refusal fault h)) (lined_on line ((module_form (shape t)).run b) d refusal e),
-          λ more. refused_so d refusal (ap (λ o. and_then o (behind_name last more)) e),
-        )
-
-    by : (all : Forms) → reads all ≡ refused c fault → Split reads last all fault
-    by ends h = at_once reads last ends fault can (fault_same {A = ListedModule} b c (faults.BadForm last) fault h)
-    by (broken refusal) h = at_once reads last (broken refusal) fault can (fault_same {A = ListedModule} b c refusal fault h)
-    by (form line t rest) h = tested line t rest ((on_line line (module_form (shape t))).run b) refl h
 
 followed_written : (fs : List (ℕ × Tree)) (rest more : Forms) → FormsWritten (followed fs rest) → FormsWritten more → FormsWritten (followed fs more)
 followed_written [] rest more w v = v
@@ -295,10 +210,8 @@ is_wrong last fs (form line t rest) fault b h = (h.0, begins_none last fs line t
 is_wrong last fs _ fault b h = h
 
 first_fault : (last : ℕ) (all : Forms) (b c : Table) (fault : Fault) → IsAtomTable b → FormsWritten all → (listing last all).run b ≡ refused c fault → IsFirstFault b last all fault
-first_fault last all b c fault table w h = by (listing_split last all b c fault table h)
-  where
-    by : Split (λ f. (listing last f).run b) last all fault → IsFirstFault b last all fault
-    by s = (
+first_fault last all b c fault table w h =
+    let s : Split (λ f. (listing last f).run b) last all fault = listing_split last all b c fault table h in (
       s.good,
       s.rest,
       s.all_are,

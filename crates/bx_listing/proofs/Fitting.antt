@@ -1,24 +1,15 @@
 -- An item that is read fits its opcode's row of the table.
-use Rattle.std.proofs.Common.{◌≡◌, ℕ, ◌+◌, ◌≤◌, suc, Bool, true, false, List, ◌∷◌, ◌++◌, length, take, drop, Some, refl, ap, ◌∙◌, arith, nat_eq, if◌then◌else◌}
-use Rattle.std.specs.Prelude.{◌==◌, nat_le}
+use Rattle.bx_listing.proofs.Known.{◌≡◌, ℕ, ◌+◌, ◌≤◌, suc, Bool, true, false, List, ◌∷◌, ◌++◌, length, take, drop, Some, refl, ap, ◌∙◌, arith, nat_eq}
+use Rattle.bx_listing.proofs.Known.{if◌then◌else◌, ◌==◌, nat_le, Decides-eqb, nat_tests, length-append, drop-append_seam, take-append_seam, Tree, Bif}
+use Rattle.bx_listing.proofs.Known.{guard_bif, guard_bif_with, Sort, Slot, Operand, Item, Table, IsRegister, in_typed, IsValue, an_integer, an_atom, IsSource}
+use Rattle.bx_listing.proofs.Known.{a_register, a_value, IsPlain, IsOperand, AreMembers, no_member, a_member, IsSlot, an_operand, a_list, pairs, a_size}
+use Rattle.bx_listing.proofs.Known.{amounts, no_label, to_x0, AreSlots, no_slot, a_slot, IsItem}
 use Rattle.std.specs.Cmp.Derive.{both_true}
-use Rattle.std.proofs.lemmas.Bool.Decides.{Decides-eqb, nat_tests}
-use Rattle.std.proofs.lemmas.List.{length-append}
-use Rattle.std.proofs.Math.Seq.{drop-append_seam, take-append_seam}
-use Rattle.bx_text.specs.Tree.{Tree}
-use Rattle.bx_ops.specs.declared.guard_bif.Bif.{Bif}
-use Rattle.bx_ops.specs.GuardBifs.{guard_bif, guard_bif_with}
 use Rattle.bx_ops.proofs.GuardBifLemmas.{guard_bif_finds}
-use Rattle.bx_ops.specs.declared.sorts.Sort.{Sort}
-use Rattle.bx_ops.specs.declared.sorts.Sort.TheVariants as sorts
-use Rattle.bx_ops.specs.declared.sorts.Slot.{Slot}
-use Rattle.bx_ops.specs.declared.sorts.Slot.TheVariants as slot_kinds
-use Rattle.bx_listing.specs.declared.items.Operand.{Operand}
-use Rattle.bx_listing.specs.declared.items.Operand.TheVariants as operands
-use Rattle.bx_listing.specs.Items.{Item}
-use Rattle.bx_listing.specs.Reading.{Table}
 use Rattle.bx_listing.specs.Fits.{is_one, are_members, begin_members, is_row, fits}
-use Rattle.bx_listing.specs.ListedItems.{IsRegister, in_typed, IsValue, an_integer, an_atom, IsSource, a_register, a_value, IsPlain, IsOperand, AreMembers, no_member, a_member, IsSlot, an_operand, a_list, pairs, a_size, amounts, no_label, to_x0, AreSlots, no_slot, a_slot, IsItem}
+use Rattle.bx_ops.specs.declared.sorts.Sort.TheVariants as sorts
+use Rattle.bx_ops.specs.declared.sorts.Slot.TheVariants as slot_kinds
+use Rattle.bx_listing.specs.declared.items.Operand.TheVariants as operands
 
 register_fits : {t : Tree} {r : Operand} → IsRegister t r → (is_one sorts.Source r ≡ true) × (is_one sorts.Register r ≡ true)
 register_fits (in_typed e r) = register_fits r

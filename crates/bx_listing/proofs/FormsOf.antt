@@ -1,25 +1,13 @@
 -- The forms of a text are those that the grammar has.
-use Rattle.std.proofs.Common.{◌≡◌, ℕ, zero, suc, ◌<◌, Bool, true, length, Option, Some, None, Result, Ok, Err, refl, sym, ap, subst, ◌∙◌, arith, if◌then◌else◌}
-use Rattle.std.specs.Prelude.{◌↔◌, nat_lt}
-use Rattle.std.proofs.lemmas.Bool.Decides.{nat_tests}
-use Rattle.bx_terms.specs.declared.faults.Fault.{Fault}
+use Rattle.bx_listing.proofs.Known.{Decides-ltb, ◌≡◌, ℕ, zero, suc, ◌<◌, Bool, length, Option, Some, None, Result, Ok, Err, refl, sym, ap, subst, ◌∙◌, arith}
+use Rattle.bx_listing.proofs.Known.{if◌then◌else◌, ◌↔◌, Fault, Tree, span_of, Place, form_at, Form, a_form, forms_are, none_are, Forms, form, moved, forms_on}
+use Rattle.bx_listing.proofs.{Known.forms, Lemmas.forms_next}
 use Rattle.bx_terms.specs.Outcomes.{◌>>=◌}
-use Rattle.bx_text.specs.Tree.{Tree, span_of}
-use Rattle.bx_text.specs.Place.{Place}
-use Rattle.bx_text.specs.Forms.{form_at}
-use Rattle.bx_text.specs.Grammar.{Form, a_form}
-use Rattle.bx_text.proofs.Complete.{term_le}
-use Rattle.bx_text.proofs.Grammatical.{forms_are, none_are}
-use Rattle.bx_text.proofs.Shorter.{next_shorter}
-use Rattle.bx_listing.specs.Forms.{Forms, form, moved, next_form, forms_on, forms}
-use Rattle.bx_listing.specs.FormsOf.{AreForms, none_follows, one_follows, is_refused}
-use Rattle.bx_listing.proofs.Forms.{forms_next}
+use Rattle.bx_text.{proofs.Complete.term_le, proofs.Shorter.next_shorter}
+use Rattle.bx_listing.specs.{Forms.next_form, FormsOf.AreForms, FormsOf.none_follows, FormsOf.one_follows, FormsOf.is_refused}
 
 form_shorter : {d : ℕ} {p q : Place} {t : Tree} → Form d p t q → length q.rest < length p.rest
 form_shorter (a_form {p = p} {r = r} {l = l} {m = m} n t s c) = omega (arith, next_shorter p l n, term_le t, next_shorter r m s)
-
-is_less : (a b : ℕ) → a < b → nat_lt a b ≡ true
-is_less a b h = grind (arith, nat_tests)
 
 forms_at : (p : Place) (r : Result (Option (Tree × Place)) Fault) → form_at p ≡ r → forms p ≡ forms_on (r >>= λ o. Ok (moved p o)) forms
 unfolding next_form
@@ -29,7 +17,7 @@ forms_at p r e = forms_next p ∙ ap (λ r. forms_on (r >>= λ o. Ok (moved p o)
 first_is : (p q : Place) (t : Tree) → Form 256 p t q → forms p ≡ form (span_of t).line t (forms q)
 first_is p q t f =
     forms_at p (Ok (Some (t, q))) ((forms_are p t q).1 f)
-    ∙ ap (λ (keeps : Bool). forms_on (Ok (if keeps then Some (t, q) else None)) forms) (is_less (length q.rest) (length p.rest) (form_shorter f))
+    ∙ ap (λ (keeps : Bool). forms_on (Ok (if keeps then Some (t, q) else None)) forms) ((Decides-ltb (length q.rest) (length p.rest)).1 (form_shorter f))
 
 forms_so : (k : ℕ) (p : Place) → length p.rest < k → AreForms p (forms p)
 forms_so zero p h = absurd (omega (arith, h))

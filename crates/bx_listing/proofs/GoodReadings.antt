@@ -1,8 +1,6 @@
 -- What is known of the parts of a reading that was good.
-use Rattle.std.proofs.Common.{◌≡◌, ℕ, Option, Some, None, Result, Ok, Err, refl, subst}
-use Rattle.std.specs.Prelude.{option_map}
-use Rattle.bx_terms.specs.declared.faults.Fault.{Fault}
-use Rattle.bx_listing.specs.Reading.{Table, Outcome, read, refused, Reading, and_then, ◌>>=◌, from_result, wanted, outcome, lined}
+use Rattle.bx_listing.proofs.Known.{◌≡◌, ℕ, Option, Some, None, Result, Ok, Err, refl, subst, option_map, Fault, Table, Outcome, read, refused, Reading}
+use Rattle.bx_listing.proofs.Known.{and_then, ◌>>=◌, from_result, wanted, outcome, lined}
 
 abbrev IfRead : {A : Type 0} → (A → Table → Type 0) → Outcome A → Type 0
 IfRead P (read texts x) = P x texts
@@ -17,9 +15,13 @@ pub after_read : {A B C : Type 0} (o : Outcome A) (next : A → Reading B) (c : 
 after_read (read b x) next c y k e = k b x refl e
 after_read (refused b fault) next c y k e = absurd (cc)
 
+-- what a function of something wanted tells only where it is there
+pub some_then : {A B C : Type 0} (g : Option A → B) (y : B) (o : Option A) → (g None ≡ y → ⊥) → ((x : A) → o ≡ Some x → g (Some x) ≡ y → C) → g o ≡ y → C
+some_then g y (Some x) none k e = k x refl e
+some_then g y None none k e = absurd (none e)
+
 pub after_wanted : {A B C : Type 0} (fault : Fault) (o : Option A) (next : A → Reading B) (b c : Table) (y : B) → ((x : A) → o ≡ Some x → (next x).run b ≡ read c y → C) → (wanted fault o >>= next).run b ≡ read c y → C
-after_wanted fault (Some x) next b c y k e = k x refl e
-after_wanted fault None next b c y k e = absurd (cc)
+after_wanted fault o next b c y = some_then (λ o. (wanted fault o >>= next).run b) (read c y) o (λ h. cc)
 
 pub after_result : {A B C : Type 0} (r : Result A Fault) (next : A → Reading B) (b c : Table) (y : B) → ((x : A) → r ≡ Ok x → (next x).run b ≡ read c y → C) → (from_result r >>= next).run b ≡ read c y → C
 after_result (Ok x) next b c y k e = k x refl e

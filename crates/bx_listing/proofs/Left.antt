@@ -1,26 +1,22 @@
 -- Items that are left behind those that were looked at.
-use Rattle.std.proofs.Common.{◌≡◌, ℕ, zero, suc, ◌+◌, List, [], ◌∷◌, ◌++◌, drop, Some, None, Result, Ok, Err, refl, ap, sym, ◌∙◌, add-one, append_assoc}
-use Rattle.std.specs.Prelude.{OnOk, slice_get}
-use Rattle.bx_listing.specs.Items.{Item}
+use Rattle.bx_listing.proofs.Known.{drop_more, drop_all, slice_get_within, get_or_from_slice_get, slice_get_cases, ◌<◌, ◌≤◌, length, get_or, inl, inr, sym}
+use Rattle.bx_listing.proofs.Known.{arith, slice_get, ◌≡◌, ℕ, ◌+◌, List, ◌∷◌, ◌++◌, drop, Some, None, Result, Ok, Err, ap, ◌∙◌, append_assoc, OnOk}
 
-next_left : (xs : List Item) (n : ℕ) (x : Item) → Some x ≡ slice_get xs n → drop n xs ≡ x ∷ drop (suc n) xs
-next_left [] n x e = absurd (cc)
-next_left (y ∷ ys) zero x e = let is : y ≡ x = cc in ap (λ z. z ∷ ys) is
-next_left (y ∷ ys) (suc n) x e = next_left ys n x e
-
-none_left : (xs : List Item) (n : ℕ) → None ≡ slice_get xs n → drop n xs ≡ drop (suc n) xs
-none_left (y ∷ ys) zero e = absurd (cc)
-none_left (y ∷ ys) (suc n) e = none_left ys n e
-none_left [] zero e = refl
-none_left [] (suc n) e = refl
+pub next_member : {A : Type 0} (xs : List A) (i : ℕ) (x : A) → i < length xs → x ≡ get_or xs i x → drop i xs ≡ x ∷ drop (i + 1) xs
+next_member xs i x here at = drop_more xs i x here ∙ ap (λ y. y ∷ drop (i + 1) xs) (sym at)
 
 -- an item that is there is the next of those that are left
-pub item_left : (is : List Item) (n : ℕ) (i : Item) → Some i ≡ slice_get is n → drop n is ≡ i ∷ drop (n + 1) is
-item_left is n i e = rw (add-one n) (next_left is n i e)
+pub item_left : {A : Type 0} (is : List A) (n : ℕ) (i : A) → Some i ≡ slice_get is n → drop n is ≡ i ∷ drop (n + 1) is
+item_left is n i e = next_member is n i (slice_get_within is n i (sym e)) (sym (get_or_from_slice_get is n i i (sym e)))
 
 -- where none is there, none is left
-pub no_item_left : (is : List Item) (n : ℕ) → None ≡ slice_get is n → drop n is ≡ drop (n + 1) is
-no_item_left is n e = rw (add-one n) (none_left is n e)
+pub none_past : {A : Type 0} (is : List A) (n : ℕ) → None ≡ slice_get is n → length is ≤ n
+none_past is n e = elim ((slice_get_cases is n).1) [ inl w ↦ absurd (cc (e, w.2)) | inr w ↦ w.0 ]
+
+pub no_item_left : {A : Type 0} (is : List A) (n : ℕ) → None ≡ slice_get is n → drop n is ≡ drop (n + 1) is
+no_item_left is n e =
+    let past : length is ≤ n = none_past is n e in
+    drop_all n is past ∙ sym (drop_all (n + 1) is (omega arith))
 
 -- what was written of the rest, and what is left of it
 pub one_written : {T E : Type 0} (r : Result T E) (old new text rest more : List ℕ) → OnOk r (new ≡ old ++ text) → rest ≡ text ++ more → OnOk r (new ++ more ≡ old ++ rest)

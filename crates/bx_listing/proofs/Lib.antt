@@ -1,19 +1,14 @@
+mod Known
+mod Lemmas
 pub mod Stores
 pub mod Placed
 pub mod Places
-pub mod LocatedForms
 pub mod Elements
 pub mod Readings
-pub mod NamedAtoms
-pub mod LiteralLists
 pub mod LiteralRows
 pub mod Dropped
-mod Each
-pub mod Functions
 pub mod Forms
 pub mod FormLoop
-mod FormMemory
-pub mod Heads
 pub mod GoodReadings
 pub mod Loops
 pub mod BifParts
@@ -30,4 +25,3 @@ pub mod Listed
 pub mod FirstFaults
 pub mod Fitting
 pub mod Left
-pub mod FormRefusals

@@ -1,23 +1,13 @@
 -- What is read as a listing is one, and what is one is read so.
-use Rattle.std.proofs.Common.{◌≡◌, ℕ, Bool, true, false, List, [], Result, Ok, Err, refl, ap, ◌∙◌, if◌then◌else◌}
-use Rattle.std.specs.Prelude.{◌↔◌}
-use Rattle.bx_terms.specs.declared.atom_table.AtomId.{AtomId}
-use Rattle.bx_terms.specs.declared.faults.Fault.{Fault}
-use Rattle.bx_terms.specs.declared.faults.Fault.TheVariants as faults
-use Rattle.bx_text.specs.Tree.{Tree}
-use Rattle.bx_listing.specs.declared.code_form.Export.{Export}
-use Rattle.bx_listing.specs.Reading.{Table, read, and_then, ◌>>=◌, give, lined, on_line, from_result}
-use Rattle.bx_listing.specs.Shape.{shape}
-use Rattle.bx_text.specs.Place.{place_in}
-use Rattle.bx_listing.specs.Forms.{Forms, ends, broken, form, forms, last_line}
-use Rattle.bx_listing.specs.HeadForms.{module_form, exports_form, is_attributes, is_labels}
-use Rattle.bx_listing.specs.ListedCode.{ListedFunction, ListedModule}
-use Rattle.bx_listing.specs.Listing.{taken, and_so, behind_labels, behind_head, functions, listed, behind_exports, behind_name, listing}
-use Rattle.bx_listing.specs.Listed.{IsModule, IsExports, IsAttributes, IsLabels, AreFunctions, IsListing, plain, with_attributes}
-use Rattle.bx_listing.proofs.GoodReadings.{given, after_read, after_result, lined_read}
+use Rattle.bx_listing.proofs.Known.{◌≡◌, ℕ, Bool, true, false, List, [], Result, Ok, Err, refl, if◌then◌else◌, ◌↔◌, AtomId, Fault, Tree, Export, Table, read}
+use Rattle.bx_listing.proofs.Known.{give, on_line, shape, place_in, Forms, ends, broken, form, forms, last_line, module_form, exports_form, is_attributes}
+use Rattle.bx_listing.proofs.Known.{is_labels, ListedFunction, ListedModule, taken, and_so, behind_labels, behind_head, functions, listed, behind_exports}
+use Rattle.bx_listing.proofs.Known.{behind_name, listing, IsModule, IsExports, IsAttributes, IsLabels, AreFunctions, IsListing, with_attributes}
+use Rattle.bx_listing.proofs.Lemmas.{given, after_read, after_result, lined_read, FormsWritten, forms_written}
 use Rattle.bx_listing.proofs.ListedHeads.{module_is, module_read, exports_are, exports_read, attributes_are, attributes_test, labels_are, labels_test}
-use Rattle.bx_listing.proofs.Written.{FormsWritten, forms_written}
 use Rattle.bx_listing.proofs.ListedForms.{functions_are, functions_read}
+use Rattle.bx_listing.specs.Listed.{plain}
+use Rattle.bx_terms.specs.declared.faults.Fault.TheVariants as faults
 
 -- `{labels,N}`, before which `{attributes,T}` may stand
 data IsHead : Forms → Forms → Type 0 where
@@ -46,12 +36,8 @@ head_is last (form k l after) rest h = by (is_attributes (shape l)) refl h
 head_is last _ rest h = absurd (cc)
 
 head_read : (last : ℕ) {all rest : Forms} → IsHead all rest → behind_head last all ≡ Ok rest
-head_read last (alone {k = k} {l = l} {rest = rest} is) =
-    ap (λ (yes : Bool). if yes then and_so (taken last rest) behind_labels else behind_labels (record { line = k; tree = l; rest = rest })) (labels_test l is).1
-    ∙ ap (λ (yes : Bool). if yes then Ok rest else Err (faults.BadForm k)) (labels_test l is).0
-head_read last (after_attributes {h = h} {k = k} {a = a} {l = l} {rest = rest} attributes is) =
-    ap (λ (yes : Bool). if yes then behind_labels (record { line = k; tree = l; rest = rest }) else behind_labels (record { line = h; tree = a; rest = form k l rest })) (attributes_test a attributes)
-    ∙ ap (λ (yes : Bool). if yes then Ok rest else Err (faults.BadForm k)) (labels_test l is).0
+head_read last (alone {l = l} is) = rw ((labels_test l is).1, (labels_test l is).0)
+head_read last (after_attributes {a = a} {l = l} attributes is) = rw (attributes_test a attributes, (labels_test l is).0)
 
 whole : {b c d e : Table} {i j : ℕ} {m x : Tree} {all rest : Forms} {name : AtomId} {exports : List Export} {fs : List ListedFunction}
     → IsModule b m name c → IsExports c x exports d → IsHead all rest → AreFunctions d rest fs e → IsListing b (form i m (form j x all)) (record { name = name; exports = exports; functions = fs }) e
@@ -63,10 +49,6 @@ head_written (alone l) w = w.1
 head_written (after_attributes a l) w = w.1.1
 
 pub listing_is : (last : ℕ) (forms : Forms) (code : ListedModule) (b e : Table) → FormsWritten forms → (listing last forms).run b ≡ read e code → IsListing b forms code e
-listing_is last (form i m ends) code b e w h =
-    after_read ((on_line i (module_form (shape m))).run b) (behind_name last ends) e code (λ c name e1 h1. absurd (cc h1)) h
-listing_is last (form i m (broken fault)) code b e w h =
-    after_read ((on_line i (module_form (shape m))).run b) (behind_name last (broken fault)) e code (λ c name e1 h1. absurd (cc h1)) h
 listing_is last (form i m (form j x all)) code b e w h =
     after_read ((on_line i (module_form (shape m))).run b) (behind_name last (form j x all)) e code (λ c name e1.
     after_read ((on_line j (exports_form (shape x))).run c) (behind_exports last name all) e code (λ d exports e3.
@@ -74,16 +56,15 @@ listing_is last (form i m (form j x all)) code b e w h =
     after_read ((functions [] rest).run d) (λ fs. give (record { name = name; exports = exports; functions = fs })) e code (λ g fs e5 h5.
     given (IsListing b (form i m (form j x all))) (record { name = name; exports = exports; functions = fs }) code g e h5
     (whole (module_is m b c name (lined_read i ((module_form (shape m)).run b) c name e1)) (exports_are x c d exports (lined_read j ((exports_form (shape x)).run c) d exports e3)) (head_is last all rest e4) (functions_are rest d g fs (head_written (head_is last all rest e4) w.1.1) e5)))))) h
+listing_is last (form i m rest) code b e w h =
+    after_read ((on_line i (module_form (shape m))).run b) (behind_name last rest) e code (λ c name e1 h1. absurd (cc h1)) h
 listing_is last _ code b e w h = absurd (cc)
 
 read_whole : (last : ℕ) (b c d e : Table) (i j : ℕ) (m x : Tree) (all rest : Forms) (name : AtomId) (exports : List Export) (fs : List ListedFunction)
     → IsModule b m name c → IsExports c x exports d → IsHead all rest → AreFunctions d rest fs e
     → (listing last (form i m (form j x all))).run b ≡ read e (record { name = name; exports = exports; functions = fs })
 read_whole last b c d e i j m x all rest name exports fs is xs hs are =
-    ap (λ o. and_then (lined i o) (behind_name last (form j x all))) (module_read m b c name is)
-    ∙ ap (λ o. and_then (lined j o) (behind_exports last name all)) (exports_read x c d exports xs)
-    ∙ ap (λ r. (from_result r >>= listed name exports).run d) (head_read last hs)
-    ∙ ap (λ o. and_then o (λ fs. give (record { name = name; exports = exports; functions = fs }))) (functions_read are)
+    rw (module_read m b c name is, exports_read x c d exports xs, head_read last hs, functions_read are)
 
 pub listing_read : {forms : Forms} {code : ListedModule} {b e : Table} → (last : ℕ) → IsListing b forms code e → (listing last forms).run b ≡ read e code
 listing_read last (plain {before = b} {named = c} {exported = d} {behind = e} {i = i} {j = j} {k = k} {m = m} {e = x} {l = l} {rest = rest} {name = name} {exports = exports} {fs = fs} is xs ls are) =

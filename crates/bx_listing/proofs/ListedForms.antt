@@ -1,27 +1,13 @@
 -- What is read as functions and their items is a row of them, and is read so wherever it is one.
-use Rattle.std.proofs.Common.{◌≡◌, ℕ, List, [], ◌∷◌, ◌++◌, Option, Some, None, codes, refl, sym, ap, ◌∙◌, append_assoc}
-use Rattle.std.proofs.lemmas.List.{append-nil}
-use Rattle.bx_terms.specs.declared.atom_table.AtomId.{AtomId}
-use Rattle.bx_text.specs.Tree.{Tree}
-use Rattle.bx_listing.specs.Items.{Item, PlacedItem}
-use Rattle.bx_listing.specs.declared.words.FormWord.{FormWord}
-use Rattle.bx_listing.specs.declared.words.FormWord.TheVariants as words
-use Rattle.bx_listing.specs.Reading.{Table, read, and_then, ◌>>=◌, give, named, lined}
-use Rattle.bx_listing.specs.Shape.{Shape, bare, tagged, other, shape, number, word}
-use Rattle.bx_listing.specs.Words.{form_word}
-use Rattle.bx_listing.specs.HeadForms.{begun, function_form}
-use Rattle.bx_listing.specs.Rows.{tuple_item}
-use Rattle.bx_listing.specs.ItemForms.{read_as, item}
-use Rattle.bx_listing.specs.Forms.{Forms, ends, broken, form}
-use Rattle.bx_listing.specs.ListedCode.{ListedFunction}
-use Rattle.bx_listing.specs.Listing.{with_item, with_optional, with_form_item, with_form, part_of, form_part, part, functions}
-use Rattle.bx_listing.specs.ListedItems.{Tuple, IsItem}
-use Rattle.bx_listing.specs.Listed.{IsFunction, AreItems, no_more, an_annotation, an_item, AreFunctions, no_function, a_function}
-use Rattle.bx_listing.proofs.GoodReadings.{given, after_read, lined_read}
-use Rattle.bx_listing.proofs.Written.{Written, FormsWritten}
-use Rattle.bx_listing.proofs.Worded.{IsFormWord, form_word_is}
+use Rattle.bx_listing.proofs.Known.{◌≡◌, ℕ, List, [], ◌∷◌, ◌++◌, Option, Some, None, codes, refl, sym, ap, ◌∙◌, append_assoc, append-nil, AtomId, Tree, Item}
+use Rattle.bx_listing.proofs.Known.{PlacedItem, FormWord, Table, read, and_then, ◌>>=◌, give, named, lined, Shape, bare, tagged, other, shape, number, word}
+use Rattle.bx_listing.proofs.Known.{form_word, begun, function_form, tuple_item, read_as, item, Forms, ends, broken, form, ListedFunction, with_item}
+use Rattle.bx_listing.proofs.Known.{with_optional, with_form_item, with_form, part_of, form_part, part, functions, Tuple, IsItem, AreFunctions}
+use Rattle.bx_listing.proofs.Lemmas.{given, after_read, lined_read, Written, FormsWritten, IsFormWord, form_word_is}
 use Rattle.bx_listing.proofs.ListedOperands.{at_word, names_are, names_read}
 use Rattle.bx_listing.proofs.ListedItems.{IsPassed, item_is, item_read, note_read}
+use Rattle.bx_listing.specs.Listed.{IsFunction, AreItems, no_more, an_annotation, an_item, no_function, a_function}
+use Rattle.bx_listing.specs.declared.words.FormWord.TheVariants as words
 
 -- a function whose items were read so far
 abbrev pub started : AtomId → ℕ → ℕ → ListedFunction
@@ -38,10 +24,6 @@ data Adds (line : ℕ) (before : Table) (t : Tree) (front : List ListedFunction)
   passed : {note : Tree} → Tuple t (codes "%") (note ∷ []) → Adds line before t front f (front ++ f ∷ []) before
   added : {i : Item} {behind : Table} → IsItem before t i behind → Adds line before t front f (front ++ extended f (placed line i ∷ []) ∷ []) behind
   began : {name : AtomId} {arity entry : ℕ} {behind : Table} → IsFunction before t name arity entry behind → Adds line before t front f ((front ++ f ∷ []) ++ started name arity entry ∷ []) behind
-
--- a form that begins the first one
-data Begins (before : Table) (t : Tree) : List ListedFunction → Table → Type 0 where
-  first : {name : AtomId} {arity entry : ℕ} {behind : Table} → IsFunction before t name arity entry behind → Begins before t (started name arity entry ∷ []) behind
 
 with_last : (line : ℕ) (i : Item) (front : List ListedFunction) (f : ListedFunction) → with_item line i (front ++ f ∷ []) ≡ front ++ extended f (placed line i ∷ []) ∷ []
 with_last line i (g ∷ h ∷ front) f = ap (λ fs. g ∷ fs) (with_last line i (h ∷ front) f)
@@ -60,9 +42,7 @@ function_is t b c f text (n ∷ a ∷ e ∷ []) is at P p h = by (word n) (numbe
     by (Some w) (Some arity) (Some entry) e1 e2 e3 h =
         after_read ((named w).run b) (λ name. give (started name arity entry)) c f (λ d name e4 h4.
         given P (started name arity entry) f d c h4 (p name arity entry d (n, a, e, at_word t at is, (w, e1, names_are w b d name e4), e2, e3))) h
-    by None q r e1 e2 e3 h = absurd (cc)
-    by (Some w) None r e1 e2 e3 h = absurd (cc)
-    by (Some w) (Some arity) None e1 e2 e3 h = absurd (cc)
+    by _ _ _ e1 e2 e3 h = absurd (cc)
 function_is t b c f text _ is at P p h = absurd (cc)
 
 part_is : (line : ℕ) (t : Tree) (b c : Table) (front : List ListedFunction) (f : ListedFunction) (out : List ListedFunction)
@@ -90,16 +70,16 @@ part_is line t b c front f out w h = by (shape t) refl (lined_read line ((form_p
     by (bare text) e h = as_item (bare text) e h
     by other e h = as_item other e h
 
-first_is : (line : ℕ) (t : Tree) (b c : Table) (out : List ListedFunction) → (part line [] (shape t)).run b ≡ read c out → Begins b t out c
-first_is line t b c out h = by (shape t) refl (lined_read line ((form_part line [] (shape t)).run b) c out h)
+first_is : (line : ℕ) (t : Tree) (b c : Table) (out : List ListedFunction) (P : List ListedFunction → Table → Type 0)
+    → ((name : AtomId) (arity entry : ℕ) (behind : Table) → IsFunction b t name arity entry behind → P (started name arity entry ∷ []) behind) → (part line [] (shape t)).run b ≡ read c out → P out c
+first_is line t b c out P p h = by (shape t) refl (lined_read line ((form_part line [] (shape t)).run b) c out h)
   where
-    of_word : (text : List ℕ) (k : FormWord) (parts : List Tree) → IsFormWord text k → shape t ≡ tagged text parts → (part_of line [] text parts k).run b ≡ read c out → Begins b t out c
+    of_word : (text : List ℕ) (k : FormWord) (parts : List Tree) → IsFormWord text k → shape t ≡ tagged text parts → (part_of line [] text parts k).run b ≡ read c out → P out c
     of_word text words.Function parts is e h =
-        after_read ((function_form parts).run b) (λ g. give (g ∷ [])) c out (λ d g e1 h1.
-        given (Begins b t) (g ∷ []) out d c h1 (function_is t b d g text parts is e (λ g d. Begins b t (g ∷ []) d) (λ name arity entry d a. first a) e1)) h
+        after_read ((function_form parts).run b) (λ g. give (g ∷ [])) c out (λ d g e1 h1. given P (g ∷ []) out d c h1 (function_is t b d g text parts is e (λ g d. P (g ∷ []) d) p e1)) h
     of_word text k parts is e h = absurd (cc)
 
-    by : (s : Shape) → shape t ≡ s → (form_part line [] s).run b ≡ read c out → Begins b t out c
+    by : (s : Shape) → shape t ≡ s → (form_part line [] s).run b ≡ read c out → P out c
     by (tagged text parts) e h = of_word text (form_word text) parts (form_word_is text) e h
     by _ e h = absurd (cc)
 
@@ -145,12 +125,10 @@ pub functions_are : (forms : Forms) (b d : Table) (out : List ListedFunction) �
 functions_are ends b d out w h = given (AreFunctions b ends) [] out b d h no_function
 functions_are (broken fault) b d out w h = absurd (cc)
 functions_are (form line t rest) b d out w h =
-    after_read ((part line [] (shape t)).run b) (λ done. functions done rest) d out (λ c done e1 h1. by done c (first_is line t b c done e1) h1) h
-  where
-    by : (done : List ListedFunction) (c : Table) → Begins b t done c → (functions done rest).run c ≡ read d out → AreFunctions b (form line t rest) out d
-    by _ _ (first {name = name} {arity = arity} {entry = entry} {behind = c} a) h1 =
-        let (is, m, past, fs, items, more, same) = behind_is rest c d [] (started name arity entry) out w.1 h1 in
-        rw same (a_function a items more)
+    after_read ((part line [] (shape t)).run b) (λ done. functions done rest) d out (λ c done e1.
+    first_is line t b c done (λ done c. (functions done rest).run c ≡ read d out → AreFunctions b (form line t rest) out d) (λ name arity entry c a h1.
+    let (is, m, past, fs, items, more, same) = behind_is rest c d [] (started name arity entry) out w.1 h1 in
+    rw same (a_function a items more)) e1) h
 
 -- a form that is no function goes to the last one
 item_added : (line : ℕ) (t : Tree) (b c : Table) (front : List ListedFunction) (f : ListedFunction) (i : Option Item) → (item (shape t)).run b ≡ read c i
@@ -173,31 +151,20 @@ item_added line t b c front f i h = ap (lined line) (by (shape t) h)
 function_begun : (line : ℕ) (t : Tree) (b c : Table) (done : List ListedFunction) (name : AtomId) (arity entry : ℕ) → IsFunction b t name arity entry c
     → (part line done (shape t)).run b ≡ read c (done ++ started name arity entry ∷ [])
 function_begun line t b c done name arity entry (n, a, e, is, (w, at, named_w), q, r) =
-    ap (lined line) (
-    ap (λ s. (form_part line done s).run b) is
-    ∙ ap (λ o. (begun o (number a) (number e) >>= λ g. give (done ++ g ∷ [])).run b) at
-    ∙ ap (λ o. (begun (Some w) o (number e) >>= λ g. give (done ++ g ∷ [])).run b) q
-    ∙ ap (λ o. (begun (Some w) (Some arity) o >>= λ g. give (done ++ g ∷ [])).run b) r
-    ∙ ap (λ o. and_then (and_then o (λ name. give (started name arity entry))) (λ g. give (done ++ g ∷ []))) (names_read w b c name named_w))
+    rw (is, at, q, r, names_read w b c name named_w)
 
 items_go : {b c : Table} {forms rest : Forms} {is : List PlacedItem} → AreItems b forms is c rest
     → (front : List ListedFunction) (f : ListedFunction) → (functions (front ++ f ∷ []) forms).run b ≡ (functions (front ++ extended f is ∷ []) rest).run c
 items_go (no_more {before = b} {rest = rest}) front f = ap (λ g. (functions (front ++ g ∷ []) rest).run b) (sym (extended_none f))
-items_go (an_annotation {before = b} {line = line} {t = t} {note = note} {forms = forms} e g) front f =
-    ap (λ o. and_then o (λ done. functions done forms)) (item_added line t b b front f None (note_read t note b e)) ∙ items_go g front f
-items_go (an_item {before = b} {between = c} {behind = d} {line = line} {t = t} {i = i} {forms = forms} {rest = rest} {is = is} a g) front f =
-    ap (λ o. and_then o (λ done. functions done forms)) (item_added line t b c front f (Some i) (item_read a))
-    ∙ ap (λ done. (functions done forms).run c) (with_last line i front f)
-    ∙ items_go g front (extended f (placed line i ∷ []))
-    ∙ ap (λ g. (functions (front ++ g ∷ []) rest).run d) (extended_twice f (placed line i ∷ []) is)
+items_go (an_annotation {before = b} {line = line} {t = t} {note = note} e g) front f = rw (item_added line t b b front f None (note_read t note b e)) (items_go g front f)
+items_go (an_item {before = b} {between = c} {line = line} {t = t} {i = i} {is = is} a g) front f =
+    rw (item_added line t b c front f (Some i) (item_read a), with_last line i front f, items_go g front (extended f (placed line i ∷ [])), extended_twice f (placed line i ∷ []) is)
 
 functions_go : {b d : Table} {forms : Forms} {fs : List ListedFunction} → AreFunctions b forms fs d → (done : List ListedFunction) → (functions done forms).run b ≡ read d (done ++ fs)
 functions_go (no_function {before = b}) done = ap (read b) (sym (append-nil done))
-functions_go (a_function {before = b} {named = c} {between = m} {behind = d} {line = line} {t = t} {name = name} {arity = arity} {entry = entry} {forms = forms} {rest = rest} {is = is} {fs = fs} a items more) done =
-    ap (λ o. and_then o (λ done. functions done forms)) (function_begun line t b c done name arity entry a)
-    ∙ items_go items done (started name arity entry)
-    ∙ functions_go more (done ++ extended (started name arity entry) is ∷ [])
-    ∙ ap (read d) (append_assoc done (extended (started name arity entry) is ∷ []) fs)
+functions_go (a_function {before = b} {named = c} {behind = d} {line = line} {t = t} {name = name} {arity = arity} {entry = entry} {is = is} {fs = fs} a items more) done =
+    rw (function_begun line t b c done name arity entry a, items_go items done (started name arity entry), functions_go more (done ++ extended (started name arity entry) is ∷ []))
+    (ap (read d) (append_assoc done (extended (started name arity entry) is ∷ []) fs))
 
 pub functions_read : {b d : Table} {forms : Forms} {fs : List ListedFunction} → AreFunctions b forms fs d → (functions [] forms).run b ≡ read d fs
 functions_read are = functions_go are []

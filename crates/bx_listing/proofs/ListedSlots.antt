@@ -1,31 +1,19 @@
 -- What is read slot by slot stands in the places, and is read so wherever it stands there.
-use Rattle.std.proofs.Common.{◌≡◌, ℕ, suc, Bool, true, false, List, [], ◌∷◌, ◌++◌, length, drop, Option, Some, None, codes, refl, sym, ap, subst, ◌∙◌, append_assoc, if◌then◌else◌}
-use Rattle.std.specs.Prelude.{option_map}
-use Rattle.std.proofs.lemmas.List.{append-nil}
-use Rattle.std.proofs.Math.Seq.{drop-append_seam}
-use Rattle.std.proofs.lemmas.Bool.Decides.{Decides-eqb}
-use Rattle.bx_terms.specs.declared.faults.Fault.TheVariants as faults
-use Rattle.bx_text.specs.Tree.{Tree, integer}
-use Rattle.bx_ops.specs.declared.opcode.Op.{Op}
-use Rattle.bx_ops.specs.declared.sorts.Sort.{Sort}
-use Rattle.bx_ops.specs.declared.sorts.Sort.TheVariants as sorts
-use Rattle.bx_ops.specs.declared.sorts.Slot.{Slot}
-use Rattle.bx_ops.specs.declared.sorts.Slot.TheVariants as slot_kinds
-use Rattle.bx_ops.specs.Table.{slots}
-use Rattle.bx_listing.specs.declared.items.Operand.{Operand}
-use Rattle.bx_listing.specs.declared.items.Operand.TheVariants as operands
-use Rattle.bx_listing.specs.declared.words.OperandWord.{OperandWord}
-use Rattle.bx_listing.specs.declared.words.OperandWord.TheVariants as words
-use Rattle.bx_listing.specs.Reading.{Table, Reading, read, and_then, ◌>>=◌, give, no_line}
-use Rattle.bx_listing.specs.Shape.{Shape, tagged, shape, number, proper, list_elements}
-use Rattle.bx_listing.specs.Words.{operand_word}
-use Rattle.bx_listing.specs.Operands.{operand, bad_operand, label, register, simple}
-use Rattle.bx_listing.specs.Rows.{members, listed_of, listed_in, listed, is_even, is_label, is_x, list_of, pairs_of, amounts_of, amounts_in, amounts, heap_of, slot, row, agrees, agreed, formed_item, Read}
-use Rattle.bx_listing.proofs.GoodReadings.{given, after_read, after_wanted}
-use Rattle.bx_listing.proofs.Written.{Written, AllWritten, parts_written, an_integer_term, a_list_term, Rest, no_rest, a_last, a_first}
-use Rattle.bx_listing.proofs.Worded.{IsOperandWord, operand_word_is}
-use Rattle.bx_listing.specs.ListedItems.{Target, IsRegister, IsOperand, AreMembers, no_member, a_member, IsList, IsSlot, an_operand, a_list, pairs, AreAmounts, a_size, amounts as some_amounts, no_label, to_x0, AreSlots, no_slot, a_slot}
+use Rattle.bx_listing.proofs.Known.{ap, Bool, if◌then◌else◌, bad_operand, Tuple, ◌≡◌, ℕ, suc, true, false, List, [], ◌∷◌, ◌++◌, length, drop, Option, Some}
+use Rattle.bx_listing.proofs.Known.{None, refl, sym, subst, ◌∙◌, append_assoc, option_map, append-nil, drop-append_seam, Decides-eqb, Tree, integer, Op, Sort}
+use Rattle.bx_listing.proofs.Known.{Slot, slots, Operand, OperandWord, Table, Reading, read, give, no_line, tagged, shape, number, proper, list_elements, label}
+use Rattle.bx_listing.proofs.Known.{register, simple, members, slot, row, formed_item, Read, IsRegister, IsOperand, AreMembers, no_member, a_member, IsList}
+use Rattle.bx_listing.proofs.Known.{IsSlot, an_operand, a_list, pairs, AreAmounts, a_size, no_label, to_x0, AreSlots, no_slot, a_slot}
+use Rattle.bx_listing.proofs.Lemmas.{some_then, by_operand_word, given, after_read, after_wanted, Written, AllWritten, parts_written, an_integer_term}
+use Rattle.bx_listing.proofs.Lemmas.{a_list_term, Rest, no_rest, a_last, a_first, IsOperandWord}
 use Rattle.bx_listing.proofs.ListedOperands.{at_word, operand_is, operand_read, target_is, target_read, register_is, register_read}
+use Rattle.bx_listing.specs.Rows.{listed_of, listed_in, listed, is_even, is_label, is_x, list_of, pairs_of, amounts_of, amounts_in, amounts, heap_of, agrees}
+use Rattle.bx_listing.specs.{Rows.agreed, ListedItems.amounts as some_amounts}
+use Rattle.bx_terms.specs.declared.faults.Fault.TheVariants as faults
+use Rattle.bx_ops.specs.declared.sorts.Sort.TheVariants as sorts
+use Rattle.bx_ops.specs.declared.sorts.Slot.TheVariants as slot_kinds
+use Rattle.bx_listing.specs.declared.items.Operand.TheVariants as operands
+use Rattle.bx_listing.specs.declared.words.OperandWord.TheVariants as words
 
 -- so much more was read
 abbrev pub Adds : {A : Type 0} → List A → List A → (List A → Type 0) → Type 0
@@ -42,38 +30,28 @@ members_are done this next (t ∷ ts) b c all w h =
 pub members_read : (done : List Operand) {this next : Sort} {ts : List Tree} {b c : Table} {os : List Operand} → AreMembers b this next ts os c
     → (members done this next ts).run b ≡ read c (done ++ os)
 members_read done (no_member {before = b}) = ap (read b) (sym (append-nil done))
-members_read done (a_member {before = b} {between = d} {behind = c} {this = this} {next = next} {t = t} {ts = ts} {o = o} {os = os} x more) =
-    ap (λ r. and_then r (λ o. members (done ++ o ∷ []) next this ts)) (operand_read this t b d o x)
-    ∙ members_read (done ++ o ∷ []) more
-    ∙ ap (read c) (append_assoc done (o ∷ []) os)
+members_read done (a_member {before = b} {between = d} {this = this} {t = t} {o = o} {os = os} x more) =
+    rw (operand_read this t b d o x, members_read (done ++ o ∷ []) more, append_assoc done (o ∷ []) os)
 
 list_is : (t : Tree) (ts : List Tree) → listed t ≡ Some ts → IsList t ts
-list_is t ts h = by (shape t) refl h
+list_is t ts = by_operand_word listed_in listed_of t (Some ts) (λ w us. refl) (λ w h. cc) (λ h. cc) by
   where
-    of_word : (text : List ℕ) (k : OperandWord) (parts : List Tree) → IsOperandWord text k → shape t ≡ tagged text parts → listed_of k parts ≡ Some ts → IsList t ts
-    of_word text words.List (l ∷ []) is e h = (l, at_word t e is, h)
-    of_word text k parts is e h = absurd (cc)
-
-    by : (s : Shape) → shape t ≡ s → listed_in s ≡ Some ts → IsList t ts
-    by (tagged text parts) e h = of_word text (operand_word text) parts (operand_word_is text) e h
-    by _ e h = absurd (cc)
+    by : (text : List ℕ) (k : OperandWord) (parts : List Tree) → IsOperandWord text k → shape t ≡ tagged text parts → listed_of k parts ≡ Some ts → IsList t ts
+    by text words.List (l ∷ []) is e h = (l, at_word t e is, h)
+    by text k parts is e h = absurd (cc)
 
 list_read : (t : Tree) (ts : List Tree) → IsList t ts → listed t ≡ Some ts
-list_read t ts (l, e, h) = ap listed_in e ∙ h
+list_read t ts (l, e, h) = rw (e, h)
 
 amounts_are : (t : Tree) (ts : List Tree) → amounts t ≡ Some ts → AreAmounts t ts
-amounts_are t ts h = by (shape t) refl h
+amounts_are t ts = by_operand_word amounts_in amounts_of t (Some ts) (λ w us. refl) (λ w h. cc) (λ h. cc) by
   where
-    of_word : (text : List ℕ) (k : OperandWord) (parts : List Tree) → IsOperandWord text k → shape t ≡ tagged text parts → amounts_of k parts ≡ Some ts → AreAmounts t ts
-    of_word text words.Amounts (l ∷ []) is e h = (l, at_word t e is, h)
-    of_word text k parts is e h = absurd (cc)
-
-    by : (s : Shape) → shape t ≡ s → amounts_in s ≡ Some ts → AreAmounts t ts
-    by (tagged text parts) e h = of_word text (operand_word text) parts (operand_word_is text) e h
-    by _ e h = absurd (cc)
+    by : (text : List ℕ) (k : OperandWord) (parts : List Tree) → IsOperandWord text k → shape t ≡ tagged text parts → amounts_of k parts ≡ Some ts → AreAmounts t ts
+    by text words.Amounts (l ∷ []) is e h = (l, at_word t e is, h)
+    by text k parts is e h = absurd (cc)
 
 amounts_read : (t : Tree) (ts : List Tree) → AreAmounts t ts → amounts t ≡ Some ts
-amounts_read t ts (l, e, h) = ap amounts_in e ∙ h
+amounts_read t ts (l, e, h) = rw (e, h)
 
 -- a number is no list of amounts
 number_alone : (t : Tree) (n : ℕ) → number t ≡ Some n → amounts t ≡ None
@@ -83,38 +61,25 @@ number_alone _ n e = absurd (cc)
 size_alone : (t : Tree) (o : Operand) (b c : Table) → IsOperand b sorts.Number t o c → amounts t ≡ None
 size_alone t o b c ((n, at, same), eq) = number_alone t n at
 
-last_proper : (t : Tree) (ts : List Tree) → Written t → proper t ≡ Some ts → AllWritten ts
-last_proper t ts an_integer_term e = absurd (cc)
-last_proper t ts _ e = absurd (cc)
-
-first_proper : (t : Tree) (o : Option (List Tree)) (ts : List Tree) → Written t → ((us : List Tree) → o ≡ Some us → AllWritten us) → option_map (λ us. t ∷ us) o ≡ Some ts → AllWritten ts
-first_proper t (Some us) ts w more e = let same : t ∷ us ≡ ts = cc in subst AllWritten same (w, more us refl)
-first_proper t None ts w more e = absurd (cc)
-
 proper_written : {row : Tree} (ts : List Tree) → Rest row → proper row ≡ Some ts → AllWritten ts
 proper_written ts no_rest e = let same : [] ≡ ts = cc in subst AllWritten same tt
-proper_written ts (a_last {t = t} w) e = last_proper t ts w e
-proper_written ts (a_first {t = t} {rest = rest} w more) e = first_proper t (proper rest) ts w (λ us is. proper_written us more is) e
+proper_written ts (a_last an_integer_term) e = absurd (cc)
+proper_written ts (a_last _) e = absurd (cc)
+proper_written ts (a_first {t = t} {rest = rest} w more) e =
+    some_then (option_map (λ us. t ∷ us)) (Some ts) (proper rest) (λ h. cc) (λ us is h. let same : t ∷ us ≡ ts = cc in subst AllWritten same (w, proper_written us more is)) e
 
 pub elements_written : (t : Tree) (ts : List Tree) → Written t → list_elements t ≡ Some ts → AllWritten ts
 elements_written t ts (a_list_term r) e = proper_written ts r e
 elements_written t ts _ e = absurd (cc)
 
-list_written : (t : Tree) (ts : List Tree) → Written t → IsList t ts → AllWritten ts
-list_written t ts w (l, e, h) = elements_written l ts (parts_written w (codes "list") (l ∷ []) e).0 h
-
-amounts_written : (t : Tree) (ts : List Tree) → Written t → AreAmounts t ts → AllWritten ts
-amounts_written t ts w (l, e, h) = elements_written l ts (parts_written w (codes "alloc") (l ∷ []) e).0 h
+listed_written : {t l : Tree} {word : List ℕ} (ts : List Tree) → Written t → Tuple t word (l ∷ []) → list_elements l ≡ Some ts → AllWritten ts
+listed_written {l = l} {word = word} ts w e h = elements_written l ts (parts_written w word (l ∷ []) e).0 h
 
 list_slot_is : (done : List Operand) (this next : Sort) (ts : List Tree) (b c : Table) (all : List Operand) → AllWritten ts
     → (list_of done this next ts).run b ≡ read c all → Adds done all (λ os. (more : List Operand) × (os ≡ operands.List (length ts) ∷ more) × AreMembers b this next ts more c)
 list_slot_is done this next ts b c all w h =
     let (os, is, are) = members_are (done ++ operands.List (length ts) ∷ []) this next ts b c all w h in
     (operands.List (length ts) ∷ os, is ∙ append_assoc done (operands.List (length ts) ∷ []) os, (os, refl, are))
-
-is_label_zero : (t : Tree) (o : Option ℕ) → label t ≡ o → is_label 0 o ≡ true → Target t 0
-is_label_zero t (Some n) e h = target_is t 0 (e ∙ ap Some ((Decides-eqb n 0).0 h))
-is_label_zero t None e h = absurd (cc)
 
 is_x_zero : (t : Tree) (o : Option Operand) → register t ≡ o → is_x 0 o ≡ true → IsRegister t (operands.X 0)
 is_x_zero t (Some (operands.X n)) e h = register_is t (operands.X 0) (e ∙ ap (λ n. Some (operands.X n)) ((Decides-eqb n 0).0 h))
@@ -132,17 +97,17 @@ slot_is done (slot_kinds.One sort) t b c all w h =
 slot_is done (slot_kinds.Many sort) t b c all w h =
     after_wanted (faults.BadOperand no_line) (listed t) (list_of done sort sort) b c all (λ ts e h1.
     let at = list_is t ts e in
-    let (os, is, (more, same, are)) = list_slot_is done sort sort ts b c all (list_written t ts w at) h1 in
+    let (os, is, (more, same, are)) = list_slot_is done sort sort ts b c all (listed_written ts w at.1 at.2) h1 in
     (operands.List (length ts) ∷ more, is ∙ ap (λ os. done ++ os) same, a_list at are)) h
 slot_is done (slot_kinds.Pairs first second) t b c all w h =
     after_wanted (faults.BadOperand no_line) (listed t) (pairs_of done first second) b c all (λ ts e h1.
     let at = list_is t ts e in
     let (even, h2) = tested (is_even ts) (list_of done first second ts) b c all h1 in
-    let (os, is, (more, same, are)) = list_slot_is done first second ts b c all (list_written t ts w at) h2 in
+    let (os, is, (more, same, are)) = list_slot_is done first second ts b c all (listed_written ts w at.1 at.2) h2 in
     (operands.List (length ts) ∷ more, is ∙ ap (λ os. done ++ os) same, pairs at even are)) h
 slot_is done slot_kinds.NoLabel t b c all w h =
     let (zero, h1) = tested (is_label 0 (label t)) (give done) b c all h in
-    given (λ all c. Adds done all (λ os. IsSlot b slot_kinds.NoLabel t os c)) done all b c h1 ([], sym (append-nil done), no_label (is_label_zero t (label t) refl zero))
+    given (λ all c. Adds done all (λ os. IsSlot b slot_kinds.NoLabel t os c)) done all b c h1 ([], sym (append-nil done), no_label (some_then (is_label 0) true (label t) (λ h. cc) (λ n e h. target_is t 0 (e ∙ ap Some ((Decides-eqb n 0).0 h))) zero))
 slot_is done slot_kinds.ToX0 t b c all w h =
     let (zero, h1) = tested (is_x 0 (register t)) (give done) b c all h in
     given (λ all c. Adds done all (λ os. IsSlot b slot_kinds.ToX0 t os c)) done all b c h1 ([], sym (append-nil done), to_x0 (is_x_zero t (register t) refl zero))
@@ -151,33 +116,25 @@ slot_is done slot_kinds.Heap t b c all w h = by (amounts t) refl h
     by : (o : Option (List Tree)) → amounts t ≡ o → (heap_of done t o).run b ≡ read c all → Adds done all (λ os. IsSlot b slot_kinds.Heap t os c)
     by (Some ts) e h =
         let at = amounts_are t ts e in
-        let (os, is, (more, same, are)) = list_slot_is done sorts.Amount sorts.Amount ts b c all (amounts_written t ts w at) h in
+        let (os, is, (more, same, are)) = list_slot_is done sorts.Amount sorts.Amount ts b c all (listed_written ts w at.1 at.2) h in
         (operands.List (length ts) ∷ more, is ∙ ap (λ os. done ++ os) same, some_amounts at are)
     by None e h =
         after_read ((simple sorts.Number t).run b) (λ o. give (done ++ o ∷ [])) c all (λ d o e1 h1.
         given (λ all c. Adds done all (λ os. IsSlot b slot_kinds.Heap t os c)) (done ++ o ∷ []) all d c h1 (o ∷ [], refl, a_size (operand_is sorts.Number t b d o w e1))) h
 
 pub slot_read : (done : List Operand) {s : Slot} {t : Tree} {b c : Table} {os : List Operand} → IsSlot b s t os c → (slot done s t).run b ≡ read c (done ++ os)
-slot_read done {b = b} {c = c} (an_operand {sort = sort} {t = t} {o = o} x) = ap (λ r. and_then r (λ o. give (done ++ o ∷ []))) (operand_read sort t b c o x)
-slot_read done {b = b} {c = c} (a_list {sort = sort} {t = t} {ts = ts} {os = os} at are) =
-    ap (λ o. (operand o >>= list_of done sort sort).run b) (list_read t ts at)
-    ∙ members_read (done ++ operands.List (length ts) ∷ []) are
-    ∙ ap (read c) (append_assoc done (operands.List (length ts) ∷ []) os)
+slot_read done {b = b} {c = c} (an_operand {sort = sort} {t = t} {o = o} x) = rw (operand_read sort t b c o x)
+slot_read done (a_list {t = t} {ts = ts} {os = os} at are) =
+    rw (list_read t ts at, members_read (done ++ operands.List (length ts) ∷ []) are, append_assoc done (operands.List (length ts) ∷ []) os)
 slot_read done {b = b} {c = c} (pairs {first = first} {second = second} {t = t} {ts = ts} {os = os} at even are) =
-    ap (λ o. (operand o >>= pairs_of done first second).run b) (list_read t ts at)
-    ∙ ap (λ (test : Bool). (if test then list_of done first second ts else bad_operand).run b) even
-    ∙ members_read (done ++ operands.List (length ts) ∷ []) are
-    ∙ ap (read c) (append_assoc done (operands.List (length ts) ∷ []) os)
-slot_read done {b = b} {c = c} (a_size {t = t} {o = o} x) =
-    ap (λ k. (heap_of done t k).run b) (size_alone t o b c x) ∙ ap (λ r. and_then r (λ o. give (done ++ o ∷ []))) (operand_read sorts.Number t b c o x)
-slot_read done {b = b} {c = c} (some_amounts {t = t} {ts = ts} {os = os} at are) =
-    ap (λ o. (heap_of done t o).run b) (amounts_read t ts at)
-    ∙ members_read (done ++ operands.List (length ts) ∷ []) are
-    ∙ ap (read c) (append_assoc done (operands.List (length ts) ∷ []) os)
-slot_read done {b = b} (no_label {t = t} at) =
-    ap (λ o. (if is_label 0 o then give done else bad_operand).run b) (target_read t 0 at) ∙ ap (read b) (sym (append-nil done))
-slot_read done {b = b} (to_x0 {t = t} at) =
-    ap (λ o. (if is_x 0 o then give done else bad_operand).run b) (register_read at) ∙ ap (read b) (sym (append-nil done))
+    rw (list_read t ts at)
+    (ap (λ (test : Bool). (if test then list_of done first second ts else bad_operand).run b) even ∙ members_read (done ++ operands.List (length ts) ∷ []) are
+    ∙ ap (read c) (append_assoc done (operands.List (length ts) ∷ []) os))
+slot_read done {b = b} {c = c} (a_size {t = t} {o = o} x) = rw (size_alone t o b c x, operand_read sorts.Number t b c o x)
+slot_read done (some_amounts {t = t} {ts = ts} {os = os} at are) =
+    rw (amounts_read t ts at, members_read (done ++ operands.List (length ts) ∷ []) are, append_assoc done (operands.List (length ts) ∷ []) os)
+slot_read done (no_label {t = t} at) = rw (target_read t 0 at, append-nil)
+slot_read done (to_x0 at) = rw (register_read at, append-nil)
 
 pub row_is : (done : List Operand) (ss : List Slot) (ts : List Tree) (b c : Table) (all : List Operand) → AllWritten ts → length ts ≡ length ss
     → (row done ss ts).run b ≡ read c all → Adds done all (λ os. AreSlots b ss ts os c)
@@ -192,10 +149,7 @@ row_is done _ _ b c all w n h = absurd (cc)
 
 pub row_read : (done : List Operand) {ss : List Slot} {ts : List Tree} {b c : Table} {os : List Operand} → AreSlots b ss ts os c → (row done ss ts).run b ≡ read c (done ++ os)
 row_read done (no_slot {before = b}) = ap (read b) (sym (append-nil done))
-row_read done (a_slot {before = b} {between = d} {behind = c} {s = s} {ss = ss} {t = t} {ts = ts} {os = os} {more = more} x are) =
-    ap (λ r. and_then r (λ more. row more ss ts)) (slot_read done x)
-    ∙ row_read (done ++ os) are
-    ∙ ap (read c) (append_assoc done os more)
+row_read done (a_slot {os = os} {more = more} x are) = rw (slot_read done x, row_read (done ++ os) are, append_assoc done os more)
 
 pub slots_length : {ss : List Slot} {ts : List Tree} {b c : Table} {os : List Operand} → AreSlots b ss ts os c → length ts ≡ length ss
 slots_length no_slot = refl
@@ -215,5 +169,4 @@ formed_is done op ts b c x w n h =
 pub formed_read : (done : List Operand) (op : Op) (ts : List Tree) (b c : Table) (os : List Operand) → AreSlots b (slots op) ts os c → agrees os ≡ true
     → (formed_item done (op, ts)).run b ≡ read c (Some op, done ++ os)
 formed_read done op ts b c os are agree =
-    ap (λ r. and_then r (agreed op done)) (row_read done are)
-    ∙ ap (λ (test : Bool). (if test then give (Some op, done ++ os) else bad_operand).run c) (ap agrees (drop-append_seam done os) ∙ agree)
+    rw (row_read done are) (ap (λ (test : Bool). (if test then give (Some op, done ++ os) else bad_operand).run c) (ap agrees (drop-append_seam done os) ∙ agree))

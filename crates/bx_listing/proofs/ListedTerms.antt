@@ -1,27 +1,19 @@
 -- What is read of a literal is its term, where that is not too high, and is read so.
-use Rattle.std.proofs.Common.{◌≡◌, ℕ, ℤ, ◌≤◌, Bool, true, false, List, [], ◌∷◌, Option, Some, None, refl, sym, ap, ◌∙◌, arith, if◌then◌else◌}
-use Rattle.std.specs.Prelude.{nat_le}
-use Rattle.std.proofs.lemmas.Bool.Decides.{nat_tests}
-use Rattle.bx_terms.specs.declared.faults.Fault.TheVariants as faults
-use Rattle.bx_terms.specs.Naming.{naming}
-use Rattle.bx_terms.specs.Tree as term
+use Rattle.bx_listing.proofs.Known.{◌≡◌, ℕ, ℤ, ◌≤◌, Bool, true, false, List, [], ◌∷◌, Option, Some, None, refl, sym, ap, ◌∙◌, arith, if◌then◌else◌, nat_le}
+use Rattle.bx_listing.proofs.Known.{nat_tests, naming, is_large, Tree, integer, atom, tuple, list, nil, cons, Table, read, and_then, ◌>>=◌, give, refuse, named}
+use Rattle.bx_listing.proofs.Known.{outcome, no_line, kept, kept_cons, kept_before, kept_list, kept_tuple, with_first, Row, ended, longer, parts, literal}
+use Rattle.bx_listing.proofs.Lemmas.{given, after_read, outcome_read, Written, an_integer_term, an_atom_term, a_tuple_term, a_list_term, an_other_term}
+use Rattle.bx_listing.proofs.Lemmas.{Elements, no_elements, an_element_first, Rest, no_rest, a_last, a_first}
 use Rattle.bx_terms.specs.Tree.{height, highest, listed}
-use Rattle.bx_text.specs.Number.{is_large}
-use Rattle.bx_text.specs.Tree.{Tree, integer, atom, tuple, list, nil, cons}
-use Rattle.bx_listing.specs.Reading.{Table, read, and_then, ◌>>=◌, give, refuse, named, outcome, no_line}
-use Rattle.bx_listing.specs.Literals.{kept, kept_cons, kept_before, kept_list, kept_tuple, with_first, Row, ended, longer, parts, literal}
 use Rattle.bx_listing.specs.ListedTerms.{IsTerm, an_int, a_name, a_tuple, a_list, AreElements, no_element, an_element, IsRow, an_end, a_tail, a_cell}
-use Rattle.bx_listing.proofs.GoodReadings.{given, after_read, outcome_read}
-use Rattle.bx_listing.proofs.Written.{Written, an_integer_term, an_atom_term, a_tuple_term, a_list_term, an_other_term, Elements, no_elements, an_element_first, Rest, no_rest, a_last, a_first}
+use Rattle.bx_terms.specs.declared.faults.Fault.TheVariants as faults
+use Rattle.bx_terms.specs.Tree as term
 
 low_is : (n : ℕ) → nat_le n 10000 ≡ true → n ≤ 10000
 low_is n h = grind (arith, nat_tests)
 
-is_low : (n : ℕ) → n ≤ 10000 → nat_le n 10000 ≡ true
-is_low n h = grind (arith, nat_tests)
-
 kept_low : (t : term.Tree) → height t ≤ 10000 → kept t ≡ Some t
-kept_low t h = ap (λ (low : Bool). if low then Some t else None) (is_low (height t) h)
+kept_low t h = grind (arith, nat_tests)
 
 abbrev IsLow : Table → Tree → Option term.Tree → Table → Type 0
 IsLow b t None c = Unit {0}
@@ -120,8 +112,7 @@ ReadsRow b row x c = (r : Row) × (ts : List term.Tree) × ((parts row).row.run 
 
 row_steps : (b d c : Table) (t rest : Tree) (x : term.Tree) (r : Row) → (literal t).run b ≡ read d (Some x) → (parts rest).row.run d ≡ read c r
     → (parts (cons t rest)).row.run b ≡ read c (longer (Some x) r)
-row_steps b d c t rest x r e1 e2 =
-    ap (λ o. and_then o (λ x. (parts rest).row >>= λ r. give (longer x r))) e1 ∙ ap (λ o. and_then o (λ r. give (longer (Some x) r))) e2
+row_steps b d c t rest x r e1 e2 = rw (e1, e2)
 
 term_alone : {b c : Table} {t : Tree} {x : term.Tree} → IsTerm b t x c → (parts t).row ≡ (parts t).alone >>= λ x. give (ended x)
 term_alone (an_int is) = refl
@@ -129,18 +120,10 @@ term_alone _ = refl
 
 mutual
   alone_read : {b c : Table} {t : Tree} {x : term.Tree} → IsTerm b t x c → height x ≤ 10000 → (literal t).run b ≡ read c (Some x)
-  alone_read (an_int {before = b} {n = n} is) low =
-      ap (λ (large : Bool). ((if large then refuse (faults.LiteralRange no_line) else give n) >>= λ n. give (Some (term.int n))).run b) is
-  alone_read (a_name {before = b} {text = text} e) low = ap (λ o. and_then o (λ a. give (Some (term.atom a.0)))) (ap (outcome b) e)
-  alone_read (a_tuple {before = b} {behind = c} {s = s} {row = row} {x = x} is) low =
-      let (r, ts, e, els, same) = elements_read is (omega arith) in
-      ap (λ o. and_then o (λ r. give (kept_tuple r.elements))) e
-      ∙ ap (λ o. read c (kept_tuple o)) els
-      ∙ ap (λ y. read c (kept (term.tuple y))) same
-      ∙ ap (read c) (kept_low (term.tuple x) low)
-  alone_read (a_list {before = b} {behind = c} {s = s} {row = row} {x = x} is) low =
-      let (r, ts, e, els, same) = row_read is low in
-      ap (λ o. and_then o (λ r. give (kept_list r.elements r.tail))) e ∙ ap (λ o. read c (kept_list o r.tail)) els ∙ ap (read c) same
+  alone_read (an_int is) low = rw is
+  alone_read (a_name {before = b} e) low = rw (ap (outcome b) e)
+  alone_read (a_tuple {behind = c} {x = x} is) low = let (r, ts, e, els, same) = elements_read is (omega arith) in rw (e, els, same) (ap (read c) (kept_low (term.tuple x) low))
+  alone_read (a_list is) low = let (r, ts, e, els, same) = row_read is low in rw (e, els, same)
 
   elements_read : {b c : Table} {row : Tree} {x : term.Tree} → AreElements b row x c → highest x ≤ 10000 → ReadsElements b row x c
   elements_read no_element low = (ended (Some term.nil), [], refl, refl, refl)

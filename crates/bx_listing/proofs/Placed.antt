@@ -1,35 +1,27 @@
 -- Items with their lines.
-use Rattle.std.proofs.Common.{◌≡◌, ℕ, suc, ◌+◌, ◌<◌, List, [], ◌∷◌, ◌++◌, map, length, take, get_or, option_map, slice_get, refl, ap, sym, ◌∙◌, arith}
-use Rattle.std.proofs.lemmas.Option.{slice_get-map}
-use Rattle.std.proofs.lemmas.List.{take_more, map-append}
-use Rattle.bx_listing.specs.ListedCode.{ListedFunction}
-use Rattle.bx_listing.specs.Code.{function_code_of}
-use Rattle.bx_listing.specs.Items.{Item, PlacedItem}
-use Rattle.bx_listing.specs.Stored.{placed}
-
-suc_inj : (m n : ℕ) → suc m ≡ suc n → m ≡ n
-suc_inj m n e = omega arith
+use Rattle.bx_listing.proofs.Known.{◌≡◌, ℕ, suc, ◌+◌, ◌<◌, List, [], ◌∷◌, ◌++◌, map, length, take, get_or, option_map, slice_get, refl, ap, sym, ◌∙◌, arith}
+use Rattle.bx_listing.proofs.Known.{slice_get-map, take_more, map-append, ListedFunction, function_code_of, Item, PlacedItem, placed}
 
 pub placed_more : (ls : List ℕ) (is : List Item) (l : ℕ) (i : Item) → length ls ≡ length is
     → placed (ls ++ l ∷ []) (is ++ i ∷ []) ≡ placed ls is ++ record { line = l; item = i } ∷ []
 placed_more [] [] l i e = refl
-placed_more (k ∷ ls) (j ∷ is) l i e = ap (λ t. record { line = k; item = j } ∷ t) (placed_more ls is l i (suc_inj (length ls) (length is) e))
+placed_more (k ∷ ls) (j ∷ is) l i e = ap (λ t. record { line = k; item = j } ∷ t) (placed_more ls is l i (omega arith))
 placed_more _ _ l i e = absurd (omega arith)
 
 pub placed_length : (ls : List ℕ) (is : List Item) → length ls ≡ length is → length (placed ls is) ≡ length ls
 placed_length [] is e = refl
 placed_length (k ∷ ls) [] e = absurd (omega arith)
-placed_length (k ∷ ls) (j ∷ is) e = ap suc (placed_length ls is (suc_inj (length ls) (length is) e))
+placed_length (k ∷ ls) (j ∷ is) e = ap suc (placed_length ls is (omega arith))
 
 pub placed_items : (ls : List ℕ) (is : List Item) → length ls ≡ length is → map (λ (p : PlacedItem). p.item) (placed ls is) ≡ is
 placed_items [] [] e = refl
-placed_items (k ∷ ls) (j ∷ is) e = ap (λ t. j ∷ t) (placed_items ls is (suc_inj (length ls) (length is) e))
+placed_items (k ∷ ls) (j ∷ is) e = ap (λ t. j ∷ t) (placed_items ls is (omega arith))
 placed_items _ _ e = absurd (omega arith)
 
 pub placed_lines : (ls : List ℕ) (is : List Item) → length ls ≡ length is → map (λ (p : PlacedItem). p.line) (placed ls is) ≡ ls
 placed_lines [] is e = refl
 placed_lines (k ∷ ls) [] e = absurd (omega arith)
-placed_lines (k ∷ ls) (j ∷ is) e = ap (λ t. k ∷ t) (placed_lines ls is (suc_inj (length ls) (length is) e))
+placed_lines (k ∷ ls) (j ∷ is) e = ap (λ t. k ∷ t) (placed_lines ls is (omega arith))
 
 -- the item and the line of each number
 pub placed_item_at : (ls : List ℕ) (is : List Item) (n : ℕ) → length ls ≡ length is → option_map (λ (p : PlacedItem). p.item) (slice_get (placed ls is) n) ≡ slice_get is n

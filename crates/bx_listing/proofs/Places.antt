@@ -1,17 +1,8 @@
 -- Places in files: what is kept of those that were there when one is added, and what is found.
-use Rattle.std.proofs.Common.{◌≡◌, ℕ, zero, suc, ◌+◌, ◌<◌, true, List, [], ◌∷◌, ◌++◌, length, get_or, map, Option, Some, String, string_bytes, refl, ap, ◌∙◌, add-one, arith}
-use Rattle.std.specs.Prelude.{option_map, slice_get}
-use Rattle.std.specs.List.{All}
-use Rattle.std.specs.String.{string_eq}
-use Rattle.std.proofs.lemmas.List.{map-append, length-append}
-use Rattle.std.proofs.lemmas.List.Elements.{All-push}
-use Rattle.std.proofs.lemmas.Option.{slice_get-map, slice_get-get_or, slice_get_within, get_or_from_slice_get}
-use Rattle.std.proofs.lemmas.Slice.Eq.{bytes_eq-Decides}
-use Rattle.std.proofs.Math.ListN.{get_or-append}
-use Rattle.bx_listing.specs.Reading.{Begins}
-use Rattle.bx_listing.specs.declared.locations.Mark.{Mark}
-use Rattle.bx_listing.specs.Locations.{Location, Located}
-use Rattle.bx_listing.specs.Marks.{marked, AreMarks, place, IsPlace}
+use Rattle.bx_listing.proofs.Known.{◌≡◌, ℕ, zero, suc, ◌+◌, ◌<◌, true, List, [], ◌∷◌, ◌++◌, length, get_or, map, Option, Some, String, string_bytes, refl, ap}
+use Rattle.bx_listing.proofs.Known.{◌∙◌, add-one, arith, option_map, slice_get, All, string_eq, map-append, length-append, All-push, slice_get-map}
+use Rattle.bx_listing.proofs.Known.{slice_get-get_or, slice_get_within, get_or_from_slice_get, bytes_eq-Decides, get_or-append, Begins, Location, Located}
+use Rattle.bx_listing.specs.{declared.locations.Mark.Mark, Marks.marked, Marks.AreMarks, Marks.place, Marks.IsPlace}
 
 -- marks name the same places once more names follow
 pub marked_more : (names more : List (List ℕ)) (marks : List Mark) → AreMarks names marks → map (marked (names ++ more)) marks ≡ map (marked names) marks
@@ -90,11 +81,7 @@ places_more places more (k ∷ items) are =
 
 -- the last place
 pub place_last : (places : List Location) (l : Location) → place (places ++ l ∷ []) (length places + 1) ≡ Some l
-place_last places l = rw (add-one (length places)) (by places)
-  where
-    by : (xs : List Location) → slice_get (xs ++ l ∷ []) (length xs) ≡ Some l
-    by [] = refl
-    by (x ∷ xs) = by xs
+place_last places l = rw (add-one (length places)) (last_there places l)
 
 -- the same items, and those that follow stand there
 abbrev pub stands : Located → Option Location → Located

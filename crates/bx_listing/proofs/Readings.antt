@@ -1,9 +1,9 @@
 -- How the answers of calls in a row stand to readings in a row.
-use Rattle.std.proofs.Common.{◌≡◌, ℕ, Bool, true, false, ◌||◌, Result, Ok, Err, refl, sym, ap, subst, ◌∙◌}
-use Rattle.bx_terms.specs.declared.faults.Fault.{Fault}
-use Rattle.bx_terms.specs.declared.faults.Fault.TheVariants.{Memory}
-use Rattle.bx_listing.specs.Reading.{Table, Outcome, read, refused, table_of, Begins, Begins-refl, Begins-trans, Reading, and_then, takes_then, ◌>>=◌, give, from_result, is_stored, stored_if, after_storing, Refuses, Reads, Takes, Refused, Answers, lined, lined-grows, on_line, placed_answer}
-use Rattle.bx_terms.specs.Outcomes.{Gives}
+use Rattle.bx_listing.proofs.Known.{Answers, Fault, Memory, Does, naming, Adds, Table, table_of, Begins, Begins-refl, outcome, named, Takes, ◌≡◌, ℕ, ◌<◌, true}
+use Rattle.bx_listing.proofs.Known.{List, [], ◌∷◌, ◌++◌, length, Result, Ok, Err, sym, ap, subst, ◌∙◌, arith, nat_lt, length-append, AtomId, Formed, KeepsName}
+use Rattle.bx_listing.proofs.Known.{FormGives, refl, Unsupported, Tree, Op, Reading, ◌>>=◌, from_result, Refused, Bool, false, ◌||◌, Outcome, read, refused}
+use Rattle.bx_listing.proofs.Known.{Begins-trans, and_then, give, Refuses, Reads, lined, on_line, Gives}
+use Rattle.bx_listing.specs.Reading.{is_longer, naming_in, takes_then, is_stored, stored_if, after_storing, lined-grows, placed_answer}
 
 -- what follows only adds names
 pub Begins-and_then : {A B : Type 0} (first : Outcome A) (next : A → Reading B) → Begins (table_of first) (table_of (and_then first next))
@@ -37,9 +37,10 @@ refuses_result takes kept texts Memory said keep h = (keep h, Begins-refl texts,
 refuses_result takes kept texts _ said keep h = ap (λ r. (from_result r).run texts) h
 
 -- an answer to one reading is an answer to another that gives the same
-pub reads_same : {X A : Type 0} (takes : Type 0) (view : X → A) (old new : Table) (answer : Result X Fault) (one other : Reading A) → one.run old ≡ other.run old → Reads takes view old new answer one → Reads takes view old new answer other
-reads_same takes view old new (Err Memory) one other e h = (h.0, h.1, subst (λ o. Begins new (table_of o)) e h.2)
-reads_same takes view old new _ one other e h = sym e ∙ h
+pub reads_same : {X A : Type 0} (some more : Type 0) (view : X → A) (old new : Table) (answer : Result X Fault) (one other : Reading A) → (some → more) → one.run old ≡ other.run old
+    → Reads some view old new answer one → Reads more view old new answer other
+reads_same some more view old new (Err Memory) one other k e h = (k h.0, h.1, subst (λ o. Begins new (table_of o)) e h.2)
+reads_same some more view old new _ one other k e h = sym e ∙ h
 
 -- what is left gives what all gave, so a refusal of it is the whole's
 pub refuses_left : {A : Type 0} (old t new : Table) (fault : Fault) (left whole : Reading A) → Begins old t → left.run t ≡ whole.run old → Refuses (Unit {0}) t new fault left → Refuses (Unit {0}) old new fault whole
@@ -48,11 +49,6 @@ refuses_left old t new _ left whole grown e h = sym e ∙ h
 
 pub grown_after : {B : Type 0} (first : Reading B) (y : B) (old t mid : Table) → Begins old t → first.run t ≡ read mid y → Begins old mid
 grown_after first y old t mid grown h = Begins-trans old t mid grown (subst (λ o. Begins t (table_of o)) h (first.grows t))
-
--- an answer may be taken for one that may want memory anyway
-pub refuses_anyway : {A : Type 0} (old new : Table) (fault : Fault) (reading : Reading A) → Refused old new fault reading → Refuses (Unit {0}) old new fault reading
-refuses_anyway old new Memory reading h = (tt, h.1, h.2)
-refuses_anyway old new _ reading h = h
 
 -- where the first part takes memory, the whole does
 pub takes_first : {A B : Type 0} (old : Table) (first : Reading A) (next : A → Reading B) → Takes first old → Takes (first >>= next) old
@@ -102,19 +98,10 @@ wanting_stored test old mid first x next e h =
 pub wanting_before : {A : Type 0} (texts : Table) (reading : Reading A) → Refused texts texts Memory (after_storing reading)
 wanting_before texts reading = (refl, Begins-refl texts, reading.grows texts)
 
--- an answer to one reading is an answer to another that gives the same and takes memory where that does
-pub answers_same : {X A : Type 0} (view : X → A) (old new : Table) (answer : Result X Fault) (one other : Reading A) → one.run old ≡ other.run old → (Takes one old → Takes other old) → Answers view old new answer one → Answers view old new answer other
-answers_same view old new (Err Memory) one other e k h = (k h.0, h.1, subst (λ o. Begins new (table_of o)) e h.2)
-answers_same view old new _ one other e k h = sym e ∙ h
-
--- what is left gives what all gave, so a refusal of it is the whole's
-pub refused_left : {A : Type 0} (old t new : Table) (fault : Fault) (left whole : Reading A) → Begins old t → left.run t ≡ whole.run old → (Takes left t → Takes whole old) → Refused t new fault left → Refused old new fault whole
-refused_left old t new Memory left whole grown e k h = (k h.0, Begins-trans old t new grown h.1, subst (λ o. Begins new (table_of o)) e h.2)
-refused_left old t new _ left whole grown e k h = sym e ∙ h
-
 -- what takes no names was good: the answer to what follows is the answer to the whole
 pub result_read : {A B X : Type 0} (see : X → B) (old new : Table) (answer : Result X Fault) (said : Result A Fault) (x : A) (next : A → Reading B) → said ≡ Ok x → Answers see old new answer (next x) → Answers see old new answer (from_result said >>= next)
-result_read see old new answer said x next e h = answers_same see old new answer (next x) (from_result said >>= next) (sym (ap (λ r. (from_result r >>= next).run old) e)) (λ k. ap (λ r. (from_result r >>= next).takes old) e ∙ k) h
+result_read see old new answer said x next e h =
+    reads_same _ _ see old new answer (next x) (from_result said >>= next) (λ k. ap (λ r. (from_result r >>= next).takes old) e ∙ k) (sym (ap (λ r. (from_result r >>= next).run old) e)) h
 
 -- what is made of the answer to a reading
 pub answers_given : {X A B : Type 0} (view : X → A) (make : A → B) (old new : Table) (answer : Result X Fault) (reading : Reading A) → Answers view old new answer reading → Answers (λ x. make (view x)) old new answer (reading >>= λ a. give (make a))
@@ -134,3 +121,32 @@ and_then_assoc (refused texts fault) next last = refl
 pub answers_placed : {X A : Type 0} (view : X → A) (old new : Table) (line : ℕ) (answer : Result X Fault) (reading : Reading A) → Answers view old new answer reading → Answers view old new (placed_answer line answer) (on_line line reading)
 answers_placed view old new line (Err Memory) reading h = (h.0, h.1, lined-grows line new (reading.run old) h.2)
 answers_placed view old new line _ reading h = ap (lined line) h
+
+-- A form that is refused before its operands are read.
+-- a name that is kept takes memory
+kept_takes : (texts : Table) (said : Formed) → KeepsName said → Takes (from_result said) texts
+kept_takes texts (Err (Unsupported line name)) h = refl
+kept_takes texts _ h = absurd h
+
+-- so the whole is refused
+pub form_refused : {B X : Type 0} (view : X → Op × List Tree) (texts : Table) (fault : Fault) (said : Formed) (next : Op × List Tree → Reading B) → FormGives view (Err fault) said → Refused texts texts fault (from_result said >>= next)
+form_refused view texts Memory said next h =
+    (takes_first texts (from_result said) next (kept_takes texts said h), Begins-refl texts, (from_result said >>= next).grows texts)
+form_refused view texts _ said next h = ap (λ r. (from_result r >>= next).run texts) h
+
+-- Naming an atom: its refusals, and when it takes memory.
+longer : (texts : Table) (text : List ℕ) → nat_lt (length texts) (length (texts ++ text ∷ [])) ≡ true
+longer texts text =
+    let more : length texts < length (texts ++ text ∷ []) = omega (arith, length-append texts (text ∷ [])) in
+    grind (arith, more)
+
+-- a new name takes memory
+adds_takes : (text : List ℕ) (texts : Table) → Adds texts text → Takes (named text) texts
+adds_takes text texts h = ap (λ r. is_longer texts (outcome texts r)) h ∙ longer texts text
+
+pub name_answered : (text : List ℕ) (old new : Table) (answer : Result AtomId Fault) → Does (Adds old text) old new answer (naming old text) → Answers (λ a. a) old new answer (named text)
+name_answered text old new (Ok a) h = ap (outcome old) h
+name_answered text old new (Err Memory) h =
+    let kept : Begins old new = subst (Begins old) (sym h.1) (Begins-refl old) in
+    (adds_takes text old h.0, kept, subst (λ t. Begins t (table_of (naming_in text old))) (sym h.1) ((named text).grows old))
+name_answered text old new (Err _) h = rw h.1 (ap (outcome old) h.0)

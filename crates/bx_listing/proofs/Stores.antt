@@ -1,19 +1,10 @@
 -- Items that are stored in one row of operands.
-use Rattle.std.proofs.Common.{◌≡◌, ℕ, ◌+◌, ◌-◌, ◌<◌, ◌≤◌, List, [], ◌∷◌, ◌++◌, length, take, drop, sym, ap, ◌∙◌, refl, arith}
-use Rattle.std.specs.Prelude.{slice_get, unwrap_or}
-use Rattle.std.specs.List.{All}
+use Rattle.bx_listing.proofs.Known.{◌≡◌, ℕ, ◌+◌, ◌-◌, ◌<◌, ◌≤◌, List, [], ◌∷◌, ◌++◌, length, take, drop, sym, ap, ◌∙◌, refl, arith, slice_get, unwrap_or, All}
+use Rattle.bx_listing.proofs.Known.{unwrap_or-slice_get, take-length, drop-append_seam, append-nil, map-append, All-tail, Op, Operand, Item}
+use Rattle.std.proofs.lemmas.List.{take_more_same, take-append-le, drop-append-le, length-drop}
 use Rattle.std.proofs.lemmas.Grind.{flat_map-append}
-use Rattle.std.proofs.lemmas.List.{take_more_same}
-use Rattle.std.proofs.lemmas.Option.{unwrap_or-slice_get}
 use Rattle.bx_ops.specs.declared.opcode.Op.TheVariants.{Line}
-use Rattle.std.proofs.Math.Seq.{take-length, drop-append_seam}
-use Rattle.std.proofs.lemmas.List.{append-nil, take-append-le, drop-append-le, length-drop, map-append}
-use Rattle.std.proofs.lemmas.List.Elements.{All-tail}
-use Rattle.bx_ops.specs.declared.opcode.Op.{Op}
-use Rattle.bx_listing.specs.declared.items.Operand.{Operand}
-use Rattle.bx_listing.specs.declared.code_form.Stored.{Stored}
-use Rattle.bx_listing.specs.Items.{Item}
-use Rattle.bx_listing.specs.Stored.{stored_item, stored_items, IsWithin, operands_in, AreStored}
+use Rattle.bx_listing.specs.{declared.code_form.Stored.Stored, Stored.stored_item, Stored.stored_items, Stored.IsWithin, Stored.operands_in, Stored.AreStored}
 
 -- operands that come behind are none of an item's that is there
 share_kept : (os more : List Operand) (r : Stored) → IsWithin os r → take r.count (drop r.from (os ++ more)) ≡ take r.count (drop r.from os)

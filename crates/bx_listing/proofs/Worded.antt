@@ -1,19 +1,8 @@
 -- What a word is, by how it is spelled.
-use Rattle.std.proofs.Common.{◌≡◌, ℕ, Bool, true, false, List, codes, bytes_eq, refl, if◌then◌else◌}
-use Rattle.std.proofs.lemmas.Slice.Eq.{bytes_eq-Decides}
-use Rattle.bx_listing.specs.declared.words.FormWord.{FormWord}
+use Rattle.bx_listing.proofs.Known.{◌≡◌, ℕ, true, List, codes, bytes_eq, refl, bytes_eq-Decides, FormWord, OperandWord, form_word, operand_word, sym, ◌∙◌}
+use Rattle.bx_listing.proofs.Known.{arith, Shape, bare, tagged, other, shape, Tree}
 use Rattle.bx_listing.specs.declared.words.FormWord.TheVariants as forms
-use Rattle.bx_listing.specs.declared.words.OperandWord.{OperandWord}
 use Rattle.bx_listing.specs.declared.words.OperandWord.TheVariants as operands
-use Rattle.bx_listing.specs.Words.{form_word, operand_word}
-
--- one test more
-tested : {W : Type 0} (P : W → Type 0) (text word : List ℕ) (here past : W) → (text ≡ word → P here) → P past → P (if bytes_eq text word then here else past)
-tested P text word here past p q = by (bytes_eq text word) (bytes_eq-Decides text word).0
-  where
-    by : (b : Bool) → (b ≡ true → text ≡ word) → P (if b then here else past)
-    by true e = p (e refl)
-    by false e = q
 
 abbrev pub IsFormWord : List ℕ → FormWord → Type 0
 IsFormWord text forms.Module = text ≡ codes "module"
@@ -42,30 +31,35 @@ IsOperandWord text operands.List = text ≡ codes "list"
 IsOperandWord text operands.Amounts = text ≡ codes "alloc"
 IsOperandWord text _ = Unit {0}
 
+pub same_bytes : (a b : List ℕ) → bytes_eq a b ≡ true → a ≡ b
+same_bytes a b h = (bytes_eq-Decides a b).0 h
+
 pub form_word_is : (text : List ℕ) → IsFormWord text (form_word text)
-form_word_is text =
-    tested (IsFormWord text) text (codes "module") forms.Module _ (λ e. e) (
-    tested (IsFormWord text) text (codes "exports") forms.Exports _ (λ e. e) (
-    tested (IsFormWord text) text (codes "attributes") forms.Attributes _ (λ e. e) (
-    tested (IsFormWord text) text (codes "labels") forms.Labels _ (λ e. e) (
-    tested (IsFormWord text) text (codes "function") forms.Function _ (λ e. e) (
-    tested (IsFormWord text) text (codes "%") forms.Annotation _ (λ e. e) (
-    tested (IsFormWord text) text (codes "test") forms.Test _ (λ e. e) (
-    tested (IsFormWord text) text (codes "bif") forms.Bif _ (λ e. e) (
-    tested (IsFormWord text) text (codes "gc_bif") forms.GcBif _ (λ e. e) (
-    tested (IsFormWord text) text (codes "raise") forms.Raise _ (λ e. e) tt)))))))))
+form_word_is text = grind (arith, same_bytes)
 
 pub operand_word_is : (text : List ℕ) → IsOperandWord text (operand_word text)
-operand_word_is text =
-    tested (IsOperandWord text) text (codes "x") operands.X _ (λ e. e) (
-    tested (IsOperandWord text) text (codes "y") operands.Y _ (λ e. e) (
-    tested (IsOperandWord text) text (codes "tr") operands.Typed _ (λ e. e) (
-    tested (IsOperandWord text) text (codes "f") operands.Label _ (λ e. e) (
-    tested (IsOperandWord text) text (codes "integer") operands.Integer _ (λ e. e) (
-    tested (IsOperandWord text) text (codes "float") operands.Float _ (λ e. tt) (
-    tested (IsOperandWord text) text (codes "atom") operands.Atom _ (λ e. e) (
-    tested (IsOperandWord text) text (codes "nil") operands.Nil _ (λ e. e) (
-    tested (IsOperandWord text) text (codes "literal") operands.Literal _ (λ e. e) (
-    tested (IsOperandWord text) text (codes "extfunc") operands.External _ (λ e. e) (
-    tested (IsOperandWord text) text (codes "list") operands.List _ (λ e. e) (
-    tested (IsOperandWord text) text (codes "alloc") operands.Amounts _ (λ e. e) tt)))))))))))
+operand_word_is text = grind (arith, same_bytes)
+
+-- what follows where a function of a term's shape tells something, by the word with which a tuple begins
+pub by_word : {W P : Type 0} (word_of : List ℕ → W) (Is : List ℕ → W → Type 0) (is : (text : List ℕ) → Is text (word_of text)) (Q : Shape → Type 0) (R : W → List Tree → Type 0) (t : Tree)
+    → ((text : List ℕ) (parts : List Tree) → Q (tagged text parts) → R (word_of text) parts) → ((text : List ℕ) → shape t ≡ bare text → Q (bare text) → P) → (shape t ≡ other → Q other → P)
+    → ((text : List ℕ) (k : W) (parts : List Tree) → Is text k → shape t ≡ tagged text parts → R k parts → P) → Q (shape t) → P
+by_word {P = P} word_of Is is Q R t opened alone none begun = by (shape t) refl
+  where
+    by : (s : Shape) → shape t ≡ s → Q s → P
+    by (tagged text parts) e q = begun text (word_of text) parts (is text) e (opened text parts q)
+    by (bare text) e q = alone text e q
+    by other e q = none e q
+
+-- where nothing but such a tuple tells it
+pub by_operand_word : {A P : Type 0} (g : Shape → A) (f : OperandWord → List Tree → A) (t : Tree) (y : A) → ((text : List ℕ) (parts : List Tree) → g (tagged text parts) ≡ f (operand_word text) parts)
+    → ((text : List ℕ) → g (bare text) ≡ y → ⊥) → (g other ≡ y → ⊥)
+    → ((text : List ℕ) (k : OperandWord) (parts : List Tree) → IsOperandWord text k → shape t ≡ tagged text parts → f k parts ≡ y → P) → g (shape t) ≡ y → P
+by_operand_word g f t y same alone none begun =
+    by_word operand_word IsOperandWord operand_word_is (λ s. g s ≡ y) (λ k parts. f k parts ≡ y) t (λ text parts h. sym (same text parts) ∙ h) (λ text e h. absurd (alone text h)) (λ e h. absurd (none h)) begun
+
+pub by_form_word : {A P : Type 0} (g : Shape → A) (f : FormWord → List Tree → A) (t : Tree) (y : A) → ((text : List ℕ) (parts : List Tree) → g (tagged text parts) ≡ f (form_word text) parts)
+    → ((text : List ℕ) → g (bare text) ≡ y → ⊥) → (g other ≡ y → ⊥)
+    → ((text : List ℕ) (k : FormWord) (parts : List Tree) → IsFormWord text k → shape t ≡ tagged text parts → f k parts ≡ y → P) → g (shape t) ≡ y → P
+by_form_word g f t y same alone none begun =
+    by_word form_word IsFormWord form_word_is (λ s. g s ≡ y) (λ k parts. f k parts ≡ y) t (λ text parts h. sym (same text parts) ∙ h) (λ text e h. absurd (alone text h)) (λ e h. absurd (none h)) begun

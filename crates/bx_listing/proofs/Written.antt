@@ -1,20 +1,13 @@
 -- Terms as texts have them: rows stand within tuples and lists alone, and those of tuples have no tail.
-use Rattle.std.proofs.Common.{◌≡◌, ℕ, ℤ, zero, suc, ◌+◌, Bool, true, false, List, [], ◌∷◌, ◌++◌, length, Option, Some, None, Result, Ok, map, refl, subst, pos, if◌then◌else◌}
-use Rattle.std.specs.Prelude.{nat_lt, chars}
-use Rattle.bx_terms.specs.declared.faults.Fault.{Fault}
+use Rattle.bx_listing.proofs.Known.{◌≡◌, ℕ, ℤ, zero, suc, ◌+◌, Bool, true, false, List, [], ◌∷◌, ◌++◌, length, Option, Some, None, Result, Ok, map, refl, subst}
+use Rattle.bx_listing.proofs.Known.{pos, if◌then◌else◌, nat_lt, chars, Fault, Span, Tree, integer, atom, tuple, list, nil, cons, chain, Place, form_at, Form}
+use Rattle.bx_listing.proofs.Known.{a_form, forms_are, shape, tagged, elements, Forms, form, moved, forms_on, some_forms}
 use Rattle.bx_terms.specs.Outcomes.{◌>>=◌}
-use Rattle.bx_text.specs.declared.node.Span.{Span}
-use Rattle.bx_text.specs.declared.node.Sort.{Sort}
+use Rattle.bx_text.specs.Grammar.{Strings, no_string, a_string, Spells, an_integer, an_atom, strings, empty_tuple, a_tuple, empty_list, a_list}
+use Rattle.bx_text.{specs.Grammar.a_list_with_tail, specs.Grammar.Row, specs.Grammar.one, specs.Grammar.more, specs.declared.node.Sort.Sort}
+use Rattle.bx_text.{specs.Token.spelled, specs.Token.Lexeme, specs.Terms.span, specs.Terms.letters, specs.Terms.tail_of}
+use Rattle.bx_listing.specs.Forms.{next_form, forms}
 use Rattle.bx_text.specs.Tree as texts
-use Rattle.bx_text.specs.Tree.{Tree, integer, atom, tuple, list, nil, cons, chain}
-use Rattle.bx_text.specs.Place.{Place}
-use Rattle.bx_text.specs.Token.{spelled, Lexeme}
-use Rattle.bx_text.specs.Terms.{span, letters, tail_of}
-use Rattle.bx_text.specs.Forms.{form_at}
-use Rattle.bx_text.specs.Grammar.{Strings, no_string, a_string, Spells, an_integer, an_atom, strings, empty_tuple, a_tuple, empty_list, a_list, a_list_with_tail, Row, one, more, Form, a_form}
-use Rattle.bx_text.proofs.Grammatical.{forms_are}
-use Rattle.bx_listing.specs.Shape.{shape, tagged, elements}
-use Rattle.bx_listing.specs.Forms.{Forms, form, moved, next_form, forms_on, some_forms, forms}
 
 mutual
   pub data Written : Tree → Type 0 where
@@ -49,7 +42,7 @@ before_rest : (ts : List Tree) (u : Tree) → AllWritten ts → Rest u → Rest 
 before_rest [] u h r = r
 before_rest (t ∷ ts) u h r = a_first h.0 (before_rest ts u h.1 r)
 
-both : (ts us : List Tree) → AllWritten ts → AllWritten us → AllWritten (ts ++ us)
+pub both : (ts us : List Tree) → AllWritten ts → AllWritten us → AllWritten (ts ++ us)
 both [] us h g = g
 both (t ∷ ts) us h g = (h.0, both ts us h.1 g)
 
@@ -62,11 +55,8 @@ strings_written (no_string h) = tt
 strings_written (a_string {p = p} {q = q} {l = l} {b = w} {ts = ts} n e rest) = both (letters (span l l.after) (spelled w)) ts (codes_written (span l l.after) (chars (spelled w))) (strings_written rest)
 
 tail_rest : {t : Tree} → Written t → Rest (tail_of t)
-tail_rest an_integer_term = a_last an_integer_term
-tail_rest an_atom_term = a_last an_atom_term
-tail_rest (a_tuple_term e) = a_last (a_tuple_term e)
 tail_rest (a_list_term r) = r
-tail_rest an_other_term = a_last an_other_term
+tail_rest w = a_last w
 
 mutual
   spelled_written : {d : ℕ} {l : Lexeme} {t : Tree} {q : Place} → Spells d l t q → Written t
@@ -111,6 +101,4 @@ all_elements (an_element_first w rest) = (w, all_elements rest)
 
 pub parts_written : {t : Tree} → Written t → (text : List ℕ) (parts : List Tree) → shape t ≡ tagged text parts → AllWritten parts
 parts_written (a_tuple_term (an_element_first {rest = rest} an_atom_term others)) text parts e = let same : elements rest ≡ parts = cc in subst AllWritten same (all_elements others)
-parts_written (a_tuple_term (an_element_first _ others)) text parts e = absurd (cc)
-parts_written (a_tuple_term no_elements) text parts e = absurd (cc)
 parts_written _ text parts e = absurd (cc)

@@ -15,7 +15,7 @@ pub(crate) struct FormReader {
 
 impl FormReader {
     /// Numbers the atom of this text, which stands in a form.
-    #[tactic(auto, using(crate::proofs::NamedAtoms::name_answered))]
+    #[tactic(auto, using(crate::proofs::Readings::name_answered))]
     pub(crate) fn name_atom(self, atoms: &mut Atoms, text: &str) -> Result<AtomId, Fault>
         ensures { Answers (λ atom. atom) atoms.old atoms.new result (named text.now) }
     {

@@ -131,7 +131,7 @@ fn list(alloc: Global, row: Row) -> Result<Option<Term>, AllocError>
     }
 }
 
-#[tactic(auto, using(crate::proofs::LiteralLists::last_before))]
+#[tactic(auto, using(crate::proofs::LiteralRows::last_before))]
 /// The list of these elements before that tail.
 fn list_before(
     alloc: Global,

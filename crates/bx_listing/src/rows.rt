@@ -167,7 +167,7 @@ impl FormReader {
         }
     }
 
-    #[tactic(auto, using(crate::proofs::FormRefusals::form_refused, crate::proofs::Readings::result_read))]
+    #[tactic(auto, using(crate::proofs::Readings::form_refused, crate::proofs::Readings::result_read))]
     fn written_item(
         self,
         atoms: &mut Atoms,
@@ -202,7 +202,7 @@ impl FormReader {
         }
     }
 
-    #[tactic(auto, using(crate::proofs::FormRefusals::form_refused, crate::proofs::Readings::result_read))]
+    #[tactic(auto, using(crate::proofs::Readings::form_refused, crate::proofs::Readings::result_read))]
     fn bare_item(
         self,
         atoms: &mut Atoms,

@@ -1,4 +1,4 @@
-use Rattle.std.proofs.Common.{◌≡◌, take}
+use Rattle.bx_listing.proofs.Known.{◌≡◌, take}
 use Rattle.bx_listing.proofs.code_form.copy_operands.Given as goal
 
 abbrev pub invariant-loop-at : goal.invariant-loop-at

@@ -1,4 +1,4 @@
-use Rattle.std.proofs.Common.{◌≡◌, take, length}
+use Rattle.bx_listing.proofs.Known.{◌≡◌, take, length}
 use Rattle.bx_listing.proofs.code_form.same_items.Given as goal
 
 abbrev pub invariant-loop-number : goal.invariant-loop-number

@@ -1,6 +1,4 @@
-use Rattle.std.proofs.Common.{◌≡◌, drop}
-use Rattle.bx_listing.specs.HeadForms.{are_offers}
-use Rattle.bx_text.specs.View.{elements_seen}
+use Rattle.bx_listing.proofs.Known.{◌≡◌, drop, are_offers, elements_seen}
 use Rattle.bx_listing.proofs.head_forms.are_offers.Given as goal
 
 abbrev pub invariant-loop-i : goal.invariant-loop-i

@@ -1,6 +1,5 @@
-use Rattle.std.proofs.Common.{◌≡◌, ℕ, List, ◌++◌, Result, Ok, Err, OnOk, codes, length, string_bytes, if◌then◌else◌, ap, ◌∙◌, append_assoc}
+use Rattle.bx_listing.proofs.Known.{◌≡◌, ℕ, List, ◌++◌, Result, Ok, Err, OnOk, codes, length, string_bytes, if◌then◌else◌, ap, ◌∙◌, append_assoc, grouped_text}
 use Rattle.std.specs.Result.{is_ok}
-use Rattle.bx_listing.specs.Writing.{grouped_text}
 use Rattle.bx_listing.proofs.item_texts.push_raise.Goals as goal
 
 -- a text between two others

@@ -1,5 +1,4 @@
-use Rattle.std.proofs.Common.{◌≡◌, ◌++◌, drop, string_bytes}
-use Rattle.bx_listing.specs.Writing.{slots_text}
+use Rattle.bx_listing.proofs.Known.{◌≡◌, ◌++◌, drop, string_bytes, slots_text}
 use Rattle.bx_listing.proofs.item_texts.push_slots.Given as goal
 
 -- what is written and what is left to write make the whole

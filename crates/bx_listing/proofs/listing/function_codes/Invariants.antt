@@ -1,5 +1,4 @@
-use Rattle.std.proofs.Common.{◌≡◌, take, map}
-use Rattle.bx_listing.specs.Code.{function_code_of}
+use Rattle.bx_listing.proofs.Known.{◌≡◌, take, map, function_code_of}
 use Rattle.bx_listing.proofs.listing.function_codes.Given as goal
 
 abbrev pub invariant-loop-at : goal.invariant-loop-at

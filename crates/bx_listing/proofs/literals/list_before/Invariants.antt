@@ -1,5 +1,4 @@
-use Rattle.std.proofs.Common.{◌≡◌, vec_len}
-use Rattle.bx_listing.specs.Literals.{kept_before}
+use Rattle.bx_listing.proofs.Known.{◌≡◌, vec_len, kept_before}
 use Rattle.bx_listing.proofs.literals.list_before.Given as goal
 
 abbrev pub invariant-loop-element : goal.invariant-loop-element

@@ -1,6 +1,4 @@
-use Rattle.std.proofs.Common.{◌≡◌, drop}
-use Rattle.bx_listing.specs.Locations.{first_location}
-use Rattle.bx_text.specs.View.{elements_seen}
+use Rattle.bx_listing.proofs.Known.{◌≡◌, drop, first_location, elements_seen}
 use Rattle.bx_listing.proofs.locations.first_location.Given as goal
 
 abbrev pub invariant-loop-i : goal.invariant-loop-i

@@ -1,5 +1,4 @@
-use Rattle.std.proofs.Common.{◌≡◌, ◌<◌, ◌-◌, ◌∙◌, true, length, sym, ap, arith}
-use Rattle.std.specs.String.{string_eq}
+use Rattle.bx_listing.proofs.Known.{◌≡◌, ◌<◌, ◌-◌, ◌∙◌, true, length, sym, ap, arith, string_eq}
 use Rattle.bx_listing.proofs.Places.{named_there, named_last, names_more}
 use Rattle.bx_listing.proofs.locations.number_of.Goals as goal
 

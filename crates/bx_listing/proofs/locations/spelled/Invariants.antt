@@ -1,6 +1,5 @@
-use Rattle.std.proofs.Common.{◌≡◌, ◌++◌, drop, option_map, string_bytes}
+use Rattle.bx_listing.proofs.Known.{◌≡◌, ◌++◌, drop, option_map, string_bytes, elements_seen}
 use Rattle.bx_listing.specs.Locations.{spelled}
-use Rattle.bx_text.specs.View.{elements_seen}
 use Rattle.bx_listing.proofs.locations.spelled.Given as goal
 
 abbrev pub invariant-loop-i : goal.invariant-loop-i

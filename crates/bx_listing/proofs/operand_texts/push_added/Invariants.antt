@@ -1,5 +1,4 @@
-use Rattle.std.proofs.Common.{◌≡◌, ◌++◌, drop, string_bytes}
-use Rattle.bx_listing.specs.Writing.{added_text}
+use Rattle.bx_listing.proofs.Known.{◌≡◌, ◌++◌, drop, string_bytes, added_text}
 use Rattle.bx_listing.proofs.operand_texts.push_added.Given as goal
 
 -- what is written and what is left to write make the whole

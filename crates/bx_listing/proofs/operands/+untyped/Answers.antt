@@ -1,5 +1,4 @@
-use Rattle.std.proofs.Common.{sym, ◌∙◌, arith}
-use Rattle.bx_listing.proofs.Elements.{typed_falls, typed_inner}
+use Rattle.bx_listing.proofs.{Known.sym, Known.◌∙◌, Known.arith, Lemmas.typed_falls, Lemmas.typed_inner}
 use Rattle.bx_listing.proofs.operands.+untyped.Goals as goal
 
 pub untyped-requires : goal.untyped-requires

@@ -1,5 +1,4 @@
-use Rattle.std.proofs.Common.{◌≡◌, ◌<◌, length, vec_len, refl, arith}
-use Rattle.bx_listing.proofs.Functions.{set_last}
+use Rattle.bx_listing.proofs.{Known.◌≡◌, Known.◌<◌, Known.length, Known.vec_len, Known.refl, Known.arith, FormLoop.set_last}
 use Rattle.bx_listing.proofs.parts.add_item.Goals as goal
 
 pub returns-in_ok-add : goal.returns-in_ok-add

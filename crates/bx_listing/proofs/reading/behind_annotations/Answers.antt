@@ -1,7 +1,4 @@
-use Rattle.std.proofs.Common.{arith}
-use Rattle.bx_text.specs.Place.{place}
-use Rattle.bx_listing.specs.Forms.{forms}
-use Rattle.bx_listing.proofs.Dropped.{same_more, annotation_dropped}
+use Rattle.bx_listing.proofs.{Known.arith, Known.place, Known.forms, Dropped.same_more, Dropped.annotation_dropped}
 use Rattle.bx_listing.proofs.reading.behind_annotations.Goals as goal
 
 pub loop-behind-preserved : goal.loop-behind-preserved

@@ -1,7 +1,4 @@
-use Rattle.std.proofs.Common.{◌≤◌, length}
-use Rattle.bx_text.specs.Place.{place}
-use Rattle.bx_listing.specs.Forms.{forms}
-use Rattle.bx_listing.specs.Dropped.{MakeSame}
+use Rattle.bx_listing.proofs.Known.{◌≤◌, length, place, forms, MakeSame}
 use Rattle.bx_listing.proofs.reading.behind_annotations.Given as goal
 
 abbrev pub invariant-loop-behind : goal.invariant-loop-behind

@@ -1,6 +1,4 @@
-use Rattle.bx_text.specs.Place.{place}
-use Rattle.bx_listing.specs.Forms.{last_line}
-use Rattle.bx_listing.proofs.Dropped.{attributes_passed}
+use Rattle.bx_listing.proofs.{Known.place, Known.last_line, Dropped.attributes_passed}
 use Rattle.bx_listing.proofs.reading.behind_head.Goals as goal
 
 pub returns-in-Some : goal.returns-in-Some

@@ -1,18 +1,7 @@
-use Rattle.std.proofs.Common.{List, Ok, Err, inl, inr}
-use Rattle.std.proofs.lemmas.Result.{err_from_is_err_and}
-use Rattle.bx_text.specs.Place.{place}
-use Rattle.bx_text.specs.Forms.{takes_memory}
-use Rattle.bx_listing.specs.Reading.{from_result, Takes, on_line}
-use Rattle.bx_listing.specs.Shape.{shape}
-use Rattle.bx_listing.specs.Forms.{forms, last_line}
-use Rattle.bx_listing.specs.HeadForms.{exports_form}
-use Rattle.bx_listing.specs.ListedCode.{ListedFunction, ListedModule}
+use Rattle.bx_listing.proofs.Known.{List, Ok, Err, inl, inr, err_from_is_err_and, place, takes_memory, from_result, Takes, on_line, shape, forms, last_line}
+use Rattle.bx_listing.proofs.{Known.exports_form, Known.ListedFunction, Known.ListedModule, Known.ReadsForms, Lemmas.refuses_first, Lemmas.refuses_result}
+use Rattle.bx_listing.proofs.{Lemmas.taken_form, Lemmas.refuses_wider, FormLoop.exported-reads, FormLoop.listing-reads, FormLoop.exports_located}
 use Rattle.bx_listing.specs.Listing as listings
-use Rattle.bx_listing.specs.Taking.{ReadsForms}
-use Rattle.bx_listing.proofs.Readings.{refuses_first, refuses_result}
-use Rattle.bx_listing.proofs.FormMemory.{taken_form, refuses_wider}
-use Rattle.bx_listing.proofs.Heads.{exported-reads, listing-reads}
-use Rattle.bx_listing.proofs.LocatedForms.{behind_exports}
 use Rattle.bx_listing.proofs.reading.behind_name.Goals as goal
 
 pub returns-in_err-form-clause-read : goal.returns-in_err-form-clause-read
@@ -52,4 +41,4 @@ returns-clause-read c =
 
 pub returns-clause-located : goal.returns-clause-located
 returns-clause-located c asked =
-    rw (behind_exports (last_line c.args.source.text.now) (forms (place c.args.behind)) (listings.taken_at c.in_ok-form.form (place c.in_ok-form.behind)) c.in_ok-form.ensures) (c.in_ok-functions.ensures.located asked)
+    rw (exports_located (last_line c.args.source.text.now) (forms (place c.args.behind)) (listings.taken_at c.in_ok-form.form (place c.in_ok-form.behind)) c.in_ok-form.ensures) (c.in_ok-functions.ensures.located asked)

@@ -1,18 +1,7 @@
-use Rattle.std.proofs.Common.{List, [], ◌++◌, None, inr, sym, ap, ◌∙◌}
-use Rattle.std.proofs.lemmas.Result.{err_from_is_err_and}
-use Rattle.bx_text.specs.Place.{place}
-use Rattle.bx_text.specs.Tree.{span_of}
-use Rattle.bx_listing.specs.Shape.{shape}
-use Rattle.bx_listing.specs.Forms.{forms}
-use Rattle.bx_terms.specs.declared.faults.Fault.TheVariants.{Memory}
-use Rattle.bx_listing.specs.ListedCode.{ListedFunction}
+use Rattle.bx_listing.proofs.Known.{List, [], ◌++◌, None, inr, sym, ap, ◌∙◌, err_from_is_err_and, place, span_of, shape, forms, Memory, ListedFunction}
+use Rattle.bx_listing.proofs.FormLoop.{form_read, form_refuses, form_memory, text_refuses, forms_end, located_next, located_end}
+use Rattle.bx_listing.proofs.{Known.ReadsForms, Lemmas.grown_after, Lemmas.form_begun, Lemmas.lacks, Lemmas.refuses_where, Dropped.part_some}
 use Rattle.bx_listing.specs.Listing as listings
-use Rattle.bx_listing.proofs.Readings.{grown_after}
-use Rattle.bx_listing.proofs.Dropped.{part_some}
-use Rattle.bx_listing.specs.Taking.{ReadsForms}
-use Rattle.bx_listing.proofs.FormMemory.{form_begun, lacks, refuses_where}
-use Rattle.bx_listing.proofs.LocatedForms.{located_next, located_end}
-use Rattle.bx_listing.proofs.FormLoop.{form_read, form_refuses, form_memory, text_refuses, forms_end}
 use Rattle.bx_listing.proofs.reading.functions.Goals as goal
 
 pub returns-in_err-form-clause-read : goal.returns-in_err-form-clause-read

@@ -1,10 +1,5 @@
-use Rattle.std.proofs.Common.{◌≡◌, [], ◌++◌, ◌⊎◌, None, IsTrue, length}
-use Rattle.bx_text.specs.Place.{place}
-use Rattle.bx_listing.specs.Reading.{Begins}
-use Rattle.bx_listing.specs.Forms.{forms}
-use Rattle.bx_listing.specs.Taking.{IsForm}
+use Rattle.bx_listing.proofs.Known.{◌≡◌, [], ◌++◌, ◌⊎◌, None, IsTrue, length, place, Begins, forms, IsForm, located}
 use Rattle.bx_listing.specs.Listing as listings
-use Rattle.bx_listing.specs.Locations.{located}
 use Rattle.bx_listing.proofs.reading.functions.Given as goal
 
 abbrev pub invariant-loop-locations : goal.invariant-loop-locations

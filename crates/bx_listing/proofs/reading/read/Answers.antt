@@ -1,19 +1,8 @@
-use Rattle.std.proofs.Common.{◌≡◌, ◌⊎◌, inl, inr, subst, Ok, Err}
-use Rattle.std.proofs.lemmas.Result.{err_from_is_err_and}
-use Rattle.bx_terms.specs.Outcomes.{Gives}
-use Rattle.bx_text.specs.Place.{place, place_in}
-use Rattle.bx_text.specs.Forms.{takes_memory}
-use Rattle.bx_listing.specs.Reading.{from_result, Takes, on_line}
-use Rattle.bx_listing.specs.Shape.{shape}
-use Rattle.bx_listing.specs.HeadForms.{module_name, module_form}
-use Rattle.bx_listing.specs.Forms.{forms, last_line}
-use Rattle.bx_listing.specs.ListedCode.{ListedModule}
+use Rattle.bx_listing.proofs.Known.{◌≡◌, ◌⊎◌, inl, inr, subst, Ok, Err, err_from_is_err_and, Gives, place, place_in, takes_memory, from_result, Takes, on_line}
+use Rattle.bx_listing.proofs.Known.{shape, module_name, module_form, forms, last_line, ListedModule}
+use Rattle.bx_listing.proofs.Lemmas.{refuses_first, refuses_result, reads_same, reads_after, refuses_wider, reads_wider, lined_read}
+use Rattle.bx_listing.proofs.FormLoop.{listing-taken, name_read, name_takes, is_named, behind_first}
 use Rattle.bx_listing.specs.Listing as listings
-use Rattle.bx_listing.proofs.Readings.{refuses_first, refuses_result, reads_same, reads_after}
-use Rattle.bx_listing.proofs.FormMemory.{refuses_wider, reads_wider}
-use Rattle.bx_listing.proofs.GoodReadings.{lined_read}
-use Rattle.bx_listing.proofs.Heads.{listing-taken, name_read, name_takes, is_named}
-use Rattle.bx_listing.proofs.LocatedForms.{behind_first}
 use Rattle.bx_listing.proofs.reading.read.Goals as goal
 
 pub returns-in_err-form-clause-read : goal.returns-in_err-form-clause-read
@@ -35,7 +24,7 @@ returns-in_err-name-clause-read c =
     let taken : listings.taken last (forms start) ≡ Ok f = rw c.at.ensures at c.in_ok-form.ensures in
     let takes : Type 0 = takes_memory start ⊎ listings.IsNamed (forms start) in
     let name = on_line f.line (module_form (shape f.tree)) in
-    rw (p.1, p.2) (reads_same {X = ListedModule} takes (λ x. x) _ _ (Err _) (listings.listing_from last f) (listings.listing last (forms start)) (listing-taken last (forms start) f _ taken)
+    rw (p.1, p.2) (reads_same {X = ListedModule} takes takes (λ x. x) _ _ (Err _) (listings.listing_from last f) (listings.listing last (forms start)) (λ k. k) (listing-taken last (forms start) f _ taken)
     (refuses_first takes _ _ _ name (listings.behind_name last f.rest)
     (refuses_wider (Takes name c.args.atoms.now) takes _ _ _ name (λ h. inr (is_named last (forms start) f taken (name_takes (module_name (shape f.tree)) _ h))) c.in_err-name.ensures)))
 
@@ -47,7 +36,7 @@ returns-clause-read c =
     let taken : listings.taken last (forms start) ≡ Ok f = rw c.at.ensures at c.in_ok-form.ensures in
     let takes : Type 0 = takes_memory start ⊎ listings.IsNamed (forms start) in
     let some = name_read (module_name (shape f.tree)) _ _ _ (lined_read f.line ((module_form (shape f.tree)).run c.args.atoms.now) _ _ c.in_ok-name.ensures) in
-    reads_same takes _ _ _ _ (listings.listing_from last f) (listings.listing last (forms start)) (listing-taken last (forms start) f _ taken)
+    reads_same takes takes _ _ _ _ (listings.listing_from last f) (listings.listing last (forms start)) (λ k. k) (listing-taken last (forms start) f _ taken)
     (reads_after takes _ _ _ _ _ (on_line f.line (module_form (shape f.tree))) _ (listings.behind_name last f.rest) c.in_ok-name.ensures
     (reads_wider _ takes _ _ _ _ _ (λ h. inr (is_named last (forms start) f taken some)) c.behind_name.ensures.read))
 

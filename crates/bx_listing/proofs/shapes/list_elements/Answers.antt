@@ -1,4 +1,4 @@
-use Rattle.bx_listing.proofs.Elements.{row_elements, view_elements}
+use Rattle.bx_listing.proofs.Lemmas.{row_elements, view_elements}
 use Rattle.bx_listing.proofs.shapes.list_elements.Goals as goal
 
 pub returns-in-List-default-None : goal.returns-in-List-default-None

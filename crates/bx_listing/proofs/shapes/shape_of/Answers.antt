@@ -1,4 +1,4 @@
-use Rattle.bx_listing.proofs.Elements.{tuple_shape}
+use Rattle.bx_listing.proofs.Lemmas.{tuple_shape}
 use Rattle.bx_listing.proofs.shapes.shape_of.Goals as goal
 
 pub returns-in-Some : goal.returns-in-Some

@@ -1,6 +1,4 @@
-use Rattle.std.proofs.Common.{◌≡◌, drop}
-use Rattle.std.specs.List.{fold}
-use Rattle.bx_listing.specs.Writing.{labels_above, greatest_label}
+use Rattle.bx_listing.proofs.Known.{◌≡◌, drop, fold, labels_above, greatest_label}
 use Rattle.bx_listing.proofs.writing.greatest_label.Given as goal
 
 abbrev pub invariant-loop-function : goal.invariant-loop-function

@@ -1,7 +1,4 @@
-use Rattle.std.proofs.Common.{◌+◌, ◌∙◌, ap, drop, sym}
-use Rattle.bx_listing.specs.Items.{seen_item}
-use Rattle.bx_listing.specs.Writing.{labels_above}
-use Rattle.bx_listing.proofs.Left.{item_left, no_item_left}
+use Rattle.bx_listing.proofs.{Known.◌+◌, Known.◌∙◌, Known.ap, Known.drop, Known.sym, Known.seen_item, Known.labels_above, Lemmas.item_left, Lemmas.no_item_left}
 use Rattle.bx_listing.proofs.writing.label_above_at.Goals as goal
 
 pub returns-in-Some : goal.returns-in-Some

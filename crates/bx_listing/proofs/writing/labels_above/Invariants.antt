@@ -1,5 +1,4 @@
-use Rattle.std.proofs.Common.{◌≡◌, drop}
-use Rattle.bx_listing.specs.Writing.{labels_above}
+use Rattle.bx_listing.proofs.Known.{◌≡◌, drop, labels_above}
 use Rattle.bx_listing.proofs.writing.labels_above.Given as goal
 
 abbrev pub invariant-loop-place : goal.invariant-loop-place

@@ -1,8 +1,5 @@
-use Rattle.std.proofs.Common.{◌++◌, ◌+◌, ap, drop, string_bytes, sym}
-use Rattle.std.specs.List.{flat_map}
-use Rattle.bx_listing.specs.Items.{seen_item}
-use Rattle.bx_listing.specs.Writing.{item_text}
-use Rattle.bx_listing.proofs.Left.{item_left, no_item_left, one_written}
+use Rattle.bx_listing.proofs.Known.{◌++◌, ◌+◌, ap, drop, string_bytes, sym, flat_map, seen_item, item_text}
+use Rattle.bx_listing.proofs.Lemmas.{item_left, no_item_left, one_written}
 use Rattle.bx_listing.proofs.writing.push_item_at.Goals as goal
 
 pub returns-in-Some : goal.returns-in-Some

@@ -1,6 +1,4 @@
-use Rattle.std.proofs.Common.{◌≡◌, ◌++◌, drop, string_bytes}
-use Rattle.std.specs.List.{flat_map}
-use Rattle.bx_listing.specs.Writing.{item_text}
+use Rattle.bx_listing.proofs.Known.{◌≡◌, ◌++◌, drop, string_bytes, flat_map, item_text}
 use Rattle.bx_listing.proofs.writing.push_items.Given as goal
 
 -- what is written and what is left to write make the whole

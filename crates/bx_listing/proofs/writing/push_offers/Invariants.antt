@@ -1,6 +1,4 @@
-use Rattle.std.proofs.Common.{◌≡◌, ◌++◌, drop, string_bytes, codes}
-use Rattle.std.specs.List.{flat_map}
-use Rattle.bx_listing.specs.Writing.{offer_text, offers_text}
+use Rattle.bx_listing.proofs.Known.{◌≡◌, ◌++◌, drop, string_bytes, codes, flat_map, offer_text, offers_text}
 use Rattle.bx_listing.proofs.writing.push_offers.Given as goal
 
 -- what is written and what is left to write make the whole

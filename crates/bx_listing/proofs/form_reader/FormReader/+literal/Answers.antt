@@ -1,44 +1,31 @@
-use Rattle.std.proofs.Common.{◌<◌, ◌≤◌, length, true, refl, sym, ◌∙◌, subst, arith}
-use Rattle.std.proofs.lemmas.Result.{err_from_is_err_and}
-use Rattle.bx_terms.specs.declared.faults.Fault.TheVariants.{Memory}
-use Rattle.bx_text.specs.Tree.{tuple, list, nil, chain}
-use Rattle.bx_text.specs.Tree.{span_of}
-use Rattle.bx_text.specs.View.{tail_seen, elements_seen}
-use Rattle.bx_listing.specs.Reading.{Begins-refl, give, Refused}
-use Rattle.bx_listing.specs.Literals.{parts, literal, kept_list, kept_tuple}
-use Rattle.bx_listing.proofs.Readings.{wanting_stored}
-use Rattle.bx_listing.proofs.LiteralRows.{resumed-start, resumed_next, element_takes, refuses_element, memory_after_element, grown_after, ends_without, ends_with, refuses_tail, element_falls, tail_le}
-use Rattle.bx_listing.proofs.Elements.{element_at}
+use Rattle.bx_listing.proofs.Known.{◌<◌, ◌≤◌, length, true, refl, subst, arith, err_from_is_err_and, Memory, tuple, list, nil, chain, span_of, tail_seen}
+use Rattle.bx_listing.proofs.Known.{elements_seen, give, Refused, parts, literal, kept_list, kept_tuple, stored, ended, drop, ◌+◌}
+use Rattle.bx_listing.proofs.LiteralRows.{front_view, row_starts, row_behind, element_left, element_next, tail_left, ends_without, ends_with, element_falls}
+use Rattle.bx_listing.proofs.{Lemmas.wanting_stored, Lemmas.element_at, Lemmas.refused_stored, LiteralRows.tail_le, Loops.left_refuses, Loops.left_memory}
 use Rattle.bx_listing.proofs.form_reader.FormReader.+literal.Goals as goal
 
 pub literal_row-loop-i-init : goal.literal_row-loop-i-init
-literal_row-loop-i-init t c = record { so_far = rw c.new.ensures.items (resumed-start _); wants = λ k. k; grown = Begins-refl _ }
+literal_row-loop-i-init t c = rw c.new.ensures.items (row_starts (elements_seen c.args.elements) (tail_seen c.args.tail) _)
 
 pub literal_row-returns-in_err-kept-in-Ok : goal.literal_row-returns-in_err-kept-in-Ok
 literal_row-returns-in_err-kept-in-Ok t c =
     let ts = elements_seen c.args.elements in
-    let here : c.loop-i.i < length ts = omega (arith, c.loop-i-test.true, c.len-i-end.ensures) in
-    let at = element_at ts c.loop-i.i _ _ c.node.ensures c.at.ensures in
+    let left = element_left ts (tail_seen c.args.tail) c.loop-i.i _ (omega (arith, c.loop-i-test.true, c.len-i-end.ensures)) (element_at ts c.loop-i.i _ _ c.node.ensures c.at.ensures) in
     let p = err_from_is_err_and c.from_residual.result c.from_residual.ensures.1 in
-    rw (p.1, p.2) (memory_after_element _ _ _ _ _ _ _ _ _ here at c.loop-i.invariant.grown c.loop-i.invariant.so_far c.loop-i.invariant.wants c.in-Ok.ensures.read)
+    rw (p.1, p.2) (left_memory c.loop-i.invariant (front_view _) (literal c.node.result.now) (row_behind (drop (c.loop-i.i + 1) ts) (tail_seen c.args.tail)) _ _ left c.in-Ok.ensures.read)
 
 pub literal_row-returns-in-Err : goal.literal_row-returns-in-Err
 literal_row-returns-in-Err t c =
     let ts = elements_seen c.args.elements in
-    let here : c.loop-i.i < length ts = omega (arith, c.loop-i-test.true, c.len-i-end.ensures) in
-    let at = element_at ts c.loop-i.i _ _ c.node.ensures c.at.ensures in
-    refuses_element _ _ _ _ _ _ _ _ _ here at c.loop-i.invariant.grown c.loop-i.invariant.so_far c.loop-i.invariant.wants c.in-Err.ensures.read
+    let left = element_left ts (tail_seen c.args.tail) c.loop-i.i _ (omega (arith, c.loop-i-test.true, c.len-i-end.ensures)) (element_at ts c.loop-i.i _ _ c.node.ensures c.at.ensures) in
+    left_refuses c.loop-i.invariant (front_view _) (stored (literal c.node.result.now)) (row_behind (drop (c.loop-i.i + 1) ts) (tail_seen c.args.tail)) _ _ left
+    (refused_stored (λ _. true) _ _ _ (literal c.node.result.now) c.in-Err.ensures.read)
 
 pub literal_row-loop-i-preserved : goal.literal_row-loop-i-preserved
 literal_row-loop-i-preserved t c =
     let ts = elements_seen c.args.elements in
-    let here : c.loop-i.i < length ts = omega (arith, c.loop-i-test.true, c.len-i-end.ensures) in
     let at = element_at ts c.loop-i.i _ _ c.node.ensures c.at.ensures in
-    record {
-      so_far = rw c.in_ok-kept-in-Ok.ensures (sym (resumed_next (elements_seen c.args.elements) _ _ c.node.result.now _ _ _ _ here at c.in-Ok.ensures.read) ∙ c.loop-i.invariant.so_far);
-      wants = element_takes (elements_seen c.args.elements) _ _ c.node.result.now _ _ _ _ here at c.loop-i.invariant.wants c.in-Ok.ensures.read;
-      grown = grown_after c.node.result.now _ _ _ _ c.loop-i.invariant.grown c.in-Ok.ensures.read;
-    }
+    rw c.in_ok-kept-in-Ok.ensures (element_next ts (tail_seen c.args.tail) c.loop-i.i c.node.result.now _ _ _ _ _ (omega (arith, c.loop-i-test.true, c.len-i-end.ensures)) at c.loop-i.invariant c.in-Ok.ensures.read)
 
 pub literal_row-literal-requires : goal.literal_row-literal-requires
 literal_row-literal-requires t c =
@@ -63,7 +50,8 @@ literal_row-returns-in-Ok-literal t c =
 pub literal_row-returns-in-Err-literal : goal.literal_row-returns-in-Err-literal
 literal_row-returns-in-Err-literal t c =
     let past : length (elements_seen c.args.elements) ≤ c.loop-i.i = omega (arith, c.loop-i-test.false, c.len-i-end.ensures) in
-    rw c.in-Some.is (refuses_tail (elements_seen c.args.elements) c.in-Some.node.now _ _ _ _ _ _ past c.in-Err-literal.ensures.node c.loop-i.invariant.grown (rw c.in-Some.is at c.loop-i.invariant.so_far) (rw c.in-Some.is at c.loop-i.invariant.wants) c.in-Err-literal.ensures.read)
+    let left = tail_left (elements_seen c.args.elements) c.in-Some.node.now c.loop-i.i past c.in-Err-literal.ensures.node in
+    rw c.in-Some.is (left_refuses (rw c.in-Some.is at c.loop-i.invariant) (front_view _) (literal c.in-Some.node.now) (λ y. give (ended y)) _ _ left c.in-Err-literal.ensures.read)
 
 pub literal_row-returns-in-None : goal.literal_row-returns-in-None
 literal_row-returns-in-None t c =

@@ -1,7 +1,5 @@
-use Rattle.std.proofs.Common.{◌≡◌, ◌<◌, length, vec_len, sym, subst, ◌∙◌}
-use Rattle.bx_text.specs.Tree.{span_of}
-use Rattle.bx_listing.specs.Shape.{shape}
-use Rattle.bx_listing.proofs.Functions.{in_last, not_none}
+use Rattle.bx_listing.proofs.Known.{◌≡◌, ◌<◌, length, vec_len, sym, subst, ◌∙◌, span_of, shape}
+use Rattle.bx_listing.proofs.FormLoop.{in_last, not_none}
 use Rattle.bx_listing.proofs.form_reader.FormReader.add_form.Goals as goal
 
 pub returns : goal.returns

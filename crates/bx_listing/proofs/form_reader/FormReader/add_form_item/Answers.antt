@@ -1,12 +1,5 @@
-use Rattle.std.specs.Prelude.{is_some}
-use Rattle.std.proofs.lemmas.Result.{err_from_is_err_and}
-use Rattle.bx_listing.specs.Reading.{give}
-use Rattle.bx_text.specs.Tree.{span_of}
-use Rattle.bx_listing.specs.Shape.{shape}
-use Rattle.bx_listing.specs.ItemForms.{item}
-use Rattle.bx_listing.specs.Listing.{with_optional}
-use Rattle.bx_listing.proofs.Readings.{wanting_stored}
-use Rattle.bx_listing.proofs.Functions.{read_some}
+use Rattle.bx_listing.proofs.Known.{is_some, err_from_is_err_and, give, span_of, shape, item, with_optional}
+use Rattle.bx_listing.proofs.{Lemmas.wanting_stored, FormLoop.read_some}
 use Rattle.bx_listing.proofs.form_reader.FormReader.add_form_item.Goals as goal
 
 pub returns-in_err-add_item : goal.returns-in_err-add_item

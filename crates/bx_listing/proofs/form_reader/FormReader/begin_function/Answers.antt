@@ -1,9 +1,5 @@
-use Rattle.std.proofs.Common.{true, refl, [], ◌∷◌, ◌++◌}
-use Rattle.std.proofs.lemmas.Result.{err_from_is_err_and}
-use Rattle.bx_listing.specs.Reading.{give}
-use Rattle.bx_listing.specs.HeadForms.{function_form}
-use Rattle.bx_listing.specs.ListedCode.{ListedFunction}
-use Rattle.bx_listing.proofs.Readings.{wanting_stored}
+use Rattle.bx_listing.proofs.Known.{true, refl, [], ◌∷◌, ◌++◌, err_from_is_err_and, give, function_form, ListedFunction}
+use Rattle.bx_listing.proofs.Lemmas.{wanting_stored}
 use Rattle.bx_listing.proofs.form_reader.FormReader.begin_function.Goals as goal
 
 pub returns-in_err-push : goal.returns-in_err-push

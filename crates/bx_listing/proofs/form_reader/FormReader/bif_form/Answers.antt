@@ -1,7 +1,4 @@
-use Rattle.std.proofs.Common.{ap, ◌∙◌}
-use Rattle.bx_text.specs.View.{elements_seen}
-use Rattle.bx_listing.specs.Ways.{bif_op}
-use Rattle.bx_listing.proofs.BifParts.{bif_listed}
+use Rattle.bx_listing.proofs.{Known.ap, Known.◌∙◌, Known.elements_seen, Known.bif_op, BifParts.bif_listed}
 use Rattle.bx_listing.proofs.form_reader.FormReader.bif_form.Goals as goal
 
 pub returns : goal.returns

@@ -1,9 +1,5 @@
-use Rattle.std.proofs.lemmas.Result.{err_from_is_err_and}
+use Rattle.bx_listing.proofs.{Known.err_from_is_err_and, Known.◌>>=◌, Known.give, Known.number, Known.operand, Known.atom_word, Lemmas.refused_first}
 use Rattle.bx_listing.specs.declared.items.Operand.TheVariants as operands
-use Rattle.bx_listing.specs.Reading.{◌>>=◌, give}
-use Rattle.bx_listing.specs.Shape.{number}
-use Rattle.bx_listing.specs.Operands.{operand, atom_word}
-use Rattle.bx_listing.proofs.Readings.{refused_first}
 use Rattle.bx_listing.proofs.form_reader.FormReader.external.Goals as goal
 
 pub returns-in_err-module : goal.returns-in_err-module

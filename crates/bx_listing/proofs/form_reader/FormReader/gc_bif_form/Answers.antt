@@ -1,7 +1,4 @@
-use Rattle.std.proofs.Common.{ap, ◌∙◌}
-use Rattle.bx_text.specs.View.{elements_seen}
-use Rattle.bx_listing.specs.Ways.{gc_bif_op}
-use Rattle.bx_listing.proofs.BifParts.{gc_bif_listed}
+use Rattle.bx_listing.proofs.{Known.ap, Known.◌∙◌, Known.elements_seen, Known.gc_bif_op, BifParts.gc_bif_listed}
 use Rattle.bx_listing.proofs.form_reader.FormReader.gc_bif_form.Goals as goal
 
 pub returns : goal.returns

@@ -1,8 +1,5 @@
-use Rattle.std.proofs.Common.{[]}
+use Rattle.bx_listing.proofs.{Known.[], Known.item_row, Known.read_as, Lemmas.answers_given}
 use Rattle.bx_listing.specs.Seen.{seen}
-use Rattle.bx_listing.specs.Rows.{item_row}
-use Rattle.bx_listing.specs.ItemForms.{read_as}
-use Rattle.bx_listing.proofs.Readings.{answers_given}
 use Rattle.bx_listing.proofs.form_reader.FormReader.item.Goals as goal
 
 pub returns : goal.returns

@@ -1,9 +1,6 @@
-use Rattle.std.proofs.lemmas.Result.{err_from_is_err_and}
-use Rattle.std.proofs.Common.{[], ◌∷◌, ◌++◌, length}
+use Rattle.bx_listing.proofs.Known.{err_from_is_err_and, [], ◌∷◌, ◌++◌, length, members, elements_seen}
+use Rattle.bx_listing.proofs.Lemmas.{wanting_before}
 use Rattle.bx_listing.specs.declared.items.Operand.TheVariants as operands
-use Rattle.bx_listing.specs.Rows.{members}
-use Rattle.bx_listing.proofs.Readings.{wanting_before}
-use Rattle.bx_text.specs.View.{elements_seen}
 use Rattle.bx_listing.proofs.form_reader.FormReader.list_of.Goals as goal
 
 pub returns-in_err-push : goal.returns-in_err-push

@@ -1,9 +1,5 @@
-use Rattle.std.proofs.lemmas.Result.{err_from_is_err_and}
-use Rattle.std.proofs.Common.{true, refl, [], ◌∷◌, ◌++◌}
-use Rattle.bx_listing.specs.Reading.{give}
-use Rattle.bx_listing.specs.declared.items.Operand.{Operand}
-use Rattle.bx_listing.specs.Operands.{simple}
-use Rattle.bx_listing.proofs.Readings.{wanting_stored}
+use Rattle.bx_listing.proofs.Known.{err_from_is_err_and, true, refl, [], ◌∷◌, ◌++◌, give, Operand, simple}
+use Rattle.bx_listing.proofs.Lemmas.{wanting_stored}
 use Rattle.bx_listing.proofs.form_reader.FormReader.one.Goals as goal
 
 pub returns-in_err-push : goal.returns-in_err-push

@@ -1,9 +1,6 @@
-use Rattle.std.proofs.Common.{◌≡◌, ℕ, ◌<◌, ◌≤◌, length, get_or, List, [], ◌∷◌, sym, ap, ◌∙◌, arith}
-use Rattle.bx_text.specs.Tree.{Tree}
+use Rattle.bx_listing.proofs.Known.{◌≡◌, ℕ, ◌<◌, ◌≤◌, length, get_or, List, [], ◌∷◌, sym, ap, ◌∙◌, arith, Tree, tagged, shape, operand_word, literal_source}
+use Rattle.bx_listing.proofs.Known.{source_of, source_in, source}
 use Rattle.bx_listing.specs.declared.words.OperandWord.TheVariants as words
-use Rattle.bx_listing.specs.Shape.{tagged, shape}
-use Rattle.bx_listing.specs.Words.{operand_word}
-use Rattle.bx_listing.specs.Operands.{literal_source, source_of, source_in, source}
 use Rattle.bx_listing.proofs.form_reader.FormReader.source.Goals as goal
 
 literal_is : (t u : Tree) (text : List ℕ) (parts : List Tree) → tagged text parts ≡ shape t → words.Literal ≡ operand_word text → 1 ≤ length parts → length parts < 2 → u ≡ get_or parts 0 u

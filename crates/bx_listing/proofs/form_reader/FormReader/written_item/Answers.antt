@@ -1,7 +1,4 @@
-use Rattle.bx_listing.specs.Formed.{formed}
-use Rattle.bx_listing.specs.Ways.{tuple_form}
-use Rattle.bx_listing.specs.Rows.{formed_item}
-use Rattle.bx_listing.proofs.FormRefusals.{form_refused}
+use Rattle.bx_listing.proofs.{Known.formed, Known.tuple_form, Known.formed_item, Lemmas.form_refused}
 use Rattle.bx_listing.proofs.form_reader.FormReader.written_item.Goals as goal
 
 pub returns-in-Err : goal.returns-in-Err

@@ -1,6 +1,4 @@
-use Rattle.std.proofs.Common.{Some, None, ap, ◌∙◌, string_bytes}
-use Rattle.bx_listing.specs.Locations.{Located}
-use Rattle.bx_listing.proofs.Places.{stands, moved_to}
+use Rattle.bx_listing.proofs.{Known.Some, Known.None, Known.ap, Known.◌∙◌, Known.string_bytes, Known.Located, Places.stands, Places.moved_to}
 use Rattle.bx_listing.proofs.locations.Locations.move_to.Goals as goal
 use Rattle.bx_listing.proofs.locations.Locations.move_to.Goals.{in-Some+in_ok-add-in-Some, in-None}
 

@@ -1,5 +1,4 @@
-use Rattle.std.proofs.Common.{[], ◌∷◌, ◌++◌, ap, ◌∙◌, map, string_bytes}
-use Rattle.std.proofs.lemmas.Result.{err_from_is_err_and}
+use Rattle.bx_listing.proofs.Known.{[], ◌∷◌, ◌++◌, ap, ◌∙◌, map, string_bytes, err_from_is_err_and}
 use Rattle.bx_listing.proofs.Places.{marks_kept, marks_more, place_added}
 use Rattle.bx_listing.proofs.locations.Places.add.Goals as goal
 

@@ -1,8 +1,6 @@
-use Rattle.std.proofs.Common.{◌≡◌, ◌<◌, suc, Some, length, arith, ◌∙◌, ap, sym, refl}
-use Rattle.std.specs.Prelude.{slice_get}
-use Rattle.std.proofs.lemmas.Option.{slice_get_read}
-use Rattle.bx_listing.specs.Marks.{place}
+use Rattle.bx_listing.proofs.Known.{◌≡◌, ◌<◌, suc, Some, length, arith, ◌∙◌, ap, sym, refl, slice_get, slice_get_read}
 use Rattle.bx_listing.proofs.Places.{place_found}
+use Rattle.bx_listing.specs.Marks.{place}
 use Rattle.bx_listing.proofs.locations.Places.get.Goals as goal
 
 pub returns : goal.returns
