@@ -1,11 +1,8 @@
 -- A text is read where it is a plan's, and refused by its first fault.
-use Rattle.bx_plan.proofs.Words.{◌≡◌, ◌≢◌, ◌⊎◌, inl, inr, ℕ, suc, ◌+◌, ◌<◌, Bool, true, false, cond, List, [], ◌∷◌, ◌++◌, Option, Some, None, Result, Ok, Err, length, refl, sym, ap, ◌∙◌, arith, subst, append-nil}
-use Rattle.bx_plan.proofs.Words.{Decides, nat_eq, nat_lt, ◌↔◌, AllByRecursion, join_with_byte, onto_first, length-slice_split, join_with_byte-slice_split, bytes_eq, ne_eqb, eqb-false, both_ways, cond_both}
-use Rattle.bx_plan.proofs.Words.{false_from_ne_true, bytes_eq-Decides, ◌>>=◌, Fault, NameTwice, TooLong, Entry, line_of, parts_of, node_count, Named, choices_of, named, has_name, is_too_long, with_read, with_lines}
-use Rattle.bx_plan.proofs.Words.{plan_of, IsNothing, IsSchedule}
+use Rattle.bx_plan.proofs.Words.{◌≡◌, ◌≢◌, ◌⊎◌, inl, inr, ℕ, suc, ◌+◌, ◌<◌, List, [], ◌∷◌, ◌++◌, Option, Some, None, Result, Ok, Err, length, refl, sym, ap, ◌∙◌, arith, subst, append-nil, Decides-or, BadLine, Decides, nat_eq, ◌↔◌}
+use Rattle.bx_plan.proofs.Words.{AllByRecursion, join_with_byte, length-slice_split, join_with_byte-slice_split, bytes_eq, ne_eqb, eqb-false, both_ways, cond_both, false_from_ne_true, bytes_eq-Decides, ◌>>=◌, Fault, NameTwice, TooLong}
+use Rattle.bx_plan.proofs.Words.{Entry, line_of, parts_of, Named, named, has_name, is_too_long, with_read, with_lines, plan_of, IsNothing, IsSchedule}
 use Rattle.bx_plan.proofs.Marks.{Lacks, parts_lacks, parts_at}
-use Rattle.std.proofs.lemmas.Bool.Decides.{Decides-ltb, Decides-or}
-use Rattle.bx_terms.specs.declared.faults.Fault.TheVariants.{BadLine}
 use Rattle.bx_plan.specs.Texts.{AreLines, HasName, IsTooLong, Leads, IsPlan, IsFault, IsFirstFault}
 use Rattle.bx_plan.proofs.Headings.{nothing_spelled, nothing_again, line_spelled, line_again}
 
@@ -16,9 +13,7 @@ has_name_decides name [] = (λ h. cc, λ h. absurd h)
 has_name_decides name (schedule ∷ plan) = Decides-or (bytes_eq name schedule.0) (has_name name plan) (bytes_eq-Decides name schedule.0) (has_name_decides name plan)
 
 too_long_decides : (plan : List Named) (schedule : Named) → Decides (is_too_long plan schedule) (IsTooLong plan schedule)
-too_long_decides plan schedule =
-    let count = node_count (choices_of (plan ++ schedule ∷ [])) in
-    Decides-or (nat_lt 100000 (length schedule.1)) (nat_lt 1000000 count) (Decides-ltb 100000 (length schedule.1)) (Decides-ltb 1000000 count)
+too_long_decides plan schedule = grind (arith)
 
 -- ---- one line
 
@@ -41,13 +36,7 @@ module _ (n : ℕ) (plan : List Named) (line : List ℕ) where
     one : (read : Option (Option (List ℕ × List Entry))) → line_of line ≡ read → LineSays n plan line (with_read n plan read)
     one None p = (refl, λ k. let q = nothing_again line k in cc, λ read k. let q = line_again line read k in cc)
     one (Some None) p = inl (nothing_spelled line p, refl)
-    one (Some (Some read)) p =
-        let is = line_spelled line read p in
-        let twice = has_name_decides read.0 plan in
-        let long = too_long_decides plan (named read) in
-        cond_both (has_name read.0 plan) _ _ (LineSays n plan line) (λ t. (refl, read, is, twice.0 t))
-        (λ f. cond_both (is_too_long plan (named read)) _ _ (LineSays n plan line) (λ t. (refl, read, is, λ k. both_ways _ f (twice.1 k), long.0 t))
-        (λ g. inr (read, is, λ k. both_ways _ f (twice.1 k), λ k. both_ways _ g (long.1 k), refl)))
+    one (Some (Some read)) p = grind (arith, line_spelled, has_name_decides, too_long_decides, cond_both, both_ways)
 
   -- and what it says is read
   line_reads : (answer : Answer) → LineSays n plan line answer → with_read n plan (line_of line) ≡ answer
@@ -80,8 +69,7 @@ LinesSay n plan lines (Ok after) = Leads plan lines after
 LinesSay n plan lines (Err fault) = FaultIn n plan lines fault
 
 leads_more : (plan : List Named) (line : List ℕ) (lines : List (List ℕ)) (more after : List Named) → Reads plan line more → Leads more lines after → Leads plan (line ∷ lines) after
-leads_more plan line lines more after (inl (k, e)) rest = inl (k, subst (λ p. Leads p lines after) e rest)
-leads_more plan line lines more after (inr (read, k, fresh, short, e)) rest = inr (read, k, fresh, short, subst (λ p. Leads p lines after) e rest)
+leads_more plan line lines more after h5 h6 = grind (arith)
 
 says_more : (n : ℕ) (plan : List Named) (line : List ℕ) (lines : List (List ℕ)) (more : List Named) (answer : Answer) → Reads plan line more → LinesSay (n + 1) more lines answer → LinesSay n plan (line ∷ lines) answer
 says_more n plan line lines more (Ok after) h rest = leads_more plan line lines more after h rest
@@ -96,8 +84,7 @@ lines_say n plan (line ∷ lines) = one (with_read n plan (line_of line)) (line_
   one (Err fault) h later = ([], line, lines, plan, refl, refl, subst (λ m. IsFault plan m line fault) (omega arith) h)
 
 leads_first : (plan : List Named) (line : List ℕ) (lines : List (List ℕ)) (after : List Named) → Leads plan (line ∷ lines) after → (more : List Named) × Reads plan line more × Leads more lines after
-leads_first plan line lines after (inl (k, rest)) = (plan, inl (k, refl), rest)
-leads_first plan line lines after (inr (read, k, fresh, short, rest)) = (plan ++ named read ∷ [], inr (read, k, fresh, short, refl), rest)
+leads_first plan line lines after h4 = grind (arith)
 
 lines_lead : (n : ℕ) (plan : List Named) (before rest : List (List ℕ)) (more : List Named) → Leads plan before more → with_lines n plan (before ++ rest) ≡ with_lines (n + length before) more rest
 lines_lead n plan [] rest more h = ap (λ p. with_lines n p rest) (sym h) ∙ ap (λ i. with_lines i more rest) (omega arith)
@@ -113,14 +100,7 @@ NoFeed line = AllByRecursion (λ b. b ≢ 10) line
 
 no_feeds : (text : List ℕ) → AllByRecursion NoFeed (parts_of 10 text)
 no_feeds [] = (tt, tt)
-no_feeds (b ∷ bs) = one (nat_eq b 10) refl (no_feeds bs) where
-  onto : (parts : List (List ℕ)) → b ≢ 10 → AllByRecursion NoFeed parts → AllByRecursion NoFeed (onto_first b parts)
-  onto [] other h = ((other, tt), tt)
-  onto (part ∷ parts) other h = ((other, h.0), h.1)
-
-  one : (feed : Bool) → nat_eq b 10 ≡ feed → AllByRecursion NoFeed (parts_of 10 bs) → AllByRecursion NoFeed (cond feed ([] ∷ parts_of 10 bs) (onto_first b (parts_of 10 bs)))
-  one true p h = (tt, h)
-  one false p h = onto (parts_of 10 bs) (eqb-false b 10 p) h
+no_feeds (b ∷ bs) = grind (arith, eqb-false, no_feeds bs)
 
 parts_are : (text : List ℕ) → AreLines text (parts_of 10 text)
 parts_are text = (omega (arith, length-slice_split (λ b. nat_eq b 10) text), no_feeds text, sym (join_with_byte-slice_split 10 text))
@@ -132,9 +112,7 @@ no_feed_lacks (b ∷ bs) h = (ne_eqb b 10 h.0, no_feed_lacks bs h.1)
 parts_of_join : (lines : List (List ℕ)) → 0 < length lines → AllByRecursion NoFeed lines → parts_of 10 (join_with_byte 10 lines) ≡ lines
 parts_of_join [] h k = absurd (omega (arith, h))
 parts_of_join (line ∷ []) h k = parts_lacks 10 line (no_feed_lacks line k.0)
-parts_of_join (line ∷ next ∷ lines) h k =
-    parts_at 10 line (join_with_byte 10 (next ∷ lines)) (no_feed_lacks line k.0)
-    ∙ ap (λ ls. line ∷ ls) (parts_of_join (next ∷ lines) (omega arith) k.1)
+parts_of_join (line ∷ next ∷ lines) h k = grind (arith, parts_at, no_feed_lacks, parts_of_join (next ∷ lines) (omega arith) k.1)
 
 lines_are_parts : (text : List ℕ) (lines : List (List ℕ)) → AreLines text lines → parts_of 10 text ≡ lines
 lines_are_parts text lines h = ap (parts_of 10) h.2 ∙ parts_of_join lines h.0 h.1

@@ -1,14 +1,9 @@
 -- One schedule more in a plan that is read.
-use Rattle.bx_plan.proofs.Words.{cases_Bool, cond_both, ⊎_elim}
-use Rattle.bx_plan.proofs.Words.{◌≡◌, ◌⊎◌, inl, inr, ℕ, ◌+◌, ◌-◌, ◌^◌, ◌<◌, ◌≤◌, min, Bool, true, false, cond, ◌||◌, List, [], ◌∷◌, ◌++◌, Option, None, Some, Result, Ok, Err, length, get_or, replicate, take, refl}
-use Rattle.bx_plan.proofs.Words.{sym, ap, subst, ◌∙◌, arith, length-append, Bor, get_or-append, get_or-append_seam, length-map, length-replicate, map-append, take_all, same_from_decides, list_any-append}
-use Rattle.bx_plan.proofs.Words.{bytes_eq-Decides, nat_lt, bytes_eq, BTreeSet, contains, both_ways, cases_lt, lt-ltb, le-ltb, ltb-true, ltb-false, ◌>>=◌, Fault, NameTwice, TooLong, read_loose, text_cmp, Stands}
-use Rattle.bx_plan.proofs.Words.{Entry, count_of, spread, Line, Named, choices_of, has_name, named, with_lines, with_read, TakesFirst, line_view, lines_view, node_count}
-use Rattle.std.proofs.lemmas.List.{take-append-le}
-use Rattle.std.specs.BTreeSet.{Updates}
+use Rattle.bx_plan.proofs.Words.{cases_Bool, cond_both, take-append-le, Updates, with_loose, Overfull, with_schedule, ◌≡◌, ◌⊎◌, inl, inr, ℕ, ◌+◌, ◌-◌, ◌^◌, ◌<◌, ◌≤◌, min, Bool, true, false, cond, List, [], ◌∷◌, ◌++◌, Option, None, Some}
+use Rattle.bx_plan.proofs.Words.{Result, Ok, Err, length, get_or, replicate, take, refl, sym, ap, subst, ◌∙◌, arith, length-append, Bor, get_or-append, get_or-append_seam, length-map, length-replicate, map-append, take_all}
+use Rattle.bx_plan.proofs.Words.{same_from_decides, list_any-append, bytes_eq-Decides, nat_lt, BTreeSet, contains, both_ways, cases_lt, lt-ltb, le-ltb, ltb-true, ltb-false, ◌>>=◌, Fault, TooLong, read_loose, text_cmp, Stands, Entry}
+use Rattle.bx_plan.proofs.Words.{count_of, spread, Line, Named, choices_of, has_name, named, with_lines, with_read, TakesFirst, lines_view, node_count}
 use Rattle.std.proofs.lemmas.Map.Text.{is_eq-slice_cmp}
-use Rattle.bx_plan.specs.Building.{with_loose, Overfull}
-use Rattle.bx_plan.specs.Plans.{with_schedule}
 use Rattle.bx_plan.proofs.Counting.{no_more}
 
 pub length-spread : (entries : List Entry) → length (spread entries) ≡ count_of entries
@@ -25,14 +20,6 @@ module _ (entries : List Entry) (count : ℕ) (counted : count ≡ min (count_of
 
 -- ---- names
 
-bytes_eq_turned : (xs ys : List ℕ) → bytes_eq xs ys ≡ bytes_eq ys xs
-bytes_eq_turned xs ys =
-    let back = bytes_eq-Decides ys xs in
-    same_from_decides _ _ (bytes_eq-Decides xs ys) (λ h. sym (back.0 h), λ e. back.1 (sym e))
-
-either : (here before : Bool) → cond here true before ≡ (before || (here || false))
-either here before = grind arith
-
 -- the names, with one more
 pub knows_more : (plan after : List Named) (schedule : Named) (names more : BTreeSet (Bor (List ℕ))) (key : Bor (List ℕ))
     → ((name : Bor (List ℕ)) → contains text_cmp names name ≡ has_name name.now plan)
@@ -40,13 +27,7 @@ pub knows_more : (plan after : List Named) (schedule : Named) (names more : BTre
     → schedule.0 ≡ key.now
     → after ≡ plan ++ schedule ∷ []
     → (name : Bor (List ℕ)) → contains text_cmp more name ≡ has_name name.now after
-knows_more plan after schedule names more key knows updates same is_after name =
-    updates.0 name
-    ∙ ap (λ b. cond b true (contains text_cmp names name)) (is_eq-slice_cmp key.now name.now ∙ bytes_eq_turned key.now name.now ∙ ap (bytes_eq name.now) (sym same))
-    ∙ ap (cond (bytes_eq name.now schedule.0) true) (knows name)
-    ∙ either (bytes_eq name.now schedule.0) (has_name name.now plan)
-    ∙ sym (list_any-append (λ s. bytes_eq name.now s.0) plan (schedule ∷ []))
-    ∙ ap (has_name name.now) (sym is_after)
+knows_more plan after schedule names more key knows updates same is_after name = grind (arith, is_eq-slice_cmp, bytes_eq-Decides, same_from_decides, list_any-append)
 
 -- ---- one schedule more, by the tests
 
@@ -64,10 +45,7 @@ module _ (n : ℕ) (plan : List Named) (schedule : Named) where
       ⊎ ((said ≡ Ok (plan ++ schedule ∷ [])) × (with_schedule n plan schedule ≡ cond (nat_lt 1000000 (node_count (choices_of (plan ++ schedule ∷ [])))) (Err (TooLong n)) (Ok (plan ++ schedule ∷ []))))
 
   pub loose : Loose (with_loose n plan schedule)
-  loose =
-      ⊎_elim (λ (p : has_name schedule.0 plan ≡ true). inl (NameTwice n, rw p refl, rw p refl)) (λ (p : has_name schedule.0 plan ≡ false).
-      ⊎_elim (λ (q : nat_lt 100000 (length schedule.1) ≡ true). inl (TooLong n, rw (p, q) refl, rw (p, q) refl)) (λ (q : nat_lt 100000 (length schedule.1) ≡ false). inr (rw (p, q) refl, rw (p, q) refl))
-      (cases_Bool (nat_lt 100000 (length schedule.1)))) (cases_Bool (has_name schedule.0 plan))
+  loose = grind (arith, cases_Bool)
 
 -- ---- whether there are too many prefixes so far
 
@@ -84,9 +62,7 @@ overfull_more plan more numbers others answer long (i, h, fits, full, is) = (
   front k l = ap (take k) (map-append (λ (s : Named). s.1) plan more) ∙ take-append-le k (choices_of plan) (choices_of more) (omega (arith, l, length-map plan (λ (s : Named). s.1)))
 
 front_is : (plan : List Named) (schedule : Named) → take (length plan) (choices_of (plan ++ schedule ∷ [])) ≡ choices_of plan
-front_is plan schedule =
-    let long = length-map plan (λ (s : Named). s.1) in
-    ap (take (length plan)) (map-append (λ (s : Named). s.1) plan (schedule ∷ [])) ∙ take-append-le (length plan) (choices_of plan) (choices_of (schedule ∷ [])) (omega (arith, long)) ∙ take_all (length plan) (choices_of plan) (omega (arith, long))
+front_is plan schedule = grind (arith, length-map, map-append, take-append-le, take_all)
 
 -- a schedule was added, and there may be too many prefixes with it
 stands_more : (n : ℕ) (plan : List Named) (schedule : Named) (numbers : List ℕ) (lines : List (List ℕ)) (answer : Result (List Named) Fault) (full : Bool)
@@ -95,8 +71,7 @@ stands_more : (n : ℕ) (plan : List Named) (schedule : Named) (numbers : List �
     → Stands plan numbers (with_schedule n plan schedule >>= λ next. with_lines (n + 1) next lines) answer
     → Stands (plan ++ schedule ∷ []) (numbers ++ n ∷ []) (with_lines (n + 1) (plan ++ schedule ∷ []) lines) answer
 stands_more n plan schedule numbers lines answer full long t strictly (inr over) = inr (overfull_more plan (schedule ∷ []) numbers (n ∷ []) answer long over)
-stands_more n plan schedule numbers lines answer false long t strictly (inl (few, said)) =
-    inl (ltb-false 1000000 (node_count (choices_of (plan ++ schedule ∷ []))) t, sym (ap (λ r. r >>= λ next. with_lines (n + 1) next lines) strictly) ∙ said)
+stands_more n plan schedule numbers lines answer false long t strictly (inl (few, said)) = grind (arith, ltb-false)
 stands_more n plan schedule numbers lines answer true long t strictly (inl (few, said)) = inr (
   length plan,
   omega (arith, length-append plan (schedule ∷ [])),
@@ -111,8 +86,7 @@ pub stands_read : (n : ℕ) (plan more : List Named) (numbers after : List ℕ) 
     → (((after ≡ numbers) × (more ≡ plan)) ⊎ ((after ≡ numbers ++ n ∷ []) × (length more ≡ length plan + 1)))
     → Stands plan numbers (with_read n plan read >>= λ next. with_lines (n + 1) next lines) answer → Stands more after (with_lines (n + 1) more lines) answer
 stands_read n plan more numbers after lines None answer long e noted stands = cc
-stands_read n plan more numbers after lines (Some None) answer long e (inl (same, kept)) stands =
-    subst (λ p. Stands p after (with_lines (n + 1) p lines) answer) (sym kept) (subst (λ ns. Stands plan ns (with_lines (n + 1) plan lines) answer) (sym same) stands)
+stands_read n plan more numbers after lines (Some None) answer long e (inl (same, kept)) stands = grind (arith)
 stands_read n plan more numbers after lines (Some None) answer long e (inr (same, longer)) stands = let kept : plan ≡ more = cc in absurd (omega (arith, longer, ap length kept))
 stands_read n plan more numbers after lines (Some (Some line)) answer long e noted stands = one (loose n plan (named line)) noted where
   added : with_loose n plan (named line) ≡ Ok (plan ++ named line ∷ []) → more ≡ plan ++ named line ∷ []
@@ -138,33 +112,16 @@ pub stands_full : (plan : List Named) (numbers : List ℕ) (said answer : Result
 stands_full plan numbers said answer k fits full h (inl (few, is)) =
     let all = no_more (choices_of plan) (k + 1) (length plan) (omega (arith, h)) in
     absurd (omega (arith, few, full, all, ap node_count (take_all (length plan) (choices_of plan) (omega (arith, length-map plan (λ (s : Named). s.1))))))
-stands_full plan numbers said answer k fits full h (inr (i, l, low, high, is)) = is ∙ ap (λ j. Err (TooLong (get_or numbers j 0))) (one (cases_lt i k) (cases_lt k i)) where
-  one : (i < k) ⊎ (k ≤ i) → (k < i) ⊎ (i ≤ k) → i ≡ k
-  one (inl a) _ = let up = no_more (choices_of plan) (i + 1) k (omega (arith, a)) in absurd (omega (arith, up, fits, high))
-  one (inr a) (inl b) = let up = no_more (choices_of plan) (k + 1) i (omega (arith, b)) in absurd (omega (arith, up, low, full))
-  one (inr a) (inr b) = omega (arith, a, b)
+stands_full plan numbers said answer k fits full h (inr (i, l, low, high, is)) = grind (arith, cases_lt, no_more)
 
 -- ---- memory
 
--- a schedule that was added is not too long
-short_of : (n : ℕ) (plan more : List Named) (schedule : Named) → with_loose n plan schedule ≡ Ok more → length schedule.1 ≤ 100000
-short_of n plan more schedule e =
-    cond_both (has_name schedule.0 plan) _ _ (λ r. r ≡ Ok more → length schedule.1 ≤ 100000) (λ p r. cc)
-    (λ p. cond_both (nat_lt 100000 (length schedule.1)) _ _ (λ r. r ≡ Ok more → length schedule.1 ≤ 100000) (λ q r. cc) (λ q r. ltb-false 100000 (length schedule.1) q)) e
-
 pub takes_more : (n : ℕ) (plan more : List Named) (read : Option (Option (List ℕ × List Entry))) (later : Type 0) → read_loose n plan read ≡ Ok more → later → TakesFirst read later
-takes_more n plan more None later e t = cc
-takes_more n plan more (Some None) later e t = t
-takes_more n plan more (Some (Some line)) later e t = short_of n plan more (named line) e
+takes_more n plan more read later h5 h6 = grind (arith, cond_both, ltb-false)
 
 pub takes_added : (n : ℕ) (plan more : List Named) (read : Option (Option (List ℕ × List Entry))) (later : Type 0) → read_loose n plan read ≡ Ok more → length more ≡ length plan + 1 → TakesFirst read later
-takes_added n plan more None later e l = cc
-takes_added n plan more (Some None) later e l = let kept : plan ≡ more = cc in absurd (omega (arith, l, ap length kept))
-takes_added n plan more (Some (Some line)) later e l = short_of n plan more (named line) e
+takes_added n plan more read later h5 h6 = grind (arith, cond_both, ltb-false)
 
 -- the test on all schedules failed
 pub few_all : (lines items : List Line) (n : ℕ) (b : Bool) → lines ≡ items → n ≡ length items → (1000000 < node_count (take n (choices_of (lines_view lines))) → b ≡ true) → b ≡ false → node_count (choices_of (lines_view items)) ≤ 1000000
-few_all lines items n b e f told failed =
-    let whole : take n (choices_of (lines_view lines)) ≡ choices_of (lines_view items) =
-    ap (λ (ls : List Line). take n (choices_of (lines_view ls))) e ∙ take_all n (choices_of (lines_view items)) (omega (arith, f, length-map (lines_view items) (λ (s : Named). s.1), length-map items line_view)) in
-    ⊎_elim (λ (l : 1000000 < node_count (choices_of (lines_view items))). absurd (both_ways b failed (told (subst (λ ss. 1000000 < node_count ss) (sym whole) l)))) (λ l. l) (cases_lt 1000000 (node_count (choices_of (lines_view items))))
+few_all lines items n b e f told failed = grind (arith, take_all, length-map, both_ways, cases_lt)

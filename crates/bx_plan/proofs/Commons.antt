@@ -1,6 +1,6 @@
 -- How many choices two schedules begin with alike.
-use Rattle.bx_plan.proofs.Words.{◌≡◌, ◌≢◌, ◌⊎◌, ⊎_elim, inl, inr, ℕ, zero, suc, ◌+◌, ◌≤◌, List, [], ◌∷◌, ◌++◌, length, take, refl, sym, ap, ◌∙◌, arith, Decides, length-append, both_ways, cases_Bool, cond_both}
-use Rattle.bx_plan.proofs.Words.{cond-false, cond-true, false_from_ne_true, nat_tests, length-take-le, take_all, take_at, Choice, common, choice_eq}
+use Rattle.bx_plan.proofs.Words.{◌≡◌, ◌≢◌, ◌⊎◌, ⊎_elim, inl, inr, ℕ, zero, suc, ◌+◌, ◌≤◌, List, [], ◌∷◌, ◌++◌, length, take, refl, sym, ◌∙◌, arith, Decides, length-append, both_ways, cases_Bool, cond_both, cond-false, cond-true}
+use Rattle.bx_plan.proofs.Words.{false_from_ne_true, nat_tests, length-take-le, take_all, take_at, Choice, common, choice_eq}
 
 pub choice_decides : (a b : Choice) → Decides (choice_eq a b) (a ≡ b)
 choice_decides a b = (λ h. grind (arith, nat_tests), λ e. grind (arith, nat_tests))
@@ -18,18 +18,13 @@ common_apart x y xs ys n = cond-false (choice_eq x y) (suc (common xs ys)) 0 (fa
 pub common_short : (a b : List Choice) → (common a b ≤ length a) × (common a b ≤ length b)
 common_short [] b = (omega arith, omega arith)
 common_short (x ∷ xs) [] = (omega arith, omega arith)
-common_short (x ∷ xs) (y ∷ ys) =
-    let rest = common_short xs ys in
-    cond_both (choice_eq x y) (suc (common xs ys)) 0 (λ n. (n ≤ suc (length xs)) × (n ≤ suc (length ys))) (λ t. (omega (arith, rest.0), omega (arith, rest.1))) (λ f. (omega arith, omega arith))
+common_short (x ∷ xs) (y ∷ ys) = grind (arith, cond_both, common_short xs ys)
 
 pub taken_alike : (a b : List Choice) (n : ℕ) → n ≤ common a b → take n a ≡ take n b
 taken_alike a b zero h = refl
 taken_alike [] b (suc n) h = absurd (omega (arith, h))
 taken_alike (x ∷ xs) [] (suc n) h = absurd (omega (arith, h))
-taken_alike (x ∷ xs) (y ∷ ys) (suc n) h =
-    let rest = taken_alike xs ys n in
-    cond_both (choice_eq x y) (suc (common xs ys)) 0 (λ k. suc n ≤ k → take (suc n) (x ∷ xs) ≡ take (suc n) (y ∷ ys))
-    (λ t l. ap (λ c. c ∷ take n xs) ((choice_decides x y).0 t) ∙ ap (λ cs. y ∷ cs) (rest (omega (arith, l)))) (λ f l. absurd (omega (arith, l))) h
+taken_alike (x ∷ xs) (y ∷ ys) (suc n) h = grind (arith, cond_both, choice_decides, taken_alike xs ys n)
 
 pub common_long : (a b : List Choice) (n : ℕ) → n ≤ length a → n ≤ length b → take n a ≡ take n b → n ≤ common a b
 common_long a b zero h l e = omega arith
@@ -44,9 +39,7 @@ pub common_same : (a : List Choice) → common a a ≡ length a
 common_same a = omega (arith, common_long a a (length a) (omega arith) (omega arith) refl, (common_short a a).0)
 
 pub common_turned : (a b : List Choice) → common a b ≡ common b a
-common_turned a b = omega (arith, up a b, up b a) where
-  up : (a b : List Choice) → common a b ≤ common b a
-  up a b = common_long b a (common a b) (common_short a b).1 (common_short a b).0 (sym (taken_alike a b (common a b) (omega arith)))
+common_turned a b = grind (arith, common_long, common_short, taken_alike)
 
 -- two that begin alike as a third does
 pub common_least : (a b c : List Choice) (n : ℕ) → n ≤ common a b → n ≤ common b c → n ≤ common a c
@@ -54,9 +47,7 @@ common_least a b c n h k = common_long a c n (omega (arith, h, (common_short a b
 
 -- one that begins with so many of another's choices
 pub begins_common : (a b rest : List Choice) (n : ℕ) → n ≤ length b → a ≡ take n b ++ rest → n ≤ common a b
-begins_common a b rest n h e =
-    let long = length-take-le n b h in
-    common_long a b n (omega (arith, ap length e, length-append (take n b) rest, long)) h (ap (take n) e ∙ take_at (take n b) rest n long)
+begins_common a b rest n h e = grind (arith, length-take-le, common_long, length-append, take_at)
 
 pub common_append : (front xs ys : List Choice) → common (front ++ xs) (front ++ ys) ≡ length front + common xs ys
 common_append [] xs ys = omega arith

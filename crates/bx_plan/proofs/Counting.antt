@@ -1,12 +1,9 @@
 -- How many distinct prefixes the schedules of a row have.
-use Rattle.bx_plan.proofs.Words.{◌≡◌, ◌⊎◌, inl, inr, ℕ, zero, suc, ◌+◌, ◌-◌, ◌^◌, ◌<◌, ◌≤◌, min, Bool, true, false, List, [], ◌∷◌, ◌++◌, length, get_or, take, drop, map, cond, refl, sym, ap, subst, ◌∙◌, arith}
-use Rattle.bx_plan.proofs.Words.{add-one, append_assoc, length-append, nat_lt, Contains, take-append-drop, take_all, length_push, length-map, length-take, map-append, Contains-push_cases, both_ways, cond_both}
-use Rattle.bx_plan.proofs.Words.{lt-ltb, le-ltb, ltb-true, Choice, Line, Row, common, no_row, placed, row_at, AreRows, Named, choices_of, line_view, lines_view, with_nodes, prefixes, with_schedule_nodes, nodes_from}
-use Rattle.bx_plan.proofs.Words.{nodes_of, node_count, IsPrefix}
-use Rattle.std.specs.List.{filter, All}
-use Rattle.std.proofs.lemmas.List.{append-nil, get_or-map, get_or_push, get_or-take}
-use Rattle.std.proofs.lemmas.List.Elements.{All-nil, All-push, All-weaker, filter_more}
-use Rattle.std.proofs.lemmas.Map.Made.{length-le_from_is_member}
+use Rattle.bx_plan.proofs.Words.{◌≡◌, ◌⊎◌, inl, inr, ℕ, zero, suc, ◌+◌, ◌-◌, ◌^◌, ◌<◌, ◌≤◌, min, Bool, true, false, List, [], ◌∷◌, ◌++◌, length, get_or, take, drop, map, cond, refl, sym, ap, subst, ◌∙◌, arith, common_steps, filter, All}
+use Rattle.bx_plan.proofs.Words.{get_or_push, get_or-take, All-nil, All-push, All-weaker, filter_more, length-le_from_is_member, add-one, append_assoc, length-append, nat_lt, Contains, take-append-drop, take_all, length_push}
+use Rattle.bx_plan.proofs.Words.{length-map, length-take, map-append, Contains-push_cases, both_ways, cond_both, lt-ltb, le-ltb, ltb-true, Choice, Line, Row, common, placed, row_at, AreRows, Named, choices_of, line_view, lines_view}
+use Rattle.bx_plan.proofs.Words.{with_nodes, prefixes, with_schedule_nodes, nodes_from, nodes_of, node_count, IsPrefix}
+use Rattle.std.proofs.lemmas.List.{append-nil, get_or-map}
 use Rattle.bx_plan.specs.Counting.{counted}
 use Rattle.bx_plan.proofs.Commons.{begins_common, common_least, common_same, common_short, taken_alike}
 use Rattle.bx_plan.proofs.Prefixes.{distinct_nodes, has_decides, is_node, node_is, path_laws, with_new, with_old}
@@ -81,25 +78,18 @@ nodes_push ss s bound = ap length (nodes_from-push ([] ∷ []) ss s) ∙ nodes_m
       (sym (take-append-drop (suc n) (last_of ss)) ∙ ap (λ p. p ++ drop (suc n) (last_of ss)) (taken_alike (last_of ss) s (suc n) (omega (arith, h))))))
 
   new : (n : ℕ) → common (last_of ss) s ≤ n → n < length s → (take (suc n) s ≡ []) ⊎ IsPrefix ss (take (suc n) s) → ⊥
-  new n l h (inl e) = omega (arith, h, ap length e, length-take (suc n) s)
-  new n l h (inr p) = let at = prefix_of ss (take (suc n) s) p in omega (arith, l, begins_common (get_or ss at.0 []) s at.2 (suc n) (omega (arith, h)) at.3, bound at.0 [] at.1)
+  new n h1 h2 h3 = grind (arith, length-take, prefix_of, begins_common)
 
 -- ---- the same prefixes are as many
 
 pub fewer_nodes : (xs ys : List (List Choice)) → ((p : List Choice) → IsPrefix xs p → IsPrefix ys p) → length (nodes_of xs) ≤ length (nodes_of ys)
 fewer_nodes xs ys h = length-le_from_is_member path_laws (nodes_of xs) (nodes_of ys) (distinct_nodes xs) (λ p t. (has_decides (nodes_of ys) p).1 (is_node ys p (one p (node_is xs p ((has_decides (nodes_of xs) p).0 t))))) where
   one : (p : List Choice) → (p ≡ []) ⊎ IsPrefix xs p → (p ≡ []) ⊎ IsPrefix ys p
-  one p (inl e) = inl e
-  one p (inr k) = inr (h p k)
+  one p h1 = grind (arith)
 
 -- with fewer schedules there are no more
 pub no_more : (schedules : List (List Choice)) (i j : ℕ) → i ≤ j → node_count (take i schedules) ≤ node_count (take j schedules)
-no_more schedules i j h = omega (arith, fewer_nodes (take i schedules) (take j schedules) more) where
-  more : (p : List Choice) → IsPrefix (take i schedules) p → IsPrefix (take j schedules) p
-  more p k =
-      let at = prefix_of (take i schedules) p k in
-      let low : at.0 < i = omega (arith, at.1, length-take i schedules) in
-      prefix_at (take j schedules) at.0 p at.2 (omega (arith, at.1, h, length-take i schedules, length-take j schedules)) (get_or-take j schedules at.0 [] (omega (arith, low, h)) ∙ sym (get_or-take i schedules at.0 [] low) ∙ at.3)
+no_more schedules i j h = grind (arith, fewer_nodes, prefix_of, length-take, prefix_at, get_or-take)
 
 -- ---- what the schedule before a place and one behind it begin with alike
 
@@ -109,8 +99,7 @@ before schedules rows (suc k) = placed schedules rows k
 
 module _ (schedules : List (List Choice)) (rows : List Row) (are : AreRows schedules rows) where
   pub before_is : (k : ℕ) → k < length rows → (row_at rows k).common ≡ common (before schedules rows k) (placed schedules rows k)
-  before_is zero h = are.commons 0 h
-  before_is (suc i) h = are.commons (suc i) h
+  before_is k h1 = grind (arith)
 
   pub passed : (k j : ℕ) → k ≤ j → j < length rows → common (before schedules rows k) (placed schedules rows j) ≡ min (row_at rows k).common (common (placed schedules rows k) (placed schedules rows j))
   passed zero j l h = omega (arith, are.commons 0 (omega (arith, l, h)))
@@ -127,11 +116,8 @@ module _ (schedules : List (List Choice)) (count : ℕ) where
 
   counted_has : (rows : List Row) (k : ℕ) (p rest : List Choice) → k < length rows → (row_at rows k).line < count → placed schedules rows k ≡ p ++ rest → IsPrefix (counted schedules count rows) p
   counted_has [] k p rest h l e = absurd (omega (arith, h))
-  counted_has (x ∷ rows) zero p rest h l e =
-      cond_both (nat_lt x.line count) (x ∷ filter (λ row. nat_lt row.line count) rows) (filter (λ row. nat_lt row.line count) rows) (λ xs. IsPrefix (map choices xs) p) (λ t. inl (rest, e)) (λ f. absurd (both_ways _ f (lt-ltb x.line count l)))
-  counted_has (x ∷ rows) (suc k) p rest h l e =
-      let later = counted_has rows k p rest (omega (arith, h)) l e in
-      cond_both (nat_lt x.line count) (x ∷ filter (λ row. nat_lt row.line count) rows) (filter (λ row. nat_lt row.line count) rows) (λ xs. IsPrefix (map choices xs) p) (λ t. inr later) (λ f. later)
+  counted_has (x ∷ rows) zero p rest h l e = grind (arith, cond_both, both_ways, lt-ltb)
+  counted_has (x ∷ rows) (suc k) p rest h l e = grind (arith, cond_both, counted_has rows k p rest (omega (arith, h)) l e)
 
   abbrev CountedAt : List Row → List Choice → Type 0
   CountedAt rows p = (k : ℕ) × (k < length rows) × ((row_at rows k).line < count) × (rest : List Choice) × (placed schedules rows k ≡ p ++ rest)
@@ -158,10 +144,7 @@ module _ (schedules : List (List Choice)) (count : ℕ) where
     pub counted_all : (k : ℕ) → length rows ≤ k → node_count (counted schedules count (take k rows)) ≡ node_count (take count schedules)
     counted_all k h = ap (λ xs. node_count (counted schedules count xs)) (take_all k rows h) ∙ omega (arith, fewer_nodes (counted schedules count rows) (take count schedules) there, fewer_nodes (take count schedules) (counted schedules count rows) back) where
       there : (p : List Choice) → IsPrefix (counted schedules count rows) p → IsPrefix (take count schedules) p
-      there p h =
-          let at = counted_is rows p h in
-          let i = (row_at rows at.0).line in
-          prefix_at (take count schedules) i p at.3 (omega (arith, at.2, are.within at.0 at.1, length-take count schedules)) (get_or-take count schedules i [] at.2 ∙ at.4)
+      there p h = grind (arith, counted_is, prefix_at, length-take, get_or-take)
 
       back : (p : List Choice) → IsPrefix (take count schedules) p → IsPrefix (counted schedules count rows) p
       back p h =
@@ -177,9 +160,7 @@ module _ (schedules : List (List Choice)) (count : ℕ) where
     so_far k = counted schedules count (take k rows)
 
     next_is : (k : ℕ) (b : Bool) → k < length rows → nat_lt (row_at rows k).line count ≡ b → so_far (k + 1) ≡ so_far k ++ map choices (cond b (row_at rows k ∷ []) [])
-    next_is k b h t =
-        ap (map choices) (filter_more (λ row. nat_lt row.line count) rows k no_row h) ∙ ap (λ b. map choices (filter (λ row. nat_lt row.line count) (take k rows) ++ cond b (row_at rows k ∷ []) [])) t
-        ∙ map-append choices (filter (λ row. nat_lt row.line count) (take k rows)) (cond b (row_at rows k ∷ []) [])
+    next_is k b h t = grind (arith, common_steps, filter_more, map-append)
 
     pub counted_none : IsCounted rows 0 0 0
     counted_none = record { many = omega arith; near = refl; bound = λ j l h. All-nil (λ f. common f (placed schedules rows j) ≤ 0); last = λ j l h. omega arith }

@@ -1,6 +1,5 @@
 -- Entries are read from left to right.
-use Rattle.bx_plan.proofs.Words.{◌≡◌, ℕ, ◌+◌, ◌++◌, ◌∷◌, [], List, Option, option_map, replicate, sym, ap, ◌∙◌, append_assoc, append-nil, arith, Entry, entry_each}
-use Rattle.bx_plan.proofs.Words.{count_of, spread}
+use Rattle.bx_plan.proofs.Words.{◌≡◌, ℕ, ◌+◌, ◌++◌, ◌∷◌, [], List, Option, option_map, replicate, sym, ap, ◌∙◌, append_assoc, append-nil, arith, Entry, entry_each, count_of, spread}
 
 -- the entries so far with those of these words
 abbrev pub entries_after : List Entry → List (List ℕ) → Option (List Entry)

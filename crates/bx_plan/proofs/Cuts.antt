@@ -1,10 +1,7 @@
 -- A text cut at a mark, by the place of the mark, and the parts that come of it.
-use Rattle.bx_plan.proofs.Words.{◌≡◌, ℕ, zero, suc, ◌+◌, ◌-◌, ◌<◌, Bool, true, false, cond, List, [], ◌∷◌, Option, Some, None, length, take, drop, refl, sym, ap, ◌∙◌, arith, add-one, option_map, length-drop, nat_eq}
-use Rattle.bx_plan.proofs.Words.{onto_first, cond-false, cond-true, false_from_ne_true, cut, parts_of}
-use Rattle.std.specs.Prelude.{slice_index}
-use Rattle.std.proofs.Math.Seq.{take-length}
+use Rattle.bx_plan.proofs.Words.{◌≡◌, ℕ, zero, suc, ◌+◌, ◌-◌, ◌<◌, true, List, [], ◌∷◌, Option, Some, None, length, take, drop, refl, sym, ap, ◌∙◌, arith, add-one, option_map, length-drop, nat_eq, common_steps, slice_index, take-length}
+use Rattle.bx_plan.proofs.Words.{IsPlace, cond-false, cond-true, false_from_ne_true, cut, parts_of}
 use Rattle.memchr.specs.Find.{is_byte, IsFirstByte}
-use Rattle.bx_plan.specs.Parts.{IsPlace}
 
 -- a byte is the mark
 abbrev IsMark : ℕ → List ℕ → ℕ → Type 0
@@ -31,8 +28,7 @@ placed mark text None none = no_mark mark text (λ k h. none k (omega arith) h)
 placed mark text (Some at) is = (is.0.high, at_mark mark text at is.0.high (λ k h. is.0.before k (omega arith) h) is.1 ∙ ap (λ n. Some (take at text, drop n text)) (sym (add-one at)))
 
 pub cut_some : (mark : ℕ) (text : List ℕ) (i : ℕ) → cut mark text ≡ Some (take i text, drop (i + 1) text) → Some (take i text, take (length text - (i + 1)) (drop (i + 1) text)) ≡ cut mark text
-cut_some mark text i h =
-    ap (λ n. Some (take i text, take n (drop (i + 1) text))) (sym (length-drop (i + 1) text)) ∙ ap (λ behind. Some (take i text, behind)) (take-length (drop (i + 1) text)) ∙ sym h
+cut_some mark text i h = grind (arith, common_steps, length-drop, take-length)
 
 -- the parts, by the first cut
 abbrev parts_by : List ℕ → ℕ → Option (List ℕ × List ℕ) → List (List ℕ)
@@ -41,15 +37,7 @@ parts_by text mark (Some parts) = parts.0 ∷ parts_of mark parts.1
 
 parts_by_cut : (mark : ℕ) (text : List ℕ) → parts_of mark text ≡ parts_by text mark (cut mark text)
 parts_by_cut mark [] = refl
-parts_by_cut mark (b ∷ bs) = one (nat_eq b mark) (cut mark bs) (parts_by_cut mark bs) where
-  onto : (found : Option (List ℕ × List ℕ)) → onto_first b (parts_by bs mark found) ≡ parts_by (b ∷ bs) mark (option_map (λ parts. (b ∷ parts.0, parts.1)) found)
-  onto None = refl
-  onto (Some parts) = refl
-
-  one : (same : Bool) (found : Option (List ℕ × List ℕ)) → parts_of mark bs ≡ parts_by bs mark found
-      → cond same ([] ∷ parts_of mark bs) (onto_first b (parts_of mark bs)) ≡ parts_by (b ∷ bs) mark (cond same (Some ([], bs)) (option_map (λ parts. (b ∷ parts.0, parts.1)) found))
-  one true found h = refl
-  one false found h = ap (onto_first b) h ∙ onto found
+parts_by_cut mark (b ∷ bs) = grind (arith, parts_by_cut mark bs)
 
 pub parts_none : (mark : ℕ) (text : List ℕ) → cut mark text ≡ None → parts_of mark text ≡ text ∷ []
 parts_none mark text h = parts_by_cut mark text ∙ ap (parts_by text mark) h

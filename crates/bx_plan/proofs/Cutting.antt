@@ -1,9 +1,7 @@
 -- Where the chains of the schedules of a row end.
-use Rattle.bx_plan.proofs.Words.{◌≡◌, ◌≢◌, ◌⊎◌, inl, inr, ℕ, zero, suc, ◌+◌, ◌-◌, ◌<◌, ◌≤◌, min, List, [], ◌∷◌, ◌++◌, length, get_or, refl, sym, ap, subst, ◌∙◌, arith, append_assoc, nat_lt, Contains, cases_eq}
-use Rattle.bx_plan.proofs.Words.{cases_lt, cond_both, ltb-true, ltb-false, Contains-append_cases, Contains-append_left, Contains-append_right, Contains-push_cases, Choice, Row, marked, AllCuts, AreCuts, IsCutBy}
-use Rattle.bx_plan.proofs.Words.{common, placed, row_at, AreRows}
+use Rattle.bx_plan.proofs.Words.{◌≡◌, ◌≢◌, ◌⊎◌, inl, inr, ℕ, zero, suc, ◌+◌, ◌-◌, ◌<◌, ◌≤◌, min, List, [], ◌∷◌, ◌++◌, length, get_or, refl, sym, ap, subst, ◌∙◌, arith, append_assoc, nat_lt, Contains, cases_eq, deepest, Rise, cases_lt}
+use Rattle.bx_plan.proofs.Words.{cond_both, ltb-true, ltb-false, Contains-append_cases, Contains-append_left, Contains-append_right, Contains-push_cases, Choice, Row, marked, AllCuts, AreCuts, IsCutBy, common, placed, row_at, AreRows}
 use Rattle.std.proofs.lemmas.List.{append-nil}
-use Rattle.bx_plan.specs.Cuts.{deepest, Rise}
 use Rattle.bx_plan.proofs.Commons.{common_short, common_turned}
 use Rattle.bx_plan.proofs.Counting.{before, before_is, passed}
 
@@ -72,14 +70,7 @@ pub record AreTaken (least : ℕ) (all marks cuts done : List ℕ) : Type 0 wher
   pub order : done ≡ taken ++ cuts
 
 pub taken_next : (least mark : ℕ) (all marks rest cuts done more : List ℕ) → Rise 0 all → AreTaken least all marks cuts done → least < mark → marks ≡ rest ++ mark ∷ [] → more ≡ mark ∷ done → AreTaken least all rest cuts more
-taken_next least mark all marks rest cuts done more rise is l e f =
-    let whole : all ≡ (rest ++ mark ∷ []) ++ is.taken = is.whole ∙ ap (λ xs. xs ++ is.taken) e in
-    record {
-      taken = mark ∷ is.taken;
-      whole = whole ∙ append_assoc rest (mark ∷ []) is.taken;
-      above = (l, subst (λ m. Rise m is.taken) (deepest_push 0 rest mark) (rise_apart 0 (rest ++ mark ∷ []) is.taken (subst (Rise 0) whole rise)).1);
-      order = f ∙ ap (λ xs. mark ∷ xs) is.order;
-    }
+taken_next least mark all marks rest cuts done more rise is l e f = grind (arith, append_assoc, deepest_push, rise_apart, rise)
 
 -- ---- the marks of schedules
 

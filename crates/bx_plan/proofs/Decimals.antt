@@ -1,7 +1,6 @@
 -- Numbers are read as they are spelled.
-use Rattle.bx_plan.proofs.Words.{◌≡◌, ℕ, ◌+◌, ◌-◌, ◌*◌, ◌^◌, ◌<◌, ◌≤◌, true, false, cond, ◌&&◌, List, [], ◌∷◌, Some, None, length, get_or, refl, sym, ap, ◌∙◌, arith, rules, ⊎_elim, nat_eq, nat_le, ◌↔◌}
-use Rattle.bx_plan.proofs.Words.{is_ascii_digit, decimal, and_parts, and_from, cond_both, cond-false, leb-true, le-leb, eqb-false, cases_eq, ne_eqb, digits_from, number_of}
-use Rattle.std.specs.Str.{all_ascii_digits}
+use Rattle.bx_plan.proofs.Words.{◌≡◌, ℕ, ◌+◌, ◌-◌, ◌*◌, ◌^◌, ◌<◌, ◌≤◌, true, false, cond, ◌&&◌, List, [], ◌∷◌, Some, None, length, get_or, refl, sym, ap, ◌∙◌, arith, rules, nat_le, ◌↔◌, all_ascii_digits, is_ascii_digit, decimal}
+use Rattle.bx_plan.proofs.Words.{and_parts, and_from, cond_both, cond-false, leb-true, le-leb, eqb-false, cases_eq, ne_eqb, digits_from, number_of}
 use Rattle.std.proofs.lemmas.Str.Parse.{IsNumeralModel, numerals_by_fold}
 use Rattle.std.proofs.lemmas.Fmt.{digits_decimal, digits_value-decimal, decimal-digits_value, decimal_nonempty, first_decimal, decimal_digit}
 use Rattle.bx_plan.proofs.Marks.{Lacks}
@@ -46,21 +45,10 @@ abbrev IsPlain : List ℕ → Type 0
 IsPlain text = (0 < length text) × (get_or text 0 0 ≡ 48 → length text ≡ 1)
 
 pub plain_number : (most : ℕ) (text : List ℕ) → IsPlain text → number_of most text ≡ digits_from most 0 text
-plain_number most [] h = absurd (omega (arith, h.0))
-plain_number most (b ∷ []) h = refl
-plain_number most (b ∷ c ∷ bs) h = cond-false (nat_eq b 48) None (digits_from most 0 (b ∷ c ∷ bs)) (ne_eqb b 48 (λ e. absurd (omega (arith, h.1 e))))
+plain_number most text h2 = grind (arith, cond-false, ne_eqb)
 
 pub number_plain : (most : ℕ) (text : List ℕ) (n : ℕ) → number_of most text ≡ Some n → IsPlain text
-number_plain most [] n h = cc
-number_plain most (b ∷ []) n h = (omega arith, λ e. refl)
-number_plain most (b ∷ c ∷ bs) n h =
-    cond_both (nat_eq b 48) None (digits_from most 0 (b ∷ c ∷ bs)) (λ r. r ≡ Some n → IsPlain (b ∷ c ∷ bs)) (λ t r. cc) (λ f r. (omega arith, λ e. absurd (eqb-false b 48 f e))) h
-
-decimal_plain : (n : ℕ) → n < 2 ^ 64 → IsPlain (decimal n)
-decimal_plain n small = (
-  decimal_nonempty n small,
-  λ h. ⊎_elim (λ e. ap (λ m. length (decimal m)) e ∙ ap length (decimal_digit 0 (omega arith))) (λ e. absurd (omega (arith, first_decimal n (omega arith) small))) (cases_eq n 0),
-)
+number_plain most text n h3 = grind (arith, cond_both, eqb-false)
 
 -- what is read is spelled so, and what is spelled so is read
 pub number_spelled : (most n : ℕ) (text : List ℕ) → most < 2 ^ 64 → number_of most text ≡ Some n → (n ≤ most) × (text ≡ decimal n)
@@ -71,12 +59,7 @@ number_spelled most n text wide h =
     (read.2 (omega arith), sym (decimal-digits_value numerals text read.0 plain.0 plain.1 small) ∙ ap decimal read.1)
 
 pub number_again : (most n : ℕ) → most < 2 ^ 64 → n ≤ most → number_of most (decimal n) ≡ Some n
-number_again most n wide small =
-    let digits = digits_decimal numerals n (omega arith) in
-    let value = digits_value-decimal numerals n (omega arith) in
-    plain_number most (decimal n) (decimal_plain n (omega arith))
-    ∙ to_digits most 0 (decimal n) digits (omega arith)
-    ∙ ap Some value
+number_again most n wide small = grind (arith, digits_decimal, numerals, digits_value-decimal, plain_number, decimal_nonempty, decimal_digit, first_decimal, cases_eq, to_digits)
 
 digits_lack : (mark : ℕ) (text : List ℕ) → is_ascii_digit mark ≡ false → AreDigits text → Lacks mark text
 digits_lack mark [] h digits = tt

@@ -1,7 +1,7 @@
 -- Stretches in a row that is edited: one more behind them, a part of them, one that is parted or joined with the next, and two whose choices are exchanged.
-use Rattle.bx_plan.proofs.Words.{◌≡◌, ℕ, zero, suc, ◌+◌, ◌-◌, ◌<◌, ◌≤◌, List, [], ◌∷◌, ◌++◌, length, map, get_or, set, take, drop, replicate, refl, sym, ap, subst, ◌∙◌, arith, length-append, append_assoc, slice_get}
-use Rattle.bx_plan.proofs.Words.{insert, swap, drop_all, length_push, length-set, length-take-le, take_all, take_at, take_more, take-append-drop, Choice, Stretch, choices_from, made_before, AreStretches}
-use Rattle.std.proofs.lemmas.List.{append-nil, drop-set-lt, set_split, take_more_set}
+use Rattle.bx_plan.proofs.Words.{◌≡◌, ℕ, zero, suc, ◌+◌, ◌-◌, ◌<◌, ◌≤◌, List, [], ◌∷◌, ◌++◌, length, map, get_or, set, take, drop, replicate, refl, sym, ap, subst, ◌∙◌, arith, length-append, append_assoc, slice_get, drop-set-lt}
+use Rattle.bx_plan.proofs.Words.{set_split, take_more_set, insert, swap, drop_all, length_push, length-set, length-take-le, take_all, take_at, take_more, take-append-drop, Choice, Stretch, choices_from, made_before, AreStretches}
+use Rattle.std.proofs.lemmas.List.{append-nil}
 use Rattle.std.proofs.lemmas.List.Edits.{swap_is}
 use Rattle.bx_plan.proofs.Stretching.{absorbed, at, choices_append, count_end, end_of, ends, found, joined, long, next, no_stretch, parted, rest, sides, split, taken, within}
 
@@ -18,12 +18,7 @@ module _ (ss : List Stretch) (j : AreStretches 0 ss) where
   module _ (s : Stretch) (some : length (choices_from 0 ss) < s.past) where
     -- behind the last
     pub further : Longer ss s (ss ++ s ∷ [])
-    further = (
-      joined 0 ss (s ∷ []) j (omega (arith, some, count_end 0 ss j), tt),
-      λ times h.
-          let count : s.past - end_of 0 ss ≡ times = omega (arith, h, count_end 0 ss j) in
-          choices_append 0 ss (s ∷ []) ∙ ap (λ cs. choices_from 0 ss ++ cs) (append-nil (replicate (s.past - end_of 0 ss) s.choice) ∙ ap (λ n. replicate n s.choice) count),
-    )
+    further = grind (arith, joined, count_end, choices_append, append-nil)
 
     -- in the place of the last, which is of the same choice
     pub longer : (last : ℕ) → last + 1 ≡ length ss → (get_or ss last no_stretch).choice ≡ s.choice → Longer ss s (set ss last s)
@@ -47,17 +42,11 @@ module _ (ss : List Stretch) (j : AreStretches 0 ss) where
 
     -- cut off at a position on it
     pub cut_at : (p : ℕ) → made_before n ss < p → p ≤ s.past → Makes (take n ss ++ record { choice = s.choice; past = p } ∷ []) (take p (choices_from 0 ss))
-    cut_at p from to = (
-      joined 0 (take n ss) (record { choice = s.choice; past = p } ∷ []) (sides ss j n).0 (omega (arith, from, ends ss j n), tt),
-      taken ss j n h p (omega (arith, from)) to,
-    )
+    cut_at p from to = grind (arith, joined, sides, ends, taken)
 
     -- parted at a position on it
     pub parted_at : (p : ℕ) → made_before n ss < p → p < s.past → Makes (insert ss n (record { choice = s.choice; past = p })) (choices_from 0 ss)
-    parted_at p from to = rw (at ss j n h) (
-      joined 0 (take n ss) (record { choice = s.choice; past = p } ∷ s ∷ drop (n + 1) ss) (sides ss j n).0 (omega (arith, from, ends ss j n), (to, (rest ss j n h).1)),
-      parted ss j n h p (omega (arith, from)) (omega (arith, to)),
-    )
+    parted_at p from to = grind (arith, at, joined, sides, ends, rest, parted)
 
     pub over_at : (p : ℕ) → made_before n ss < p → p < s.past → made_before (n + 1) (insert ss n (record { choice = s.choice; past = p })) ≡ p
     over_at p from to =
@@ -88,24 +77,14 @@ swap_there : (front : List Choice) (p q : ℕ) (a b : Choice) (more : List Choic
 swap_there [] p q a b more e f = ap (λ i. swap (a ∷ b ∷ more) i q) e ∙ ap (λ i. swap (a ∷ b ∷ more) 0 i) (f ∙ ap suc e)
 swap_there (c ∷ front) zero q a b more e f = absurd (omega (arith, e))
 swap_there (c ∷ front) (suc p) zero a b more e f = absurd (omega (arith, f))
-swap_there (c ∷ front) (suc p) (suc q) a b more e f =
-    let long = length-append front (a ∷ b ∷ more) in
-    ap (λ cs. c ∷ cs) (swap_is (front ++ a ∷ b ∷ more) p q c (omega (arith, e, long)) (omega (arith, e, f, long)) ∙ swap_there front p q a b more (omega (arith, e)) (omega (arith, f)))
+swap_there (c ∷ front) (suc p) (suc q) a b more e f = grind (arith, long, length-append, swap_is, swap_there front p q a b more (omega (arith, e)) (omega (arith, f)))
 
 -- two single stretches in a row
 singles : (m : ℕ) (x y : Stretch) (more : List Stretch) → x.past ≡ m + 1 → y.past ≡ m + 2 → choices_from m (x ∷ y ∷ more) ≡ x.choice ∷ y.choice ∷ choices_from y.past more
-singles m x y more e f =
-    let one : x.past - m ≡ 1 = omega (arith, e) in
-    let two : y.past - x.past ≡ 1 = omega (arith, e, f) in
-    ap (λ n. replicate n x.choice ++ (replicate (y.past - x.past) y.choice ++ choices_from y.past more)) one ∙ ap (λ n. x.choice ∷ (replicate n y.choice ++ choices_from y.past more)) two
+singles m x y more e f = grind (arith)
 
 set_two : (i : ℕ) (ss : List Stretch) (x y : Stretch) → i + 1 < length ss → set (set ss i x) (i + 1) y ≡ take i ss ++ x ∷ y ∷ drop (i + 2) ss
-set_two i ss x y h =
-    let two : suc (i + 1) ≡ i + 2 = omega arith in
-    set_split (set ss i x) (i + 1) y (omega (arith, h, length-set ss i x))
-    ∙ ap (λ (xs : List Stretch). xs ++ y ∷ drop (suc (i + 1)) (set ss i x)) (take_more_set ss i x (omega (arith, h)))
-    ∙ ap (λ (xs : List Stretch). (take i ss ++ x ∷ []) ++ y ∷ xs) (drop-set-lt (suc (i + 1)) ss i x (omega arith) ∙ ap (λ n. drop n ss) two)
-    ∙ append_assoc (take i ss) (x ∷ []) (y ∷ drop (i + 2) ss)
+set_two i ss x y h = grind (arith, set_split, length-set, take_more_set, drop-set-lt, append_assoc)
 
 pub exchanged : (ss : List Stretch) (n : ℕ) → AreStretches 0 ss → n + 1 < length ss → (get_or ss n no_stretch).past ≡ made_before n ss + 1 → (get_or ss (n + 1) no_stretch).past ≡ made_before n ss + 2
     → Makes (set (set ss n (record { choice = (get_or ss (n + 1) no_stretch).choice; past = (get_or ss n no_stretch).past })) (n + 1) (record { choice = (get_or ss n no_stretch).choice; past = (get_or ss (n + 1) no_stretch).past }))
@@ -136,10 +115,7 @@ put_later more s = record { choice = s.choice; past = s.past + more }
 
 pub later : (m n more : ℕ) (ss : List Stretch) → n ≡ m + more → AreStretches m ss → AreStretches n (map (put_later more) ss) × (choices_from n (map (put_later more) ss) ≡ choices_from m ss)
 later m n more [] e j = (tt, refl)
-later m n more (s ∷ ss) e j =
-    let rest = later s.past (s.past + more) more ss refl j.1 in
-    let times : s.past + more - n ≡ s.past - m = omega (arith, e) in
-    ((omega (arith, e, j.0), rest.0), ap (λ t. replicate t s.choice ++ choices_from (s.past + more) (map (put_later more) ss)) times ∙ ap (λ cs. replicate (s.past - m) s.choice ++ cs) rest.1)
+later m n more (s ∷ ss) e j = grind (arith, rest, later s.past (s.past + more) more ss refl j.1)
 
 -- those behind so many choices
 pub chained : (ss behind after : List Stretch) (count : ℕ) → AreStretches 0 ss → AreStretches 0 behind → count ≡ length (choices_from 0 ss) → after ≡ ss ++ map (put_later count) behind → Makes after (choices_from 0 ss ++ choices_from 0 behind)

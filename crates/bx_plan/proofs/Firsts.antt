@@ -1,12 +1,11 @@
 -- Entries are read one after another, each from the head of the text that is left.
-use Rattle.bx_plan.proofs.Words.{◌≡◌, ◌⊎◌, inl, inr, ℕ, ◌+◌, ◌-◌, ◌*◌, ◌^◌, ◌<◌, ◌≤◌, true, false, cond, ◌&&◌, List, [], ◌∷◌, ◌++◌, Option, Some, None, length, refl, sym, ap, ◌∙◌, arith, subst, option_map}
-use Rattle.bx_plan.proofs.Words.{append_assoc, append-nil, length-append, nat_eq, nat_le, MatchOption, option_and_then, option_map_or, is_ascii_digit, decimal, and_parts, cond_both, eqb-true, eqb-false, ne_eqb}
-use Rattle.bx_plan.proofs.Words.{le-leb, nat_tests, option_and_then_some, same_Some, Choice, Run, Deliver, Expire, Entry, digits_first, words_left, size_left, spelling, HasPids, IsOnce, IsRepeated, IsEntry, cut}
-use Rattle.bx_plan.proofs.Words.{parts_of, digits_from, number_of, entry_of, entry_each, entries_of}
+use Rattle.bx_plan.proofs.Words.{◌≡◌, ◌⊎◌, inl, inr, ℕ, ◌+◌, ◌-◌, ◌*◌, ◌^◌, ◌<◌, ◌≤◌, true, false, cond, ◌&&◌, List, [], ◌∷◌, ◌++◌, Option, Some, None, length, refl, sym, ap, ◌∙◌, arith, subst, option_map, true_from_ne_false}
+use Rattle.bx_plan.proofs.Words.{number_first, deliver_first, choice_by, some_times, times_first, entry_first, next_of, next_first, first_view, IsFirst, append_assoc, append-nil, length-append, nat_eq, nat_le, MatchOption}
+use Rattle.bx_plan.proofs.Words.{option_and_then, option_map_or, is_ascii_digit, decimal, and_parts, cond_both, eqb-true, eqb-false, ne_eqb, le-leb, nat_tests, option_and_then_some, same_Some, Choice, Run, Deliver, Expire, Entry}
+use Rattle.bx_plan.proofs.Words.{digits_first, words_left, size_left, spelling, HasPids, IsEntry, cut, parts_of, digits_from, number_of, entry_of, entry_each, entries_of}
 use Rattle.std.specs.Borrow.{Bor}
-use Rattle.std.proofs.lemmas.Bool.{true_from_ne_false}
 use Rattle.bx_plan.specs.declared.entries.First.{First}
-use Rattle.bx_plan.specs.Firsts.{number_first, deliver_first, choice_by, choice_first, some_times, times_first, entry_first, next_of, next_first, first_view, IsFirst}
+use Rattle.bx_plan.specs.Firsts.{choice_first}
 use Rattle.bx_plan.proofs.Decimals.{number_again, number_plain, number_spelled, plain_number}
 use Rattle.bx_plan.proofs.Marks.{Lacks, cut_takes, option_map_some, parts_at, parts_lacks}
 use Rattle.bx_plan.proofs.Cuts.{parts_none, parts_some}
@@ -39,14 +38,9 @@ digits_again most n (b ∷ bs) m rest h k =
     cond_both (is_ascii_digit b && nat_le next most) (digits_from most next bs) None (λ r. r ≡ Some m → digits_first most n (b ∷ (bs ++ rest)) ≡ Some (m, rest))
     (λ t r. let parts = and_parts (is_ascii_digit b) (nat_le next most) t in rw (parts.0, parts.1) (digits_again most next bs m rest r k)) (λ f r. cc) h
 
-digit_small : (b : ℕ) → is_ascii_digit b ≡ true → b ≤ 57
-digit_small b h = grind (arith, nat_tests)
-
 -- a first digit
 first_digit : (most b : ℕ) (bs : List ℕ) → 9 ≤ most → is_ascii_digit b ≡ true → digits_from most 0 (b ∷ bs) ≡ digits_from most (b - 48) bs
-first_digit most b bs low h =
-    let same : 0 * 10 + (b - 48) ≡ b - 48 = omega arith in
-    ap (λ k. cond (is_ascii_digit b && nat_le k most) (digits_from most k bs) None) same ∙ rw (h, le-leb (b - 48) most (omega (arith, digit_small b h, low))) refl
+first_digit most b bs low h = grind (arith, le-leb, nat_tests)
 
 -- what is read is spelled there, and what is spelled there is read
 number_read : (most : ℕ) (text : List ℕ) (n : ℕ) (rest : List ℕ) → 9 ≤ most → most < 2 ^ 64 → number_first most text ≡ Some (n, rest) → (n ≤ most) × (text ≡ decimal n ++ rest)
@@ -151,27 +145,8 @@ abbrev EndsThere : List ℕ → Type 0
 EndsThere [] = Unit {0}
 EndsThere (b ∷ bs) = b ≡ 32
 
-choice_first_again : (choice : Choice) (rest : List ℕ) → HasPids choice → NoDigit rest → choice_first (spelling choice ++ rest) ≡ Some (choice, rest)
-choice_first_again (Run p) rest h k = rw (number_first_again 1023 p rest (omega arith) (omega arith) h k) refl
-choice_first_again (Expire p) rest h k = rw (number_first_again 1023 p rest (omega arith) (omega arith) h k) refl
-choice_first_again (Deliver p q) rest h k =
-    rw (append_assoc (decimal p) (62 ∷ decimal q) rest, number_first_again 1023 p (62 ∷ (decimal q ++ rest)) (omega arith) (omega arith) h.0 refl, number_first_again 1023 q rest (omega arith) (omega arith) h.1 k) refl
-
-ends_no_digit : (rest : List ℕ) → EndsThere rest → NoDigit rest
-ends_no_digit [] h = tt
-ends_no_digit (b ∷ bs) h = ap is_ascii_digit h
-
-made_once : (rest : List ℕ) → EndsThere rest → times_first rest ≡ Some (1, rest)
-made_once [] k = refl
-made_once (b ∷ bs) k = rw k refl
-
 entry_first_again : (word : List ℕ) (entry : Entry) (rest : List ℕ) → IsEntry word entry → EndsThere rest → entry_first (word ++ rest) ≡ Some (entry, rest)
-entry_first_again word entry rest h k = one h.1 where
-  one : IsOnce word entry ⊎ IsRepeated word entry → entry_first (word ++ rest) ≡ Some (entry, rest)
-  one (inl is) = rw (is.1, choice_first_again entry.0 rest h.0 (ends_no_digit rest k), made_once rest k) (ap (λ n. Some ((entry.0, n), rest)) (sym is.0))
-  one (inr is) =
-      rw (is.2, append_assoc (spelling entry.0) (42 ∷ decimal entry.1) rest, choice_first_again entry.0 (42 ∷ (decimal entry.1 ++ rest)) h.0 refl)
-      (rw (number_first_again 100000 entry.1 rest (omega arith) (omega arith) is.1 (ends_no_digit rest k), ne_eqb entry.1 0 (λ e. omega (arith, e, is.0))) refl)
+entry_first_again word entry rest h k = grind (arith, append_assoc, number_first_again, ne_eqb)
 
 -- ---- all entries
 
@@ -190,8 +165,7 @@ first_there text entries h = one (cut 32 text) refl where
       (word.0, 32 ∷ parts.1, ap entry_first (cut_takes 32 text parts e).0 ∙ entry_first_again parts.0 word.0 (32 ∷ parts.1) (entry_spelled parts.0 word.0 word.1) refl, refl)
 
 ends : (entry : Entry) (rest : List ℕ) → EndsThere rest → next_of (entry, rest) ≡ None → ⊥
-ends entry [] k n = cc
-ends entry (b ∷ bs) k n = let none : next_of (entry, 32 ∷ bs) ≡ None = subst (λ c. next_of (entry, c ∷ bs) ≡ None) k n in cc
+ends entry rest h2 h3 = grind (arith)
 
 next_none : (text : List ℕ) → next_first text ≡ None → entries_of text ≡ None
 next_none text h = one (entries_of text) refl where
@@ -227,5 +201,4 @@ first_is text (Some first) h =
   where
     both : (b : Option (Bor (List ℕ))) → (option_map_or (parts_of 32) (option_map (λ (t : Bor (List ℕ)). t.now) b) [] ≡ words_left b)
         × (option_map_or (λ (t : List ℕ). length t + 1) (option_map (λ (t : Bor (List ℕ)). t.now) b) 0 ≡ size_left b)
-    both None = (refl, refl)
-    both (Some t) = (refl, refl)
+    both b = grind (arith)

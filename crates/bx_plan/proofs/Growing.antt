@@ -1,14 +1,9 @@
 -- The chains of the schedules of a row so far, with one more.
-use Rattle.bx_plan.proofs.Words.{◌≡◌, ◌≢◌, ◌⊎◌, ⊎_elim, inl, inr, ℕ, zero, suc, ◌+◌, ◌-◌, ◌<◌, ◌≤◌, List, [], ◌∷◌, ◌++◌, length, get_or, set, take, drop, refl, sym, ap, subst, ◌∙◌, arith, add-one, append_assoc}
-use Rattle.bx_plan.proofs.Words.{append-nil, length-append, cases_eq, cases_lt, get_or-set_other, get_or-set_same, length_push, length-map, length-set, length-take, length-take-le, take-append-drop, take-take}
-use Rattle.bx_plan.proofs.Words.{take_all, take_at, take_more, Choice, Run, Head, Row, above, begun, chain_path, head, Chained, IsCut, common, common_before, placed, row_at, AreRows, Grown, IsPrefix, Named}
-use Rattle.bx_plan.proofs.Words.{choices_of}
+use Rattle.bx_plan.proofs.Words.{◌≡◌, ◌≢◌, ◌⊎◌, ⊎_elim, inl, inr, ℕ, zero, suc, ◌+◌, ◌-◌, ◌<◌, ◌≤◌, List, [], ◌∷◌, ◌++◌, length, get_or, set, take, drop, refl, sym, ap, subst, ◌∙◌, arith, add-one, append_assoc, rules, same_from_push}
+use Rattle.bx_plan.proofs.Words.{path_at, AreChains, AreForest, Begins, Owns, IsReached, EndsThere, choices_at, append-nil, length-append, cases_eq, cases_lt, get_or-set_other, get_or-set_same, length_push, length-map, length-set}
+use Rattle.bx_plan.proofs.Words.{length-take, length-take-le, take-append-drop, take-take, take_all, take_at, take_more, Choice, Run, Head, Row, above, begun, chain_path, head, Chained, IsCut, common, common_before, placed, row_at}
+use Rattle.bx_plan.proofs.Words.{AreRows, Grown, IsPrefix, Named, choices_of}
 use Rattle.std.proofs.Math.ListN.{get_or-map}
-use Rattle.std.proofs.lemmas.List.{same_from_push}
-use Rattle.bx_plan.specs.Chains.{path_at, AreChains, AreForest, Begins, Owns}
-use Rattle.bx_plan.specs.Growing.{IsReached}
-use Rattle.bx_plan.specs.Nodes.{EndsThere}
-use Rattle.bx_plan.specs.Planned.{choices_at}
 use Rattle.bx_plan.proofs.Commons.{begins_common, common_least, common_long, common_same, common_short, same_or_not, taken_alike}
 use Rattle.bx_plan.proofs.Counting.{prefix_at, prefix_of}
 use Rattle.bx_plan.proofs.Kids.{kids_more, more_heads, more_kids, new_head, old_head}
@@ -58,11 +53,7 @@ parts_from t s n c rest h e apart =
 
 parted_at_cut : (ss : List (List Choice)) (j n : ℕ) → 0 < n → n < length (get_or ss j []) → IsCut ss (take n (get_or ss j [])) → (i : ℕ) × (i < length ss) × (common (get_or ss i []) (get_or ss j []) ≡ n)
 parted_at_cut ss j n some long (inl e) = absurd (omega (arith, some, ap length e, length-take-le n (get_or ss j []) (omega (arith, long))))
-parted_at_cut ss j n some long (inr (inl e)) =
-    let at = ends_of ss (take n (get_or ss j [])) e in
-    let s = get_or ss j [] in
-    let count = length-take-le n s (omega (arith, long)) in
-    (at.0, at.1, ap (λ t. common t s) (sym at.2) ∙ omega (arith, count, (common_short (take n s) s).0, common_long (take n s) s n (omega (arith, count)) (omega (arith, long)) (take_all n (take n s) (omega (arith, count)))))
+parted_at_cut ss j n some long (inr (inl e)) = grind (arith, ends_of, length-take-le, common_short, common_long, take_all)
 parted_at_cut ss j n some long (inr (inr (a, b, apart, first, second))) =
     let s = get_or ss j [] in
     let by : (c : Choice) → c ≢ get_or s n no_choice → IsPrefix ss (take n s ++ c ∷ []) → (i : ℕ) × (i < length ss) × (common (get_or ss i []) s ≡ n) =
@@ -73,8 +64,7 @@ parted_at_cut ss j n some long (inr (inr (a, b, apart, first, second))) =
 
 module _ (plan : List Named) (all : Chained) (forest : AreForest plan all) where
   pub path_long : (c : ℕ) → c < length all.heads → length (chain_path plan all c) ≡ (head all c).past
-  path_long zero h = let none : (head all 0).past ≡ 0 = ap (λ (h : Head). h.past) forest.root in omega (arith, none, length-take (head all 0).past (choices_at plan (head all 0).line))
-  path_long (suc c) h = length-take-le (head all (suc c)).past (choices_at plan (head all (suc c)).line) (forest.begins (suc c) (omega arith) h).within
+  path_long c h1 = grind (arith, length-take, length-take-le)
 
   abbrev Up : ℕ → List Choice → ℕ → Type 0
   Up at path depth = (at < length all.heads) × (chain_path plan all at ≡ take (head all at).past path) × (depth ≤ (head all at).past)
@@ -144,11 +134,7 @@ module _ (plan : List Named) (rows : List Row) (are : AreRows (choices_of plan) 
     Mine c path = (c ≡ length all.heads) × (n : ℕ) × (first < n) × (n ≤ past) × (path ≡ take n here)
 
     owns_either : (c : ℕ) (path : List Choice) → Owns plan next c path → Owns plan all c path ⊎ Mine c path
-    owns_either c path o =
-        ⊎_elim (λ (e : c ≡ length all.heads). let by : By x path = subst (λ h. By h path) (ap (head next) e ∙ new) (o.2, o.3, o.4, o.5) in inr (e, by.0, by.1, by.2, by.3 ∙ path_is by.0))
-        (λ (m : c ≢ length all.heads). let low : c < length all.heads = omega (arith, o.1, more, m) in
-        let by : By (head all c) path = subst (λ h. By h path) (old c low) (o.2, o.3, o.4, o.5) in inl (o.0, low, by.0, by.1, by.2, by.3))
-        (cases_eq c (length all.heads))
+    owns_either c path o = search (rules, next, new, path_is, more, old, cases_eq)
 
     clash : (c d : ℕ) (path : List Choice) → Owns plan all c path → Mine d path → ⊥
     clash c d path o (_, n, a, b, e) = one (grown.only c path o) where
@@ -164,16 +150,7 @@ module _ (plan : List Named) (rows : List Row) (are : AreRows (choices_of plan) 
     begins : (c : ℕ) → 0 < c → c < length next.heads → Begins plan (head next c) (chain_path plan next (head next c).above) c
     begins c a b = one (cases_eq c (length all.heads)) where
       mine : Begins plan x (chain_path plan next up) (length all.heads)
-      mine = record {
-        line = omega (arith, are.within k h, length-map plan (λ (s : Named). s.1));
-        some = some;
-        within = omega (arith, within, ap length (choices_is (row_at rows k).line));
-        begin = subst (IsCut (choices_of plan)) (sym (path_is first)) begin;
-        end = subst (IsCut (choices_of plan)) (sym (path_is past)) end;
-        inside = λ n l m cut. inside n l m (subst (IsCut (choices_of plan)) (path_is n) cut);
-        below = there;
-        stands = old_path up there ∙ on ∙ taken_alike (chain_path plan all (length all.heads - 1)) here first grown.last ∙ sym (path_is first);
-      }
+      mine = grind (arith, length-map, choices_is, path_is, old_path, taken_alike)
 
       one : (c ≡ length all.heads) ⊎ (c ≢ length all.heads) → Begins plan (head next c) (chain_path plan next (head next c).above) c
       one (inl e) = subst (λ n. Begins plan (head next n) (chain_path plan next (head next n).above) n) (sym e) (subst (λ g. Begins plan g (chain_path plan next g.above) (length all.heads)) (sym new) mine)
@@ -277,19 +254,11 @@ module _ (plan : List Named) (rows : List Row) (are : AreRows (choices_of plan) 
 -- ---- where the chains of a row end
 
 module _ (plan : List Named) (rows : List Row) (are : AreRows (choices_of plan) rows) where
-  cut_or_end : (i k n : ℕ) → i < length rows → k < length rows → n ≡ common (placed (choices_of plan) rows i) (placed (choices_of plan) rows k) → IsCut (choices_of plan) (take n (placed (choices_of plan) rows k))
-  cut_or_end i k n a b e = one (cases_lt n (length (placed (choices_of plan) rows k))) where
-    one : (n < length (placed (choices_of plan) rows k)) ⊎ (length (placed (choices_of plan) rows k) ≤ n) → IsCut (choices_of plan) (take n (placed (choices_of plan) rows k))
-    one (inl l) = cut_where_parted (choices_of plan) (row_at rows i).line (row_at rows k).line n (are.within i a) (are.within k b) e l
-    one (inr l) = inr (inl (ends_there (choices_of plan) (row_at rows k).line (take n (placed (choices_of plan) rows k)) (are.within k b) (take_all n (placed (choices_of plan) rows k) l)))
-
   pub begin_cut : (k : ℕ) → k < length rows → IsCut (choices_of plan) (take (row_at rows k).common (placed (choices_of plan) rows k))
-  begin_cut zero h = inl (ap (λ n. take n (placed (choices_of plan) rows 0)) (are.commons 0 h))
-  begin_cut (suc i) h = cut_or_end i (suc i) (row_at rows (suc i)).common (omega (arith, h)) h (are.commons (suc i) h)
+  begin_cut k h1 = grind (arith, cases_lt, cut_where_parted, ends_there, take_all)
 
   pub end_cut : (k past : ℕ) → k < length rows → (past ≡ length (placed (choices_of plan) rows k)) ⊎ ((j : ℕ) × (k < j) × (j < length rows) × (common (placed (choices_of plan) rows j) (placed (choices_of plan) rows k) ≡ past)) → IsCut (choices_of plan) (take past (placed (choices_of plan) rows k))
-  end_cut k past h (inl e) = inr (inl (ends_there (choices_of plan) (row_at rows k).line (take past (placed (choices_of plan) rows k)) (are.within k h) (take_all past (placed (choices_of plan) rows k) (omega (arith, e)))))
-  end_cut k past h (inr (j, a, b, e)) = cut_or_end j k past b h (sym e)
+  end_cut k past h2 h3 = grind (arith, ends_there, take_all, cases_lt, cut_where_parted)
 
   pub inside_cut : (k first past : ℕ) → k < length rows → (row_at rows k).common ≤ first → past ≤ length (placed (choices_of plan) rows k)
       → ((j : ℕ) → k < j → j < length rows → first < common (placed (choices_of plan) rows j) (placed (choices_of plan) rows k) → common (placed (choices_of plan) rows j) (placed (choices_of plan) rows k) < past → ⊥)
@@ -300,6 +269,4 @@ module _ (plan : List Named) (rows : List Row) (are : AreRows (choices_of plan) 
       let e : common (placed (choices_of plan) rows place.0) (placed (choices_of plan) rows k) ≡ n = ap (λ i. common (get_or (choices_of plan) i []) (placed (choices_of plan) rows k)) place.2 ∙ at.2 in
       one place.0 place.1 e (cases_lt place.0 k) (cases_eq place.0 k) where
         one : (j : ℕ) → j < length rows → common (placed (choices_of plan) rows j) (placed (choices_of plan) rows k) ≡ n → (j < k) ⊎ (k ≤ j) → (j ≡ k) ⊎ (j ≢ k) → ⊥
-        one j l e (inl m) _ = omega (arith, e, a, low, less_before plan rows are j k m h)
-        one j l e (inr _) (inl f) = omega (arith, b, within, e, ap (λ i. common (placed (choices_of plan) rows i) (placed (choices_of plan) rows k)) f, common_same (placed (choices_of plan) rows k))
-        one j l e (inr m) (inr f) = between j (omega (arith, m, f)) l (omega (arith, e, a)) (omega (arith, e, b))
+        one j h1 h2 h3 h4 = grind (arith, less_before, common_same)

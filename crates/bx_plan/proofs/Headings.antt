@@ -1,12 +1,8 @@
 -- Lines are read as the grammar has them.
-use Rattle.bx_plan.proofs.Words.{◌≡◌, inl, inr, ℕ, false, cond, ◌&&◌, List, [], ◌∷◌, ◌++◌, Some, None, length, refl, sym, ap, ◌∙◌, arith, subst, Decides, nat_eq, nat_le, ◌↔◌, option_and_then, list_all}
-use Rattle.bx_plan.proofs.Words.{AllByRecursion, is_utf8, IsUtf8-from_is_utf8, is_utf8-from_IsUtf8, cond_both, eqb-true, ne_eqb, and_parts, and_from, leb-true, le-leb, nat_tests, option_and_then_some, Entry, cut}
-use Rattle.bx_plan.proofs.Words.{tail_of, is_name_byte, is_name, line_of, IsSchedule, IsNothing}
+use Rattle.bx_plan.proofs.Words.{◌≡◌, inl, inr, ℕ, false, cond, List, [], ◌∷◌, ◌++◌, Some, None, refl, ap, ◌∙◌, arith, subst, Decides, nat_eq, ◌↔◌, list_all, Decides-and, cond_some, named_of, schedule_of, IsNameByte, IsName}
+use Rattle.bx_plan.proofs.Words.{AllByRecursion, is_utf8, IsUtf8-from_is_utf8, is_utf8-from_IsUtf8, cond_both, eqb-true, ne_eqb, and_parts, and_from, leb-true, le-leb, nat_tests, option_and_then_some, Entry, cut, tail_of, is_name_byte}
+use Rattle.bx_plan.proofs.Words.{is_name, line_of, IsSchedule, IsNothing}
 use Rattle.std.specs.Option.{option_map}
-use Rattle.std.proofs.lemmas.Bool.Decides.{Decides-and}
-use Rattle.std.proofs.lemmas.Option.{cond_some}
-use Rattle.bx_plan.specs.Reading.{named_of, schedule_of}
-use Rattle.bx_plan.specs.Grammar.{IsNameByte, IsName}
 use Rattle.bx_plan.proofs.Marks.{Lacks, cut_at, cut_takes, option_map_some}
 use Rattle.bx_plan.proofs.Spellings.{tail_law}
 
@@ -15,20 +11,11 @@ name_bytes [] = (λ h. tt, λ h. refl)
 name_bytes (b ∷ bs) = Decides-and (is_name_byte b) (list_all is_name_byte bs) (λ h. grind (arith, nat_tests), λ h. grind (arith, nat_tests)) (name_bytes bs)
 
 name_decides : (name : List ℕ) → Decides (is_name name) (IsName name)
-name_decides name =
-    let n = length name in (
-      λ h. let parts = and_parts (nat_le 1 n && nat_le n 64) (list_all is_name_byte name) h in
-          let sizes = and_parts (nat_le 1 n) (nat_le n 64) parts.0 in
-          (leb-true 1 n sizes.0, leb-true n 64 sizes.1, (name_bytes name).0 parts.1),
-      λ h. and_from (nat_le 1 n && nat_le n 64) (list_all is_name_byte name) (and_from (nat_le 1 n) (nat_le n 64) (le-leb 1 n h.0) (le-leb n 64 h.1)) ((name_bytes name).1 h.2),
-    )
+name_decides name = grind (arith, and_parts, leb-true, name_bytes, and_from, le-leb)
 
 name_lacks : (mark : ℕ) (name : List ℕ) → (IsNameByte mark → ⊥) → AllByRecursion IsNameByte name → Lacks mark name
 name_lacks mark [] h k = tt
 name_lacks mark (b ∷ bs) h k = (ne_eqb b mark (λ e. h (subst IsNameByte e k.0)), name_lacks mark bs h k.1)
-
-no_name_colon : IsNameByte 58 → ⊥
-no_name_colon h = grind arith
 
 no_name_hash : (b : ℕ) → IsNameByte b → nat_eq b 35 ≡ false
 no_name_hash b h = grind (arith, nat_tests)
@@ -40,11 +27,7 @@ schedule_spelled text line h =
     subst (IsSchedule text) e ((name_decides parts.0).0 t, parts.1, (tail_law parts.1 entries).0 q, (cut_takes 58 text parts found).0))) (λ f r. cc) p)
 
 schedule_again : (text : List ℕ) (line : List ℕ × List Entry) → IsSchedule text line → schedule_of text ≡ Some line
-schedule_again text line (name, tail, entries, whole) =
-    ap schedule_of whole
-    ∙ ap (option_and_then named_of) (cut_at 58 line.0 tail (name_lacks 58 line.0 no_name_colon name.2))
-    ∙ ap (λ good. cond good (option_map (λ e. (line.0, e)) (tail_of tail)) None) ((name_decides line.0).1 name)
-    ∙ ap (option_map (λ e. (line.0, e))) ((tail_law tail line.1).1 entries)
+schedule_again text line (name, tail, entries, whole) = grind (arith, cut_at, name_lacks, name_decides, tail_law)
 
 pub nothing_spelled : (text : List ℕ) → line_of text ≡ Some None → IsNothing text
 nothing_spelled [] h = inl refl
@@ -55,8 +38,7 @@ nothing_spelled (b ∷ bs) h =
     (λ f r. option_map_some (λ s. Some s) (schedule_of (b ∷ bs)) None r (λ s q e. cc)) h
 
 pub nothing_again : (text : List ℕ) → IsNothing text → line_of text ≡ Some None
-nothing_again text (inl e) = ap line_of e
-nothing_again text (inr (rest, whole, good)) = ap line_of whole ∙ ap (λ t. cond t (Some None) None) (ap is_utf8 (sym whole) ∙ is_utf8-from_IsUtf8 text good)
+nothing_again text h1 = grind (arith, is_utf8-from_IsUtf8)
 
 pub line_spelled : (text : List ℕ) (line : List ℕ × List Entry) → line_of text ≡ Some (Some line) → IsSchedule text line
 line_spelled [] line h = cc

@@ -1,5 +1,5 @@
 -- Texts without a mark, and where a text is cut.
-use Rattle.bx_plan.proofs.Words.{◌≡◌, ℕ, false, cond, List, [], ◌∷◌, ◌++◌, Option, Some, None, refl, ap, ◌∙◌, option_map, subst, nat_eq, cond_both, eqb-true, eq-eqb, same_Some, cut, parts_of}
+use Rattle.bx_plan.proofs.Words.{◌≡◌, ℕ, false, List, [], ◌∷◌, ◌++◌, Option, Some, None, refl, ap, ◌∙◌, option_map, subst, nat_eq, cond_both, eqb-true, eq-eqb, same_Some, cut, parts_of, rules}
 use Rattle.bx_plan.proofs.Cuts.{parts_none, parts_some}
 
 -- what comes of an option by a function
@@ -18,16 +18,11 @@ Lacks-append mark (x ∷ xs) ys h k = (h.0, Lacks-append mark xs ys h.1 k)
 
 pub cut_lacks : (mark : ℕ) (text : List ℕ) → Lacks mark text → cut mark text ≡ None
 cut_lacks mark [] h = refl
-cut_lacks mark (b ∷ bs) h =
-    ap (λ t. cond t (Some ([], bs)) (option_map (λ parts. (b ∷ parts.0, parts.1)) (cut mark bs))) h.0
-    ∙ ap (option_map (λ parts. (b ∷ parts.0, parts.1))) (cut_lacks mark bs h.1)
+cut_lacks mark (b ∷ bs) h = search (rules, cut_lacks mark bs h.1)
 
 pub cut_at : (mark : ℕ) (before behind : List ℕ) → Lacks mark before → cut mark (before ++ mark ∷ behind) ≡ Some (before, behind)
-cut_at mark [] behind h =
-    ap (λ t. cond t (Some ([], behind)) (option_map (λ parts. (mark ∷ parts.0, parts.1)) (cut mark behind))) (eq-eqb mark mark refl)
-cut_at mark (b ∷ bs) behind h =
-    ap (λ t. cond t (Some ([], bs ++ mark ∷ behind)) (option_map (λ parts. (b ∷ parts.0, parts.1)) (cut mark (bs ++ mark ∷ behind)))) h.0
-    ∙ ap (option_map (λ parts. (b ∷ parts.0, parts.1))) (cut_at mark bs behind h.1)
+cut_at mark [] behind h = search (rules, eq-eqb)
+cut_at mark (b ∷ bs) behind h = search (rules, cut_at mark bs behind h.1)
 
 -- the text is so, where it is cut so
 abbrev pub CutAt : ℕ → List ℕ → List ℕ × List ℕ → Type 0

@@ -1,8 +1,6 @@
 -- Names are ASCII, and so UTF-8.
-use Rattle.bx_plan.proofs.Words.{◌≡◌, ℕ, ◌<◌, ◌&&◌, true, false, List, [], ◌∷◌, length, arith, list_all, nat_le, is_utf8, and_parts, false_from_ne_true, nat_tests, IsUtf8-from_is_utf8, is_utf8-from_IsUtf8, is_name}
-use Rattle.bx_plan.proofs.Words.{is_name_byte}
-use Rattle.std.specs.Str.{IsUtf8, IsAscii}
-use Rattle.std.proofs.lemmas.Str.{IsUtf8-from_ascii}
+use Rattle.bx_plan.proofs.Words.{◌≡◌, ℕ, ◌<◌, ◌&&◌, true, false, List, [], ◌∷◌, length, arith, list_all, nat_le, is_utf8, and_parts, false_from_ne_true, nat_tests, IsUtf8-from_is_utf8, is_utf8-from_IsUtf8, is_name, IsUtf8, IsAscii}
+use Rattle.bx_plan.proofs.Words.{IsUtf8-from_ascii, is_name_byte}
 use Rattle.std.proofs.lemmas.Str.Ascii.{IsAscii-nil, IsAscii-cons}
 
 name_byte_small : (b : ℕ) → is_name_byte b ≡ true → b < 128

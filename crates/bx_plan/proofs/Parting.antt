@@ -1,10 +1,7 @@
 -- Where two rows of stretches part.
-use Rattle.bx_plan.proofs.Words.{◌≡◌, ◌≢◌, ℕ, zero, suc, ◌+◌, ◌-◌, ◌<◌, ◌≤◌, min, List, [], ◌∷◌, ◌++◌, get_or, replicate, take, refl, sym, ap, ◌∙◌, arith, length-replicate, length-take-le, take-append-drop, Choice}
-use Rattle.bx_plan.proofs.Words.{Stretch, choice_cmp, choices_cmp, common, behind, choices_from, AreStretches}
-use Rattle.std.specs.declared.cmp.Ordering.TheVariants.{Less, Greater}
+use Rattle.bx_plan.proofs.Words.{◌≡◌, ◌≢◌, ℕ, zero, suc, ◌+◌, ◌-◌, ◌<◌, ◌≤◌, min, List, [], ◌∷◌, ◌++◌, get_or, replicate, take, sym, ap, ◌∙◌, arith, length-replicate, length-take-le, take-append-drop, Choice, Less, Greater, next_cmp}
+use Rattle.bx_plan.proofs.Words.{BeginAlike, Stretch, choice_cmp, choices_cmp, common, behind, choices_from, AreStretches}
 use Rattle.bx_plan.specs.Forks.{choice_first, IsLeft}
-use Rattle.bx_plan.specs.Gathered.{next_cmp}
-use Rattle.bx_plan.specs.Stretches.{BeginAlike}
 use Rattle.bx_plan.proofs.Commons.{common_apart, common_append, common_short, taken_alike}
 use Rattle.bx_plan.proofs.Ordering.{cmp_apart, cmp_append}
 use Rattle.bx_plan.proofs.Stretching.{no_stretch, stepped}
@@ -74,8 +71,7 @@ parted a b (suc m) (suc n) xs ys h l apart = (common_apart a b (replicate m a ++
 
 ended : (c : Choice) (m : ℕ) (xs : List Choice) → 0 < m
     → (choices_cmp [] (replicate m c ++ xs) ≡ Less) × (choices_cmp (replicate m c ++ xs) [] ≡ Greater) × (common (replicate m c ++ xs) [] ≡ 0)
-ended c zero xs h = absurd (omega (arith, h))
-ended c (suc m) xs h = (refl, refl, refl)
+ended c m xs h3 = grind (arith)
 
 -- they go on by different choices, or one does not go on
 pub walked_all : (xs ys : List Choice) (m : ℕ) (left right : List Stretch) → Walked xs ys m left right → (BeginAlike left right → ⊥) → (m ≡ common xs ys) × (next_cmp (choice_first left) (choice_first right) ≡ choices_cmp xs ys)
@@ -84,6 +80,4 @@ walked_all xs ys m [] (y ∷ right) is apart = (omega (arith, is.common), sym (i
 walked_all xs ys m (x ∷ left) [] is apart =
     let alone = ended x.choice (x.past - m) (choices_from x.past left) (omega (arith, is.one.0)) in
     (omega (arith, is.common, alone.2), sym (is.order ∙ alone.1))
-walked_all xs ys m (x ∷ left) (y ∷ right) is apart =
-    let both = parted x.choice y.choice (x.past - m) (y.past - m) (choices_from x.past left) (choices_from y.past right) (omega (arith, is.one.0)) (omega (arith, is.other.0)) apart in
-    (omega (arith, is.common, both.0), sym (is.order ∙ both.1))
+walked_all xs ys m (x ∷ left) (y ∷ right) is apart = grind (arith, parted)

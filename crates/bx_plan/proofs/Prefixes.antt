@@ -1,17 +1,10 @@
 -- The nodes are the prefixes of the schedules, each once.
-use Rattle.bx_plan.proofs.Words.{◌≡◌, ◌⊎◌, ⊎_elim, inl, inr, ℕ, zero, suc, ◌<◌, Bool, true, ◌||◌, List, [], ◌∷◌, ◌++◌, length, get_or, take, drop, refl, sym, ap, ◌∙◌, arith, append_assoc, append-nil, length-append}
-use Rattle.bx_plan.proofs.Words.{Decides, Contains, both_ways, cond_both, cond-false, cond-true, false_from_ne_true, same_from_decides, get_or_default, length_push, take-append-drop, take_at, Contains-append_cases}
-use Rattle.bx_plan.proofs.Words.{Contains-append_left, Contains-append_right, list_any-append, Choice, choice_eq, with_nodes, prefixes, with_schedule_nodes, nodes_from, nodes_of, IsPrefix}
-use Rattle.std.specs.Cmp.{IsEquivalence}
+use Rattle.bx_plan.proofs.Words.{◌≡◌, ◌⊎◌, ⊎_elim, inl, inr, ℕ, zero, suc, ◌<◌, Bool, true, ◌||◌, List, [], ◌∷◌, ◌++◌, length, get_or, take, drop, refl, sym, ap, ◌∙◌, arith, append_assoc, append-nil, length-append, IsEquivalence}
+use Rattle.bx_plan.proofs.Words.{IsDistinct, cases_order, lists_equiv, get_or_append_left, is_member-Decides, slice_eq-Decides, has_node, with_node, AreNodes, Decides, Contains, both_ways, cond_both, cond-false, cond-true}
+use Rattle.bx_plan.proofs.Words.{false_from_ne_true, same_from_decides, get_or_default, length_push, take-append-drop, take_at, Contains-append_cases, Contains-append_left, Contains-append_right, list_any-append, Choice, choice_eq}
+use Rattle.bx_plan.proofs.Words.{with_nodes, prefixes, with_schedule_nodes, nodes_from, nodes_of, IsPrefix}
 use Rattle.std.specs.Cmp.Lexicographic.{pointwise}
-use Rattle.std.specs.List.{IsDistinct}
-use Rattle.std.proofs.lemmas.Bool.{cases_order}
-use Rattle.std.proofs.lemmas.Cmp.{lists_equiv}
-use Rattle.std.proofs.lemmas.List.{get_or_append_left}
 use Rattle.std.proofs.lemmas.Map.Keys.{apart_from_distinct, IsDistinct-from_apart, IsDistinct-push}
-use Rattle.std.proofs.lemmas.Map.Made.{is_member-Decides}
-use Rattle.std.proofs.lemmas.Slice.Eq.{slice_eq-Decides}
-use Rattle.bx_plan.specs.Nodes.{has_node, with_node, AreNodes}
 use Rattle.bx_plan.proofs.Commons.{choice_decides}
 
 -- ---- paths among nodes
@@ -58,9 +51,7 @@ each_once nodes (to ∷ paths) h = each_once (with_node nodes to) paths (cond_bo
 
 first_stays : (nodes paths : List (List Choice)) → 0 < length nodes → get_or (with_nodes nodes paths) 0 [] ≡ get_or nodes 0 []
 first_stays nodes [] h = refl
-first_stays nodes (to ∷ paths) h =
-    cond_both (has_node nodes to) nodes (nodes ++ to ∷ []) (λ ns. get_or (with_nodes ns paths) 0 [] ≡ get_or nodes 0 []) (λ t. first_stays nodes paths h)
-    (λ f. first_stays (nodes ++ to ∷ []) paths (omega (arith, length_push nodes to)) ∙ get_or_append_left nodes (to ∷ []) [] 0 h)
+first_stays nodes (to ∷ paths) h = grind (arith, cond_both, length_push, get_or_append_left, first_stays nodes paths h, first_stays (nodes ++ to ∷ []) paths (omega (arith, length_push nodes to)))
 
 -- ---- the prefixes of one schedule
 
@@ -128,8 +119,7 @@ module _ (schedules : List (List Choice)) where
   pub node_is : (path : List Choice) → Contains (nodes_of schedules) path → (path ≡ []) ⊎ IsPrefix schedules path
   node_is path h = one ((has_decides ([] ∷ all_prefixes schedules) path).0 (sym (has_is path) ∙ (has_decides (nodes_of schedules) path).1 h)) where
     one : Contains ([] ∷ all_prefixes schedules) path → (path ≡ []) ⊎ IsPrefix schedules path
-    one (zero, h, e) = inl (sym e)
-    one (suc k, h, e) = inr (prefix_is schedules path (k, omega (arith, h), e))
+    one h0 = grind (arith, prefix_is)
 
   apart : (i j : ℕ) → i < j → j < length (nodes_of schedules) → get_or (nodes_of schedules) i [] ≡ get_or (nodes_of schedules) j [] → ⊥
   apart i j a h e = both_ways (same_path (get_or (nodes_of schedules) i []) (get_or (nodes_of schedules) j [])) (apart_from_distinct same_path (nodes_of schedules) i j [] distinct_nodes a h) ((path_decides _ _).1 e)

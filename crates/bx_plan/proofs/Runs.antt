@@ -7,6 +7,4 @@ run_longer c m n old mid left e f = e ∙ ap (λ cs. replicate m c ++ cs) f ∙ 
 -- all that were taken, by how many are left
 pub run_taken : (c : Choice) (old left : List Choice) (n before after : ℕ) → 0 < n → old ≡ replicate n c ++ left → before ≡ length old → after ≡ length left
     → (0 < before - after) × (old ≡ replicate (before - after) c ++ left)
-run_taken c old left n before after some e long rest =
-    let count : n ≡ before - after = omega (arith, ap length e, length-append (replicate n c) left, length-replicate n c, long, rest) in
-    (omega (arith, some, count), e ∙ ap (λ k. replicate k c ++ left) count)
+run_taken c old left n before after some e long rest = grind (arith, length-append, length-replicate)

@@ -1,13 +1,8 @@
 -- Rows in order, and how two of them are merged.
-use Rattle.bx_plan.proofs.Words.{⊎_elim, ◌≡◌, ℕ, zero, suc, ◌+◌, ◌<◌, ◌≤◌, Bool, true, false, cond, List, [], ◌∷◌, ◌++◌, Option, None, Some, length, get_or, refl, sym, ap, subst, ◌∙◌, arith, add-one, nat_eq}
-use Rattle.bx_plan.proofs.Words.{slice_get, Ordering, ordering_reverse, is_gt, cases_lt, eqb-true, lists_total, length-map, sum_by-append, Choice, Line, Row, choices_cmp, common, common_before, no_row, placed}
-use Rattle.bx_plan.proofs.Words.{row_at, AreRows, at_row, rows_at, AreFrom, AreInOrder, AreMerged, Takes, Named, choices_of, line_view, lines_view}
-use Rattle.std.specs.Ordering.{is_lt}
-use Rattle.std.specs.Cmp.{IsStrictWeakOrder}
-use Rattle.std.specs.List.Sorted.{IsSortedBy}
-use Rattle.std.proofs.lemmas.List.Sorted.{ranks_by, sorted_far}
-use Rattle.std.proofs.lemmas.List.Sums.{sum_by-cons}
-use Rattle.bx_plan.specs.Ordered.{headed, GoOn, IsTaken, Stands, TakesFirst}
+use Rattle.bx_plan.proofs.Words.{⊎_elim, ◌≡◌, ℕ, zero, suc, ◌+◌, ◌<◌, ◌≤◌, Bool, true, false, cond, List, [], ◌∷◌, ◌++◌, Option, None, Some, length, get_or, refl, sym, ap, subst, ◌∙◌, arith, add-one, nat_eq, rules, common_steps, is_lt}
+use Rattle.bx_plan.proofs.Words.{IsStrictWeakOrder, IsSortedBy, ranks_by, sorted_far, sum_by-cons, headed, GoOn, slice_get, Ordering, ordering_reverse, is_gt, cases_lt, eqb-true, lists_total, length-map, sum_by-append, Choice, Line}
+use Rattle.bx_plan.proofs.Words.{Row, choices_cmp, common, common_before, no_row, placed, row_at, AreRows, at_row, rows_at, AreFrom, AreInOrder, AreMerged, Takes, Named, choices_of, line_view, lines_view}
+use Rattle.bx_plan.specs.Ordered.{Stands, TakesFirst}
 use Rattle.bx_plan.proofs.Commons.{common_least, common_turned}
 use Rattle.bx_plan.proofs.Counting.{line_choices}
 use Rattle.bx_plan.proofs.Ordering.{between, choice_total, more_first}
@@ -24,10 +19,7 @@ lines_long lines = omega (arith, length-map (lines_view lines) (λ (s : Named). 
 pub compared : (lines : List Line) (x y : Row) (one other : Line) (n : ℕ) (o : Ordering) → x.line < length lines → y.line < length lines → n ≡ common (get_or lines x.line one).schedule (get_or lines y.line other).schedule
     → o ≡ choices_cmp (get_or lines x.line one).schedule (get_or lines y.line other).schedule
     → (n ≡ common (at_row (choices_of (lines_view lines)) x) (at_row (choices_of (lines_view lines)) y)) × (o ≡ choices_cmp (at_row (choices_of (lines_view lines)) x) (at_row (choices_of (lines_view lines)) y))
-compared lines x y one other n o h l alike order =
-    let first = line_choices lines x.line one (omega (arith, h, lines_long lines)) in
-    let second = line_choices lines y.line other (omega (arith, l, lines_long lines)) in
-    rw (first, second) (alike, order)
+compared lines x y one other n o h l alike order = search (rules, line_choices, one, lines_long)
 
 module _ (schedules : List (List Choice)) where
   pub first_stands : (last : List Choice) (rows : List Row) (row : Row) → AreFrom schedules last rows → slice_get rows 0 ≡ Some row → Stands schedules last row
@@ -50,12 +42,7 @@ module _ (schedules : List (List Choice)) where
   -- ---- a row is taken
 
   pub taken_turned : (xs ys xs_left ys_left : List Row) (o : Option Row) → Takes schedules xs ys xs_left ys_left o → Takes schedules ys xs ys_left xs_left o
-  taken_turned xs ys xs_left ys_left None is = (is.1, is.0)
-  taken_turned xs ys xs_left ys_left (Some row) is = record {
-    fewer = omega (arith, is.fewer);
-    lines = λ line. omega (arith, is.lines line);
-    order = λ last a b. let next = is.order last b a in (next.0, next.2, next.1);
-  }
+  taken_turned xs ys xs_left ys_left o h5 = grind (arith)
 
   line_first : (xs left : List Row) (row : Row) → xs ≡ row ∷ left → (line : ℕ) → rows_at line xs ≡ rows_at line (row ∷ []) + rows_at line left
   line_first xs left row e line = ap (rows_at line) e ∙ sum_by-append (λ (r : Row). cond (nat_eq r.line line) 1 0) (row ∷ []) left
@@ -64,21 +51,13 @@ module _ (schedules : List (List Choice)) where
   pub taken_alone : (xs ys left : List Row) (o : Option Row) → slice_get ys 0 ≡ None → TakesFirst xs left o → Takes schedules xs ys left ys o
   taken_alone xs (y ∷ ys) left o none is = cc
   taken_alone xs [] left None none is = (is.0, refl)
-  taken_alone xs [] left (Some row) none is = record {
-    fewer = omega (arith, ap length is);
-    lines = λ line. omega (arith, line_first xs left row is line);
-    order = λ last a b. let both = subst (AreFrom schedules last) is a in (both.0, both.1, tt);
-  }
+  taken_alone xs [] left (Some row) none is = grind (arith, common_steps, line_first)
 
   -- it begins with more choices as the last one than the other does
   -- ---- the same by what is taken off the first of both
 
   opened : (xs left : List Row) (row : Row) (o : Option Row) → slice_get xs 0 ≡ Some row → TakesFirst xs left o → (o ≡ Some row) × (xs ≡ row ∷ left)
-  opened xs left row None e is = let none : slice_get xs 0 ≡ None = ap (λ (rows : List Row). slice_get rows 0) is.0 in absurd (cc)
-  opened xs left row (Some r) e is =
-      let some : slice_get xs 0 ≡ Some r = ap (λ (rows : List Row). slice_get rows 0) is in
-      let same : r ≡ row = cc in
-      (ap Some same, is ∙ ap (λ (r : Row). r ∷ left) same)
+  opened xs left row o h4 h5 = grind (arith)
 
   -- it begins with more choices as the last one than the other does
   pub takes_more : (xs ys left : List Row) (row y : Row) (o : Option Row) → slice_get xs 0 ≡ Some row → slice_get ys 0 ≡ Some y → TakesFirst xs left o → y.common < row.common → Takes schedules xs ys left ys o
@@ -99,21 +78,7 @@ module _ (schedules : List (List Choice)) where
   pub takes_level : (xs ys left ys_left : List Row) (row y : Row) (n : ℕ) (o : Option Row) → slice_get xs 0 ≡ Some row → slice_get ys 0 ≡ Some y → TakesFirst xs left o → ys_left ≡ headed n ys
       → is_gt (choices_cmp (at_row schedules row) (at_row schedules y)) ≡ false → n ≡ common (at_row schedules row) (at_row schedules y) → Takes schedules xs ys left ys_left o
   takes_level xs [] left ys_left row y n o first second is rest behind e = cc
-  takes_level xs (z ∷ zs) left ys_left row y n o first second is rest behind e =
-      let both = opened xs left row o first is in
-      let same : z ≡ y = cc in
-      subst (Takes schedules xs (z ∷ zs) left ys_left) (sym both.0) (subst (λ (rs : List Row). IsTaken schedules xs (z ∷ zs) left rs row) (sym rest) (record {
-        fewer = omega (arith, ap length both.1);
-        lines = λ line. omega (arith, line_first xs left row both.1 line);
-        order = λ last a b.
-            let here = subst (AreFrom schedules last) both.1 a in
-            let next : Stands schedules (at_row schedules row) (record { line = z.line; common = n }) = record {
-              within = b.0.within;
-              behind = ap (λ (r : Row). is_gt (choices_cmp (at_row schedules row) (at_row schedules r))) same ∙ behind;
-              common = e ∙ sym (ap (λ (r : Row). common (at_row schedules row) (at_row schedules r)) same);
-            } in
-            (here.0, here.1, (next, b.1));
-      }))
+  takes_level xs (z ∷ zs) left ys_left row y n o first second is rest behind e = grind (arith, common_steps, opened, first, line_first, behind)
 
   pub level_alike : (xs ys : List Row) (row y : Row) → GoOn schedules xs ys → slice_get xs 0 ≡ Some row → slice_get ys 0 ≡ Some y → row.common ≡ y.common → row.common ≤ common (at_row schedules row) (at_row schedules y)
   level_alike xs ys row y next first second level =
@@ -172,11 +137,7 @@ module _ (schedules : List (List Choice)) where
     behind i j a h = flipped_back _ _ ((lists_total choice_total).antisymm (placed schedules rows i) (placed schedules rows j)) (sorted_far stands_first ranked rows sorted i j no_row a h)
 
     commons : (k : ℕ) → k < length rows → (row_at rows k).common ≡ common_before schedules rows k
-    commons zero h = first rows is.from h where
-      first : (rows : List Row) → AreFrom schedules [] rows → 0 < length rows → (row_at rows 0).common ≡ 0
-      first [] are h = absurd (omega (arith, h))
-      first (row ∷ rows) are h = are.0.common
-    commons (suc k) h = (adjacent [] rows is.from k no_row h).common
+    commons k h1 = grind (arith, common_steps, adjacent)
 
     pub rows_are : AreRows schedules rows
     rows_are = record {

@@ -1,11 +1,9 @@
 -- Choices and entries are read as they are spelled.
-use Rattle.bx_plan.proofs.Words.{◌≡◌, ◌⊎◌, ⊎_elim, inl, inr, ℕ, ◌<◌, ◌≤◌, true, false, List, [], ◌∷◌, ◌++◌, Option, Some, None, length, refl, sym, ap, ◌∙◌, arith, subst, nat_eq, ◌↔◌, option_and_then, option_map_or}
-use Rattle.bx_plan.proofs.Words.{decimal, cond_both, eqb-true, eqb-false, ne_eqb, is_ascii_digit, join_with_byte, option_and_then_some, same_Some, length-slice_split, join_with_byte-slice_split, Choice, Run, Deliver}
-use Rattle.bx_plan.proofs.Words.{Expire, Entry, cut, parts_of, number_of, entry_of, entry_each, entries_of, tail_of, spelling, HasPids, IsOnce, IsRepeated, IsEntry}
+use Rattle.bx_plan.proofs.Words.{◌≡◌, ◌⊎◌, ⊎_elim, inl, inr, ℕ, ◌<◌, ◌≤◌, true, false, List, [], ◌∷◌, ◌++◌, Option, Some, None, length, refl, sym, ap, ◌∙◌, arith, subst, nat_eq, ◌↔◌, option_and_then, option_map_or, choice_of}
+use Rattle.bx_plan.proofs.Words.{deliver_of, made, repeated_of, AreEntries, decimal, cond_both, eqb-true, eqb-false, ne_eqb, is_ascii_digit, join_with_byte, option_and_then_some, same_Some, length-slice_split}
+use Rattle.bx_plan.proofs.Words.{join_with_byte-slice_split, Choice, Run, Deliver, Expire, Entry, cut, parts_of, number_of, entry_of, entry_each, entries_of, tail_of, spelling, HasPids, IsOnce, IsRepeated, IsEntry}
 use Rattle.std.proofs.lemmas.List.{append-nil}
 use Rattle.std.specs.Option.{option_map}
-use Rattle.bx_plan.specs.Reading.{choice_of, deliver_of, made, repeated_of}
-use Rattle.bx_plan.specs.Grammar.{AreEntries}
 use Rattle.bx_plan.proofs.Marks.{Lacks, Lacks-append, cut_lacks, cut_at, cut_takes, option_map_some, parts_lacks, parts_at}
 use Rattle.bx_plan.proofs.Decimals.{number_spelled, number_again, decimal_lacks}
 
@@ -14,10 +12,7 @@ Spells text choice = HasPids choice × (text ≡ spelling choice)
 
 -- a pid behind a mark
 pid_spelled : (mark : ℕ) (make : ℕ → Choice) (pid : List ℕ) (choice : Choice) → ((p : ℕ) → p ≤ 1023 → Spells (mark ∷ decimal p) (make p)) → option_map make (number_of 1023 pid) ≡ Some choice → Spells (mark ∷ pid) choice
-pid_spelled mark make pid choice is h =
-    option_map_some make (number_of 1023 pid) choice h (λ p q e.
-    let number = number_spelled 1023 p pid (omega arith) q in
-    subst (Spells (mark ∷ pid)) e (subst (λ t. Spells (mark ∷ t) (make p)) (sym number.1) (is p number.0)))
+pid_spelled mark make pid choice is h = grind (arith, option_map_some, number_spelled)
 
 deliver_spelled : (pids : List ℕ) (choice : Choice) → option_and_then deliver_of (cut 62 pids) ≡ Some choice → Spells (100 ∷ pids) choice
 deliver_spelled pids choice h =
@@ -49,8 +44,7 @@ spelling_lacks mark (Expire p) digit r d e gt h = (e, decimal_lacks mark p digit
 spelling_lacks mark (Deliver p q) digit r d e gt h = (d, Lacks-append mark (decimal p) (62 ∷ decimal q) (decimal_lacks mark p digit (omega (arith, h.0))) (gt, decimal_lacks mark q digit (omega (arith, h.1))))
 
 made_is : (choice : Choice) (times : ℕ) (entry : Entry) → made choice times ≡ Some entry → (0 < times) × ((choice, times) ≡ entry)
-made_is choice times entry h =
-    cond_both (nat_eq times 0) None (Some (choice, times)) (λ r. r ≡ Some entry → (0 < times) × ((choice, times) ≡ entry)) (λ t r. cc) (λ f r. (omega (arith, eqb-false times 0 f), same_Some (choice, times) entry r)) h
+made_is choice times entry h = grind (arith, cond_both, eqb-false, same_Some)
 
 pub entry_spelled : (text : List ℕ) (entry : Entry) → entry_of text ≡ Some entry → IsEntry text entry
 entry_spelled text entry h = one (cut 42 text) refl h where
@@ -69,9 +63,7 @@ entry_again text entry h = one h.1 where
   no_star = spelling_lacks 42 entry.0 refl refl refl refl refl h.0
 
   one : IsOnce text entry ⊎ IsRepeated text entry → entry_of text ≡ Some entry
-  one (inl once) = rw (once.1, cut_lacks 42 (spelling entry.0) no_star, choice_again entry.0 h.0) (ap (λ n. Some ((entry.0, n))) (sym once.0))
-  one (inr more) =
-      rw (more.2, cut_at 42 (spelling entry.0) (decimal entry.1) no_star, choice_again entry.0 h.0, number_again 100000 entry.1 (omega arith) more.1) (rw (ne_eqb entry.1 0 (λ e. omega (arith, e, more.0))) refl)
+  one h0 = grind (arith, cut_lacks, no_star, choice_again, cut_at, number_again, ne_eqb)
 
 pub entry_lacks : (mark : ℕ) (text : List ℕ) (entry : Entry) → is_ascii_digit mark ≡ false → nat_eq 114 mark ≡ false → nat_eq 100 mark ≡ false → nat_eq 101 mark ≡ false → nat_eq 62 mark ≡ false → nat_eq 42 mark ≡ false → IsEntry text entry → Lacks mark text
 entry_lacks mark text entry digit r d e gt star h =
@@ -110,13 +102,8 @@ tail_spelled (b ∷ bs) entries h =
 
 tail_again : (text : List ℕ) (entries : List Entry) → AreEntries text entries → tail_of text ≡ Some entries
 tail_again text [] h = ap tail_of h
-tail_again text (entry ∷ []) (word, rest, spelled, last, whole) =
-    let lacks = entry_lacks 32 word entry refl refl refl refl refl refl spelled in
-    rw (whole, last, append-nil word, parts_lacks 32 word lacks, entry_again word entry spelled) refl
-tail_again text (entry ∷ next ∷ entries) (word, rest, spelled, (word', rest', spelled', more, whole'), whole) =
-    let lacks = entry_lacks 32 word entry refl refl refl refl refl refl spelled in
-    let others : entry_each (parts_of 32 (word' ++ rest')) ≡ Some (next ∷ entries) = tail_again (32 ∷ (word' ++ rest')) (next ∷ entries) (word', rest', spelled', more, refl) in
-    rw (whole, whole', parts_at 32 word (word' ++ rest') lacks, entry_again word entry spelled, others) refl
+tail_again text (entry ∷ []) (word, rest, spelled, last, whole) = grind (arith, entry_lacks, append-nil, parts_lacks, entry_again)
+tail_again text (entry ∷ next ∷ entries) (word, rest, spelled, (word', rest', spelled', more, whole'), whole) = grind (arith, entry_lacks, parts_at, entry_again, tail_again (32 ∷ (word' ++ rest')) (next ∷ entries) (word', rest', spelled', more, refl))
 
 pub tail_law : (text : List ℕ) (entries : List Entry) → (tail_of text ≡ Some entries) ↔ AreEntries text entries
 tail_law text entries = (tail_spelled text entries, tail_again text entries)

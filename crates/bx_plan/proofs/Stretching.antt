@@ -1,14 +1,9 @@
 -- Stretches in a row: where they are over, and the choices that they make.
-use Rattle.bx_plan.proofs.Words.{◌≡◌, ◌⊎◌, inl, inr, ℕ, zero, suc, ◌+◌, ◌-◌, ◌<◌, ◌≤◌, min, leb, true, false, List, [], ◌∷◌, ◌++◌, length, Some, get_or, take, drop, replicate, refl, sym, ap, subst, ◌∙◌, arith}
-use Rattle.bx_plan.proofs.Words.{length-append, length-drop, append_assoc, slice_get, cases_lt, le-leb, leb-true, drop_all, drop_more, get_or_default, length-replicate, replicate-append-replicate, take_all, take_at}
-use Rattle.bx_plan.proofs.Words.{take_more, take-append-drop, Choice, Stretch, behind, choices_from, made_before, AreStretches, IsPart, IsOverBy}
-use Rattle.std.specs.List.Sorted.{IsNonDecreasingBy, IsPartitionPoint}
-use Rattle.std.proofs.Math.Seq.{take-append-add}
-use Rattle.std.proofs.lemmas.Bool.{leb-false, lt-leb}
-use Rattle.std.proofs.lemmas.List.{drop_at}
-use Rattle.std.proofs.lemmas.List.Sorted.{IsNonDecreasingBy-from_all_adjacent}
+use Rattle.bx_plan.proofs.Words.{◌≡◌, ◌⊎◌, inl, inr, ℕ, zero, suc, ◌+◌, ◌-◌, ◌<◌, ◌≤◌, min, leb, true, false, List, [], ◌∷◌, ◌++◌, length, Some, get_or, take, drop, replicate, refl, sym, ap, subst, ◌∙◌, arith, rules, common_steps}
+use Rattle.bx_plan.proofs.Words.{IsNonDecreasingBy, IsPartitionPoint, take-append-add, leb-false, lt-leb, drop_at, IsNonDecreasingBy-from_all_adjacent, GoesOn, length-append, length-drop, append_assoc, slice_get, cases_lt, le-leb}
+use Rattle.bx_plan.proofs.Words.{leb-true, drop_all, drop_more, get_or_default, length-replicate, replicate-append-replicate, take_all, take_at, take_more, take-append-drop, Choice, Stretch, behind, choices_from, made_before}
+use Rattle.bx_plan.proofs.Words.{AreStretches, IsPart, IsOverBy}
 use Rattle.bx_world.specs.declared.choices.Choice.TheVariants as choices
-use Rattle.bx_plan.specs.Runs.{GoesOn}
 
 abbrev pub no_stretch : Stretch
 no_stretch = record { choice = choices.Run 0; past = 0 }
@@ -20,15 +15,13 @@ end_of made (s ∷ ss) = end_of s.past ss
 
 pub count_end : (m : ℕ) (ss : List Stretch) → AreStretches m ss → m + length (choices_from m ss) ≡ end_of m ss
 count_end m [] j = omega arith
-count_end m (s ∷ ss) j =
-    omega (arith, j.0, count_end s.past ss j.1, length-append (replicate (s.past - m) s.choice) (choices_from s.past ss), length-replicate (s.past - m) s.choice)
+count_end m (s ∷ ss) j = grind (arith, length-append, length-replicate, count_end s.past ss j.1)
 
 -- ---- one behind another
 
 pub choices_append : (m : ℕ) (xs ys : List Stretch) → choices_from m (xs ++ ys) ≡ choices_from m xs ++ choices_from (end_of m xs) ys
 choices_append m [] ys = refl
-choices_append m (x ∷ xs) ys =
-    ap (λ cs. replicate (x.past - m) x.choice ++ cs) (choices_append x.past xs ys) ∙ sym (append_assoc (replicate (x.past - m) x.choice) (choices_from x.past xs) (choices_from (end_of x.past xs) ys))
+choices_append m (x ∷ xs) ys = grind (arith, append_assoc, choices_append x.past xs ys)
 
 pub joined : (m : ℕ) (xs ys : List Stretch) → AreStretches m xs → AreStretches (end_of m xs) ys → AreStretches m (xs ++ ys)
 joined m [] ys j k = k
@@ -61,8 +54,7 @@ slice_get_drop (c ∷ cs) zero = refl
 slice_get_drop (c ∷ cs) (suc p) = slice_get_drop cs p
 
 pub first_choice : (n : ℕ) (c : Choice) (rest : List Choice) → 0 < n → slice_get (replicate n c ++ rest) 0 ≡ Some c
-first_choice zero c rest h = absurd (omega (arith, h))
-first_choice (suc n) c rest h = refl
+first_choice n c rest h3 = grind (arith, rest)
 
 -- ---- at one of them
 
@@ -85,10 +77,7 @@ module _ (ss : List Stretch) (j : AreStretches 0 ss) where
   whole n h = ap (λ (xs : List Stretch). length (choices_from 0 xs)) (take_all n ss h)
 
   pub there : (n : ℕ) → made_before n ss < length (choices_from 0 ss) → n < length ss
-  there n h = one (cases_lt n (length ss)) where
-    one : (n < length ss) ⊎ (length ss ≤ n) → n < length ss
-    one (inl l) = l
-    one (inr l) = absurd (omega (arith, h, whole n l))
+  there n h = grind (arith, common_steps, cases_lt)
 
   module _ (n : ℕ) (h : n < length ss) where
     abbrev s : Stretch
@@ -118,19 +107,10 @@ module _ (ss : List Stretch) (j : AreStretches 0 ss) where
       parted = absorbed 0 (take n ss) x s more refl (omega (arith, from, ends n)) to ∙ ap (λ (xs : List Stretch). choices_from 0 (take n ss ++ xs)) (sym at) ∙ ap (choices_from 0) (take-append-drop n ss)
 
       halves : choices_from 0 ss ≡ choices_from 0 (take n ss ++ x ∷ []) ++ choices_from p (s ∷ more)
-      halves =
-          sym parted ∙ ap (choices_from 0) (sym (append_assoc (take n ss) (x ∷ []) (s ∷ more))) ∙ choices_append 0 (take n ss ++ x ∷ []) (s ∷ more)
-          ∙ ap (λ m. choices_from 0 (take n ss ++ x ∷ []) ++ choices_from m (s ∷ more)) (end_push 0 (take n ss) x)
+      halves = grind (arith, parted, append_assoc, choices_append, end_push)
 
       pub long : length (choices_from 0 (take n ss ++ x ∷ [])) ≡ p
-      long = omega (
-        arith,
-        ap length (choices_append 0 (take n ss) (x ∷ [])),
-        length-append (choices_from 0 (take n ss)) (replicate (p - end_of 0 (take n ss)) s.choice ++ []),
-        length-append (replicate (p - end_of 0 (take n ss)) s.choice) [],
-        length-replicate (p - end_of 0 (take n ss)) s.choice,
-        ends n,
-      )
+      long = grind (arith, choices_append, length-append, length-replicate, ends)
 
       pub taken : choices_from 0 (take n ss ++ x ∷ []) ≡ take p (choices_from 0 ss)
       taken = sym (ap (take p) halves ∙ take_at (choices_from 0 (take n ss ++ x ∷ [])) (choices_from p (s ∷ more)) p long)
@@ -148,21 +128,11 @@ module _ (ss : List Stretch) (j : AreStretches 0 ss) where
       omega (arith, next k (omega (arith, h)), (rest (k + 1) h).0, ap (λ (s : Stretch). s.past) (get_or_default ss k d no_stretch (omega (arith, h))), ap (λ (s : Stretch). s.past) (get_or_default ss (k + 1) d no_stretch h)))
 
   pub halved : (p n : ℕ) → n ≤ length ss → IsPartitionPoint (λ (s : Stretch). leb s.past p ≡ true) (λ (s : Stretch). leb s.past p ≡ false) ss n → IsOverBy ss p n
-  halved p n most point = record {
-    bound = most;
-    begin = one n most point;
-    next = λ h. omega (arith, next n h, leb-false _ _ (point.1 n no_stretch (omega arith) h));
-  } where
-    one : (n : ℕ) → n ≤ length ss → IsPartitionPoint (λ (s : Stretch). leb s.past p ≡ true) (λ (s : Stretch). leb s.past p ≡ false) ss n → made_before n ss ≤ p
-    one zero most point = omega arith
-    one (suc k) most point = let last : k + 1 ≡ suc k = omega arith in omega (arith, next k (omega (arith, most)), ap (λ i. made_before i ss) last, leb-true _ _ (point.0 k no_stretch (omega arith) (omega arith)))
+  halved p n most point = search (rules, next, leb-false, leb-true)
 
   -- what stands from a position on
   pub from_on : (p n : ℕ) → IsOverBy ss p n → AreStretches p (drop n ss) × (choices_from p (drop n ss) ≡ drop p (choices_from 0 ss))
-  from_on p n is = one (cases_lt n (length ss)) where
-    one : (n < length ss) ⊎ (length ss ≤ n) → AreStretches p (drop n ss) × (choices_from p (drop n ss) ≡ drop p (choices_from 0 ss))
-    one (inl h) = let over : p < (get_or ss n no_stretch).past = omega (arith, is.next h, next n h) in rw (at n h) ((over, (rest n h).1), dropped n h p is.begin (omega (arith, over)))
-    one (inr h) = rw (drop_all n ss h) (tt, sym (drop_all p (choices_from 0 ss) (omega (arith, is.begin, whole n h))))
+  from_on p n is = search (rules, cases_lt, next, at, rest, dropped, drop_all, whole)
 
 pub part_on : (ss left : List Stretch) (first past n : ℕ) → AreStretches 0 ss → IsOverBy ss first n → first ≤ past → past ≤ length (choices_from 0 ss) → left ≡ drop n ss → IsPart left first past × (choices_from first left ≡ drop first (choices_from 0 ss))
 part_on ss left first past n j is order most e =
@@ -182,13 +152,10 @@ stepped m p s ss j h l = one (cases_lt p s.past) where
 -- ---- a part without its first stretch
 
 some_left : (m : ℕ) (cs : List Choice) (c : Choice) → slice_get (take m cs) 0 ≡ Some c → 0 < m
-some_left zero cs c e = cc
-some_left (suc m) cs c e = omega arith
+some_left m cs c h3 = grind (arith)
 
 front_choice : (m n : ℕ) (c : Choice) (rest : List Choice) → 0 < m → 0 < n → slice_get (take m (replicate n c ++ rest)) 0 ≡ Some c
-front_choice zero n c rest h l = absurd (omega (arith, h))
-front_choice (suc m) zero c rest h l = absurd (omega (arith, l))
-front_choice (suc m) (suc n) c rest h l = refl
+front_choice m n c rest h4 h5 = grind (arith, rest)
 
 pub skipped : (ss : List Stretch) (first past until : ℕ) (choice : Choice) → IsPart ss first past → slice_get (take (past - first) (choices_from first ss)) 0 ≡ Some choice → until ≡ min past (get_or ss 0 no_stretch).past
     → IsPart (behind until ss) until past × GoesOn choice (take (past - first) (choices_from first ss)) (take (past - until) (choices_from until (behind until ss)))

@@ -1,6 +1,5 @@
-use Rattle.bx_plan.proofs.Words.{◌≡◌, ◌+◌, ◌-◌, ◌<◌, ◌≤◌, zero, suc, ℕ, List, [], ◌∷◌, ◌++◌, length, reverse, refl, sym, ap, subst, ◌∙◌, arith, reverse-append, chain_path, IsCut, AllCuts, placed, Grown, choices_of}
+use Rattle.bx_plan.proofs.Words.{◌≡◌, ◌+◌, ◌-◌, ◌<◌, ◌≤◌, zero, suc, ℕ, List, [], ◌∷◌, ◌++◌, length, reverse, refl, sym, ap, subst, ◌∙◌, arith, reverse-append, AllCuts, placed, Grown, choices_of, common_steps, length-reverse}
 use Rattle.bx_plan.proofs.Words.{lines_view}
-use Rattle.std.proofs.lemmas.List.{length-reverse}
 use Rattle.bx_plan.proofs.Commons.{common_short, taken_alike}
 use Rattle.bx_plan.proofs.Cutting.{cuts_over, cuts_within, next_cut, no_cuts, NextCut}
 use Rattle.bx_plan.proofs.Growing.{begin_cut, end_cut, grown_more, inside_cut}
@@ -31,10 +30,7 @@ pub up_to-above-requires-clause-within : goal.up_to-above-requires-clause-within
 up_to-above-requires-clause-within c = up_to-within _ _ c.loop-first.first c.loop-first.invariant.grown.last
 
 pub up_to-above-requires-clause-cut : goal.up_to-above-requires-clause-cut
-up_to-above-requires-clause-cut c =
-    let plan = lines_view c.args.lines.now in
-    let all = c.loop-first.self in
-    subst (IsCut (choices_of plan)) (sym (taken_alike (chain_path plan all (length all.heads - 1)) (placed (choices_of plan) c.args.rows.now c.args.place) c.loop-first.first c.loop-first.invariant.grown.last)) c.loop-first.invariant.begin
+up_to-above-requires-clause-cut c = grind (arith, taken_alike)
 
 pub returns-clause-grown : goal.returns-clause-grown
 returns-clause-grown c =
@@ -46,41 +42,17 @@ returns-clause-grown c =
     subst (λ n. Grown plan rows k n c.loop-first.self) whole is.grown
 
 pub returns-clause-cuts : goal.returns-clause-cuts
-returns-clause-cuts c =
-    let plan = lines_view c.args.lines.now in
-    let rows = c.args.rows.now in
-    let k = c.args.place in
-    let is = c.loop-first.invariant in
-    subst (AllCuts (choices_of plan) rows (length rows - k - 1) (k + 1)) (sym (is.order ∙ cuts_over (choices_of plan) rows c.requires.rows k c.loop-first.first is.steps is.rest is.are (omega (arith, c.length_at-length.ensures, c.loop-first-test.false)))) is.others
+returns-clause-cuts c = grind (arith, common_steps, cuts_over)
 
 zero_or : (n : ℕ) → (0 < n → ⊥) → n ≡ 0
 zero_or zero h = refl
 zero_or (suc n) h = absurd (h (omega arith))
 
 pub unreachable-requires : goal.unreachable-requires
-unreachable-requires c =
-    let plan = lines_view c.args.lines.now in
-    let rows = c.args.rows.now in
-    let k = c.args.place in
-    let at = c.loop-first in
-    let is = at.invariant in
-    let none : length at.cuts.items ≡ 0 = zero_or (length at.cuts.items) (λ h. let some = c.in_default.ensures.variant.1 (omega (arith, h, at.cuts.ok.0)) in cc) in
-    omega (arith, c.loop-first-test.true, c.length_at-length.ensures, no_cuts (choices_of plan) rows c.requires.rows k at.first is.steps is.rest (reverse at.cuts.items) is.are is.order (length-reverse at.cuts.items ∙ none))
+unreachable-requires c = grind (arith, common_steps, zero_or, no_cuts, length-reverse)
 
 pub loop-first-smaller : goal.loop-first-smaller
-loop-first-smaller c =
-    let plan = lines_view c.args.lines.now in
-    let rows = c.args.rows.now in
-    let k = c.args.place in
-    let at = c.loop-first in
-    let is = at.invariant in
-    let past = c.in-Some.past in
-    let left = reverse c.pop.new.self.items in
-    let order : past ∷ left ≡ is.steps ++ is.rest = sym (ap reverse c.in-Some.ensures.items ∙ reverse-append c.pop.new.self.items (past ∷ [])) ∙ is.order in
-    let next : NextCut (choices_of plan) rows c.requires.rows k at.first past is.rest left = next_cut (choices_of plan) rows c.requires.rows k at.first past is.steps is.rest left (omega (arith, c.length_at-length.ensures, c.loop-first-test.true)) is.are order in
-    let within : past ≤ length (placed (choices_of plan) rows k) = cuts_within (choices_of plan) rows c.requires.rows k past next.3 next.4 in
-    let less : c.length_at-length.result - past < c.length_at-length.result - at.first = omega (arith, c.length_at-length.ensures, within, next.0, c.loop-first-test.true) in
-    less
+loop-first-smaller c = grind (arith, reverse-append, next_cut, cuts_within)
 
 pub loop-first-preserved : goal.loop-first-preserved
 loop-first-preserved c =

@@ -1,19 +1,10 @@
-use Rattle.bx_plan.proofs.Words.{◌≡◌, ◌+◌, ◌-◌, length, sym, subst, ◌∙◌, inl, arith, take_all, chain_path, IsCut, common_before, placed, Grown, choices_of, lines_view}
+use Rattle.bx_plan.proofs.Words.{◌≡◌, ◌+◌, ◌-◌, length, sym, subst, ◌∙◌, inl, arith, take_all, chain_path, IsCut, common_before, placed, Grown, choices_of, lines_view, common_steps}
 use Rattle.bx_plan.proofs.Commons.{common_short, taken_alike}
 use Rattle.bx_plan.proofs.Growing.{end_cut, grown_row}
 use Rattle.bx_plan.proofs.chains.Chains.end_row.Goals as goal
 
 pub up_to-chain-requires-clause-within : goal.up_to-chain-requires-clause-within
-up_to-chain-requires-clause-within c =
-    let plan = lines_view c.args.lines.now in
-    let here = placed (choices_of plan) c.args.rows.now c.args.place in
-    let all = c.args.self.now in
-    omega (
-      arith,
-      c.length_at.ensures,
-      c.requires.grown.last,
-      (common_short (chain_path plan all (length all.heads - 1)) here).0,
-    )
+up_to-chain-requires-clause-within c = grind (arith, common_steps, common_short)
 
 pub up_to-chain-requires-clause-cut : goal.up_to-chain-requires-clause-cut
 up_to-chain-requires-clause-cut c =

@@ -1,10 +1,9 @@
-use Rattle.bx_plan.proofs.Words.{◌≡◌, length, sym, subst, arith, common_before, Grown, choices_of, lines_view}
+use Rattle.bx_plan.proofs.Words.{◌≡◌, length, subst, arith, common_before, Grown, choices_of, lines_view, common_steps}
 use Rattle.bx_plan.proofs.Growing.{grown_all}
 use Rattle.bx_plan.proofs.chains.building.all_chains.Goals as goal
 
 pub add_row-requires-clause-grown : goal.add_row-requires-clause-grown
-add_row-requires-clause-grown c =
-    subst (λ n. Grown (lines_view c.args.lines.now) c.args.rows.now c.loop-place.place n c.loop-place.all) (sym (c.requires.commons c.loop-place.place (omega arith))) c.loop-place.invariant.grown
+add_row-requires-clause-grown c = grind (arith, common_steps)
 
 pub returns : goal.returns
 returns c =

@@ -1,4 +1,4 @@
-use Rattle.bx_plan.proofs.Words.{◌≡◌, List, [], ◌∷◌, ℕ, Option, None, Some, append-nil, reverse, refl, sym, ap, ◌∙◌, MatchOption, reverse-append, marked}
+use Rattle.bx_plan.proofs.Words.{◌≡◌, [], ◌∷◌, Option, None, Some, append-nil, reverse, refl, sym, ap, ◌∙◌, MatchOption, reverse-append, marked, arith, common_steps}
 use Rattle.bx_plan.proofs.Cutting.{marked_rise, taken_next}
 use Rattle.bx_plan.proofs.chains.cuts.cut_by.Goals as goal
 
@@ -16,15 +16,4 @@ none_of B None a n = a
 none_of B (Some x) b n = absurd (n x refl)
 
 pub returns : goal.returns
-returns c =
-    let is = c.loop-depth.invariant in
-    let over = none_of _ c.pop_below.result c.pop_below.ensures c.in_default.not-Some in
-    record {
-      kept = c.loop-depth.marks.items;
-      taken = is.taken;
-      all = is.whole;
-      below = over.1;
-      above = is.above;
-      after = c.in_ok-mark-2.ensures ∙ ap (λ (ms : List ℕ). marked ms c.args.common) over.0;
-      order = is.order;
-    }
+returns c = grind (arith, common_steps, none_of)

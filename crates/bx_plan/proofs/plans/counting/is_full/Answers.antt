@@ -1,4 +1,4 @@
-use Rattle.bx_plan.proofs.Words.{◌+◌, length, arith, ap, sym, subst, ◌∙◌, lt-ltb, ltb-true, row_at, choices_of, lines_view}
+use Rattle.bx_plan.proofs.Words.{◌+◌, length, arith, ap, sym, subst, ◌∙◌, lt-ltb, ltb-true, row_at, choices_of, lines_view, common_steps}
 use Rattle.bx_plan.proofs.Counting.{counted_all, counted_next, counted_none, counted_over, line_choices, low_within, IsCounted}
 use Rattle.bx_plan.proofs.plans.counting.is_full.Goals.{then-row-count, else-row-count}
 use Rattle.bx_plan.proofs.plans.counting.is_full.Goals as goal
@@ -7,15 +7,7 @@ pub loop-row-init : goal.loop-row-init
 loop-row-init c = counted_none (choices_of (lines_view c.args.lines.now)) c.args.count c.args.rows.now c.requires.rows
 
 pub overflow_sub-length : goal.overflow_sub-length
-overflow_sub-length c =
-    let schedules = choices_of (lines_view c.args.lines.now) in
-    let k = c.loop-row.row-index in
-    omega (
-      arith,
-      low_within schedules c.args.count c.args.rows.now c.requires.rows k c.loop-row.nodes c.loop-row.common c.min-common.result c.loop-row.invariant (omega arith) c.min-common.ensures,
-      c.len-length.ensures.count,
-      ap length (line_choices c.args.lines.now (row_at c.args.rows.now k).line c.index-lines-row.result (c.requires.rows.within k (omega arith))),
-    )
+overflow_sub-length c = grind (arith, low_within, line_choices)
 
 pub loop-row-preserved : goal.loop-row-preserved
 loop-row-preserved c =
@@ -33,7 +25,4 @@ loop-row-preserved c =
     ]
 
 pub returns : goal.returns
-returns c =
-    let all = counted_all (choices_of (lines_view c.args.lines.now)) c.args.count c.args.rows.now c.requires.rows c.loop-row.row-index (omega arith) in
-    let many = c.loop-row.invariant.many in
-    (λ t. omega (arith, ltb-true 1000000 c.loop-row.nodes t, all, many), λ full. lt-ltb 1000000 c.loop-row.nodes (omega (arith, full, all, many)))
+returns c = grind (arith, common_steps, counted_all, ltb-true, lt-ltb)

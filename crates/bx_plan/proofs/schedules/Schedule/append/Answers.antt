@@ -1,5 +1,4 @@
-use Rattle.bx_plan.proofs.Words.{◌≡◌, ◌<◌, ◌++◌, List, length, take, replicate, sym, ap, subst, ◌∙◌, arith, length-append, length-replicate, Choice, NextRun}
-use Rattle.std.proofs.Math.Seq.{take-append_seam}
+use Rattle.bx_plan.proofs.Words.{◌≡◌, ◌<◌, ◌++◌, List, length, take, replicate, sym, ap, subst, ◌∙◌, arith, length-append, length-replicate, Choice, NextRun, take-append_seam}
 use Rattle.bx_plan.proofs.schedules.Schedule.append.Goals as goal
 
 pub returns-in-Err-clause-err : goal.returns-in-Err-clause-err

@@ -1,5 +1,4 @@
-use Rattle.bx_plan.proofs.Words.{rules, leb, Stretch}
-use Rattle.std.proofs.lemmas.List.Sorted.{IsPartitionPoint-from_clause, IsPartitionedBy-leb}
+use Rattle.bx_plan.proofs.Words.{rules, leb, Stretch, IsPartitionPoint-from_clause, IsPartitionedBy-leb}
 use Rattle.bx_plan.proofs.Stretching.{halved, rising}
 use Rattle.bx_plan.proofs.schedules.stretches.over_by.Goals as goal
 

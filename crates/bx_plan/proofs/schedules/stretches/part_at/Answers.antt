@@ -1,4 +1,4 @@
-use Rattle.bx_plan.proofs.Words.{rules, ◌≡◌, ℕ, ◌+◌, ◌<◌, ◌≤◌, ◌∷◌, List, length, get_or, take, drop, sym, ap, subst, ◌∙◌, arith, insert, get_or_default, length-take-le, take_at, Stretch, choices_from, made_before}
+use Rattle.bx_plan.proofs.Words.{rules, ◌≡◌, ℕ, ◌+◌, ◌<◌, ◌≤◌, ◌∷◌, List, length, get_or, take, drop, sym, ap, subst, ◌∙◌, arith, insert, get_or_default, length-take-le, take_at, Stretch, choices_from, made_before, common_steps}
 use Rattle.bx_plan.proofs.Words.{AreStretches}
 use Rattle.bx_plan.proofs.Edits.{over_at, parted_at, same_there}
 use Rattle.bx_plan.proofs.Stretching.{next, no_stretch, there, within}
@@ -8,11 +8,7 @@ read : (ss : List Stretch) → AreStretches 0 ss → (n p : ℕ) (r : Stretch) �
 read ss j n p r h l e = let here = there ss j n (omega (arith, h, l, within ss j (n + 1))) in (here, e ∙ get_or_default ss n r no_stretch here)
 
 pub returns-in_err-insert-clause-err : goal.returns-in_err-insert-clause-err
-returns-in_err-insert-clause-err c =
-    let ss = c.args.stretches.now.items in
-    let is = read ss c.requires.rising c.args.at c.args.position c.index.result.now c.requires.begin c.requires.end c.index.ensures in
-    let same = same_there ss c.requires.rising c.args.at is.0 c.args.position c.requires.begin (omega (arith, c.if-position-past.true, ap (λ (s : Stretch). s.past) is.1)) in
-    search (rules, same)
+returns-in_err-insert-clause-err c = grind (arith, common_steps, read, same_there)
 
 pub returns-in_ok-insert : goal.returns-in_ok-insert
 returns-in_ok-insert c =
@@ -32,7 +28,4 @@ returns-in_ok-insert c =
     }
 
 pub returns-else-position-past-clause-over : goal.returns-else-position-past-clause-over
-returns-else-position-past-clause-over c =
-    let ss = c.args.stretches.now.items in
-    let is = read ss c.requires.rising c.args.at c.args.position c.index.result.now c.requires.begin c.requires.end c.index.ensures in
-    omega (arith, c.if-position-past.false, ap (λ (s : Stretch). s.past) is.1, next ss c.requires.rising c.args.at is.0, c.requires.end)
+returns-else-position-past-clause-over c = grind (arith, read, next)

@@ -1,9 +1,5 @@
-use Rattle.bx_plan.proofs.Words.{◌≡◌, ◌<◌, ◌≤◌, ◌+◌, List, Option, Result, Err, length, take, sym, ap, subst, ◌∙◌, arith, get_or_default, length-map, Fault, TooLong, Line, Refusal, parts_of, so_far, node_count}
-use Rattle.bx_plan.proofs.Words.{Named, choices_of, plan_of, TakesMemory, line_view, lines_view}
-use Rattle.bx_plan.specs.declared.plans.building.Refusal.TheVariants.{Bad, Twice, Long}
-use Rattle.bx_terms.specs.Outcomes.{Gives}
-use Rattle.bx_plan.specs.Planned.{Planned, schedules}
-use Rattle.bx_plan.specs.Building.{answer_of, fault_of}
+use Rattle.bx_plan.proofs.Words.{◌≡◌, ◌<◌, ◌≤◌, ◌+◌, List, Option, Result, Err, length, take, sym, ap, subst, ◌∙◌, arith, get_or_default, length-map, Fault, TooLong, Line, Refusal, parts_of, so_far, node_count, common_steps, Gives}
+use Rattle.bx_plan.proofs.Words.{Planned, schedules, answer_of, fault_of, Named, choices_of, plan_of, TakesMemory, line_view, lines_view}
 use Rattle.bx_plan.proofs.Adding.{few_all, stands_few, stands_full}
 use Rattle.bx_plan.proofs.plans.building.Builder.finish.Goals as goal
 
@@ -24,11 +20,7 @@ returns-in-None c text is =
     sym (stands_few (so_far self) self.numbers.items (answer_of c.args.refusal (so_far self)) (plan_of text) few is.stands) ∙ ap (λ (o : Option Refusal). answer_of o (so_far self)) c.in-None.is
 
 given : (takes : Type 0) (r : Refusal) (fault : Fault) (said : Result (List Named) Fault) → fault ≡ fault_of r → Err (fault_of r) ≡ said → Gives {X = Planned} {A = List Named} takes (λ plan. schedules plan) (Err fault) said
-given takes r fault said e f = subst (λ (x : Fault). Gives {X = Planned} {A = List Named} takes (λ plan. schedules plan) (Err x) said) (sym e) (one r f) where
-  one : (r : Refusal) → Err (fault_of r) ≡ said → Gives {X = Planned} {A = List Named} takes (λ plan. schedules plan) (Err (fault_of r)) said
-  one (Bad n) f = sym f
-  one (Twice n) f = sym f
-  one (Long n) f = sym f
+given takes r fault said e f = grind (arith, common_steps)
 
 pub returns : goal.returns
 returns c text is =

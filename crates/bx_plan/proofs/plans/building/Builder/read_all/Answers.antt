@@ -1,7 +1,6 @@
-use Rattle.bx_plan.proofs.Words.{◌≡◌, ◌⊎◌, inl, inr, ◌+◌, ◌<◌, List, [], ◌∷◌, ◌++◌, ℕ, Option, Ok, length, sym, ap, subst, arith, Refusal, read_loose, so_far, IsBuilding, Stands, Entry, parts_left, Named, plan_of}
+use Rattle.bx_plan.proofs.Words.{◌≡◌, ◌⊎◌, inl, inr, ◌+◌, ◌<◌, List, [], ◌∷◌, ◌++◌, ℕ, Option, Ok, length, sym, ap, subst, arith, Refusal, read_loose, so_far, IsBuilding, Stands, Entry, parts_left, Named, plan_of, Adds, IsNoted}
 use Rattle.bx_plan.proofs.Words.{with_lines, TakesFirst, TakesMemory, line_of, parts_of}
 use Rattle.std.specs.declared.alloc.AllocError.{AllocError}
-use Rattle.bx_plan.specs.Building.{Adds, IsNoted}
 use Rattle.bx_plan.proofs.Adding.{stands_read, takes_added, takes_more}
 use Rattle.bx_plan.proofs.Running.{parts_few}
 use Rattle.bx_plan.proofs.plans.building.Builder.read_all.Goals as goal

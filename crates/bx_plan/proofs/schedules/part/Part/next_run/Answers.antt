@@ -1,4 +1,4 @@
-use Rattle.bx_plan.proofs.Words.{◌≡◌, ◌+◌, ◌++◌, List, [], ◌∷◌, None, replicate, refl, sym, ap, subst, ◌∙◌, arith, slice_get, both_ways, Choice, NextRun}
+use Rattle.bx_plan.proofs.Words.{◌≡◌, ◌+◌, ◌++◌, List, [], ◌∷◌, None, replicate, refl, sym, ap, ◌∙◌, arith, slice_get, both_ways, Choice, common_steps}
 use Rattle.bx_plan.proofs.Runs.{run_longer, run_taken}
 use Rattle.bx_plan.proofs.schedules.part.Part.next_run.Goals.{then-begins_with, else-begins_with}
 use Rattle.bx_plan.proofs.schedules.part.Part.next_run.Goals as goal
@@ -8,9 +8,7 @@ none_left [] e = refl
 none_left (c ∷ cs) e = cc
 
 pub returns-in_err-choice : goal.returns-in_err-choice
-returns-in_err-choice c =
-    let none = none_left c.args.self.now (sym c.first.ensures ∙ c.in_err-choice.was) in
-    subst (NextRun c.args.self.now c.args.self.now) (sym c.from_residual.ensures) (none, none)
+returns-in_err-choice c = grind (arith, common_steps, none_left)
 
 pub returns : goal.returns
 returns c =

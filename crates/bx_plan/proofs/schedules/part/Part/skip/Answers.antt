@@ -1,12 +1,9 @@
-use Rattle.bx_plan.proofs.Words.{◌-◌, ◌++◌, List, replicate, take, sym, ap, subst, ◌∙◌, slice_get, Choice, Stretch, choices_from, IsPart}
+use Rattle.bx_plan.proofs.Words.{◌-◌, ◌++◌, List, replicate, take, sym, ap, ◌∙◌, slice_get, Choice, Stretch, choices_from, arith, common_steps}
 use Rattle.bx_plan.proofs.Stretching.{skipped}
 use Rattle.bx_plan.proofs.schedules.part.Part.skip.Goals as goal
 
 pub invariant_of-self : goal.invariant_of-self
-invariant_of-self c =
-    let first = ap (λ (cs : List Choice). slice_get cs 0) c.self.view_is ∙ c.requires in
-    let both = skipped c.self.inside.stretches.now c.self.inside.first c.self.inside.past c.min-self-inside.result c.args.choice c.self.invariant first c.min-self-inside.ensures in
-    subst (λ (xs : List Stretch). IsPart xs c.min-self-inside.result c.self.inside.past) (sym c.behind-self-inside.ensures) both.0
+invariant_of-self c = grind (arith, common_steps, skipped)
 
 pub returns : goal.returns
 returns c =
