@@ -1,5 +1,5 @@
 -- The letters of a bare atom: one at a time, and as UTF-8.
-use Rattle.std.proofs.Common.{◌≡◌, ℕ, zero, suc, ◌+◌, ◌/◌, ◌%◌, ◌≤◌, ◌<◌, Bool, true, false, cond, ◌&&◌, eqb, ltb, List, [], ◌∷◌, take, drop, refl, sym, ap, subst, arith}
+use Rattle.std.proofs.Common.{◌≡◌, ℕ, zero, suc, ◌+◌, ◌/◌, ◌%◌, ◌≤◌, ◌<◌, Bool, true, false, cond, eqb, ltb, List, [], ◌∷◌, take, drop, refl, sym, ap, subst, arith}
 use Rattle.std.specs.Str.{IsUtf8}
 use Rattle.std.specs.Char.{encode_utf8}
 use Rattle.std.proofs.lemmas.List.{drop-drop}
@@ -7,42 +7,15 @@ use Rattle.std.proofs.lemmas.Str.{IsUtf8-encode, IsUtf8-append, IsUtf8-nil, enco
 use Rattle.std.proofs.lemmas.Bool.{eqb-true}
 use Rattle.std.proofs.lemmas.Bool.Decides.{nat_tests}
 use Rattle.std.proofs.Math.Utf8.{low_scalar}
-use Rattle.bx_text.specs.Bytes.{begins, is_name, is_accented}
-use Rattle.bx_text.specs.Lexing.{name_len, accent_len, letter_width}
+use Rattle.bx_text.specs.Bytes.{is_name, is_accented}
+use Rattle.bx_text.specs.Lexing.{name_len, letter_width}
 
 -- one letter, and the rest
-by_accent : (v : Bool) (w b c : ℕ) (cs : List ℕ) → cond v 2 0 ≡ suc w → cond v (2 + name_len cs) 0 ≡ suc w + name_len (drop (suc w) (b ∷ c ∷ cs))
-by_accent true w b c cs e =
-    let P : ℕ → Type 0 = λ w. 2 + name_len cs ≡ suc w + name_len (drop (suc w) (b ∷ c ∷ cs)) in
-    let z : suc zero ≡ w = omega arith in subst P z refl
-by_accent false w b c cs e = absurd (omega arith)
-
-by_first : (t u : Bool) (w b : ℕ) (bs : List ℕ) → cond t 1 (cond (u && begins is_accented bs) 2 0) ≡ suc w
-    → cond t (1 + name_len bs) (cond u (accent_len bs) 0) ≡ suc w + name_len (drop (suc w) (b ∷ bs))
-by_first true u w b bs e =
-    let P : ℕ → Type 0 = λ w. 1 + name_len bs ≡ suc w + name_len (drop (suc w) (b ∷ bs)) in
-    let z : zero ≡ w = omega arith in subst P z refl
-by_first false true w b [] e = absurd (omega arith)
-by_first false true w b (c ∷ cs) e = by_accent (is_accented c) w b c cs e
-by_first false false w b bs e = absurd (omega arith)
-
 by_width : (bs : List ℕ) (w : ℕ) → letter_width bs ≡ suc w → name_len bs ≡ suc w + name_len (drop (suc w) bs)
-by_width [] w e = absurd (omega arith)
-by_width (b ∷ bs) w e = by_first (is_name b) (eqb b 195) w b bs e
-
-no_accent : (v : Bool) (n : ℕ) → cond v 2 0 ≡ zero → cond v n 0 ≡ zero
-no_accent true n e = absurd (omega arith)
-no_accent false n e = refl
-
-no_first : (t u : Bool) (bs : List ℕ) (n : ℕ) → cond t 1 (cond (u && begins is_accented bs) 2 0) ≡ zero → cond t n (cond u (accent_len bs) 0) ≡ zero
-no_first true u bs n e = absurd (omega arith)
-no_first false true [] n e = refl
-no_first false true (c ∷ cs) n e = no_accent (is_accented c) (2 + name_len cs) e
-no_first false false bs n e = refl
+by_width bs w e = grind (arith, nat_tests)
 
 pub no_letter : (bs : List ℕ) → letter_width bs ≡ 0 → name_len bs ≡ 0
-no_letter [] e = refl
-no_letter (b ∷ bs) e = no_first (is_name b) (eqb b 195) bs (1 + name_len bs) e
+no_letter bs e = grind (arith, nat_tests)
 
 -- a turn of the count
 pub name_step : (bs : List ℕ) (n w m : ℕ) → w ≡ letter_width (drop n bs) → 0 < w → n + name_len (drop n bs) ≡ m → (n + w) + name_len (drop (n + w) bs) ≡ m

@@ -1,5 +1,5 @@
 -- A term that is passed over ends where it ends when it is built.
-use Rattle.std.proofs.Common.{arith, ◌≡◌, ℕ, zero, suc, ◌+◌, ◌-◌, ◌<◌, Bool, true, false, if◌then◌else◌, List, ◌∷◌, ◌++◌, length, Option, Some, None, Result, Ok, Err, refl, sym, ap, ◌∙◌}
+use Rattle.std.proofs.Common.{arith, ◌≡◌, ℕ, zero, suc, ◌+◌, ◌-◌, ◌<◌, Bool, true, false, if◌then◌else◌, List, ◌++◌, length, Option, Some, None, Result, Ok, Err, refl, sym, ap, ◌∙◌}
 use Rattle.bx_terms.specs.Outcomes.{Gives, ◌>>=◌}
 use Rattle.bx_terms.specs.declared.faults.Fault.{Fault}
 use Rattle.bx_text.specs.Place.{Place}
@@ -7,7 +7,7 @@ use Rattle.bx_text.specs.Token as token
 use Rattle.bx_text.specs.Token.{Body, Lexeme}
 use Rattle.bx_text.specs.Lexing.{lexeme_at}
 use Rattle.bx_text.specs.Tree.{Tree, tuple, list, nil, chain}
-use Rattle.bx_text.specs.Terms.{Reading, Follow, next, span, closed, closes_tuple, closes_list, is_bar, follow_at, want, passed, go_through, parts, parts_at, go_on, many, elements_at, tuple_on, tuple_at, tail_of, tail_at, end_at, rest_on, list_at, letters_of, text_next, texts, texts_on, strings_at, string_at, bracket_by, begin, group_at, term_at}
+use Rattle.bx_text.specs.Terms.{Reading, next, span, closed, closes_tuple, closes_list, follow_at, passed, parts, parts_at, many, elements_at, tuple_on, tuple_at, end_at, rest_on, list_at, letters_of, text_next, texts, texts_on, strings_at, string_at, bracket_by, begin, group_at, term_at}
 use Rattle.bx_text.specs.Passing.{element_passed, tuple_passed, end_passed, list_passed}
 use Rattle.bx_text.specs.Grammar.{IsToken}
 use Rattle.bx_text.proofs.Outcomes.{gives_err, bind_ok}
@@ -18,16 +18,7 @@ use Rattle.bx_text.proofs.Keeping.{followed}
 behind : {A B Q : Type 0} (f : A → Q → B) (r : Result (A × Q) Fault) → passed (r >>= λ x. Ok (f x.0 x.1, x.1)) ≡ passed r
 behind f s = grind arith
 
-placed : {B : Type 0} (f : Place → B) (r : Result Place Fault) → passed (r >>= λ q. Ok (f q, q)) ≡ r
-placed f s = grind arith
-
--- what is made of an element and what follows it, of a tail, and of a list's elements and what ends them
-abbrev with_tree : Tree → Follow → Result (Tree × Follow) Fault
-with_tree t f = Ok (t, f)
-
-abbrev untailed : Tree × Place → Result (Tree × Place) Fault
-untailed x = Ok (tail_of x.0, x.1)
-
+-- what is made of a list's elements and what ends them
 abbrev ended : List Tree → Tree × Place → Result (Tree × Place) Fault
 ended ts y = Ok (chain ts y.0, y.1)
 
@@ -37,27 +28,16 @@ listed l x = Ok (list (span l x.1) x.0, x.1)
 abbrev nothing : Lexeme → Result (Tree × Place) Fault
 nothing m = Ok (nil, m.after)
 
-elements_on : (term : Reading) (k : ℕ) → ((n : Lexeme) → passed (many term k n) ≡ parts (element_passed term) k n) → (t : Tree) (r : Result Follow Fault)
-    → passed ((r >>= with_tree t) >>= λ x. go_on (many term k) x.0 x.1) ≡ (r >>= go_through (parts (element_passed term) k))
-elements_on term k more t (Ok (next n)) = behind (λ ts m. t ∷ ts) (many term k n) ∙ more n
-elements_on term k more t s = refl
-
-elements_by : (term : Reading) (k : ℕ) → ((n : Lexeme) → passed (many term k n) ≡ parts (element_passed term) k n) → (r : Result (Tree × Place) Fault)
-    → passed ((r >>= λ x. follow_at x.1 >>= with_tree x.0) >>= λ x. go_on (many term k) x.0 x.1) ≡ (passed r >>= follow_at >>= go_through (parts (element_passed term) k))
-elements_by term k more (Ok x) = elements_on term k more x.0 (follow_at x.1)
-elements_by term k more (Err e) = refl
-
 elements_are : (term : Reading) (k : ℕ) (l : Lexeme) → passed (many term k l) ≡ parts (element_passed term) k l
 elements_are term zero l = refl
-elements_are term (suc k) l = elements_by term k (elements_are term k) (term l)
+elements_are term (suc k) l = grind (arith, elements_are term k)
 
 all_are : (term : Reading) (m : Lexeme) → passed (elements_at term m) ≡ parts_at (element_passed term) m
 all_are term m = elements_are term (length m.after.rest + 1) m
 
 -- tuples
 tuple_by : (l : Lexeme) (r : Result (List Tree × Lexeme) Fault) → passed (r >>= λ x. closed closes_tuple x.1 >>= λ q. Ok (tuple (span l q) (chain x.0 nil), q)) ≡ (passed r >>= closed closes_tuple)
-tuple_by l (Ok x) = placed (λ q. tuple (span l q) (chain x.0 nil)) (closed closes_tuple x.1)
-tuple_by l (Err e) = refl
+tuple_by l r = grind arith
 
 tuple_from : (term : Reading) (l m : Lexeme) (b : Bool)
     → passed (if b then Ok (tuple (span l m.after) nil, m.after) else (elements_at term m >>= λ x. closed closes_tuple x.1 >>= λ q. Ok (tuple (span l q) (chain x.0 nil), q)))
@@ -74,25 +54,9 @@ tuple_is : (term : Reading) (l : Lexeme) → passed (tuple_at term l) ≡ tuple_
 tuple_is term l = tuple_begun term l (lexeme_at l.after)
 
 -- lists
-tail_by : (r : Result (Tree × Place) Fault) → passed ((r >>= untailed) >>= λ x. lexeme_at x.1 >>= closed closes_list >>= λ q. Ok (x.0, q)) ≡ (passed r >>= want closes_list)
-tail_by (Ok x) = placed (λ q. tail_of x.0) (want closes_list x.1)
-tail_by (Err e) = refl
-
-bar_by : (term : Reading) (r : Result Lexeme Fault) → passed (r >>= tail_at term >>= λ x. lexeme_at x.1 >>= closed closes_list >>= λ q. Ok (x.0, q)) ≡ (passed (r >>= term) >>= want closes_list)
-bar_by term (Ok n) = tail_by (term n)
-bar_by term (Err e) = refl
-
-end_from : (term : Reading) (m : Lexeme) (b : Bool)
-    → passed (if b then (lexeme_at m.after >>= tail_at term >>= λ x. lexeme_at x.1 >>= closed closes_list >>= λ q. Ok (x.0, q)) else (closed closes_list m >>= λ q. Ok (nil, q)))
-    ≡ (if b then (passed (lexeme_at m.after >>= term) >>= want closes_list) else closed closes_list m)
-end_from term m true = bar_by term (lexeme_at m.after)
-end_from term m false = placed (λ q. nil) (closed closes_list m)
-
 rest_by : (term : Reading) (l : Lexeme) (r : Result (List Tree × Lexeme) Fault)
     → passed ((r >>= λ x. end_at term x.1 >>= ended x.0) >>= listed l) ≡ (passed r >>= end_passed term)
-rest_by term l (Ok x) =
-    behind (λ t q. list (span l q) t) (end_at term x.1 >>= ended x.0) ∙ behind (λ t q. chain x.0 t) (end_at term x.1) ∙ end_from term x.1 (is_bar x.1.token)
-rest_by term l (Err e) = refl
+rest_by term l r = grind arith
 
 list_from : (term : Reading) (l m : Lexeme) (b : Bool)
     → passed ((if b then nothing m else (elements_at term m >>= λ x. end_at term x.1 >>= ended x.0)) >>= listed l)

@@ -1,5 +1,5 @@
 -- Tails of lists, whose own elements and tail go on with the list's.
-use Rattle.std.proofs.Common.{◌≡◌, ℕ, suc, Bool, true, false, List, ◌++◌, Result, Ok, Err, refl, sym, ap, ◌∙◌, subst, if◌then◌else◌}
+use Rattle.std.proofs.Common.{arith, ◌≡◌, ℕ, suc, true, false, List, Result, Ok, Err, refl, sym, ap, ◌∙◌, subst}
 use Rattle.bx_terms.specs.Outcomes.{Gives, ◌>>=◌}
 use Rattle.bx_terms.specs.declared.faults.Fault.{Fault}
 use Rattle.bx_text.specs.Place.{Place}
@@ -7,54 +7,24 @@ use Rattle.bx_text.specs.Token as token
 use Rattle.bx_text.specs.Token.{Token, Lexeme}
 use Rattle.bx_text.specs.Tree.{Tree, list, nil, chain}
 use Rattle.bx_text.specs.Lexing.{lexeme_at}
-use Rattle.bx_text.specs.Terms.{Reading, span, closed, closes_list, is_bar, spells_list, elements_at, tail_of, tail_at, end_at, rest_on, rest_at, strings_at, bracket_by, begin_by, begin, group_at, term_at}
+use Rattle.bx_text.specs.Terms.{Reading, span, closes_list, is_bar, spells_list, elements_at, tail_of, tail_at, end_at, rest_at, strings_at, bracket_by, begin_by, begin, group_at, term_at}
 use Rattle.bx_text.specs.Rows.{prefixed, chained, closing, splicing}
 use Rattle.bx_text.specs.Grammar.{Spells, strings, empty_list, a_list, a_list_with_tail}
-use Rattle.bx_text.proofs.Outcomes.{ok_same, gives_err}
+use Rattle.bx_text.proofs.Outcomes.{gives_err}
 use Rattle.bx_text.proofs.Rows.{chain_append}
 use Rattle.bx_text.proofs.Sound.{sound}
 
-then_chained : (xs zs : List Tree) (r : Result (Tree × Place) Fault) → chained xs (r >>= λ y. Ok (chain zs y.0, y.1)) ≡ chained (xs ++ zs) r
-then_chained xs zs (Ok y) = ap (λ t. Ok (t, y.1)) (chain_append xs zs y.0)
-then_chained xs zs (Err e) = refl
-
 rest_then : (xs ys : List Tree) (ends : Lexeme → Result (Tree × Place) Fault) (r : Result (List Tree × Lexeme) Fault) (m : Lexeme) → prefixed xs r ≡ Ok (ys, m)
     → chained ys (ends m) ≡ chained xs (r >>= λ x. ends x.1 >>= λ y. Ok (chain x.0 y.0, y.1))
-rest_then xs ys ends (Ok x) m h =
-    let same = ok_same {A = List Tree × Lexeme} (xs ++ x.0, x.1) (ys, m) h in
-    let row : xs ++ x.0 ≡ ys = ap (λ p. p.0) same in
-    let last : x.1 ≡ m = ap (λ p. p.1) same in
-    ap (λ l. chained l (ends m)) (sym row) ∙ ap (λ n. chained (xs ++ x.0) (ends n)) (sym last) ∙ sym (then_chained xs x.0 (ends x.1))
-rest_then xs ys ends (Err e) m h = cc
-
-rest_is : (term : Reading) (p : Place) (m : Lexeme) → lexeme_at p ≡ Ok m → closes_list m.token ≡ false
-    → rest_at term p ≡ (elements_at term m >>= λ x. end_at term x.1 >>= λ y. Ok (chain x.0 y.0, y.1))
-rest_is term p m e f =
-    ap (λ r. r >>= rest_on term) e
-    ∙ ap (λ (b : Bool). if b then Ok (nil, m.after) else (elements_at term m >>= λ x. end_at term x.1 >>= λ y. Ok (chain x.0 y.0, y.1))) f
+rest_then xs ys ends r m h = grind (arith, chain_append)
 
 -- behind a list's elements
 pub rest_from : (xs ys : List Tree) (term : Reading) (p : Place) (first m : Lexeme) → lexeme_at p ≡ Ok first → closes_list first.token ≡ false
     → prefixed xs (elements_at term first) ≡ Ok (ys, m) → chained ys (end_at term m) ≡ chained xs (rest_at term p)
-rest_from xs ys term p first m e f h = rest_then xs ys (end_at term) (elements_at term first) m h ∙ ap (chained xs) (sym (rest_is term p first e f))
-
-place_on : (xs : List Tree) (t : Tree) (r : Result Place Fault) → (r >>= λ q. Ok (chain xs t, q)) ≡ chained xs (r >>= λ q. Ok (t, q))
-place_on xs t (Ok q) = refl
-place_on xs t (Err e) = refl
-
-tail_on : (xs : List Tree) (k : Place → Result Place Fault) (r : Result (Tree × Place) Fault) → (chained xs r >>= λ x. k x.1 >>= λ q. Ok (x.0, q)) ≡ chained xs (r >>= λ x. k x.1 >>= λ q. Ok (x.0, q))
-tail_on xs k (Ok x) = place_on xs x.0 (k x.1)
-tail_on xs k (Err e) = refl
-
-bar_on : (xs : List Tree) (f : Lexeme → Result (Tree × Place) Fault) (k : Place → Result Place Fault) (r : Result Lexeme Fault)
-    → (r >>= λ l. chained xs (f l) >>= λ x. k x.1 >>= λ q. Ok (x.0, q)) ≡ chained xs (r >>= f >>= λ x. k x.1 >>= λ q. Ok (x.0, q))
-bar_on xs f k (Ok l) = tail_on xs k (f l)
-bar_on xs f k (Err e) = refl
+rest_from xs ys term p first m e f h = rw (e, f) (rest_then xs ys (end_at term) (elements_at term first) m h)
 
 pub closing_is : (xs : List Tree) (term : Reading) (m : Lexeme) → is_bar m.token ≡ true → closing xs term m ≡ chained xs (end_at term m)
-closing_is xs term m e =
-    bar_on xs (tail_at term) (λ p. lexeme_at p >>= closed closes_list) (lexeme_at m.after)
-    ∙ ap (λ (b : Bool). chained xs (if b then (lexeme_at m.after >>= tail_at term >>= λ x. lexeme_at x.1 >>= closed closes_list >>= λ q. Ok (x.0, q)) else (closed closes_list m >>= λ q. Ok (nil, q)))) (sym e)
+closing_is xs term m e = grind arith
 
 -- the steps of these readers, by name
 abbrev untailed : Tree × Place → Result (Tree × Place) Fault
@@ -78,8 +48,7 @@ no_list (a_list_with_tail e n r b g s h c) f = let both = sym (ap spells_list e)
 no_list s f = refl
 
 untailed_is : (r : Result (Tree × Place) Fault) → ((x : Tree × Place) → r ≡ Ok x → tail_of x.0 ≡ x.0) → (r >>= untailed) ≡ r
-untailed_is (Ok x) h = ap (λ t. Ok (t, x.1)) (h x refl)
-untailed_is (Err e) h = refl
+untailed_is r h = grind arith
 
 pub improper_is : (d : ℕ) (l : Lexeme) → spells_list l.token ≡ false → term_at d l ≡ tail_at (term_at d) l
 improper_is d l e = sym (untailed_is (term_at d l) (λ x h. no_list (sound d l x h) e))
@@ -94,13 +63,11 @@ improper_gives T tree xs p (Err f) d l e h =
 -- a list goes on behind what was found
 text_on : (xs : List Tree) (l : Lexeme) (r : Result (List Tree × Place) Fault)
     → (prefixed xs r >>= row_done) ≡ chained xs ((r >>= text_done l) >>= untailed)
-text_on xs l (Ok x) = ap (λ t. Ok (t, x.1)) (sym (chain_append xs x.0 nil))
-text_on xs l (Err e) = refl
+text_on xs l r = grind (arith, chain_append)
 
 list_on : (xs : List Tree) (l : Lexeme) (r : Result (Tree × Place) Fault)
     → chained xs r ≡ chained xs ((r >>= list_done l) >>= untailed)
-list_on xs l (Ok x) = refl
-list_on xs l (Err e) = refl
+list_on xs l r = grind arith
 
 pub splicing_is : (xs : List Tree) (d : ℕ) (l : Lexeme) → spells_list l.token ≡ true → splicing xs (term_at d) l l.token ≡ chained xs (tail_at (term_at (suc d)) l)
 splicing_is xs d l e = by_token l.token refl e

@@ -1,5 +1,5 @@
 -- Which form is refused, and with which fault.
-use Rattle.std.proofs.Common.{◌≡◌, ℕ, List, [], ◌∷◌, Option, Result, Ok, Err, refl, sym, ap, ◌∙◌, subst, ◌↔◌}
+use Rattle.std.proofs.Common.{arith, ◌≡◌, ℕ, List, [], ◌∷◌, Option, Result, Ok, Err, refl, sym, ap, ◌∙◌, subst, ◌↔◌}
 use Rattle.std.proofs.lemmas.Bool.{cond_both}
 use Rattle.bx_terms.specs.Outcomes.{◌>>=◌}
 use Rattle.bx_terms.specs.declared.faults.Fault.{Fault}
@@ -60,8 +60,7 @@ sentence_goes d p f = subst (λ r. (r ≡ Err f) ↔ Refused (Sentence d) p f) (
     first = then (a_term d ∷ []) (term_at d) (next_at p) (λ l q n c. from_token q l n (terms_go d q l n))
 
     split : (r : Result Lexeme Fault) → (r >>= form_by d) ≡ (r >>= term_at d >>= λ x. lexeme_at x.1 >>= stopped x.0)
-    split (Ok l) = refl
-    split (Err g) = refl
+    split r = grind arith
 
 -- a form
 blank_or : (p : Place) (f : Fault) → form_at p ≡ Err f → OnlyBlanks p → ⊥

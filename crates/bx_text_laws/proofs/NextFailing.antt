@@ -31,10 +31,8 @@ fails p f h = by (skip p) refl
         inr (q, passed, failed.0, failed.1)
 
 refused : (p : Place) (f : Fault) → NextFails p f → lexeme_at p ≡ Err f
-refused p f (inl spoilt) = ap (λ r. r >>= lexeme_from) ((blanks_fail p f).1 spoilt)
-refused p f (inr (q, passed, none, failed)) =
-    ap (λ r. r >>= lexeme_from) ((skipped_is_blank p q).1 passed)
-    ∙ ap (λ r. r >>= λ x. Ok (standing q x)) ((fails_by_its_bytes q f).1 (none, failed))
+refused p f (inl spoilt) = rw ((blanks_fail p f).1 spoilt) refl
+refused p f (inr (q, passed, none, failed)) = rw ((skipped_is_blank p q).1 passed, (fails_by_its_bytes q f).1 (none, failed)) refl
 
 pub next_fails : (p : Place) (f : Fault) → (lexeme_at p ≡ Err f) ↔ NextFails p f
 next_fails p f = (fails p f, refused p f)

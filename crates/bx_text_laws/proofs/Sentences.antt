@@ -47,16 +47,8 @@ IsBare (token.atom b) = ⊥
 IsBare (token.text b) = ⊥
 IsBare t = Unit {0}
 
-plain_is : (t : Token) → IsBare t → meant t ≡ t
-plain_is t b = grind arith
-
-bare_is : (u v : Token) → IsBare v → meant u ≡ v → u ≡ v
-bare_is (token.atom b) v k e = absurd (subst IsBare (sym e) k)
-bare_is (token.text b) v k e = absurd (subst IsBare (sym e) k)
-bare_is u v k e = e
-
 bare : {u v k : Token} → meant u ≡ meant v → u ≡ k → IsBare k → v ≡ k
-bare {v = v} {k = k} e t b = bare_is v k b (sym e ∙ ap meant t ∙ plain_is k b)
+bare {u} {v} {k} e t b = grind arith
 
 a_name : {u v : Token} {b : Body} → meant u ≡ meant v → u ≡ token.atom b → (c : Body) × (v ≡ token.atom c) × (spelled c ≡ spelled b)
 a_name {v = v} {b = b} e t = atom_meant v (spelled b) (sym e ∙ ap meant t)

@@ -35,9 +35,11 @@ pub Node::same-returns-else-same_tails : goal.Node::same-returns-else-same_tails
 Node::same-returns-else-same_tails t c =
     let here = c.in-List-List in
     let ends = c.same_tails.ensures in
-    let told = c.if-same_tails.false in
-    (λ e. cc, λ e. ends.same.1 (same_ends c.self.inside.span c.other.inside.span here.xs.items here.ys.items (tail_tree here.tail) (tail_tree here.other_tail) _ _ (sym (ap (form_tree c.self.inside.span) here.is-0) ∙ c.self.view_is)
-    (sym (ap (form_tree c.other.inside.span) here.is-1) ∙ c.other.view_is) ends.ends.0 ends.ends.1 e))
+    let told = c.if-same_tails.false in (
+      λ e. cc,
+      λ e. ends.same.1 (same_ends c.self.inside.span c.other.inside.span here.xs.items here.ys.items (tail_tree here.tail) (tail_tree here.other_tail) _ _ (sym (ap (form_tree c.self.inside.span) here.is-0) ∙ c.self.view_is)
+          (sym (ap (form_tree c.other.inside.span) here.is-1) ∙ c.other.view_is) ends.ends.0 ends.ends.1 e),
+    )
 
 pub Node::same-same_tails-requires-in-List-Text : goal.Node::same-same_tails-requires-in-List-Text
 Node::same-same_tails-requires-in-List-Text t c =
@@ -62,9 +64,11 @@ pub Node::same-returns-else-same_tails-2 : goal.Node::same-returns-else-same_tai
 Node::same-returns-else-same_tails-2 t c =
     let here = c.in-List-Text in
     let ends = c.same_tails-in-List-Text.ensures in
-    let told = c.if-same_tails-2.false in
-    (λ e. cc, λ e. ends.same.1 (same_ends c.self.inside.span c.other.inside.span here.xs.items here.ys.value (tail_tree here.tail) nil _ _ (sym (ap (form_tree c.self.inside.span) here.is-0) ∙ c.self.view_is)
-    (sym (ap (form_tree c.other.inside.span) here.is-1) ∙ c.other.view_is) ends.ends.0 ends.ends.1 e))
+    let told = c.if-same_tails-2.false in (
+      λ e. cc,
+      λ e. ends.same.1 (same_ends c.self.inside.span c.other.inside.span here.xs.items here.ys.value (tail_tree here.tail) nil _ _ (sym (ap (form_tree c.self.inside.span) here.is-0) ∙ c.self.view_is)
+          (sym (ap (form_tree c.other.inside.span) here.is-1) ∙ c.other.view_is) ends.ends.0 ends.ends.1 e),
+    )
 
 pub Node::same-returns-then-same_tails-3 : goal.Node::same-returns-then-same_tails-3
 Node::same-returns-then-same_tails-3 t c =
@@ -77,9 +81,11 @@ pub Node::same-returns-else-same_tails-3 : goal.Node::same-returns-else-same_tai
 Node::same-returns-else-same_tails-3 t c =
     let here = c.in-Text-List in
     let ends = c.same_tails-in-Text-List.ensures in
-    let told = c.if-same_tails-3.false in
-    (λ e. cc, λ e. ends.same.1 (same_ends c.self.inside.span c.other.inside.span here.xs.value here.ys.items nil (tail_tree here.tail) _ _ (sym (ap (form_tree c.self.inside.span) here.is-0) ∙ c.self.view_is)
-    (sym (ap (form_tree c.other.inside.span) here.is-1) ∙ c.other.view_is) ends.ends.0 ends.ends.1 e))
+    let told = c.if-same_tails-3.false in (
+      λ e. cc,
+      λ e. ends.same.1 (same_ends c.self.inside.span c.other.inside.span here.xs.value here.ys.items nil (tail_tree here.tail) _ _ (sym (ap (form_tree c.self.inside.span) here.is-0) ∙ c.self.view_is)
+          (sym (ap (form_tree c.other.inside.span) here.is-1) ∙ c.other.view_is) ends.ends.0 ends.ends.1 e),
+    )
 
 pub Node::same-returns-in-Text-Text : goal.Node::same-returns-in-Text-Text
 Node::same-returns-in-Text-Text t c =
