@@ -1,5 +1,5 @@
 -- A string is what begins with a double quote.
-use Rattle.std.proofs.Common.{◌≡◌, ℕ, ◌+◌, Bool, true, false, cond, eqb, List, [], ◌∷◌, length, drop, Option, Some, None, Result, Ok, Err, refl, sym, ap, ◌∙◌, subst, if◌then◌else◌, codes}
+use Rattle.std.proofs.Common.{arith, ◌≡◌, ℕ, ◌+◌, Bool, true, false, cond, eqb, List, [], ◌∷◌, length, drop, Option, Some, None, Result, Ok, Err, refl, sym, ap, ◌∙◌, subst, if◌then◌else◌, codes}
 use Rattle.std.specs.List.{prefix_len}
 use Rattle.std.specs.Str.{bytes_eq}
 use Rattle.std.specs.Str.Lossy.{utf8_valid_len}
@@ -57,8 +57,7 @@ pair_other c k [] p n = tt
 pair_other c k (b ∷ bs) p n = cond_both (eqb b c) _ _ NoText (λ _. n) (λ _. tt)
 
 atom_other : (r : Result (Body × Place) Fault) → NoText (r >>= λ y. Ok (token.atom y.0, y.1))
-atom_other (Ok x) = refl
-atom_other (Err e) = tt
+atom_other r = grind arith
 
 kind_other : (k : Kind) (p : Place) → is_double k ≡ false → NoText (token_by k p)
 kind_other kind.Letter p n = word_other p

@@ -23,8 +23,7 @@ Within n (Ok q) = length q.rest ≤ n
 Within n (Err e) = Unit {0}
 
 one_more : (n : ℕ) (r : Result Place Fault) → Within n r → Within (suc n) r
-one_more n (Ok q) h = omega arith
-one_more n (Err e) h = tt
+one_more n r h = grind arith
 
 -- blanks
 mutual
@@ -106,8 +105,7 @@ quoted_shorter quote p l =
     cond_both (eqb (utf8_valid_len (take n body)) n) _ _ (Shorter {A = Body} (length p.rest)) (λ _. closing_shorter quote p body n (drop n body) l) (λ _. tt)
 
 wrapped : (f : Body → Token) (n : ℕ) (r : Result (Body × Place) Fault) → Shorter n r → Shorter n (r >>= λ y. Ok (f y.0, y.1))
-wrapped f n (Ok x) h = h
-wrapped f n (Err e) h = tt
+wrapped f n r h = grind arith
 
 -- what a byte of a kind begins
 abbrev is_letter : Kind → Bool

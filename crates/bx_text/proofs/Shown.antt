@@ -9,7 +9,7 @@ use Rattle.std.proofs.lemmas.Fmt.{decimal_digit, decimal_step}
 use lib.Signed.{mag}
 use Rattle.bx_text.specs.Bytes.{is_digit}
 use Rattle.bx_text.specs.Number.{decimal, signed, is_large, with_digit}
-use Rattle.bx_text.specs.Tree.{Tree, nil, cons, IsWhole, IsEnd}
+use Rattle.bx_text.specs.Tree.{Tree, IsWhole, IsEnd}
 use Rattle.bx_text.specs.Printed.{is_zero, sign_text, digits_within, whole_decimal, integer_text, node_text, row_text, rest_text}
 use Rattle.bx_text.proofs.Digits.{both, digits_utf8}
 
@@ -159,16 +159,11 @@ shown_utf8 n ds e = digits_utf8 (drop n ds) (digits_left n ds e)
 
 -- a tail stands behind a bar
 pub tail_text : (t : Tree) → IsWhole t → rest_text t ≡ codes "|" ++ node_text t
-tail_text nil w = absurd w
-tail_text (cons t u) w = absurd w
-tail_text s w = refl
+tail_text t w = grind arith
 
 pub tail_ends : (t : Tree) → IsWhole t → IsEnd t
-tail_ends nil w = absurd w
-tail_ends (cons t u) w = absurd w
-tail_ends s w = tt
+tail_ends t w = grind arith
 
 -- a row without elements is its end
 pub end_text : (t : Tree) → IsEnd t → row_text t ≡ rest_text t
-end_text (cons t u) w = absurd w
-end_text s w = refl
+end_text t w = grind arith

@@ -5,18 +5,14 @@ use Rattle.bx_text.specs.Named as named
 use Rattle.bx_text.specs.Token as token
 use Rattle.bx_text_laws.specs.Lexemes.{NextFails}
 use Rattle.bx_text_laws.specs.Faults as faults
-use Rattle.bx_text_laws.specs.Faults.{Bracket, a_tuple, a_list, a_map, a_binary, opening, closing, Wanted, Move, misplaced, too_deep, taken, instead, Meets, Does, Refused}
+use Rattle.bx_text_laws.specs.Faults.{Bracket, opening, closing, Wanted, Move, misplaced, too_deep, taken, instead, Meets, Does, Refused}
 use Rattle.bx_text_laws.proofs.NextFailing.{next_fails}
 use Rattle.bx_text_laws.proofs.Sentences.{given, plainly, step, back}
 use Rattle.bx_text_laws.proofs.Between.{Clean, clean_here, clean_on, clean_token}
 
 -- a token does one thing
 opening_one : (k j : Bracket) → opening k ≡ opening j → k ≡ j
-opening_one a_tuple a_tuple e = refl
-opening_one a_list a_list e = refl
-opening_one a_map a_map e = refl
-opening_one a_binary a_binary e = refl
-opening_one k j e = cc
+opening_one k j e = grind arith
 
 abbrev pub Opens : Token → Type 0
 Opens token.open_tuple = Unit {0}
@@ -29,8 +25,7 @@ pub opens : (k : Bracket) → Opens (opening k)
 opens s = grind arith
 
 no_comma : (k : Bracket) → named.comma ≡ closing k → ⊥
-no_comma a_tuple e = cc
-no_comma k e = cc
+no_comma k e = grind arith
 
 meets_one : {w : Wanted} {t : Token} {m n : Move} → Meets w t m → Meets w t n → m ≡ n
 meets_one (faults.a_bracket k {d = d} e) (faults.a_bracket j f) = ap (λ k. faults.inside d (faults.first_in k)) (opening_one k j (sym e ∙ f))
