@@ -74,12 +74,14 @@ unlike_large s t v f g e p q unlike same = by_form g q unlike (sym (ap (form_tre
     by_form s q unlike same = cc
 
 -- tuples are as their rows, where the rows were told apart
-pub tuples_told : {T : Type 0} (s t : Span) (xs ys vs ws : List Tree) (x y : Tree) → s ≡ t → tuple s (chain xs nil) ≡ x → tuple t (chain ys nil) ≡ y → vs ≡ xs → ws ≡ ys → (T ↔ (vs ≡ ws)) → T ↔ (x ≡ y)
+pub tuples_told : {T : Type 0} (s t : Span) (xs ys vs ws : List Tree) (x y : Tree) → s ≡ t → tuple s (chain xs nil) ≡ x
+    → tuple t (chain ys nil) ≡ y → vs ≡ xs → ws ≡ ys → (T ↔ (vs ≡ ws)) → T ↔ (x ≡ y)
 tuples_told s t xs ys vs ws x y at mine others first second told =
     (λ e. let same : vs ≡ ws = told.0 e in cc, λ e. let rows : chain xs nil ≡ chain ys nil = cc in told.1 (first ∙ (parted xs ys nil nil tt tt rows).0 ∙ sym second))
 
 -- and so are lists with one tail
-pub lists_told : {T : Type 0} (s t : Span) (xs ys vs ws : List Tree) (u v x y : Tree) → s ≡ t → list s (chain xs u) ≡ x → list t (chain ys v) ≡ y → IsEnd u → IsEnd v → u ≡ v → vs ≡ xs → ws ≡ ys → (T ↔ (vs ≡ ws)) → T ↔ (x ≡ y)
+pub lists_told : {T : Type 0} (s t : Span) (xs ys vs ws : List Tree) (u v x y : Tree) → s ≡ t → list s (chain xs u) ≡ x → list t (chain ys v) ≡ y
+    → IsEnd u → IsEnd v → u ≡ v → vs ≡ xs → ws ≡ ys → (T ↔ (vs ≡ ws)) → T ↔ (x ≡ y)
 lists_told s t xs ys vs ws u v x y at mine others p q end first second told =
     (λ e. let same : vs ≡ ws = told.0 e in cc, λ e. let rows : chain xs u ≡ chain ys v = cc in told.1 (first ∙ (parted xs ys u v p q rows).0 ∙ sym second))
 

@@ -84,7 +84,8 @@ texts_so : (k : ℕ) (p : Place) → Yields (λ (x : List Tree × Place). String
 texts_so zero p = no
 texts_so (suc k) p = bound _ (text_so p) (by (texts_so k))
   where
-    by : ((p : Place) → Yields (λ (x : List Tree × Place). Strings p x.0 x.1) (texts k p)) → (o : Option Lexeme) → TextIs p o → Yields (λ (x : List Tree × Place). Strings p x.0 x.1) (texts_on (texts k) p o)
+    by : ((p : Place) → Yields (λ (x : List Tree × Place). Strings p x.0 x.1) (texts k p))
+        → (o : Option Lexeme) → TextIs p o → Yields (λ (x : List Tree × Place). Strings p x.0 x.1) (texts_on (texts k) p o)
     by again None s = yes (no_string s)
     by again (Some l) (n, (w, t)) = bound _ (again l.after) (λ x h. yes (subst (λ ts. Strings p (ts ++ x.0) x.1) (sym (ap (letters_of l) t)) (a_string n t h)))
 
@@ -116,7 +117,8 @@ rows_so : (d : ℕ) → IsSound d → (k : ℕ) (l : Lexeme) → Yields (λ (x :
 rows_so d sound zero l = no
 rows_so d sound (suc k) l = bound _ (element_so d sound l) (λ y x. on (rows_so d sound k) y.0 y.1 x)
   where
-    on : ((l : Lexeme) → Yields (λ (x : List Tree × Lexeme). Row d l x.0 x.1) (many (term_at d) k l)) → (t : Tree) (f : Follow) → (r : Place) × Spells d l t r × Goes r f → Yields (λ (x : List Tree × Lexeme). Row d l x.0 x.1) (go_on (many (term_at d) k) t f)
+    on : ((l : Lexeme) → Yields (λ (x : List Tree × Lexeme). Row d l x.0 x.1) (many (term_at d) k l))
+        → (t : Tree) (f : Follow) → (r : Place) × Spells d l t r × Goes r f → Yields (λ (x : List Tree × Lexeme). Row d l x.0 x.1) (go_on (many (term_at d) k) t f)
     on rows t (next n) (r, s, (m, a, (c, b))) = bound _ (rows n) (λ x w. yes (more s a c b w))
     on rows t (end n) (r, s, (m, a, e)) = yes (subst (Row d l (t ∷ [])) e (one s a))
 
@@ -136,7 +138,8 @@ IsRest d l y = Spells (suc d) l (list (span l y.1) y.0) y.1
 tail_so : (d : ℕ) → IsSound d → (p : Place) → Yields (λ (y : Tree × Place). (k : Lexeme) × (u : Tree) × (lexeme_at p ≡ Ok k) × Spells d k u y.1 × (tail_of u ≡ y.0)) (lexeme_at p >>= tail_at (term_at d))
 tail_so d sound p = read (lexeme_at p) (tail_at (term_at d)) (λ k a. bound _ (sound k) (λ u s. yes (k, u.0, a, s, refl)))
 
-end_so : (d : ℕ) → IsSound d → (l first m : Lexeme) (ts : List Tree) → l.token ≡ token.open_list → lexeme_at l.after ≡ Ok first → Row d first ts m → Yields (λ (y : Tree × Place). IsRest d l (chain ts y.0, y.1)) (end_at (term_at d) m)
+end_so : (d : ℕ) → IsSound d → (l first m : Lexeme) (ts : List Tree) → l.token ≡ token.open_list → lexeme_at l.after ≡ Ok first → Row d first ts m
+    → Yields (λ (y : Tree × Place). IsRest d l (chain ts y.0, y.1)) (end_at (term_at d) m)
 end_so d sound l first m ts t n row =
     cond_both (is_bar m.token) _ _ (Yields (λ (y : Tree × Place). IsRest d l (chain ts y.0, y.1)))
     (λ b. bound _ (tail_so d sound m.after) (λ y (k, u, a, s, e). wanted closes_list y.1 _
