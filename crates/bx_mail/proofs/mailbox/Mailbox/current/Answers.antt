@@ -5,5 +5,4 @@ use Rattle.bx_mail.proofs.Mails.{current_is}
 use Rattle.bx_mail.proofs.mailbox.Mailbox.current.Goals as goal
 
 pub returns : goal.returns
-returns c =
-    c.message_of.ensures ∙ ap (message_of c.self.inside.slots) c.link_behind-link.ensures ∙ current_is _ _ _ _ _ _ _ _ c.self.invariant ∙ ap current c.self.view_is
+returns c = c.message_of.ensures ∙ ap (message_of c.self.inside.slots) c.link_behind-link.ensures ∙ current_is c.self.invariant ∙ ap current c.self.view_is
