@@ -1,37 +1,31 @@
 -- A message that is handed on.
-use Rattle.std.proofs.Common.{◌≡◌, true, false, refl, ap, subst, sym}
+use Rattle.std.proofs.Common.{◌≡◌, true, false, refl, ap}
 use Rattle.std.specs.Prelude.{Bool, Option, Some, None, Result, Ok, Err, option_map}
 use Rattle.std.specs.declared.alloc.AllocError.{AllocError}
 use Rattle.bx_terms.specs.Tree.{Tree}
 use Rattle.bx_mail.specs.Mail.{Mail, added}
 use Rattle.bx_signals.specs.declared.signal.Signal.{Signal}
-use Rattle.bx_signals.specs.declared.signal.Signal.TheVariants.{Message, Link, Unlink, LinkExit, Exit}
+use Rattle.bx_signals.specs.declared.signal.Signal.TheVariants.{Message}
 use Rattle.bx_signals.specs.Handing.{message_of, Hands}
 
 hands_so : (o : Option Tree) (old new : Mail) (P Q same still : Type 0) (r : Result Bool AllocError) → (P → Q) → (same → still) → Hands added o old new P same r → Hands added o old new Q still r
 hands_so (Some m) old new P Q same still (Ok true) f g h = (f h.0, h.1)
-hands_so (Some m) old new P Q same still (Ok false) f g h = h
 hands_so (Some m) old new P Q same still (Err e) f g h = (g h.0, h.1)
-hands_so None old new P Q same still (Ok true) f g h = h
 hands_so None old new P Q same still (Ok false) f g h = (g h.0, h.1)
-hands_so None old new P Q same still (Err e) f g h = h
+hands_so _ old new P Q same still _ f g h = absurd h
 
 -- the same of what the signals are a part of
 pub hands_in : (o p : Option Tree) (old new : Mail) (P Q same still : Type 0) (r : Result Bool AllocError) → o ≡ p → (P → Q) → (same → still) → Hands added o old new P same r → Hands added p old new Q still r
-hands_in o p old new P Q same still r e f g h = subst (λ q. Hands added q old new Q still r) e (hands_so o old new P Q same still r f g h)
+hands_in o p old new P Q same still r e f g h = rw (← e) (hands_so o old new P Q same still r f g h)
 
 -- nothing is handed on where nothing waits
 pub hands_none : (o : Option Tree) (mail : Mail) (P same : Type 0) → o ≡ None → same → Hands added o mail mail P same (Ok false)
-hands_none o mail P same e h = subst (λ q. Hands added q mail mail P same (Ok false)) (sym e) (h, refl)
+hands_none o mail P same e h = rw e (h, refl)
 
 -- what is told of a message
 pub was_message : (o : Option Signal) (m : Tree) → message_of o ≡ Some m → o ≡ Some (Message m)
-was_message None m e = absurd (cc)
 was_message (Some (Message n)) m e = ap (λ (p : Option Tree). option_map Message p) e
-was_message (Some Link) m e = absurd (cc)
-was_message (Some Unlink) m e = absurd (cc)
-was_message (Some (LinkExit t)) m e = absurd (cc)
-was_message (Some (Exit t)) m e = absurd (cc)
+was_message _ m e = cc
 
 module _ {M : Type 0} (adds : M → Tree → M) (old new : M) (P same : Type 0) where
   pub handed : (o : Option Tree) → Hands adds o old new P same (Ok true) → (m : Tree) × (o ≡ Some m) × P × (new ≡ adds old m)

@@ -1,6 +1,6 @@
 -- The pairs of the channels in which something waits, as they are found one after the other.
-use Rattle.std.proofs.Common.{◌≡◌, ◌≢◌, ℕ, ◌+◌, ◌<◌, ◌≤◌, List, [], ◌∷◌, ◌++◌, length, get_or, drop, Result, Ok, Err, refl, sym, ap, ◌∙◌, arith}
-use Rattle.std.proofs.lemmas.List.{length-append}
+use Rattle.std.proofs.Common.{◌≡◌, ◌≢◌, ℕ, ◌+◌, ◌<◌, ◌≤◌, List, [], ◌∷◌, ◌++◌, length, get_or, drop, Result, Ok, Err, refl, ap, arith}
+use Rattle.std.proofs.lemmas.List.{length-append, nil_from_length}
 use Rattle.std.specs.Prelude.{OnErr}
 use Rattle.bx_share.specs.Rows.{rest_at}
 use Rattle.bx_signals.specs.Rows.{Row, pair_if, row_pairs, rows_pairs}
@@ -11,34 +11,22 @@ on_err (Err e) P p = p
 
 -- what goes on behind what was there is not nothing
 pub goes_on : {A : Type 0} (old all done rest : List A) (x : A) → length old ≤ length done → done ++ x ∷ rest ≡ old ++ all → all ≢ []
-goes_on old all done rest x longer is none =
-    let lengths : length (done ++ x ∷ rest) ≡ length (old ++ all) = ap length is in
-    omega (arith, lengths, length-append done (x ∷ rest), length-append old all, ap length none, longer)
+goes_on old all done rest x longer is none = omega (arith, ap length is, length-append done (x ∷ rest), length-append old all, ap length none, longer)
 
 module _ {S : Type 0} where
   pair_some : (p q : ℕ) (ss : List S) → ss ≢ [] → pair_if p q ss ≡ (p, q) ∷ []
   pair_some p q [] some = absurd (some refl)
   pair_some p q (s ∷ ss) some = refl
 
-  row_from : (p at : ℕ) (row : Row S) (line : ℕ × List S) → at < length row → line ≡ get_or row at line → row_pairs p (drop at row) ≡ pair_if p line.0 line.1 ++ row_pairs p (drop (at + 1) row)
-  row_from p at row line here is = ap (row_pairs p) (rest_at row at line here is)
-
   -- a queue in which something waits
   pub pair_found : (p at : ℕ) (row : Row S) (line : ℕ × List S) (done all : List (ℕ × ℕ)) → at < length row → line ≡ get_or row at line → line.1 ≢ [] → done ++ row_pairs p (drop at row) ≡ all
       → done ++ (p, line.0) ∷ row_pairs p (drop (at + 1) row) ≡ all
-  pair_found p at row line done all here is some whole =
-      ap (λ ps. done ++ ps) (sym (row_from p at row line here is ∙ ap (λ ps. ps ++ row_pairs p (drop (at + 1) row)) (pair_some p line.0 line.1 some))) ∙ whole
-
-  rows_drop : (p at : ℕ) (rows : List (Row S)) (row : Row S) → at < length rows → row ≡ get_or rows at row → rows_pairs p (drop at rows) ≡ row_pairs p row ++ rows_pairs (p + 1) (drop (at + 1) rows)
-  rows_drop p at rows row here is = ap (rows_pairs p) (rest_at rows at row here is)
+  pair_found p at row line done all here is some whole = rw (rest_at row at line here is, pair_some p line.0 line.1 some) at whole
 
   -- where a row has some, there are some
   pub row_some : (at : ℕ) (rows : List (Row S)) (row : Row S) (old done all : List (ℕ × ℕ)) → at < length rows → row ≡ get_or rows at row → row_pairs at row ≢ []
       → length old ≤ length done → done ++ rows_pairs at (drop at rows) ≡ old ++ all → all ≢ []
-  row_some at rows row old done all here is some longer whole = go (row_pairs at row) refl
-    where
-      go : (ps : List (ℕ × ℕ)) → row_pairs at row ≡ ps → all ≢ []
-      go [] e = absurd (some e)
-      go (p ∷ ps) e =
-          goes_on old all done (ps ++ rows_pairs (at + 1) (drop (at + 1) rows)) p longer
-          (ap (λ xs. done ++ xs) (sym (rows_drop at at rows row here is ∙ ap (λ xs. xs ++ rows_pairs (at + 1) (drop (at + 1) rows)) e)) ∙ whole)
+  row_some at rows row old done all here is some longer whole none =
+      let left = rows_pairs (at + 1) (drop (at + 1) rows) in
+      let parts = ap length (rw (rest_at rows at row here is) at whole) in
+      some (nil_from_length _ (omega (arith, longer, parts, length-append done (row_pairs at row ++ left), length-append (row_pairs at row) left, length-append old all, ap length none)))

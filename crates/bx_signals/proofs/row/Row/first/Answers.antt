@@ -1,17 +1,12 @@
-use Rattle.std.proofs.Common.{subst, sym, ap, ◌∙◌}
+use Rattle.std.proofs.Common.{sym, ap}
 use Rattle.bx_signals.specs.Waiting.{first}
-use Rattle.bx_signals.specs.Rows.{Row, queue_in, IsGapOf, IsPlaceOf, IsRising}
-use Rattle.bx_signals.specs.declared.signal.Signal.{Signal}
-use Rattle.bx_signals.proofs.Lines.{nothing_first, queue_is}
+use Rattle.bx_signals.proofs.Lines.{queue_missed, queue_is}
 use Rattle.bx_signals.proofs.row.Row.first.Goals as goal
 
 pub returns-in-Ok : goal.returns-in-Ok
 returns-in-Ok c =
-    let row = c.self.inside.lines.items in
-    let place = subst (λ (lines : Row Signal). IsPlaceOf lines c.args.to c.in-Ok.at) c.deref.ensures.value c.in-Ok.ensures.found in
-    c.first.ensures
-    ∙ ap first (sym (queue_is row c.args.to c.in-Ok.at c.index.result.now c.self.invariant place c.index.ensures))
-    ∙ ap (λ (lines : Row Signal). first (Rattle.bx_signals.specs.Rows.queue_in lines c.args.to)) c.self.view_is
+    let place = rw c.deref.ensures.value at c.in-Ok.ensures.found in
+    rw (← c.self.view_is, queue_is c.self.inside.lines.items c.args.to c.in-Ok.at c.index.result.now c.self.invariant place c.index.ensures) c.first.ensures
 
 pub returns-in-Err : goal.returns-in-Err
-returns-in-Err c = nothing_first c.args.self.now c.args.to c.in-Err.field-0 (subst (λ (row : Row Signal). IsGapOf row c.args.to c.in-Err.field-0) (c.deref.ensures.value ∙ c.self.view_is) c.in-Err.ensures.missed)
+returns-in-Err c = sym (ap first (queue_missed c.args.self.now c.args.to c.in-Err.field-0 (rw (c.deref.ensures.value, c.self.view_is) at c.in-Err.ensures.missed)))
