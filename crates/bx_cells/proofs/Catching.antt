@@ -2,9 +2,10 @@
 use Rattle.std.proofs.Common.{◌≡◌, ℕ, zero, suc, ◌<◌, List, [], ◌∷◌, refl, ap, ◌∙◌, arith}
 use Rattle.std.specs.Prelude.{Option, Some, None}
 use Rattle.std.specs.List.{All}
+use Rattle.std.proofs.lemmas.List.Elements.{All-cons}
 use Rattle.bx_terms.specs.declared.places.Place.{Place}
 use Rattle.bx_cells.specs.declared.values.Value.{Value}
-use Rattle.bx_cells.specs.declared.values.Value.TheVariants.{Term, Tag, Trace}
+use Rattle.bx_cells.specs.declared.values.Value.TheVariants.{Tag}
 use Rattle.bx_cells.specs.StackFrame.{StackFrame}
 use Rattle.bx_cells.specs.Stack.{lowest_tag, unwound, caught}
 use Rattle.bx_cells.specs.Tags.{TagAt, HasNoTag, IsLowestTag, IsCaught}
@@ -23,14 +24,12 @@ up c cells place clear t = record {
 
 pub lowest : (cells : List (Option Value)) (place : Place) → lowest_tag cells ≡ Some place → IsLowestTag cells place
 lowest [] place e = cc
-lowest (None ∷ cells) place e = up None cells place (λ l h. cc) (lowest cells place e)
-lowest (Some (Term t) ∷ cells) place e = up (Some (Term t)) cells place (λ l h. cc) (lowest cells place e)
-lowest (Some (Trace c) ∷ cells) place e = up (Some (Trace c)) cells place (λ l h. cc) (lowest cells place e)
 lowest (Some (Tag l) ∷ cells) place e = record {
   y = 0;
   holds = let same : l ≡ place = cc in ap (λ p. Some (Some (Tag p))) same;
   none_lower = λ k other h t. absurd (omega arith);
 }
+lowest (c ∷ cells) place e = up c cells place (λ l h. cc) (lowest cells place e)
 
 -- a row without a lowest tag has none
 higher : (c : Option Value) (cells : List (Option Value)) → ((l : Place) → c ≡ Some (Tag l) → ⊥) → HasNoTag cells → HasNoTag (c ∷ cells)
@@ -39,16 +38,10 @@ higher c cells clear rest (suc y) place t = rest y place t
 
 pub no_lowest : (cells : List (Option Value)) → lowest_tag cells ≡ None → HasNoTag cells
 no_lowest [] e = λ y place t. cc
-no_lowest (None ∷ cells) e = higher None cells (λ l h. cc) (no_lowest cells e)
-no_lowest (Some (Term t) ∷ cells) e = higher (Some (Term t)) cells (λ l h. cc) (no_lowest cells e)
-no_lowest (Some (Trace c) ∷ cells) e = higher (Some (Trace c)) cells (λ l h. cc) (no_lowest cells e)
 no_lowest (Some (Tag l) ∷ cells) e = cc
+no_lowest (c ∷ cells) e = higher c cells (λ l h. cc) (no_lowest cells e)
 
 -- one frame more without a tag
-all_cons : (f : StackFrame) (frames : List StackFrame) → HasNoTag f.cells → All (λ f. HasNoTag f.cells) frames → All (λ f. HasNoTag f.cells) (f ∷ frames)
-all_cons f frames clear rest zero d h = clear
-all_cons f frames clear rest (suc k) d h = rest k d (omega arith)
-
 onto : (f : StackFrame) (frames kept : List StackFrame) (place : Place) → HasNoTag f.cells → IsCaught frames kept place → IsCaught (f ∷ frames) kept place
 onto f frames kept place clear c = record {
   above = f ∷ c.above;
@@ -56,7 +49,7 @@ onto f frames kept place clear c = record {
   below = c.below;
   stack = ap (λ fs. f ∷ fs) c.stack;
   left = c.left;
-  none_above = all_cons f c.above clear c.none_above;
+  none_above = All-cons (λ f. HasNoTag f.cells) f c.above clear c.none_above;
   lowest = c.lowest;
 }
 
@@ -77,7 +70,7 @@ caught_so [] kept place e = cc
 caught_so (f ∷ frames) kept place e = caught_here f frames kept place (caught_so frames kept place) (lowest_tag f.cells) refl e
 
 uncaught_here : (f : StackFrame) (frames : List StackFrame) → (unwound frames ≡ None → All (λ f. HasNoTag f.cells) frames) → (o : Option Place) → lowest_tag f.cells ≡ o → caught o (f ∷ frames) (unwound frames) ≡ None → All (λ f. HasNoTag f.cells) (f ∷ frames)
-uncaught_here f frames rest None clear e = all_cons f frames (no_lowest f.cells clear) (rest e)
+uncaught_here f frames rest None clear e = All-cons (λ f. HasNoTag f.cells) f frames (no_lowest f.cells clear) (rest e)
 uncaught_here f frames rest (Some l) tag e = cc
 
 pub uncaught_so : (frames : List StackFrame) → unwound frames ≡ None → All (λ f. HasNoTag f.cells) frames

@@ -1,7 +1,7 @@
 -- The registers that hold something, listed by rising number.
-use Rattle.std.proofs.Common.{◌≡◌, ℕ, ◌+◌, ◌<◌, ◌≤◌, ◌==◌, List, [], ◌∷◌, length, refl, ap, sym, ◌∙◌, arith, cond, true}
-use Rattle.std.specs.Prelude.{Option, Some, None, nat_lt}
-use Rattle.std.specs.declared.cmp.Ordering.TheVariants.{Less, Equal, Greater}
+use Rattle.std.proofs.Common.{◌≡◌, ℕ, ◌+◌, ◌<◌, ◌≤◌, List, [], ◌∷◌, length, refl, ap, sym, ◌∙◌, arith}
+use Rattle.std.specs.Prelude.{Option, Some, None}
+use Rattle.std.specs.declared.cmp.Ordering.TheVariants.{Less}
 use Rattle.std.specs.Ordering.{nat_cmp}
 use Rattle.std.specs.Cmp.{nat_cmp_total}
 use Rattle.std.specs.FinMap as map
@@ -10,9 +10,6 @@ use Rattle.std.specs.FinMap.Entries.{put, by_order}
 use Rattle.std.proofs.lemmas.Bool.Decides.{nat_tests}
 use Rattle.std.proofs.lemmas.List.{nil_from_length}
 use Rattle.bx_cells.specs.Indexed.{indexed, listed}
-
-less : (a b : ℕ) → a < b → nat_cmp a b ≡ Less
-less a b h = let t : nat_lt a b ≡ true = grind (arith, nat_tests) in ap (λ x. cond x Less (cond (a == b) Equal Greater)) t
 
 -- the first number, where there is one, is above k
 abbrev Above : {A : Type 0} → ℕ → List (ℕ × A) → Type 0
@@ -26,13 +23,10 @@ above_row k n (Some v ∷ cells) h = h
 
 put_first : {A : Type 0} (k : ℕ) (v : A) (es : List (ℕ × A)) → Above k es → put nat_cmp k v es ≡ (k, v) ∷ es
 put_first k v [] a = refl
-put_first k v (e ∷ es) a = ap (λ o. by_order o ((k, v) ∷ e ∷ es) ((e.0, v) ∷ es) (e ∷ put nat_cmp k v es)) (less k e.0 a)
-
-entries_none : {A : Type 0} → map.entries (map.empty {X = A} {R = nat_cmp}) ≡ []
-entries_none {A} = nil_from_length (map.entries (map.empty {X = A} {R = nat_cmp})) (sym (len-entries map.empty) ∙ len-empty nat_cmp A)
+put_first k v (e ∷ es) a = let less : nat_cmp k e.0 ≡ Less = grind (arith, nat_tests) in ap (λ o. by_order o ((k, v) ∷ e ∷ es) ((e.0, v) ∷ es) (e ∷ put nat_cmp k v es)) less
 
 pub entries_listed : {A : Type 0} (n : ℕ) (cells : List (Option A)) → map.entries (indexed n cells) ≡ listed n cells
-entries_listed n [] = entries_none
+entries_listed {A} n [] = nil_from_length _ (sym (len-entries map.empty) ∙ len-empty nat_cmp A)
 entries_listed n (None ∷ cells) = entries_listed (n + 1) cells
 entries_listed n (Some v ∷ cells) =
     entries-insert nat_cmp_total (indexed (n + 1) cells) n v ∙ ap (put nat_cmp n v) (entries_listed (n + 1) cells)
@@ -41,8 +35,8 @@ entries_listed n (Some v ∷ cells) =
 -- no more are listed than lie in the row
 listed_within : {A : Type 0} (n : ℕ) (cells : List (Option A)) → length (listed n cells) ≤ length cells
 listed_within n [] = omega arith
-listed_within n (None ∷ cells) = let rest = listed_within (n + 1) cells in omega (arith, rest)
-listed_within n (Some v ∷ cells) = let rest = listed_within (n + 1) cells in omega (arith, rest)
+listed_within n (None ∷ cells) = omega (arith, listed_within (n + 1) cells)
+listed_within n (Some v ∷ cells) = omega (arith, listed_within (n + 1) cells)
 
 pub within_row : {A : Type 0} (cells : List (Option A)) → length (map.entries (indexed 0 cells)) ≤ length cells
-within_row cells = let rest = listed_within 0 cells in omega (arith, rest, ap length (entries_listed 0 cells))
+within_row cells = omega (arith, listed_within 0 cells, ap length (entries_listed 0 cells))

@@ -21,22 +21,15 @@ held_at (t ∷ terms) (suc n) = held_at terms n
 pub held_terms : (terms : List Tree) (n : ℕ) → map.get (holding terms) n ≡ option_map Term (slice_get terms n)
 held_terms terms n = get_indexed (all_held terms) n ∙ held_at terms n
 
+written : (n : ℕ) (v : Value) (f : StackFrame) (frames after : List StackFrame) (o : Option (Option Value)) → on_top frames (with_cell n v f o) ≡ Ok after → (c : Option Value) × (o ≡ Some c) × (after ≡ record f { cells = slice_set f.cells n (Some v) } ∷ frames)
+written n v f frames after None e = cc
+written n v f frames after (Some c) e = (c, refl, cc)
+
 pub written_y : (n : ℕ) (v : Value) (frames after : List StackFrame) → with_y n v frames ≡ Ok after → y_cell n after ≡ Ok (Some v)
 written_y n v [] after e = cc
-written_y n v (f ∷ frames) after e = go (slice_get f.cells n) refl e
-  where
-    go : (o : Option (Option Value)) → slice_get f.cells n ≡ o → on_top frames (with_cell n v f o) ≡ Ok after → y_cell n after ≡ Ok (Some v)
-    go None past e = cc
-    go (Some c) at e =
-        let same : after ≡ record f { cells = slice_set f.cells n (Some v) } ∷ frames = cc in
-        ap (y_cell n) same ∙ ap there (get_set_same f.cells n (Some v) (slice_get_within f.cells n c at))
+written_y n v (f ∷ frames) after e =
+    let w = written n v f frames after (slice_get f.cells n) e in rw w.2 (ap there (get_set_same f.cells n (Some v) (slice_get_within f.cells n w.0 w.1)))
 
 pub other_y : (n k : ℕ) (v : Value) (frames after : List StackFrame) → with_y n v frames ≡ Ok after → k ≢ n → y_cell k after ≡ y_cell k frames
 other_y n k v [] after e ne = cc
-other_y n k v (f ∷ frames) after e ne = go (slice_get f.cells n) e
-  where
-    go : (o : Option (Option Value)) → on_top frames (with_cell n v f o) ≡ Ok after → y_cell k after ≡ y_cell k (f ∷ frames)
-    go None e = cc
-    go (Some c) e =
-        let same : after ≡ record f { cells = slice_set f.cells n (Some v) } ∷ frames = cc in
-        ap (y_cell k) same ∙ ap there (get_set_other f.cells n k (Some v) ne)
+other_y n k v (f ∷ frames) after e ne = let w = written n v f frames after (slice_get f.cells n) e in rw w.2 (ap there (get_set_other f.cells n k (Some v) ne))

@@ -1,7 +1,6 @@
-use Rattle.std.proofs.Common.{sym, subst, List, ℕ, ◌==◌, rules}
+use Rattle.std.proofs.Common.{◌==◌, rules}
 use Rattle.std.specs.Prelude.{not}
 use Rattle.std.proofs.lemmas.Fn.{filter_same}
-use Rattle.bx_cells.specs.Links.{IsRising}
 use Rattle.bx_cells.proofs.Linked.{rising_kept}
 use Rattle.bx_cells.proofs.links.drop_in.Goals as goal
 
@@ -9,5 +8,4 @@ pub returns-clause-left : goal.returns-clause-left
 returns-clause-left c = filter_same _ (λ q. not (q == c.args.pid)) _ (λ x b q h. search rules) _ _ c.retain.ensures.filtered
 
 pub returns-clause-rising : goal.returns-clause-rising
-returns-clause-rising c =
-    subst (λ (xs : List ℕ). IsRising xs) (sym (filter_same _ (λ q. not (q == c.args.pid)) _ (λ x b q h. search rules) _ _ c.retain.ensures.filtered)) (rising_kept c.args.pid c.args.pids.now.items c.requires)
+returns-clause-rising c = rw (returns-clause-left c) (rising_kept c.args.pid c.args.pids.now.items c.requires)
