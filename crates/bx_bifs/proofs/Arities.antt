@@ -1,13 +1,6 @@
 -- Numbers of arguments.
-use Rattle.std.proofs.Common.{◌≡◌, ℕ, ◌<◌, List, [], ◌∷◌, length, Option, Some, None, refl, sym, arith}
-use Rattle.std.specs.Option.{option_map_or}
-use Rattle.bx_terms.specs.declared.atom_table.AtomId.{AtomId}
-use Rattle.bx_terms.specs.Tree.{Tree}
-use Rattle.bx_ops.specs.declared.guard_bif.Bif.{Bif}
-use Rattle.bx_bifs.specs.declared.given.Given.{Given}
-use Rattle.bx_bifs.specs.Given.{undef}
-use Rattle.bx_bifs.specs.GuardNames.{guard_of}
-use Rattle.bx_bifs.specs.Guards.{guard_gives, named_gives}
+use Rattle.bx_bifs.proofs.Words.{◌≡◌, ℕ, ◌<◌, List, [], ◌∷◌, length, Option, Some, None, refl, sym, arith, option_map_or, AtomId, Tree, Bif, Given, undef}
+use Rattle.bx_bifs.proofs.Words.{guard_of, guard_gives, named_gives}
 
 either_way : (f : Bif → Given) → ((bif : Bif) → f bif ≡ undef) → (o : Option Bif) → undef ≡ option_map_or f o undef
 either_way f same (Some bif) = sym (same bif)

@@ -1,13 +1,7 @@
 -- Lists and tuples that natives build.
-use Rattle.std.proofs.Common.{◌≡◌, ℕ, zero, suc, ◌<◌, ◌≤◌, ℤ, pos, negsuc, ◌<ℤ◌, List, [], ◌∷◌, ◌++◌, length, Option, Some, None, true, false, refl, sym, ap, ◌∙◌, append_assoc, append-nil, arith}
-use Rattle.std.specs.Prelude.{option_map, nat_le, nat_lt, slice_set}
-use Rattle.std.proofs.lemmas.Int.{ints}
-use Rattle.std.proofs.lemmas.Bool.Decides.{nat_tests}
-use Rattle.bx_terms.specs.declared.kinds.Trap.TheVariants.{TermHeight}
-use Rattle.bx_terms.specs.Tree.{Tree, nil, cons, tuple, listed, height}
-use Rattle.bx_bifs.specs.declared.given.Given.TheVariants.{Value, Trap}
-use Rattle.bx_bifs.specs.Given.{badarg}
-use Rattle.bx_bifs.specs.Values.{elements, built, ahead, put_at}
+use Rattle.bx_bifs.proofs.Words.{◌≡◌, ℕ, zero, suc, ◌<◌, ◌≤◌, ℤ, pos, negsuc, ◌<ℤ◌, List, [], ◌∷◌, ◌++◌, length, Option, Some, None, true, false, refl, sym, ap}
+use Rattle.bx_bifs.proofs.Words.{◌∙◌, append_assoc, append-nil, arith, option_map, nat_le, nat_lt, slice_set, ints, nat_tests, TermHeight, Tree, nil, cons}
+use Rattle.bx_bifs.proofs.Words.{tuple, listed, height, Value, Trap, badarg, elements, built, ahead, put_at}
 
 -- those taken already, before those of the rest
 abbrev pub before : List Tree → Option (List Tree) → Option (List Tree)
@@ -18,8 +12,7 @@ one_moved taken t None = refl
 one_moved taken t (Some ts) = ap Some (sym (append_assoc taken (t ∷ []) ts))
 
 pub one_more : (taken new : List Tree) (list head tail : Tree) (all : Option (List Tree)) → list ≡ cons head tail → new ≡ taken ++ head ∷ [] → before taken (elements list) ≡ all → before new (elements tail) ≡ all
-one_more taken new list head tail all is more whole =
-    ap (λ ts. before ts (elements tail)) more ∙ sym (one_moved taken head (elements tail)) ∙ sym (ap (λ t. before taken (elements t)) is) ∙ whole
+one_more taken new list head tail all is more whole = rw (more, ← one_moved taken head (elements tail)) (rw is at whole)
 
 pub at_start : (more : Option (List Tree)) → before [] more ≡ more
 at_start None = refl
@@ -46,9 +39,8 @@ none_ahead t h = let yes : nat_le (height t) 10000 ≡ true = grind (arith, nat_
 
 -- an element in the place of another
 pub put_before : (t : Tree) (ts : List Tree) (place : ℤ) → place <ℤ pos 1 → badarg ≡ put_at place t ts
-put_before t ts (pos zero) h = refl
 put_before t ts (pos (suc n)) h = absurd (omega (arith, ints))
-put_before t ts (negsuc n) h = refl
+put_before t ts _ h = refl
 
 pub put_past : (t : Tree) (ts : List Tree) (n : ℕ) → length ts ≤ n → badarg ≡ put_at (pos (suc n)) t ts
 put_past t ts n h = let no : nat_lt n (length ts) ≡ false = grind (arith, nat_tests) in rw no

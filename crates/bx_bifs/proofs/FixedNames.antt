@@ -1,24 +1,14 @@
 -- The tables by the numbers of the fixed atoms are the tables by texts.
-use Rattle.std.proofs.Common.{◌≡◌, ◌≢◌, ℕ, Bool, true, false, ◌==◌, ◌&&◌, cond, List, [], ◌∷◌, Option, None, Some, slice_get, bytes_eq, codes, refl, sym, ap, ◌∙◌, option_map, option_and_then, if◌then◌else◌}
-use Rattle.std.specs.List.{find}
-use Rattle.std.specs.Option.{option_map_or}
-use Rattle.std.proofs.lemmas.Bool.Decides.{Decides-eqb, same_from_decides}
-use Rattle.std.proofs.lemmas.Slice.Eq.{bytes_eq-Decides}
-use Rattle.bx_terms.specs.declared.atom_table.AtomId.{AtomId}
+use Rattle.bx_bifs.proofs.Words.{◌≡◌, ◌≢◌, ℕ, Bool, true, false, ◌==◌, ◌&&◌, cond, List, [], ◌∷◌, Option, None, Some, slice_get, bytes_eq, codes, refl, sym, ap}
+use Rattle.bx_bifs.proofs.Words.{◌∙◌, option_map, option_and_then, if◌then◌else◌, find, option_map_or, and_right, ne_eqb, Decides-eqb, same_from_decides}
+use Rattle.bx_bifs.proofs.Words.{bytes_eq-Decides, AtomId, Bif, guard_bif, every_guard_bif, guard_bif_with, NativeRow, native_rows, native_named, native_of}
+use Rattle.bx_bifs.proofs.Words.{native_numbered, bif_atom, guard_of, guard_numbered}
 use Rattle.bx_terms.specs.declared.fixed.TheConstants.{ERLANG}
 use Rattle.bx_terms.specs.AtomTable.{IsAtomTable}
 use Rattle.bx_terms.specs.FixedAtoms.{Spells, fixed_atoms}
 use Rattle.bx_terms.proofs.AtomLaws.{fixed_in, distinct}
-use Rattle.bx_ops.specs.declared.guard_bif.Bif.{Bif}
 use Rattle.bx_ops.specs.declared.guard_bif.Bif.TheVariants.{SelfPid}
-use Rattle.bx_ops.specs.GuardBifs.{guard_bif, every_guard_bif, guard_bif_with}
-use Rattle.bx_bifs.specs.Natives.{NativeRow, native_rows, native_named, native_of, native_numbered}
-use Rattle.bx_bifs.specs.GuardNames.{bif_atom, guard_of, guard_numbered}
 use Rattle.bx_bifs.specs.Names.{has_text}
-
-and_false : (b : Bool) → (b && false) ≡ false
-and_false true = refl
-and_false false = refl
 
 -- each row's atom spells its name
 abbrev pub AllSpelled : {Y : Type 0} → (Y → AtomId) → (Y → List ℕ) → List Y → Type 0
@@ -31,28 +21,13 @@ module _ (texts : List (List ℕ)) (table : IsAtomTable texts) where
 
   -- a fixed atom is the one looked at exactly where its name is the text of that one
   pub same_test : (atom : AtomId) (name : List ℕ) → Spells atom name → (a : ℕ) (text : List ℕ) → slice_get texts a ≡ Some text → (atom.0 == a) ≡ bytes_eq name text
-  same_test atom name spells a text at = same_from_decides (atom.0 == a) (bytes_eq name text) (Decides-eqb atom.0 a) (by_text, by_number)
-    where
-      by_text : bytes_eq name text ≡ true → atom.0 ≡ a
-      by_text same = distinct texts table.distinct name atom.0 a (there atom name spells) (at ∙ ap Some (sym ((bytes_eq-Decides name text).0 same)))
-
-      by_number : atom.0 ≡ a → bytes_eq name text ≡ true
-      by_number same =
-          let first : slice_get texts atom.0 ≡ Some name = there atom name spells in
-          let second : slice_get texts atom.0 ≡ Some text = ap (slice_get texts) same ∙ at in
-          let texts_same : name ≡ text = cc in
-          (bytes_eq-Decides name text).1 texts_same
+  same_test atom name spells a text at = same_from_decides (atom.0 == a) (bytes_eq name text) (Decides-eqb atom.0 a) (
+    λ same. distinct texts table.distinct name atom.0 a (there atom name spells) (at ∙ ap Some (sym ((bytes_eq-Decides name text).0 same))),
+    λ same. (bytes_eq-Decides name text).1 (let first = there atom name spells in cc),
+  )
 
   pub no_test : (atom : AtomId) (name : List ℕ) → Spells atom name → (a : ℕ) → slice_get texts a ≡ None → (atom.0 == a) ≡ false
-  no_test atom name spells a at = by (atom.0 == a) refl
-    where
-      by : (b : Bool) → (atom.0 == a) ≡ b → b ≡ false
-      by true e =
-          let first : slice_get texts atom.0 ≡ Some name = there atom name spells in
-          let same : atom.0 ≡ a = (Decides-eqb atom.0 a).0 e in
-          let second : slice_get texts atom.0 ≡ None = ap (slice_get texts) same ∙ at in
-          cc
-      by false e = refl
+  no_test atom name spells a at = ne_eqb atom.0 a (λ same. let first = there atom name spells in cc)
 
   -- an atom has a fixed atom's text exactly where it is that atom
   pub named : (atom : AtomId) (name : List ℕ) → Spells atom name → (home : AtomId) → has_text texts home name ≡ (atom.0 == home.0)
@@ -67,14 +42,12 @@ module _ (texts : List (List ℕ)) (table : IsAtomTable texts) where
         → find (λ y. (arity y == n) && ((atom y).0 == a)) ys ≡ find (λ y. (arity y == n) && bytes_eq (name y) text) ys
     find_same n a text at [] spelled = refl
     find_same n a text at (y ∷ ys) spelled =
-        ap (λ b. cond ((arity y == n) && b) (Some y) (find (λ z. (arity z == n) && ((atom z).0 == a)) ys)) (same_test (atom y) (name y) spelled.0 a text at)
-        ∙ ap (λ r. cond ((arity y == n) && bytes_eq (name y) text) (Some y) r) (find_same n a text at ys spelled.1)
+        rw (same_test (atom y) (name y) spelled.0 a text at, find_same n a text at ys spelled.1)
 
     find_none : (n a : ℕ) → slice_get texts a ≡ None → (ys : List Y) → AllSpelled atom name ys → find (λ y. (arity y == n) && ((atom y).0 == a)) ys ≡ None
     find_none n a at [] spelled = refl
     find_none n a at (y ∷ ys) spelled =
-        ap (λ b. cond b (Some y) (find (λ z. (arity z == n) && ((atom z).0 == a)) ys)) (ap (λ b. (arity y == n) && b) (no_test (atom y) (name y) spelled.0 a at) ∙ and_false (arity y == n))
-        ∙ find_none n a at ys spelled.1
+        rw (no_test (atom y) (name y) spelled.0 a at, and_right (arity y == n) false refl, find_none n a at ys spelled.1)
 
     pub find_by_text : (n a : ℕ) (ys : List Y) → AllSpelled atom name ys
         → find (λ y. (arity y == n) && ((atom y).0 == a)) ys ≡ option_and_then (λ text. find (λ y. (arity y == n) && bytes_eq (name y) text) ys) (slice_get texts a)
@@ -119,8 +92,4 @@ native_by_number texts home function arity table is =
 pub native_elsewhere : (texts : List (List ℕ)) (home function : AtomId) (arity : ℕ) → IsAtomTable texts → home.0 ≢ ERLANG.0 → None ≡ native_of texts home function arity
 unfolding native_of fixed_atoms
 native_elsewhere texts home function arity table is =
-    rw (named texts table ERLANG (codes "erlang") refl home) (by (ERLANG.0 == home.0) refl)
-  where
-    by : (b : Bool) → (ERLANG.0 == home.0) ≡ b → None ≡ (if b then option_and_then (λ name. native_named name arity) (slice_get texts function.0) else None)
-    by true e = absurd (is (sym ((Decides-eqb ERLANG.0 home.0).0 e)))
-    by false e = refl
+    rw (named texts table ERLANG (codes "erlang") refl home, ne_eqb ERLANG.0 home.0 (λ same. is (sym same)))

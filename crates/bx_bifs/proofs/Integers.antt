@@ -1,14 +1,7 @@
 -- Integers within 64 bits.
-use Rattle.std.proofs.Common.{◌≡◌, zero, suc, ℤ, pos, negsuc, Bool, true, false, Option, Some, None, refl, arith, if◌then◌else◌, neg_ℤ, unsigned_abs}
-use Rattle.std.specs.Option.{SomeIff}
-use Rattle.std.specs.Int.{w64}
-use Rattle.std.specs.Prelude.{FitsSigned}
-use Rattle.std.proofs.lemmas.Bool.Decides.{nat_tests}
+use Rattle.bx_bifs.proofs.Words.{◌≡◌, zero, suc, ℤ, pos, negsuc, Option, Some, None, refl, sym, ap, ◌∙◌, arith, neg_ℤ, unsigned_abs, SomeIff, w64, FitsSigned}
+use Rattle.bx_bifs.proofs.Words.{nat_tests, false_from_ne_true, int, Value, fits, integer, computed, integer_of}
 use Rattle.std.specs.Bool.{Decides}
-use Rattle.bx_terms.specs.Tree.{int}
-use Rattle.bx_terms.specs.declared.kinds.Trap.TheVariants.{IntegerRange}
-use Rattle.bx_bifs.specs.declared.given.Given.TheVariants.{Value, Trap}
-use Rattle.bx_bifs.specs.Given.{fits, integer, computed}
 
 pub fits_decides : (z : ℤ) → Decides (fits z) (FitsSigned w64 z)
 fits_decides (pos n) = ((λ e. record { sfits = grind (arith, nat_tests) }), (λ h. let bound = h.sfits in grind (arith, nat_tests)))
@@ -20,12 +13,18 @@ given z h = rw ((fits_decides z).1 h)
 
 -- what was computed exactly where it fits
 pub checked : (r : Option ℤ) (z : ℤ) → SomeIff r (FitsSigned w64 z) z → computed r ≡ integer z
-checked None z h = by (fits z) refl
-  where
-    by : (b : Bool) → fits z ≡ b → Trap IntegerRange ≡ (if b then Value (int z) else Trap IntegerRange)
-    by true e = absurd (h ((fits_decides z).0 e))
-    by false e = refl
+checked None z h = rw (false_from_ne_true (fits z) (λ e. h ((fits_decides z).0 e)))
 checked (Some x) z h = rw h.1 (given z h.0)
+
+pub given_some : (r : Option ℤ) (z k : ℤ) → r ≡ Some k → SomeIff r (FitsSigned w64 z) z → integer z ≡ Value (int k)
+given_some r z k e h = sym (checked r z h) ∙ ap computed e
+
+computed_is : (r : Option ℤ) → integer_of (computed r) ≡ r
+computed_is (Some k) = refl
+computed_is None = refl
+
+pub given_all : (r : Option ℤ) (z : ℤ) → SomeIff r (FitsSigned w64 z) z → integer_of (integer z) ≡ r
+given_all r z h = ap integer_of (sym (checked r z h)) ∙ computed_is r
 
 -- a magnitude fits exactly where the number turned round does
 turned_round : (z : ℤ) → FitsSigned w64 z → FitsSigned w64 (neg_ℤ z) → FitsSigned w64 (pos (unsigned_abs z))

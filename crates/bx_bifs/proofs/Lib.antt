@@ -1,3 +1,4 @@
+pub mod Words
 pub mod FixedNames
 pub mod Integers
 pub mod TwosComplement
@@ -9,5 +10,4 @@ pub mod TermLaws
 pub mod NameLaws
 pub mod Arities
 pub mod Building
-pub mod Fitting
 pub mod Joining

@@ -1,17 +1,10 @@
 -- The laws of the look-ups by name.
-use Rattle.std.proofs.Common.{◌≡◌, ◌↔◌, ℕ, suc, Bool, true, false, ◌==◌, ◌&&◌, cond, List, [], ◌∷◌, Option, Some, None, option_map, option_and_then, slice_get, bytes_eq, codes, refl, sym, ap, ◌∙◌, arith, if◌then◌else◌}
-use Rattle.std.specs.List.{find, Contains}
-use Rattle.std.specs.Option.{option_map_or}
-use Rattle.std.proofs.lemmas.Bool.{and_parts}
-use Rattle.std.proofs.lemmas.Bool.Decides.{Decides-eqb}
-use Rattle.std.proofs.lemmas.Slice.Eq.{bytes_eq-Decides}
-use Rattle.bx_terms.specs.declared.atom_table.AtomId.{AtomId}
-use Rattle.bx_ops.specs.declared.guard_bif.Bif.{Bif}
-use Rattle.bx_ops.specs.GuardBifs.{guard_bif, guard_bif_with}
+use Rattle.bx_bifs.proofs.Words.{◌≡◌, ◌↔◌, ℕ, suc, Bool, true, false, ◌==◌, ◌&&◌, inl, inr, List, [], ◌∷◌, Option, Some, None, option_map, option_and_then}
+use Rattle.bx_bifs.proofs.Words.{slice_get, bytes_eq, codes, refl, sym, ap, ◌∙◌, arith, if◌then◌else◌, find, Contains, option_map_or, and_parts, cases_Bool}
+use Rattle.bx_bifs.proofs.Words.{Decides-eqb, bytes_eq-Decides, AtomId, Bif, guard_bif, guard_bif_with, NativeRow, native_rows, native_named, native_of}
+use Rattle.bx_bifs.proofs.Words.{guard_of}
 use Rattle.bx_ops.proofs.GuardBifLemmas.{guard_bif_finds}
 use Rattle.bx_bifs.specs.declared.natives.Native.{Native}
-use Rattle.bx_bifs.specs.Natives.{NativeRow, native_rows, native_named, native_of}
-use Rattle.bx_bifs.specs.GuardNames.{guard_of}
 
 pub guards_found : (texts : List (List ℕ)) (name : AtomId) (arity : ℕ) (bif : Bif) → (guard_of texts name arity ≡ Some bif)
     ↔ ((slice_get texts name.0 ≡ Some (guard_bif bif).name) × ((guard_bif bif).arity ≡ arity))
@@ -27,15 +20,10 @@ guards_found texts name arity bif = by (slice_get texts name.0)
 -- what is found is in the list and passes the test
 find_finds : {X : Type 0} (test : X → Bool) (xs : List X) (x : X) → find test xs ≡ Some x → Contains xs x × (test x ≡ true)
 find_finds test [] x e = cc
-find_finds {X} test (y ∷ ys) x e = by (find_finds test ys x) (test y) refl e
-  where
-    by : (find test ys ≡ Some x → Contains ys x × (test x ≡ true)) → (b : Bool) → test y ≡ b → cond b (Some y) (find test ys) ≡ Some x → Contains (y ∷ ys) x × (test x ≡ true)
-    by rest true passes is =
-        let same : y ≡ x = cc in
-        ((0, omega arith, same), ap test (sym same) ∙ passes)
-    by rest false fails is =
-        let later = rest is in
-        ((suc later.0.0, omega (arith, later.0.1), later.0.2), later.1)
+find_finds test (y ∷ ys) x e = elim (cases_Bool (test y)) [
+  | inl passes ↦ let same : y ≡ x = cc (rw passes at e) in ((0, omega arith, same), rw same at passes)
+  | inr fails ↦ let later = find_finds test ys x (rw fails at e) in ((suc later.0.0, omega (arith, later.0.1), later.0.2), later.1)
+]
 
 pub rows_alone : (name : List ℕ) (arity : ℕ) (native : Native) → native_named name arity ≡ Some native
     → (r : NativeRow) × Contains native_rows r × (r.name ≡ name) × (r.arity ≡ arity) × (r.native ≡ native)

@@ -127,7 +127,7 @@ pub fn guard_of_two(
 
 /// The integer that the guard BIF gives on two integers, where it gives one.
 #[inline(always)]
-#[tactic(auto, unfolding(crate::specs::Guards::guard_two), using(crate::proofs::Integers::checked, crate::proofs::Fitting::given_some, crate::proofs::Fitting::given_all))]
+#[tactic(auto, unfolding(crate::specs::Guards::guard_two), using(crate::proofs::Integers::checked, crate::proofs::Integers::given_some, crate::proofs::Integers::given_all))]
 pub fn guard_of_integers(_atoms: &Atoms, bif: Bif, m: i64, n: i64) -> Option<i64>
     ensures value { IfSome result (λ k. guard_two _atoms.now bif (int m) (int n) ≡ Value (int k)) }
     ensures all { integer_of (guard_two _atoms.now bif (int m) (int n)) ≡ result }

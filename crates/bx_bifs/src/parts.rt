@@ -50,7 +50,7 @@ pub fn length(list: &Term) -> Option<u32>
 
 /// The number of elements of a tuple, and `None` for any other term.
 #[inline(always)]
-#[tactic(auto, using(crate::proofs::Lists::size_listed))]
+#[tactic(auto, using(bx_terms::proofs::Rows::size_listed))]
 pub fn size(tuple: &Term) -> Option<usize>
     ensures { result ≡ size_of tuple.now }
 {

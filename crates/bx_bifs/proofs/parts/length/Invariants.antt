@@ -1,6 +1,4 @@
-use Rattle.std.proofs.Common.{◌≡◌, ◌+◌, ◌≤◌, option_map}
-use Rattle.bx_terms.specs.Tree.{height}
-use Rattle.bx_bifs.specs.Parts.{length_of}
+use Rattle.bx_bifs.proofs.Words.{◌≡◌, ◌+◌, ◌≤◌, option_map, height, length_of}
 use Rattle.bx_bifs.proofs.parts.length.Given as goal
 
 -- what was counted and what is left make the whole

@@ -1,5 +1,4 @@
-use Rattle.std.proofs.Common.{◌<◌, arith}
-use Rattle.std.proofs.lemmas.Bool.Decides.{nat_tests}
+use Rattle.bx_bifs.proofs.Words.{◌<◌, arith, nat_tests}
 use Rattle.bx_bifs.proofs.Joining.{joined_takes}
 use Rattle.bx_bifs.proofs.values.append.Goals as goal
 

@@ -1,5 +1,4 @@
-use Rattle.std.proofs.Common.{◌≡◌}
-use Rattle.bx_bifs.specs.Values.{elements}
+use Rattle.bx_bifs.proofs.Words.{◌≡◌, elements}
 use Rattle.bx_bifs.proofs.Building.{before}
 use Rattle.bx_bifs.proofs.values.gather.Given as goal
 

@@ -1,5 +1,4 @@
-use Rattle.std.proofs.Common.{◌+◌, ◌≤◌, drop}
-use Rattle.bx_terms.specs.Tree.{listed, height}
+use Rattle.bx_bifs.proofs.Words.{◌+◌, ◌≤◌, drop, listed, height}
 use Rattle.bx_bifs.proofs.values.is_low_as_list.Given as goal
 
 -- the list is low exactly where what is left of it is, below the cells so far

@@ -1,5 +1,4 @@
-use Rattle.std.proofs.Common.{◌≡◌, length}
-use Rattle.bx_bifs.specs.Values.{ahead}
+use Rattle.bx_bifs.proofs.Words.{◌≡◌, length, ahead}
 use Rattle.bx_bifs.proofs.values.put_ahead.Given as goal
 
 -- what is left ahead of the list so far is the whole
