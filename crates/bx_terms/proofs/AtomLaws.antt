@@ -1,33 +1,21 @@
 -- The laws of the table of atoms.
-use Rattle.std.proofs.Common.{◌≡◌, ◌⊎◌, ℕ, zero, suc, ◌<◌, Bool, true, false, not, cond, ◌&&◌, ◌||◌, List, [], ◌∷◌, ◌++◌, length, take, get_or, fold, filter, Option, Some, None, Ok, Err, Result, slice_get, is_none, append-nil, append_assoc, bytes_eq, nat_lt, refl, sym, ◌∙◌, ap, subst, arith, inl, inr, true≢false, if◌then◌else◌}
-use Rattle.std.specs.List.{prefix_len, list_any, IsDistinct}
-use Rattle.std.specs.Str.{is_utf8}
-use Rattle.std.proofs.lemmas.Str.{IsUtf8-from_is_utf8}
-use Rattle.std.proofs.lemmas.Option.{get_or_from_slice_get, slice_get-get_or, slice_get_within}
-use Rattle.std.proofs.lemmas.Bool.{cases_order}
-use Rattle.std.proofs.lemmas.Bool.Decides.{same_from_decides}
-use Rattle.std.proofs.lemmas.List.Elements.{filter_agree}
-use Rattle.std.proofs.lemmas.Slice.Eq.{bytes_eq-Decides}
-use Rattle.std.proofs.lemmas.List.Folds.{list_any_at, list_any-append}
-use Rattle.std.proofs.lemmas.List.Quantifiers.{position-Some}
-use Rattle.std.proofs.lemmas.Map.Keys.{apart_from_distinct, IsDistinct-push}
-use Rattle.std.proofs.lemmas.Cmp.{nat_list_eq_equiv}
+use Rattle.bx_terms.proofs.Words.{◌≡◌, ◌⊎◌, ℕ, zero, suc, ◌<◌, Bool, true, false, not, cond, ◌&&◌, ◌||◌, List, [], ◌∷◌, ◌++◌, length, take, get_or, fold}
+use Rattle.bx_terms.proofs.Words.{filter, Option, Some, None, Ok, Err, Result, slice_get, is_none, append-nil, append_assoc, bytes_eq, nat_lt, refl, sym, ◌∙◌}
+use Rattle.bx_terms.proofs.Words.{ap, subst, arith, inl, inr, true≢false, if◌then◌else◌, prefix_len, list_any, IsDistinct, is_utf8, IsUtf8-from_is_utf8}
+use Rattle.bx_terms.proofs.Words.{get_or_from_slice_get, slice_get-get_or, slice_get_within, cases_order, cases_Bool, true_from_ne_false, same_from_decides}
+use Rattle.bx_terms.proofs.Words.{filter_agree, bytes_eq-Decides, list_any_at, list_any-append, position-Some, apart_from_distinct, IsDistinct-push}
+use Rattle.bx_terms.proofs.Words.{nat_list_eq_equiv, IsAtomTable, number_of, is_new, first_uses, used, is_short, Spells, naming, numbered, naming_all}
 use Rattle.bx_share.proofs.Places.{get_more, get_last}
 use Rattle.bx_terms.specs.declared.atom_table.AtomId.{AtomId}
 use Rattle.bx_terms.specs.declared.faults.Fault.{Fault}
 use Rattle.bx_terms.specs.declared.faults.Fault.TheVariants.{TooManyAtoms}
-use Rattle.bx_terms.specs.AtomTable.{IsAtomTable, number_of, is_new, first_uses, used, is_short}
-use Rattle.bx_terms.specs.FixedAtoms.{Spells}
-use Rattle.bx_terms.specs.Naming.{naming, numbered, naming_all, atom}
+use Rattle.bx_terms.specs.Naming.{atom}
 use borrow.Author.Tests.{ltb-true}
-use Rattle.bx_terms.proofs.Outcomes.{ok_is, ok_pair, bind_ok}
+use Rattle.bx_terms.proofs.Outcomes.{ok_pair, bind_ok}
 use Rattle.bx_terms.proofs.AtomTables.{list_any-place, list_any_none, grown}
 
 same : (xs ys : List ℕ) → bytes_eq xs ys ≡ true → xs ≡ ys
 same xs ys e = (bytes_eq-Decides xs ys).0 e
-
-itself : (xs : List ℕ) → bytes_eq xs xs ≡ true
-itself xs = (bytes_eq-Decides xs xs).1 refl
 
 module _ (texts : List (List ℕ)) (once : IsDistinct bytes_eq texts) where
   below : (text : List ℕ) (i j : ℕ) → slice_get texts i ≡ Some text → slice_get texts j ≡ Some text → i < j → ⊥
@@ -35,7 +23,7 @@ module _ (texts : List (List ℕ)) (once : IsDistinct bytes_eq texts) where
       let apart = apart_from_distinct bytes_eq texts i j [] once lt (slice_get_within texts j text at_j) in
       let same_i : get_or texts i [] ≡ text = get_or_from_slice_get texts i text [] at_i in
       let same_j : get_or texts j [] ≡ text = get_or_from_slice_get texts j text [] at_j in
-      true≢false (sym (itself text) ∙ sym (λ k. bytes_eq (same_i k) (same_j k)) ∙ apart)
+      true≢false (sym (nat_list_eq_equiv.refl text) ∙ sym (λ k. bytes_eq (same_i k) (same_j k)) ∙ apart)
 
   pub distinct : (text : List ℕ) (i j : ℕ) → slice_get texts i ≡ Some text → slice_get texts j ≡ Some text → i ≡ j
   distinct text i j at_i at_j =
@@ -53,7 +41,7 @@ module _ (texts : List (List ℕ)) (once : IsDistinct bytes_eq texts) where
       by (Some j) f = f ∙ ap Some (distinct text j i (text_at text j f) e)
       by None f =
           let there : get_or texts i [] ≡ text = get_or_from_slice_get texts i text [] e in
-          let passes : bytes_eq text (get_or texts i []) ≡ true = rw there (itself text) in
+          let passes : bytes_eq text (get_or texts i []) ≡ true = rw there (nat_list_eq_equiv.refl text) in
           absurd (true≢false (sym (list_any_at (bytes_eq text) texts i [] (slice_get_within texts i text e) passes) ∙ list_any_none (bytes_eq text) texts f))
 
 -- the two ways in which naming goes well
@@ -72,11 +60,7 @@ put texts text fits = if fits then Ok (texts ++ text ∷ [], atom (length texts)
 
 module _ (texts after : List (List ℕ)) (text : List ℕ) (a : AtomId) where
   pub short_if_named : naming texts text ≡ Ok (after, a) → is_short text ≡ true
-  short_if_named h = by (is_short text) refl
-    where
-      by : (s : Bool) → is_short text ≡ s → is_short text ≡ true
-      by true e = e
-      by false e = let no = rw e at h in cc
+  short_if_named h = true_from_ne_false (is_short text) (λ f. cc (rw f at h))
 
   pub named_cases : naming texts text ≡ Ok (after, a) → IsHeld texts after text a ⊎ IsAdded texts after text a
   named_cases h = let short = short_if_named h in let is = rw short at h in by (number_of texts text) refl is
@@ -87,14 +71,12 @@ module _ (texts after : List (List ℕ)) (text : List ℕ) (a : AtomId) where
           let both = ok_pair texts after (atom i) a known in
           inl (record { held = e ∙ ap (λ (n : AtomId). Some n.0) both.1; stays = sym both.0 })
       by None e is =
-          let next : put texts text (nat_lt (length texts) 65536) ≡ Ok (after, a) = rw e at is in
-          added (nat_lt (length texts) 65536) refl next
-        where
-          added : (r : Bool) → nat_lt (length texts) 65536 ≡ r → put texts text r ≡ Ok (after, a) → IsHeld texts after text a ⊎ IsAdded texts after text a
-          added true fits done =
-              let both = ok_pair (texts ++ text ∷ []) after (atom (length texts)) a done in
-              inr (record { new = e; room = omega (arith, ltb-true _ _ fits); grows = sym both.0; last = sym both.1 })
-          added false fits done = cc
+          let next : put texts text (nat_lt (length texts) 65536) ≡ Ok (after, a) = rw e at is in elim (cases_Bool (nat_lt (length texts) 65536)) [
+            | inl fits ↦
+                let both = ok_pair (texts ++ text ∷ []) after (atom (length texts)) a (rw fits at next) in
+                inr (record { new = e; room = omega (arith, ltb-true _ _ fits); grows = sym both.0; last = sym both.1 })
+            | inr full ↦ cc (rw full at next)
+          ]
 
 -- the table grows, if at all, at its end
 pub after_naming : (texts after : List (List ℕ)) (text : List ℕ) (a : AtomId) → naming texts text ≡ Ok (after, a) → after ≡ used texts text
@@ -135,43 +117,25 @@ again texts after text a table h =
 
 -- ---- the order of first use
 is_new_any : (texts : List (List ℕ)) (text : List ℕ) → is_new texts text ≡ not (list_any (bytes_eq text) texts)
-is_new_any texts text = by (nat_lt (prefix_len (λ x. not (bytes_eq text x)) texts) (length texts)) ∙ ap not (sym (list_any-place (bytes_eq text) texts))
-  where
-    by : (b : Bool) → is_none (cond b (Some (prefix_len (λ x. not (bytes_eq text x)) texts)) None) ≡ not b
-    by true = refl
-    by false = refl
-
-bytes_eq_flips : (xs ys : List ℕ) → bytes_eq xs ys ≡ bytes_eq ys xs
-bytes_eq_flips xs ys =
-    let d = bytes_eq-Decides ys xs in
-    same_from_decides (bytes_eq xs ys) (bytes_eq ys xs) (bytes_eq-Decides xs ys) (λ t. sym (d.0 t), λ e. d.1 (sym e))
+is_new_any texts text = rw (list_any-place (bytes_eq text) texts) (grind arith)
 
 neither : (a b : Bool) → not (a || (b || false)) ≡ (not b && not a)
-neither true true = refl
-neither true false = refl
-neither false true = refl
-neither false false = refl
+neither a b = grind arith
 
 is_new-push : (texts : List (List ℕ)) (text other : List ℕ) → is_new (texts ++ text ∷ []) other ≡ (not (bytes_eq text other) && is_new texts other)
 is_new-push texts text other =
-    rw (is_new_any (texts ++ text ∷ []) other, is_new_any texts other, list_any-append (bytes_eq other) texts (text ∷ []), bytes_eq_flips other text)
+    rw (is_new_any (texts ++ text ∷ []) other, is_new_any texts other, list_any-append (bytes_eq other) texts (text ∷ []), nat_list_eq_equiv.symm other text)
     (neither (list_any (bytes_eq other) texts) (bytes_eq text other))
 
 held_apart : (texts : List (List ℕ)) (text other : List ℕ) (i : ℕ) → number_of texts text ≡ Some i → is_new texts other ≡ (not (bytes_eq text other) && is_new texts other)
-held_apart texts text other i e = by (bytes_eq text other) refl
-  where
-    by : (b : Bool) → bytes_eq text other ≡ b → is_new texts other ≡ (not b && is_new texts other)
-    by true h = ap is_none (subst (λ (t : List ℕ). number_of texts t ≡ Some i) (same text other h) e)
-    by false h = refl
+held_apart texts text other i e = elim (cases_Bool (bytes_eq text other)) [
+  | inl h ↦ rw h (ap is_none (subst (λ (t : List ℕ). number_of texts t ≡ Some i) (same text other h) e))
+  | inr h ↦ rw h
+]
 
 filter_twice : {X : Type 0} (p q : X → Bool) (xs : List X) → filter p (filter q xs) ≡ filter (λ x. q x && p x) xs
 filter_twice p q [] = refl
-filter_twice p q (x ∷ xs) = by (q x) (filter_twice p q xs)
-  where
-    by : (b : Bool) → filter p (filter q xs) ≡ filter (λ y. q y && p y) xs
-        → filter p (cond b (x ∷ filter q xs) (filter q xs)) ≡ cond (b && p x) (x ∷ filter (λ y. q y && p y) xs) (filter (λ y. q y && p y) xs)
-    by true e = ap (λ t. cond (p x) (x ∷ t) t) e
-    by false e = e
+filter_twice p q (x ∷ xs) = elim (cases_Bool (q x)) [ inl t ↦ rw (t, filter_twice p q xs) | inr f ↦ rw (f, filter_twice p q xs) ]
 
 -- the others of a list, apart from the first text
 abbrev others : List ℕ → List (List ℕ) → List (List ℕ)
@@ -201,7 +165,7 @@ use_all texts (text ∷ more) = by (number_of texts text) refl (use_all texts mo
     by None e held new = rw e (new ∙ append_assoc texts (text ∷ []) _ ∙ ap (λ t. texts ++ text ∷ t) (sym (others_of_new texts text more)))
 
 all_used : (texts after given : List (List ℕ)) → naming_all texts given ≡ Ok after → after ≡ fold used texts given
-all_used texts after [] h = sym (ok_is texts after h)
+all_used texts after [] h = let same : texts ≡ after = cc in sym same
 all_used texts after (text ∷ more) h =
     let step = bind_ok (naming texts text) (λ named. naming_all named.0 more) after h in
     all_used step.0.0 after more step.2 ∙ ap (λ t. fold used t more) (after_naming texts step.0.0 text step.0.1 step.1)
@@ -211,10 +175,9 @@ in_order texts after given h = all_used texts after given h ∙ use_all texts gi
 
 -- ---- the fixed atoms
 slice_get_first : {X : Type 0} (n : ℕ) (xs : List X) (i : ℕ) (x : X) → slice_get (take n xs) i ≡ Some x → slice_get xs i ≡ Some x
-slice_get_first zero xs i x e = cc
-slice_get_first (suc n) [] i x e = cc
 slice_get_first (suc n) (y ∷ xs) zero x e = e
 slice_get_first (suc n) (y ∷ xs) (suc i) x e = slice_get_first n xs i x e
+slice_get_first _ _ i x e = cc
 
 pub fixed_in : (texts : List (List ℕ)) (a : AtomId) (text : List ℕ) → IsAtomTable texts → Spells a text → (slice_get texts a.0 ≡ Some text) × (number_of texts text ≡ Some a.0)
 fixed_in texts a text table names =

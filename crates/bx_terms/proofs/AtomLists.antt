@@ -1,16 +1,13 @@
 -- Lists of strings and lists of their texts.
-use Rattle.std.proofs.Common.{◌≡◌, ℕ, Bool, List, [], ◌∷◌, map, String, string_bytes, bytes_eq, refl, ◌∙◌}
+use Rattle.bx_terms.proofs.Words.{◌≡◌, ℕ, Bool, List, [], ◌∷◌, map, String, string_bytes, bytes_eq, refl, ◌∙◌, pointwise, string_eq, slice_eq-Decides}
+use Rattle.bx_terms.proofs.Words.{bytes_eq-Decides}
 use Rattle.std.specs.Bool.{Decides}
-use Rattle.std.specs.Cmp.Lexicographic.{pointwise}
-use Rattle.std.specs.String.{string_eq}
-use Rattle.std.proofs.lemmas.Slice.Eq.{slice_eq-Decides, bytes_eq-Decides}
 
 module _ {Z : Type 0} where
   same_texts : (xs ys : List (String Z)) → pointwise string_eq xs ys ≡ pointwise bytes_eq (map string_bytes xs) (map string_bytes ys)
   same_texts [] [] = refl
-  same_texts [] (y ∷ ys) = refl
-  same_texts (x ∷ xs) [] = refl
   same_texts (x ∷ xs) (y ∷ ys) = rw (same_texts xs ys)
+  same_texts _ _ = refl
 
   -- `==` of lists of strings is `==` of their texts
   pub strings_decide : (xs ys : List (String Z)) (r : Bool) → r ≡ pointwise string_eq xs ys

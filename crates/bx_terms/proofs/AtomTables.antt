@@ -1,20 +1,13 @@
 -- Tables of atoms: what is held, and what a new text adds.
-use Rattle.std.proofs.Common.{◌≡◌, ℕ, ◌+◌, ◌<◌, ◌≤◌, Bool, true, false, not, cond, ◌||◌, List, [], ◌∷◌, ◌++◌, length, get_or, fold, Some, None, Ok, bytes_eq, position, nat_lt, refl, sym, ◌∙◌, ap, subst, arith, lit≤}
+use Rattle.bx_terms.proofs.Words.{◌≡◌, ℕ, ◌+◌, ◌<◌, ◌≤◌, Bool, true, false, not, cond, ◌||◌, List, [], ◌∷◌, ◌++◌, length, get_or, fold, Some, None, Ok}
+use Rattle.bx_terms.proofs.Words.{bytes_eq, position, nat_lt, refl, sym, ◌∙◌, ap, subst, arith, lit≤, inl, inr, prefix_len, list_any, IsUtf8}
+use Rattle.bx_terms.proofs.Words.{encodes-chars, length-le-encodes, is_utf8-from_IsUtf8, length-append, length-take, take-append-le}
+use Rattle.bx_terms.proofs.Words.{AllPass-from_list_all, position-Some, All-push, IsDistinct-push, cases_Bool, false_from_ne_true, bytes_eq-Decides}
+use Rattle.bx_terms.proofs.Words.{nat_list_eq_equiv, TEXTS, naming, is_short, number_of, used, IsAtomTable}
+use Rattle.std.specs.Str.{is_utf8, chars}
 use Rattle.bx_terms.specs.FixedAtoms.{fixed_atoms}
-use Rattle.std.specs.List.{prefix_len, list_any}
-use Rattle.std.specs.Str.{IsUtf8, is_utf8, chars}
-use Rattle.std.proofs.lemmas.Str.{encodes-chars, length-le-encodes, is_utf8-from_IsUtf8}
-use Rattle.std.proofs.lemmas.List.{length-append, length-take, take-append-le}
-use Rattle.std.proofs.lemmas.List.Sums.{AllPass-from_list_all}
-use Rattle.std.proofs.lemmas.List.Quantifiers.{position-Some}
-use Rattle.std.proofs.lemmas.List.Elements.{All-push}
-use Rattle.std.proofs.lemmas.Map.Keys.{IsDistinct-push}
-use Rattle.std.proofs.lemmas.Slice.Eq.{bytes_eq-Decides}
 use Rattle.std.proofs.lemmas.Map.Made.{IsDistinct-from_count}
-use Rattle.std.proofs.lemmas.Cmp.{nat_list_eq_equiv}
-use Rattle.bx_terms.specs.declared.fixed.TheConstants.{TEXTS}
-use Rattle.bx_terms.specs.Naming.{naming, atom}
-use Rattle.bx_terms.specs.AtomTable.{is_short, number_of, used, IsAtomTable}
+use Rattle.bx_terms.specs.Naming.{atom}
 
 -- a text has no more characters than bytes
 pub count_of_chars : (bs : List ℕ) → IsUtf8 bs → length (chars bs) ≤ length bs
@@ -23,26 +16,16 @@ count_of_chars bs u = subst (λ (xs : List ℕ). length (chars bs) ≤ length xs
 -- a text is in the list exactly where it has a place
 pub list_any-place : {X : Type 0} (p : X → Bool) (xs : List X) → list_any p xs ≡ nat_lt (prefix_len (λ x. not (p x)) xs) (length xs)
 list_any-place p [] = refl
-list_any-place p (x ∷ xs) = by (p x) (list_any-place p xs)
-  where
-    by : (b : Bool) → list_any p xs ≡ nat_lt (prefix_len (λ x. not (p x)) xs) (length xs)
-        → (b || list_any p xs) ≡ nat_lt (cond (not b) (1 + prefix_len (λ x. not (p x)) xs) 0) (length (x ∷ xs))
-    by true e = grind arith
-    by false e = grind (arith, e)
+list_any-place p (x ∷ xs) = elim (cases_Bool (p x)) [ inl t ↦ rw t (grind arith) | inr f ↦ rw f (grind (arith, list_any-place p xs)) ]
 
 pub list_any_none : {X : Type 0} (p : X → Bool) (xs : List X) → position p xs ≡ None → list_any p xs ≡ false
-list_any_none p xs none = list_any-place p xs ∙ by (nat_lt (prefix_len (λ x. not (p x)) xs) (length xs)) none
-  where
-    by : (b : Bool) → cond b (Some (prefix_len (λ x. not (p x)) xs)) None ≡ None → b ≡ false
-    by true e = cc
-    by false e = refl
+list_any_none p xs none = rw (list_any-place p xs) (false_from_ne_true _ (λ t. cc (rw t at none)))
 
 -- a held text is one of the table's own
 pub known_short : (texts : List (List ℕ)) (text : List ℕ) (i : ℕ) → IsAtomTable texts → number_of texts text ≡ Some i → is_short text ≡ true
 known_short texts text i table held =
     let at = position-Some (bytes_eq text) texts i [] held in
-    let same : text ≡ get_or texts i [] = (bytes_eq-Decides text (get_or texts i [])).0 at.1 in
-    subst (λ (t : List ℕ). is_short t ≡ true) (sym same) (table.short i [] at.0)
+    rw ((bytes_eq-Decides text (get_or texts i [])).0 at.1) (table.short i [] at.0)
 
 length-fixed_atoms : length fixed_atoms ≡ 80
 unfolding fixed_atoms

@@ -1,13 +1,7 @@
 -- What a term's parts come to, over the list of its elements.
-use Rattle.std.proofs.Common.{◌≡◌, ℕ, ◌+◌, ◌<◌, max, List, [], ◌∷◌, ◌++◌, length, map, fold, codes, refl, ap, ◌∙◌, arith}
-use Rattle.std.specs.declared.cmp.Ordering.TheVariants.{Less, Equal}
-use Rattle.std.specs.Ordering.{nat_cmp, ordering_then}
-use Rattle.std.specs.Cmp.Lexicographic.{slice_cmp}
-use Rattle.std.specs.List.{join_by, flat_map}
-use Rattle.std.proofs.lemmas.Bool.Decides.{nat_tests}
-use Rattle.bx_terms.specs.Tree.{Tree, tuple, listed, height, highest}
-use Rattle.bx_terms.specs.Order.{order_of, size}
-use Rattle.bx_terms.specs.Printed.{printed, printed_tail}
+use Rattle.bx_terms.proofs.Words.{◌≡◌, ℕ, ◌+◌, ◌<◌, max, List, [], ◌∷◌, ◌++◌, length, map, fold, codes, refl, ap, ◌∙◌, arith, Less, Equal, nat_cmp}
+use Rattle.bx_terms.proofs.Words.{ordering_then, slice_cmp, join_by, flat_map, nat_tests, Tree, tuple, listed, height, highest, order_of, size, printed}
+use Rattle.bx_terms.proofs.Words.{printed_tail}
 use Rattle.bx_terms.proofs.Rows.{size_listed}
 
 -- the highest so far and of those that follow
@@ -20,15 +14,11 @@ tuple_height ts = omega (arith, highest_from 0 ts)
 
 pub list_order : (texts : List (List ℕ)) (ts us : List Tree) → order_of texts (listed ts) (listed us) ≡ slice_cmp (order_of texts) ts us
 list_order texts [] [] = refl
-list_order texts [] (u ∷ us) = refl
-list_order texts (t ∷ ts) [] = refl
 list_order texts (t ∷ ts) (u ∷ us) = ap (ordering_then (order_of texts t u)) (list_order texts ts us)
+list_order texts _ _ = refl
 
 tuple_order : (texts : List (List ℕ)) (ts us : List Tree) → order_of texts (tuple (listed ts)) (tuple (listed us)) ≡ ordering_then (nat_cmp (length ts) (length us)) (slice_cmp (order_of texts) ts us)
-tuple_order texts ts us =
-    ap (λ n. ordering_then (nat_cmp n (size (listed us))) (order_of texts (listed ts) (listed us))) (size_listed ts)
-    ∙ ap (λ n. ordering_then (nat_cmp (length ts) n) (order_of texts (listed ts) (listed us))) (size_listed us)
-    ∙ ap (ordering_then (nat_cmp (length ts) (length us))) (list_order texts ts us)
+tuple_order texts ts us = rw (size_listed ts, size_listed us, list_order texts ts us)
 
 pub smaller_tuple : (texts : List (List ℕ)) (ts us : List Tree) → length ts < length us → order_of texts (tuple (listed ts)) (tuple (listed us)) ≡ Less
 smaller_tuple texts ts us h = let e : nat_cmp (length ts) (length us) ≡ Less = grind (arith, nat_tests) in tuple_order texts ts us ∙ ap (λ o. ordering_then o (slice_cmp (order_of texts) ts us)) e

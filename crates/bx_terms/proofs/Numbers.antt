@@ -1,20 +1,13 @@
 -- Numbers of texts, one text after the other.
-use Rattle.std.proofs.Common.{◌≡◌, ℕ, ◌+◌, ◌≤◌, Bool, true, false, not, cond, List, [], ◌∷◌, ◌++◌, length, map, Option, Some, None, is_some, String, string_bytes, bytes_eq, nat_lt, nat_eq, eqb, refl, sym, ap, subst, ◌∙◌, arith, length-append}
-use Rattle.std.specs.List.{position_or_len}
+use Rattle.bx_terms.proofs.Words.{◌≡◌, ℕ, ◌+◌, ◌≤◌, Bool, true, false, not, cond, List, [], ◌∷◌, ◌++◌, length, map, Option, Some, None, is_some, String}
+use Rattle.bx_terms.proofs.Words.{string_bytes, bytes_eq, nat_lt, nat_eq, eqb, refl, sym, ap, subst, ◌∙◌, arith, length-append, position_or_len, string_cmp}
+use Rattle.bx_terms.proofs.Words.{bytes_eq-Decides, nat_list_eq_equiv, false_from_ne_true, nat_tests, map-append, position_or_len_push, prefix_len-le-length}
+use Rattle.bx_terms.proofs.Words.{number_of, AreNumbers}
 use Rattle.std.specs.Map.{update}
 use Rattle.std.specs.BTreeMap.{BTreeMap, get_by_text, Updates}
-use Rattle.std.specs.String.{string_cmp}
 use Rattle.std.proofs.lemmas.Map.Text.{btree_map_updates_text}
-use Rattle.std.proofs.lemmas.Slice.Eq.{bytes_eq-Decides}
-use Rattle.std.proofs.lemmas.Cmp.{nat_list_eq_equiv}
-use Rattle.std.proofs.lemmas.Bool.Decides.{nat_tests}
-use Rattle.std.proofs.lemmas.List.{map-append}
-use Rattle.std.proofs.lemmas.List.Folds.{position_or_len_push}
-use Rattle.std.proofs.lemmas.List.Sums.{prefix_len-le-length}
 use Rattle.indexmap.specs.IndexMap.{IndexMap, get, insert_entry, values, IsUnchanged}
 use Rattle.indexmap.proofs.CallerLemmas.{insert_entry-new}
-use Rattle.bx_terms.specs.AtomTable.{number_of}
-use Rattle.bx_terms.specs.Texts.{AreNumbers}
 
 pub none_numbered : {Z : Type 0} (numbers : BTreeMap (String Z) ℕ) (texts : List (List ℕ)) → numbers.entries ≡ [] → texts ≡ [] → AreNumbers texts numbers
 none_numbered numbers texts none empty text = rw (none, empty) refl
@@ -24,11 +17,7 @@ abbrev found : ℕ → ℕ → Option ℕ
 found n count = cond (nat_lt n count) (Some n) None
 
 not_found : (n count : ℕ) → found n count ≡ None → nat_lt n count ≡ false
-not_found n count none = by (nat_lt n count) none
-  where
-    by : (b : Bool) → cond b (Some n) None ≡ None → b ≡ false
-    by true e = cc
-    by false e = refl
+not_found n count none = false_from_ne_true (nat_lt n count) (λ t. cc (rw t at none))
 
 -- one more behind them, which is the first or is none
 one_behind : (n count : ℕ) (own : Bool) → n ≤ count
@@ -36,8 +25,7 @@ one_behind : (n count : ℕ) (own : Bool) → n ≤ count
 one_behind n count own most = by (nat_lt n count) refl
   where
     here : (b : Bool) → found (count + cond b 0 1) (count + 1) ≡ cond b (Some count) None
-    here true = let t : nat_lt (count + 0) (count + 1) ≡ true = grind (arith, nat_tests) in let e : count + 0 ≡ count = omega arith in rw (t, e) refl
-    here false = let t : nat_lt (count + 1) (count + 1) ≡ false = grind (arith, nat_tests) in rw t refl
+    here b = grind (arith, nat_tests)
 
     by : (b : Bool) → nat_lt n count ≡ b → found (cond (eqb n count) (count + cond own 0 1) n) (count + 1) ≡ cond b (Some n) (cond own (Some count) None)
     by true e =
@@ -91,8 +79,4 @@ put_last old room after number own text there says gone same put is =
 pub one_numbered : {Z : Type 0} (old new : BTreeMap (String Z) ℕ) (texts : List (List ℕ)) (key : String Z) (text : List ℕ) (number : ℕ) → AreNumbers texts old → string_bytes key ≡ text
     → number_of texts text ≡ None → number ≡ length texts → Updates string_cmp old new key (Some number) → AreNumbers (texts ++ text ∷ []) new
 one_numbered old new texts key text number are is none count put other =
-    let changed : get_by_text new other ≡ update bytes_eq (get_by_text old) (string_bytes key) (Some number) other = btree_map_updates_text (string_bytes key) old new (Some number) put other in
-    changed ∙ ap (λ t. cond (bytes_eq t other) (Some number) (get_by_text old other)) is
-    ∙ ap (λ n. cond (bytes_eq text other) (Some n) (get_by_text old other)) count
-    ∙ ap (cond (bytes_eq text other) (Some (length texts))) (are other)
-    ∙ sym (number_behind texts text other none)
+    rw (btree_map_updates_text (string_bytes key) old new (Some number) put other, is, count, are other, number_behind texts text other none)

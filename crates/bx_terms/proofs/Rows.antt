@@ -1,14 +1,11 @@
 -- Rows of terms.
-use Rattle.std.proofs.Common.{◌≡◌, ◌∙◌, ℕ, ◌<◌, zero, suc, List, [], ◌∷◌, length, get_or, drop, refl, ap, subst, slice_range, slice_set, arith}
-use Rattle.std.proofs.lemmas.List.{take_rest, set-get_or}
-use Rattle.bx_terms.specs.Tree.{Tree, listed, nodes}
-use Rattle.bx_terms.specs.Order.{size}
+use Rattle.bx_terms.proofs.Words.{◌≡◌, ◌∙◌, ℕ, ◌<◌, zero, suc, List, [], ◌∷◌, length, get_or, drop, refl, ap, subst, slice_range, slice_set, arith, take_rest}
+use Rattle.bx_terms.proofs.Words.{set-get_or, Tree, listed, nodes, size}
 
 pub listed_same : (xs ys : List Tree) → listed xs ≡ listed ys → xs ≡ ys
 listed_same [] [] e = refl
-listed_same [] (y ∷ ys) e = cc
-listed_same (x ∷ xs) [] e = cc
-listed_same (x ∷ xs) (y ∷ ys) e = let same : listed xs ≡ listed ys = cc in let rest = listed_same xs ys same in cc
+listed_same (x ∷ xs) (y ∷ ys) e = let rest = listed_same xs ys (cc) in cc
+listed_same _ _ e = cc
 
 pub nodes_in : (xs : List Tree) (i : ℕ) (d : Tree) → i < length xs → nodes (get_or xs i d) < nodes (listed xs)
 nodes_in [] i d here = absurd (omega arith)
@@ -29,9 +26,7 @@ nodes_in_rest (y ∷ ys) i x here is = omega (arith, nodes_at ys i x here is)
 
 -- the same of an element after the first
 pub nodes_after_first : (xs : List Tree) (i : ℕ) (x : Tree) → i < length (slice_range xs 1 (length xs)) → x ≡ get_or (slice_range xs 1 (length xs)) i x → nodes x < nodes (listed xs)
-nodes_after_first xs i x here is =
-    let rest = take_rest xs 1 in
-    nodes_in_rest xs i x (subst (λ ys. i < length ys) rest here) (subst (λ ys. x ≡ get_or ys i x) rest is)
+nodes_after_first xs i x here is = let rest = take_rest xs 1 in nodes_in_rest xs i x (rw rest at here) (rw rest at is)
 
 -- a row is the same after an element was replaced by an equal one
 pub set_own : {A : Type 0} (xs : List A) (i : ℕ) (x y : A) → x ≡ get_or xs i x → y ≡ x → slice_set xs i y ≡ xs

@@ -1,13 +1,10 @@
 -- The order of terms is total: it is the order of their keys, read one after another.
-use Rattle.std.proofs.Common.{◌≡◌, ℕ, ℤ, pos, List, [], ◌∷◌, ◌++◌, Option, Some, None, refl, ap, sym, ◌∙◌, append_assoc, append-nil}
-use Rattle.std.specs.declared.cmp.Ordering.{Ordering}
-use Rattle.std.specs.declared.cmp.Ordering.TheVariants.{Less, Equal, Greater}
-use Rattle.std.specs.Ordering.{nat_cmp, int_cmp, ordering_then, ordering_reverse, on, then_cmp}
+use Rattle.bx_terms.proofs.Words.{◌≡◌, ℕ, ℤ, pos, List, [], ◌∷◌, ◌++◌, Option, Some, None, refl, ap, sym, ◌∙◌, append_assoc, append-nil, Ordering, Less, Equal}
+use Rattle.bx_terms.proofs.Words.{Greater, nat_cmp, int_cmp, ordering_then, ordering_reverse, on, then_cmp, slice_cmp, nat_cmp_total, int_cmp_total}
+use Rattle.bx_terms.proofs.Words.{nat_list_cmp_total, on_total, then_total, lists_total, tied_itself, Tree, int, pid, tuple, nil, cons, codes_of, order_of}
+use Rattle.bx_terms.proofs.Words.{atom_order, text_order, size}
 use Rattle.std.specs.Cmp.{IsTotalOrder}
-use Rattle.std.specs.Cmp.Lexicographic.{slice_cmp}
-use Rattle.std.proofs.lemmas.Cmp.{nat_cmp_total, int_cmp_total, nat_list_cmp_total, on_total, then_total, lists_total, tied_itself}
-use Rattle.bx_terms.specs.Tree.{Tree, int, atom, pid, tuple, nil, cons}
-use Rattle.bx_terms.specs.Order.{codes_of, order_of, atom_order, text_order, size}
+use Rattle.bx_terms.specs.Tree.{atom}
 
 -- an order that answers as a total one does is total
 pub total_as : {K : Type 0} {R S : K → K → Ordering} → ((x y : K) → R x y ≡ S x y) → IsTotalOrder S → IsTotalOrder R
@@ -32,8 +29,7 @@ number_past a None = a
 
 then_equal : (o : Ordering) → ordering_then o Equal ≡ o
 then_equal Less = refl
-then_equal Equal = refl
-then_equal Greater = refl
+then_equal _ = refl
 
 text_order-keys : (a b : ℕ) (s t : Option (List ℕ)) → text_order a b s t ≡ ordering_then (nat_cmp (lacks s) (lacks t)) (ordering_then (slice_cmp nat_cmp (text_or_none s) (text_or_none t)) (nat_cmp (number_past a s) (number_past b t)))
 text_order-keys a b (Some s) (Some t) = sym (then_equal (slice_cmp nat_cmp s t))
@@ -64,8 +60,7 @@ keys (cons t u) = (5, pos 0, [], 0) ∷ keys t ++ keys u
 
 then_assoc : (o p q : Ordering) → ordering_then (ordering_then o p) q ≡ ordering_then o (ordering_then p q)
 then_assoc Less p q = refl
-then_assoc Equal p q = refl
-then_assoc Greater p q = refl
+then_assoc _ p q = refl
 
 abbrev keys_cmp : List (List ℕ) → List Key → List Key → Ordering
 keys_cmp texts = slice_cmp (key_order texts)

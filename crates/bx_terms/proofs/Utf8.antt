@@ -1,13 +1,7 @@
 -- UTF-8 keeps the order of character codes: comparing two texts by bytes compares them by characters.
-use Rattle.std.proofs.Common.{◌≡◌, ℕ, ◌+◌, ◌/◌, ◌<◌, ◌≤◌, ◌⊎◌, List, [], ◌∷◌, ◌++◌, inl, inr, refl, sym, ap, ◌∙◌, arith}
-use Rattle.std.specs.declared.cmp.Ordering.TheVariants.{Less, Equal, Greater}
-use Rattle.std.specs.Ordering.{nat_cmp, ordering_then, ordering_reverse}
-use Rattle.std.specs.Cmp.Lexicographic.{slice_cmp}
-use Rattle.std.proofs.lemmas.Cmp.{nat_list_cmp_total, ranked, by_ranked}
-use Rattle.std.proofs.lemmas.Bool.Decides.{nat_tests}
-use Rattle.std.proofs.lemmas.Bool.{cases_lt}
-use Rattle.std.specs.Str.{chars, IsUtf8}
-use Rattle.std.proofs.lemmas.Str.{encodes-chars}
+use Rattle.bx_terms.proofs.Words.{◌≡◌, ℕ, ◌+◌, ◌/◌, ◌<◌, ◌≤◌, ◌⊎◌, List, [], ◌∷◌, ◌++◌, inl, inr, refl, sym, ap, ◌∙◌, arith, Less, Equal, Greater, nat_cmp}
+use Rattle.bx_terms.proofs.Words.{ordering_then, ordering_reverse, slice_cmp, nat_list_cmp_total, ranked, by_ranked, nat_tests, cases_lt, IsUtf8, encodes-chars}
+use Rattle.std.specs.Str.{chars}
 use lib.Utf8.{encode, encodes, next}
 
 record IsBelow (xs ys : List ℕ) : Type 0 where
@@ -57,41 +51,21 @@ four_bytes c h =
     let f : c / 262144 ≡ c / 4096 / 64 = omega arith in
     rw (← e, ← f) (grind (arith, nat_tests))
 
-to_two : (c d : ℕ) (r t : List ℕ) → c < d → 128 ≤ d → d < 2048 → IsBelow (encode c ++ r) (encode d ++ t)
-to_two c d r t h d1 d2 = rw (two_bytes d d1 d2) (elim (cases_lt c 128) [
-  | inl c1 ↦ rw (one_byte c c1) (by_head (omega arith))
-  | inr c1 ↦ rw (two_bytes c c1 (omega arith)) (below_2 192 c d r t h)
-])
-
-to_three : (c d : ℕ) (r t : List ℕ) → c < d → 2048 ≤ d → d < 65536 → IsBelow (encode c ++ r) (encode d ++ t)
-to_three c d r t h d1 d2 = rw (three_bytes d d1 d2) (elim (cases_lt c 128) [
-  | inl c1 ↦ rw (one_byte c c1) (by_head (omega arith))
-  | inr c1 ↦ elim (cases_lt c 2048) [
-    | inl c2 ↦ rw (two_bytes c c1 c2) (by_head (omega arith))
-    | inr c2 ↦ rw (three_bytes c c2 (omega arith)) (below_3 224 c d r t h)
-  ]
-])
-
-to_four : (c d : ℕ) (r t : List ℕ) → c < d → 65536 ≤ d → IsBelow (encode c ++ r) (encode d ++ t)
-to_four c d r t h d1 = rw (four_bytes d d1) (elim (cases_lt c 128) [
-  | inl c1 ↦ rw (one_byte c c1) (by_head (omega arith))
-  | inr c1 ↦ elim (cases_lt c 2048) [
-    | inl c2 ↦ rw (two_bytes c c1 c2) (by_head (omega arith))
-    | inr c2 ↦ elim (cases_lt c 65536) [
-      | inl c3 ↦ rw (three_bytes c c2 c3) (by_head (omega arith))
-      | inr c3 ↦ rw (four_bytes c c3) (below_4 240 c d r t h)
-    ]
-  ]
-])
+-- by the number of bytes that a character takes
+by_size : {P : Type 0} (c : ℕ) → (c < 128 → P) → (128 ≤ c → c < 2048 → P) → (2048 ≤ c → c < 65536 → P) → (65536 ≤ c → P) → P
+by_size c one two three four = elim (cases_lt c 128) [
+  | inl h ↦ one h
+  | inr g ↦ elim (cases_lt c 2048) [ inl h ↦ two g h | inr g ↦ elim (cases_lt c 65536) [ inl h ↦ three g h | inr g ↦ four g ] ]
+]
 
 rises : (c d : ℕ) (r t : List ℕ) → c < d → IsBelow (encode c ++ r) (encode d ++ t)
-rises c d r t h = elim (cases_lt d 128) [
-  | inl d1 ↦ rw (one_byte c (omega arith), one_byte d d1) (by_head h)
-  | inr d1 ↦ elim (cases_lt d 2048) [
-    | inl d2 ↦ to_two c d r t h d1 d2
-    | inr d2 ↦ elim (cases_lt d 65536) [ inl d3 ↦ to_three c d r t h d2 d3 | inr d3 ↦ to_four c d r t h d3 ]
-  ]
-]
+rises c d r t h = by_size d (λ d1. rw (one_byte c (omega arith), one_byte d d1) (by_head h))
+    (λ d1 d2. rw (two_bytes d d1 d2) (by_size c (λ c1. rw (one_byte c c1) (by_head (omega arith)))
+    (λ c1 _. rw (two_bytes c c1 (omega arith)) (below_2 192 c d r t h)) (λ c1 _. absurd (omega arith)) (λ c1. absurd (omega arith))))
+    (λ d1 d2. rw (three_bytes d d1 d2) (by_size c (λ c1. rw (one_byte c c1) (by_head (omega arith))) (λ c1 c2. rw (two_bytes c c1 c2) (by_head (omega arith)))
+    (λ c1 _. rw (three_bytes c c1 (omega arith)) (below_3 224 c d r t h)) (λ c1. absurd (omega arith))))
+    (λ d1. rw (four_bytes d d1) (by_size c (λ c1. rw (one_byte c c1) (by_head (omega arith))) (λ c1 c2. rw (two_bytes c c1 c2) (by_head (omega arith)))
+    (λ c1 c2. rw (three_bytes c c1 c2) (by_head (omega arith))) (λ c1. rw (four_bytes c c1) (below_4 240 c d r t h))))
 
 falls : (c d : ℕ) (r t : List ℕ) → d < c → slice_cmp nat_cmp (encode c ++ r) (encode d ++ t) ≡ Greater
 falls c d r t h = nat_list_cmp_total.antisymm (encode c ++ r) (encode d ++ t) ∙ ap ordering_reverse (rises d c t r h).is
@@ -105,13 +79,8 @@ first_is x xs ys r e = rw e (refl, refl)
 
 -- a character takes a byte at least
 not_empty : (c : ℕ) (r : List ℕ) → (slice_cmp nat_cmp [] (encode c ++ r) ≡ Less) × (slice_cmp nat_cmp (encode c ++ r) [] ≡ Greater)
-not_empty c r = elim (cases_lt c 128) [
-  | inl c1 ↦ first_is _ _ _ r (one_byte c c1)
-  | inr c1 ↦ elim (cases_lt c 2048) [
-    | inl c2 ↦ first_is _ _ _ r (two_bytes c c1 c2)
-    | inr c2 ↦ elim (cases_lt c 65536) [ inl c3 ↦ first_is _ _ _ r (three_bytes c c2 c3) | inr c3 ↦ first_is _ _ _ r (four_bytes c c3) ]
-  ]
-]
+not_empty c r = by_size c (λ h. first_is _ _ _ r (one_byte c h)) (λ g h. first_is _ _ _ r (two_bytes c g h))
+    (λ g h. first_is _ _ _ r (three_bytes c g h)) (λ g. first_is _ _ _ r (four_bytes c g))
 
 pub order_kept : (cs ds : List ℕ) → slice_cmp nat_cmp (encodes cs) (encodes ds) ≡ slice_cmp nat_cmp cs ds
 order_kept [] [] = refl

@@ -1,5 +1,4 @@
-use Rattle.std.proofs.Common.{◌≡◌, ◌+◌, ◌*◌, take}
-use Rattle.bx_terms.specs.Tree.{nodes, listed}
+use Rattle.bx_terms.proofs.Words.{◌≡◌, ◌+◌, ◌*◌, take, nodes, listed}
 use Rattle.bx_terms.proofs.+deep_copies.Given as goal
 
 abbrev pub invariant-deep_copies::deep_copy_terms-loop-at : goal.invariant-deep_copies::deep_copy_terms-loop-at

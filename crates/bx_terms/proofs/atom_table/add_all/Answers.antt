@@ -1,6 +1,4 @@
-use Rattle.std.proofs.Common.{◌∙◌, sym}
-use Rattle.std.proofs.lemmas.List.Sums.{fold_more}
-use Rattle.bx_terms.specs.AtomTable.{used}
+use Rattle.bx_terms.proofs.Words.{◌∙◌, sym, fold_more, used}
 use Rattle.bx_terms.proofs.atom_table.add_all.Goals as goal
 
 pub loop-text-preserved : goal.loop-text-preserved

@@ -1,5 +1,4 @@
-use Rattle.std.proofs.Common.{◌≡◌, fold, take}
-use Rattle.bx_terms.specs.AtomTable.{used}
+use Rattle.bx_terms.proofs.Words.{◌≡◌, fold, take, used}
 use Rattle.bx_terms.proofs.atom_table.add_all.Given as goal
 
 abbrev pub invariant-loop-text : goal.invariant-loop-text

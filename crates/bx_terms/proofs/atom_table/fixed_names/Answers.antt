@@ -1,6 +1,4 @@
-use Rattle.std.proofs.Common.{fold, ◌∙◌, ap}
-use Rattle.bx_terms.specs.declared.fixed.TheConstants.{TEXTS}
-use Rattle.bx_terms.specs.AtomTable.{used}
+use Rattle.bx_terms.proofs.Words.{fold, ◌∙◌, ap, TEXTS, used}
 use Rattle.bx_terms.proofs.AtomTables.{fixed_by_use}
 use Rattle.bx_terms.proofs.atom_table.fixed_names.Goals as goal
 

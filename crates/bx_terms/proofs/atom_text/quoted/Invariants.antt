@@ -1,5 +1,4 @@
-use Rattle.std.proofs.Common.{◌≡◌, ◌++◌, string_bytes, codes}
-use Rattle.std.specs.List.{flat_map}
+use Rattle.bx_terms.proofs.Words.{◌≡◌, ◌++◌, string_bytes, codes, flat_map}
 use Rattle.bx_terms.specs.AtomText.{escaped}
 use Rattle.bx_terms.proofs.atom_text.quoted.Given as goal
 

@@ -1,6 +1,4 @@
-use Rattle.std.proofs.Common.{◌≡◌, ◌+◌, ◌*◌, drop}
-use Rattle.bx_terms.specs.Tree.{nodes, listed}
-use Rattle.bx_terms.specs.Order.{order_of}
+use Rattle.bx_terms.proofs.Words.{◌≡◌, ◌+◌, ◌*◌, drop, nodes, listed, order_of}
 use Rattle.bx_terms.proofs.ordering.+order.Given as goal
 
 -- what is left stands as the whole does

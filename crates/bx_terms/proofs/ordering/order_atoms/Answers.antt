@@ -1,6 +1,4 @@
-use Rattle.std.proofs.Common.{◌≡◌, ap, sym, ◌∙◌, arith}
-use Rattle.std.proofs.lemmas.Bool.Decides.{nat_tests}
-use Rattle.bx_terms.specs.Order.{atom_order}
+use Rattle.bx_terms.proofs.Words.{◌≡◌, ap, sym, ◌∙◌, arith, nat_tests, atom_order}
 use Rattle.bx_terms.proofs.Total.{atom_order_itself}
 use Rattle.bx_terms.proofs.ordering.order_atoms.Goals as goal
 

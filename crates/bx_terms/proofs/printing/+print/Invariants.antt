@@ -1,6 +1,4 @@
-use Rattle.std.proofs.Common.{◌≡◌, ◌+◌, ◌*◌, ◌++◌, drop, string_bytes}
-use Rattle.bx_terms.specs.Tree.{nodes, listed}
-use Rattle.bx_terms.specs.Printed.{printed_tail, printed_elements}
+use Rattle.bx_terms.proofs.Words.{◌≡◌, ◌+◌, ◌*◌, ◌++◌, drop, string_bytes, nodes, listed, printed_tail, printed_elements}
 use Rattle.bx_terms.proofs.printing.+print.Given as goal
 
 -- what is written and what is left to write make the whole

@@ -1,5 +1,4 @@
-use Rattle.std.proofs.Common.{◌≡◌, drop, length}
-use Rattle.bx_terms.specs.Tree.{nodes, listed}
+use Rattle.bx_terms.proofs.Words.{◌≡◌, drop, length, nodes, listed}
 use Rattle.bx_terms.proofs.terms.+same.Given as goal
 
 -- rows that agree from here on agree

@@ -1,5 +1,4 @@
-use Rattle.std.proofs.Common.{◌≡◌, ◌≤◌, max, drop}
-use Rattle.bx_terms.specs.Tree.{listed, highest}
+use Rattle.bx_terms.proofs.Words.{◌≡◌, ◌≤◌, max, drop, listed, highest}
 use Rattle.bx_terms.proofs.terms.highest.Given as goal
 
 abbrev pub invariant-loop-term : goal.invariant-loop-term

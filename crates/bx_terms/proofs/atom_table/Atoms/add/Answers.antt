@@ -1,5 +1,4 @@
-use Rattle.std.proofs.Common.{◌≡◌, ◌<◌, true, Ok, sym, ap, subst, ◌∙◌, arith, length, ◌++◌, ◌∷◌, []}
-use Rattle.bx_terms.specs.AtomTable.{IsAtomTable, is_short}
+use Rattle.bx_terms.proofs.Words.{◌≡◌, ◌<◌, true, Ok, sym, ap, subst, ◌∙◌, arith, length, ◌++◌, ◌∷◌, [], IsAtomTable, is_short}
 use Rattle.bx_terms.specs.Naming.{atom}
 use Rattle.bx_terms.proofs.AtomTables.{naming_new, grown}
 use Rattle.bx_terms.proofs.atom_table.Atoms.add.Goals as goal

@@ -1,5 +1,4 @@
-use Rattle.std.proofs.lemmas.Bool.Decides.{same_from_decides}
-use Rattle.bx_terms.specs.Sameness.{same_decides}
+use Rattle.bx_terms.proofs.Words.{same_from_decides, same_decides}
 use Rattle.bx_terms.proofs.terms.TermPartialEq.eq.Goals as goal
 
 pub returns : goal.returns

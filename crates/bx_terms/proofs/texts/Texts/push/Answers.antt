@@ -1,7 +1,4 @@
-use Rattle.std.proofs.Common.{◌≡◌, ◌∷◌, ◌++◌, [], List, map, string_bytes, sym, ap, subst, ◌∙◌, arith}
-use Rattle.std.proofs.lemmas.List.{length-map}
-use Rattle.bx_terms.specs.AtomTable.{number_of}
-use Rattle.bx_terms.specs.Texts.{AreNumbers}
+use Rattle.bx_terms.proofs.Words.{◌≡◌, ◌∷◌, ◌++◌, [], List, map, string_bytes, sym, ap, subst, ◌∙◌, arith, length-map, number_of, AreNumbers}
 use Rattle.bx_terms.proofs.Numbers.{one_numbered, put_last}
 use Rattle.bx_terms.proofs.texts.Texts.push.Goals as goal
 
