@@ -7,8 +7,7 @@ use Rattle.std.proofs.lemmas.Option.{unwrap_or-slice_get}
 use Rattle.std.proofs.Math.Seq.{take-append_seam, drop-append_seam}
 use Rattle.bx_ops.specs.declared.opcode.Op.TheVariants.{Line}
 use Rattle.bx_listing.specs.Items.{Item}
-use Rattle.bx_listing.specs.declared.items.Operand.{Operand}
-use Rattle.bx_listing.specs.declared.items.Operand.TheVariants.{Nil}
+use Rattle.bx_listing.specs.declared.items.Operand.{Operand, TheVariants.Nil}
 use Rattle.bx_listing.specs.Code.{Code, CodeFunction, items}
 use Rattle.bx_asm.specs.Unit.{code_head}
 

@@ -10,8 +10,7 @@ unfoldable pub use Rattle.bx_bifs.specs.Natives.{native_named, native_numbered, 
 pub use Rattle.bx_bifs.specs.Parts.{length_of, part, part_from_one}
 pub use Rattle.bx_bifs.specs.Shifts.{over_power, times_power}
 pub use Rattle.bx_bifs.specs.Values.{ahead, appended, built, elements, of_elements, put_at, tupled, untupled}
-pub use Rattle.bx_bifs.specs.declared.given.Given.{Given}
-pub use Rattle.bx_bifs.specs.declared.given.Given.TheVariants.{Trap, Value}
+pub use Rattle.bx_bifs.specs.declared.given.Given.{Given, TheVariants.Trap, TheVariants.Value}
 pub use Rattle.bx_ops.specs.GuardBifs.{every_guard_bif, guard_bif}
 unfoldable pub use Rattle.bx_ops.specs.GuardBifs.{guard_bif_with}
 pub use Rattle.bx_ops.specs.declared.guard_bif.Bif.{Bif}

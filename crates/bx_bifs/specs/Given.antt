@@ -5,8 +5,7 @@ use Rattle.bx_terms.specs.declared.fixed.TheConstants.{TRUE, FALSE, BADARG, BADA
 use Rattle.bx_terms.specs.declared.kinds.Class.TheVariants.{Error}
 use Rattle.bx_terms.specs.declared.kinds.Trap.TheVariants.{IntegerRange}
 use Rattle.bx_terms.specs.Tree.{Tree, int, atom, height}
-use Rattle.bx_bifs.specs.declared.given.Given.{Given}
-use Rattle.bx_bifs.specs.declared.given.Given.TheVariants.{Value, Fault, Trap}
+use Rattle.bx_bifs.specs.declared.given.Given.{Given, TheVariants.Value, TheVariants.Fault, TheVariants.Trap}
 
 -- the atom `true` or `false`
 abbrev pub truth_atom : Bool → Tree

@@ -9,8 +9,7 @@ use Rattle.bx_terms.specs.Order.{order_of}
 use Rattle.bx_terms.specs.Same.{same_tree}
 use Rattle.bx_ops.specs.declared.guard_bif.Bif.{Bif}
 use Rattle.bx_ops.specs.declared.guard_bif.Bif.TheVariants.{Add, Subtract, Multiply, Div, Rem, Band, Bor, Bxor, Bsl, Bsr, UnaryPlus, UnaryMinus, Bnot, Abs, Equal, NotEqual, ExactlyEqual, ExactlyNotEqual, Less, Greater, LessOrEqual, GreaterOrEqual, Min, Max, Not, And, Or, Xor, Hd, Tl, Length, TupleSize, Size, Element, IsAtom, IsBoolean, IsInteger, IsList, IsNumber, IsPid, IsTuple, IsFloat, IsBinary, IsReference, IsPort}
-use Rattle.bx_bifs.specs.declared.given.Given.{Given}
-use Rattle.bx_bifs.specs.declared.given.Given.TheVariants.{Value}
+use Rattle.bx_bifs.specs.declared.given.Given.{Given, TheVariants.Value}
 use Rattle.bx_bifs.specs.Given.{boolean, badarg, badarith, undef, integer, term_or_badarg}
 use Rattle.bx_bifs.specs.Bits.{bits_not}
 use Rattle.bx_bifs.specs.Arithmetic.{sum, difference, product, quotient, remainder, both_bits, either_bits, differing_bits, left_shift, right_shift}

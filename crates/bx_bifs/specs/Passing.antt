@@ -1,8 +1,7 @@
 -- The arguments of a native, where they stand.
 use Rattle.std.specs.Prelude.{List, [], ◌∷◌}
 use Rattle.bx_terms.specs.Tree.{Tree}
-use Rattle.bx_bifs.specs.declared.passing.Passed.{Passed}
-use Rattle.bx_bifs.specs.declared.passing.Passed.TheVariants.{One, Two, Three}
+use Rattle.bx_bifs.specs.declared.passing.Passed.{Passed, TheVariants.One, TheVariants.Two, TheVariants.Three}
 
 abbrev pub passed : Passed → List Tree
 passed (One t) = t.now ∷ []

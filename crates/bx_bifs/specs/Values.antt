@@ -4,8 +4,7 @@
 use Rattle.std.specs.Prelude.{suc, ℤ, pos, List, [], ◌∷◌, length, Option, Some, None, nat_le, nat_lt, if◌then◌else◌, option_map, slice_set}
 use Rattle.bx_terms.specs.declared.kinds.Trap.TheVariants.{TermHeight}
 use Rattle.bx_terms.specs.Tree.{Tree, int, atom, pid, tuple, nil, cons, listed, height}
-use Rattle.bx_bifs.specs.declared.given.Given.{Given}
-use Rattle.bx_bifs.specs.declared.given.Given.TheVariants.{Value, Trap}
+use Rattle.bx_bifs.specs.declared.given.Given.{Given, TheVariants.Value, TheVariants.Trap}
 use Rattle.bx_bifs.specs.declared.natives.Native.{Native}
 use Rattle.bx_bifs.specs.declared.natives.Native.TheVariants as natives
 use Rattle.bx_bifs.specs.Given.{badarg, undef}

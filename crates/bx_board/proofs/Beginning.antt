@@ -12,8 +12,7 @@ use Rattle.bx_world.specs.Running.{Ended, ran, unchosen}
 use Rattle.bx_plan.specs.Planned.{Planned}
 use Rattle.bx_plan.specs.Chains.{AreChains, Chained, above, chain_count, is_kid, kids, one_if, path_at}
 use Rattle.bx_plan.proofs.Times.{below_or_past, both_true, mid_false, not_eq}
-use Rattle.bx_board.specs.declared.slots.Slot.{Slot}
-use Rattle.bx_board.specs.declared.slots.Slot.TheVariants.{Waiting, Leased, Done}
+use Rattle.bx_board.specs.declared.slots.Slot.{Slot, TheVariants.Waiting, TheVariants.Leased, TheVariants.Done}
 use Rattle.bx_board.specs.Jobs.{Entry, Job, end_of, origin, work_of, world_or_none}
 use Rattle.bx_board.specs.Machine.{standing, is_waiting, is_leased, is_done, is_free, is_held, how_many, initial}
 use Rattle.bx_board.specs.Alone.{IsIdle}

@@ -7,8 +7,7 @@ use Rattle.bx_world.specs.Running.{Ended}
 use Rattle.bx_plan.specs.Planned.{choices_at}
 use Rattle.bx_plan.specs.Plans.{Named}
 use Rattle.bx_board.specs.declared.reports.Scheduled.{Scheduled}
-use Rattle.bx_board.specs.declared.slots.Slot.{Slot}
-use Rattle.bx_board.specs.declared.slots.Slot.TheVariants.{Waiting, Leased, Done}
+use Rattle.bx_board.specs.declared.slots.Slot.{Slot, TheVariants.Waiting, TheVariants.Leased, TheVariants.Done}
 use Rattle.bx_board.specs.Jobs.{Entry, run_alone}
 use Rattle.bx_board.specs.Machine.{is_done}
 use Rattle.bx_board.specs.Reported.{told, told_alone}

@@ -4,8 +4,7 @@ use Rattle.std.specs.Prelude.{MatchBool}
 use Rattle.std.proofs.lemmas.List.{length-set}
 use Rattle.std.proofs.lemmas.Bool.{cases_eq}
 use Rattle.bx_plan.specs.Chains.{Begins, above, chain_count, chain_path, head, one_if}
-use Rattle.bx_board.specs.declared.slots.Slot.{Slot}
-use Rattle.bx_board.specs.declared.slots.Slot.TheVariants.{Waiting, Leased, Done}
+use Rattle.bx_board.specs.declared.slots.Slot.{Slot, TheVariants.Waiting, TheVariants.Leased, TheVariants.Done}
 use Rattle.bx_board.specs.declared.slots.Event.TheVariants.{Lease, Submit}
 use Rattle.bx_board.specs.Alone.{GoesOn, IsIdle, IsUnheld, TakesBack, done_in}
 use Rattle.bx_board.specs.Jobs.{end_of, work_of}

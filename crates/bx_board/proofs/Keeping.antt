@@ -9,8 +9,7 @@ use Rattle.std.proofs.lemmas.Bool.{eq-eqb, eqb-true, le-ltb, lt-ltb, true_from_n
 use Rattle.bx_load.specs.Image.{Loaded}
 use Rattle.bx_plan.specs.Planned.{Planned}
 use Rattle.bx_plan.specs.Chains.{Chained, above, kids, chain_count, one_if}
-use Rattle.bx_board.specs.declared.slots.Slot.{Slot}
-use Rattle.bx_board.specs.declared.slots.Slot.TheVariants.{Waiting, Leased, Done}
+use Rattle.bx_board.specs.declared.slots.Slot.{Slot, TheVariants.Waiting, TheVariants.Leased, TheVariants.Done}
 use Rattle.bx_board.specs.declared.slots.Event.TheVariants.{Lease, Submit, GiveBack, Stop}
 use Rattle.bx_board.specs.Jobs.{Entry, Job, end_of, work_of}
 use Rattle.bx_board.specs.Machine.{Frontier, standing, is_waiting, is_leased, is_done, is_free, is_unborn, is_held, is_finished, how_many, May}

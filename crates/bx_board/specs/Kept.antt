@@ -2,17 +2,14 @@
 use Rattle.std.specs.Prelude.{◌≡◌, ◌≢◌, ℕ, ◌<◌, false, IsTrue, List, length, Option, None, Some, Result, Ok, Err, IsOk, IsSome, refl, Bool}
 use Rattle.std.specs.Coded.{Coded, code_by, coded×, coded_bool, coded_list}
 use Rattle.bx_terms.specs.declared.atom_table.AtomId.{AtomId}
-use Rattle.bx_terms.specs.declared.faults.Fault.{Fault}
-use Rattle.bx_terms.specs.declared.faults.Fault.TheVariants.{Memory, NotLeased, Foreign, Twice}
+use Rattle.bx_terms.specs.declared.faults.Fault.{Fault, TheVariants.Memory, TheVariants.NotLeased, TheVariants.Foreign, TheVariants.Twice}
 use Rattle.bx_load.specs.Image.{Loaded, export}
 use Rattle.bx_world.specs.World.{started}
 use Rattle.bx_world.specs.Running.{Ended}
 use Rattle.bx_plan.specs.Planned.{Planned}
 use Rattle.bx_plan.specs.Chains.{AreChains, Chained, above, chain_count}
-use Rattle.bx_board.specs.declared.slots.Slot.{Slot}
-use Rattle.bx_board.specs.declared.slots.Slot.TheVariants.{Leased, Done}
-use Rattle.bx_board.specs.declared.slots.Event.{Event}
-use Rattle.bx_board.specs.declared.slots.Event.TheVariants.{Lease, Submit, GiveBack}
+use Rattle.bx_board.specs.declared.slots.Slot.{Slot, TheVariants.Leased, TheVariants.Done}
+use Rattle.bx_board.specs.declared.slots.Event.{Event, TheVariants.Lease, TheVariants.Submit, TheVariants.GiveBack}
 use Rattle.bx_board.specs.Jobs.{Entry, IsSameRun, Job, Work, end_of, work_of}
 use Rattle.bx_board.specs.Machine.{Frontier, standing, is_waiting, is_done, May, after, initial, replay, IsLegal}
 

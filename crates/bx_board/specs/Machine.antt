@@ -2,10 +2,8 @@
 -- root, is done from the start. A chain that waits is free once the chain that it stands on is done, and unborn until then.
 use Rattle.std.specs.Prelude.{◌≡◌, ℕ, zero, suc, ◌+◌, ◌-◌, ◌&&◌, not, nat_lt, Bool, true, false, IsTrue, List, [], ◌∷◌, length, replicate, slice_index_or, slice_set}
 use Rattle.bx_plan.specs.Chains.{above, chain_count, one_if}
-use Rattle.bx_board.specs.declared.slots.Slot.{Slot}
-use Rattle.bx_board.specs.declared.slots.Slot.TheVariants.{Waiting, Leased, Done}
-use Rattle.bx_board.specs.declared.slots.Event.{Event}
-use Rattle.bx_board.specs.declared.slots.Event.TheVariants.{Lease, Submit, GiveBack, Stop}
+use Rattle.bx_board.specs.declared.slots.Slot.{Slot, TheVariants.Waiting, TheVariants.Leased, TheVariants.Done}
+use Rattle.bx_board.specs.declared.slots.Event.{Event, TheVariants.Lease, TheVariants.Submit, TheVariants.GiveBack, TheVariants.Stop}
 use Rattle.bx_board.specs.Jobs.{Job, end_of, work_of}
 
 pub record Frontier : Type 0 where

@@ -1,8 +1,7 @@
 -- What is reported: what came of each schedule in the plan's order, each run alone from the start.
 use Rattle.std.specs.Prelude.{ℕ, ◌||◌, ◌==◌, nat_lt, if◌then◌else◌, List, map, Result, Ok, Err}
 use Rattle.bx_terms.specs.Outcomes.{◌>>=◌}
-use Rattle.bx_terms.specs.declared.faults.Fault.{Fault}
-use Rattle.bx_terms.specs.declared.faults.Fault.TheVariants.{Workers}
+use Rattle.bx_terms.specs.declared.faults.Fault.{Fault, TheVariants.Workers}
 use Rattle.bx_load.specs.Image.{Loaded}
 use Rattle.bx_world.specs.World.{started}
 use Rattle.bx_world.specs.Running.{Ended}

@@ -5,8 +5,7 @@ use Rattle.std.specs.BTreeMap.{BTreeMap, get}
 use Rattle.bx_load.specs.Image.{Loaded}
 use Rattle.bx_plan.specs.Planned.{Planned}
 use Rattle.bx_plan.specs.Chains.{Chained, one_if, times}
-use Rattle.bx_board.specs.declared.slots.Slot.{Slot}
-use Rattle.bx_board.specs.declared.slots.Slot.TheVariants.{Leased}
+use Rattle.bx_board.specs.declared.slots.Slot.{Slot, TheVariants.Leased}
 use Rattle.bx_board.specs.Jobs.{Entry}
 use Rattle.bx_board.specs.Machine.{standing, is_free, is_held, is_finished, how_many}
 use Rattle.bx_board.specs.Kept.{Kept, IsKept}

@@ -4,8 +4,7 @@ use Rattle.std.specs.Prelude.{Option, Some, None}
 use Rattle.std.specs.List.{All}
 use Rattle.std.proofs.lemmas.List.Elements.{All-cons}
 use Rattle.bx_terms.specs.declared.places.Place.{Place}
-use Rattle.bx_cells.specs.declared.values.Value.{Value}
-use Rattle.bx_cells.specs.declared.values.Value.TheVariants.{Tag}
+use Rattle.bx_cells.specs.declared.values.Value.{Value, TheVariants.Tag}
 use Rattle.bx_cells.specs.StackFrame.{StackFrame}
 use Rattle.bx_cells.specs.Stack.{lowest_tag, unwound, caught}
 use Rattle.bx_cells.specs.Tags.{TagAt, HasNoTag, IsLowestTag, IsCaught}

@@ -6,8 +6,7 @@ use Rattle.std.proofs.lemmas.Bool.Decides.{nat_tests}
 use Rattle.std.proofs.lemmas.Option.{slice_get_past, slice_get-get_or}
 use Rattle.std.proofs.lemmas.Bool.{cases_Bool}
 use Rattle.std.specs.Prelude.{Option, Some, None, Ok, Err, nat_lt, slice_get, slice_set}
-use Rattle.bx_terms.specs.declared.kinds.Trap.{Trap}
-use Rattle.bx_terms.specs.declared.kinds.Trap.TheVariants.{FrameSize}
+use Rattle.bx_terms.specs.declared.kinds.Trap.{Trap, TheVariants.FrameSize}
 use Rattle.bx_cells.specs.declared.frames.Head.{Head}
 use Rattle.bx_cells.specs.declared.values.Value.{Value}
 use Rattle.bx_cells.specs.StackFrame.{StackFrame}

@@ -5,8 +5,7 @@ use Rattle.bx_share.proofs.Places.{get_set_same, get_set_other}
 use Rattle.std.specs.Prelude.{Option, Some, None, Ok, slice_get, slice_set, option_map}
 use Rattle.std.specs.FinMap as map
 use Rattle.bx_terms.specs.Tree.{Tree}
-use Rattle.bx_cells.specs.declared.values.Value.{Value}
-use Rattle.bx_cells.specs.declared.values.Value.TheVariants.{Term}
+use Rattle.bx_cells.specs.declared.values.Value.{Value, TheVariants.Term}
 use Rattle.bx_cells.specs.StackFrame.{StackFrame}
 use Rattle.bx_cells.specs.Indexed.{cell_at}
 use Rattle.bx_cells.specs.Held.{all_held, holding}

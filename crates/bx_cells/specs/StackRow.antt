@@ -1,7 +1,6 @@
 -- A stack whose y registers lie in one row, those of the topmost frame last; its heads say where the registers of each begin.
 use Rattle.std.specs.Prelude.{◌≡◌, ◌≤◌, ℕ, ◌+◌, List, [], ◌∷◌, take, drop, Option, Some, None, Result, Ok, Err, nat_lt, if◌then◌else◌, MatchOption}
-use Rattle.bx_terms.specs.declared.kinds.Trap.{Trap}
-use Rattle.bx_terms.specs.declared.kinds.Trap.TheVariants.{NoFrame, FrameSize}
+use Rattle.bx_terms.specs.declared.kinds.Trap.{Trap, TheVariants.NoFrame, TheVariants.FrameSize}
 use Rattle.bx_terms.specs.declared.places.Place.{Place}
 use Rattle.bx_cells.specs.declared.frames.Head.{Head}
 use Rattle.bx_cells.specs.declared.values.Value.{Value}

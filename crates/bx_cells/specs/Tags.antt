@@ -3,8 +3,7 @@
 use Rattle.std.specs.Prelude.{◌≡◌, ◌<◌, ℕ, List, ◌∷◌, ◌++◌, Option, Some, slice_get}
 use Rattle.std.specs.List.{All}
 use Rattle.bx_terms.specs.declared.places.Place.{Place}
-use Rattle.bx_cells.specs.declared.values.Value.{Value}
-use Rattle.bx_cells.specs.declared.values.Value.TheVariants.{Tag}
+use Rattle.bx_cells.specs.declared.values.Value.{Value, TheVariants.Tag}
 use Rattle.bx_cells.specs.StackFrame.{StackFrame}
 
 -- the register of this number holds a tag with that address

@@ -1,7 +1,6 @@
 -- What `chart` writes: the drawing of a schedule's run from the start; or the first fault.
 use Rattle.std.specs.Prelude.{ℕ, Bool, false, List, [], ◌∷◌, Option, Some, None, Result, Ok, Err, bytes_eq, if◌then◌else◌, is_none, length, slice_get}
-use Rattle.bx_terms.specs.declared.faults.Fault.{Fault}
-use Rattle.bx_terms.specs.declared.faults.Fault.TheVariants.{BadCommand, Memory, NoEntry}
+use Rattle.bx_terms.specs.declared.faults.Fault.{Fault, TheVariants.BadCommand, TheVariants.Memory, TheVariants.NoEntry}
 use Rattle.bx_load.specs.Image.{Loaded, export}
 use Rattle.bx_plan.specs.Plans.{Named}
 use Rattle.bx_board.specs.Jobs.{Entry}
@@ -13,8 +12,7 @@ use Rattle.bx_engine.specs.Runs.{Names, entry_in, or_start}
 use Rattle.bx_engine.specs.Sources.{Sources, sources_of}
 use Rattle.bx_engine.specs.Starts.{start_in}
 use Rattle.bx_engine.specs.Units.{◌>>=◌}
-use Rattle.bx_engine.specs.declared.failures.Failure.{Failure}
-use Rattle.bx_engine.specs.declared.failures.Failure.TheVariants.{Refused}
+use Rattle.bx_engine.specs.declared.failures.Failure.{Failure, TheVariants.Refused}
 use Rattle.bx_chart.specs.Sheets.{sheet}
 
 -- ---- which schedule

@@ -3,10 +3,8 @@ use Rattle.std.specs.Prelude.{ℕ, List, Option, Some, None, codes, if◌then◌
 use Rattle.bx_terms.specs.Tree.{Tree}
 use Rattle.bx_terms.specs.declared.fixed.TheConstants.{NORMAL}
 use Rattle.bx_bifs.specs.Kinds.{is_the_atom}
-use Rattle.bx_signals.specs.declared.signal.Signal.{Signal}
-use Rattle.bx_signals.specs.declared.signal.Signal.TheVariants.{Message}
-use Rattle.bx_proc.specs.declared.parts.Status.{Status}
-use Rattle.bx_proc.specs.declared.parts.Status.TheVariants.{Ended}
+use Rattle.bx_signals.specs.declared.signal.Signal.{Signal, TheVariants.Message}
+use Rattle.bx_proc.specs.declared.parts.Status.{Status, TheVariants.Ended}
 use Rattle.bx_events.specs.declared.events.Effect.{Effect}
 use Rattle.bx_events.specs.declared.events.Effect.TheVariants as effects
 use Rattle.bx_events.specs.declared.events.Event.{Event}

@@ -5,19 +5,16 @@ use Rattle.bx_terms.specs.Kinds.{trap_name}
 use Rattle.bx_terms.specs.Printed.{printed, printed_pid}
 use Rattle.bx_terms.specs.Tree.{Tree}
 use Rattle.bx_terms.specs.declared.places.Place.{Place}
-use Rattle.bx_signals.specs.declared.signal.Signal.{Signal}
-use Rattle.bx_signals.specs.declared.signal.Signal.TheVariants.{Message, Link, Unlink, LinkExit, Exit}
+use Rattle.bx_signals.specs.declared.signal.Signal.{Signal, TheVariants.Message, TheVariants.Link, TheVariants.Unlink, TheVariants.LinkExit, TheVariants.Exit}
 use Rattle.bx_listing.specs.Items.{Item}
 use Rattle.bx_listing.specs.Locations.{Location}
 use Rattle.bx_listing.specs.Writing.{item_words}
 use Rattle.bx_load.specs.Image.{Loaded}
 use Rattle.bx_load.specs.Numbering.{numbered_at}
-use Rattle.bx_proc.specs.declared.parts.Status.{Status}
-use Rattle.bx_proc.specs.declared.parts.Status.TheVariants.{Ready, Waiting, Ended}
+use Rattle.bx_proc.specs.declared.parts.Status.{Status, TheVariants.Ready, TheVariants.Waiting, TheVariants.Ended}
 use Rattle.bx_world.specs.Texts.{spelling}
 use Rattle.bx_world.specs.declared.choices.Choice.{Choice}
-use Rattle.bx_world.specs.declared.outcomes.Standing.{Standing}
-use Rattle.bx_world.specs.declared.outcomes.Standing.TheVariants.{Trapped, Quiet, Open}
+use Rattle.bx_world.specs.declared.outcomes.Standing.{Standing, TheVariants.Trapped, TheVariants.Quiet, TheVariants.Open}
 use Rattle.bx_events.specs.declared.events.Effect.{Effect}
 use Rattle.bx_events.specs.declared.events.Effect.TheVariants as effects
 use Rattle.bx_events.specs.declared.events.Event.{Event}

@@ -12,8 +12,7 @@ pub use Rattle.bx_debug.specs.Swapping.{course_of}
 pub use Rattle.bx_debug.specs.Tidying.{tidy_of, undone, undo_of}
 pub use Rattle.bx_debug.specs.declared.pauses.Bound.{Bound}
 pub use Rattle.bx_debug.specs.declared.pauses.Pause.{Pause}
-pub use Rattle.bx_debug.specs.declared.stops.Stop.{Stop}
-pub use Rattle.bx_debug.specs.declared.stops.Stop.TheVariants.{NotEnabled, Done, Break, Trapped}
+pub use Rattle.bx_debug.specs.declared.stops.Stop.{Stop, TheVariants.NotEnabled, TheVariants.Done, TheVariants.Break, TheVariants.Trapped}
 pub use Rattle.bx_load.specs.Image.{Loaded}
 pub use Rattle.bx_replay.proofs.Bringing.{ends_after, one_made, long_after}
 pub use Rattle.bx_replay.specs.Courses.{Course, reached}
@@ -28,5 +27,4 @@ pub use Rattle.bx_world.specs.Enabled.{can}
 pub use Rattle.bx_world.specs.Running.{Ended, ran, unchosen, advanced}
 pub use Rattle.bx_world.specs.Seen.{place_in}
 pub use Rattle.bx_world.specs.World.{State}
-pub use Rattle.bx_world.specs.declared.choices.Choice.{Choice}
-pub use Rattle.bx_world.specs.declared.choices.Choice.TheVariants.{Run}
+pub use Rattle.bx_world.specs.declared.choices.Choice.{Choice, TheVariants.Run}

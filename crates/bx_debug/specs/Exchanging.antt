@@ -1,7 +1,6 @@
 -- Whether two choices of a session that are next to each other may be exchanged, by a test.
 use Rattle.std.specs.Prelude.{ℕ, ◌-◌, Bool, true, false, ◌&&◌, nat_lt, Result, Ok, Err}
-use Rattle.bx_terms.specs.declared.faults.Fault.{Fault}
-use Rattle.bx_terms.specs.declared.faults.Fault.TheVariants.{NotIndependent}
+use Rattle.bx_terms.specs.declared.faults.Fault.{Fault, TheVariants.NotIndependent}
 use Rattle.bx_swaps.specs.Telling.{may_exchange}
 use Rattle.bx_debug.specs.Sessions.{History}
 use Rattle.bx_debug.specs.Swapping.{course_of, swapped}

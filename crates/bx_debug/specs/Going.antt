@@ -3,15 +3,13 @@ use Rattle.std.specs.Prelude.{ℕ, List, [], ◌∷◌, ◌++◌, Option, Some, 
 use Rattle.bx_terms.specs.declared.kinds.Trap.{Trap}
 use Rattle.bx_terms.specs.declared.places.Place.{Place}
 use Rattle.bx_load.specs.Image.{Loaded}
-use Rattle.bx_world.specs.declared.choices.Choice.{Choice}
-use Rattle.bx_world.specs.declared.choices.Choice.TheVariants.{Run}
+use Rattle.bx_world.specs.declared.choices.Choice.{Choice, TheVariants.Run}
 use Rattle.bx_world.specs.World.{State}
 use Rattle.bx_world.specs.Enabled.{can}
 use Rattle.bx_world.specs.Choosing.{chosen}
 use Rattle.bx_world.specs.Seen.{place_in}
 use Rattle.bx_debug.specs.Places.{PlaceSet, is_set}
-use Rattle.bx_debug.specs.declared.stops.Stop.{Stop}
-use Rattle.bx_debug.specs.declared.stops.Stop.TheVariants.{Done, Break, NotEnabled, Trapped}
+use Rattle.bx_debug.specs.declared.stops.Stop.{Stop, TheVariants.Done, TheVariants.Break, TheVariants.NotEnabled, TheVariants.Trapped}
 
 abbrev pub else_stop : Option Stop → Option Stop → Option Stop
 else_stop (Some stop) other = Some stop

@@ -9,8 +9,7 @@ use Rattle.bx_world.specs.Running.{Ended, unchosen}
 use Rattle.bx_replay.specs.Courses.{Course}
 use Rattle.bx_debug.specs.Going.{stop_before, walked, resumed, unless_stopped}
 use Rattle.bx_debug.specs.Places.{PlaceSet}
-use Rattle.bx_debug.specs.declared.stops.Stop.{Stop}
-use Rattle.bx_debug.specs.declared.stops.Stop.TheVariants.{Done}
+use Rattle.bx_debug.specs.declared.stops.Stop.{Stop, TheVariants.Done}
 
 abbrev pub led : Loaded → List Choice → State → State
 led image [] w = w

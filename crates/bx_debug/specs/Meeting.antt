@@ -6,11 +6,9 @@ use Rattle.bx_terms.specs.declared.places.Place.{Place}
 use Rattle.bx_ops.specs.declared.opcode.Op.{Op}
 use Rattle.bx_ops.specs.declared.opcode.Op.TheVariants as ops
 use Rattle.bx_listing.specs.Items.{Item}
-use Rattle.bx_listing.specs.declared.items.Operand.{Operand}
-use Rattle.bx_listing.specs.declared.items.Operand.TheVariants.{Import}
+use Rattle.bx_listing.specs.declared.items.Operand.{Operand, TheVariants.Import}
 use Rattle.bx_bifs.specs.Asks.{is_ask}
-use Rattle.bx_bifs.specs.declared.natives.Native.{Native}
-use Rattle.bx_bifs.specs.declared.natives.Native.TheVariants.{ProcessFlag}
+use Rattle.bx_bifs.specs.declared.natives.Native.{Native, TheVariants.ProcessFlag}
 use Rattle.bx_load.specs.Callees.{callee}
 use Rattle.bx_load.specs.Image.{Loaded}
 use Rattle.bx_load.specs.Numbering.{numbered_at}

@@ -10,10 +10,8 @@ use Rattle.bx_debug.specs.Going.{halted, stop_behind}
 use Rattle.bx_debug.specs.Meeting.{event, meeting}
 use Rattle.bx_debug.specs.Places.{PlaceSet}
 use Rattle.bx_debug.specs.Sessions.{History, gone, world_of}
-use Rattle.bx_debug.specs.declared.pauses.Bound.{Bound}
-use Rattle.bx_debug.specs.declared.pauses.Bound.TheVariants.{Event, Meeting}
-use Rattle.bx_debug.specs.declared.pauses.Pause.{Pause}
-use Rattle.bx_debug.specs.declared.pauses.Pause.TheVariants.{Stopped, Idle, Meets}
+use Rattle.bx_debug.specs.declared.pauses.Bound.{Bound, TheVariants.Event, TheVariants.Meeting}
+use Rattle.bx_debug.specs.declared.pauses.Pause.{Pause, TheVariants.Stopped, TheVariants.Idle, TheVariants.Meets}
 use Rattle.bx_debug.specs.declared.stops.Stop.TheVariants.{Done}
 
 abbrev pub else_pause : Option Pause → Option Pause → Option Pause

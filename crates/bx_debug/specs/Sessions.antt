@@ -4,8 +4,7 @@ use Rattle.std.specs.Coded.{Coded, code_by, coded×, coded_ℕ, coded_list}
 use Rattle.std.specs.FinSet as set
 use Rattle.bx_terms.specs.Outcomes.{◌>>=◌}
 use Rattle.bx_terms.specs.declared.atom_table.AtomId.{AtomId}
-use Rattle.bx_terms.specs.declared.faults.Fault.{Fault}
-use Rattle.bx_terms.specs.declared.faults.Fault.TheVariants.{BeforeStart, AfterEnd}
+use Rattle.bx_terms.specs.declared.faults.Fault.{Fault, TheVariants.BeforeStart, TheVariants.AfterEnd}
 use Rattle.bx_terms.specs.declared.places.Place.{Place}
 use Rattle.bx_load.specs.Image.{Loaded}
 use Rattle.bx_world.specs.declared.choices.Choice.{Choice}

@@ -1,8 +1,7 @@
 -- What is so where choices were not applied further.
 use Rattle.std.specs.Prelude.{◌≡◌, ◌≤◌, List, [], ◌∷◌, ◌++◌, length, Some, None, true, false}
 use Rattle.bx_load.specs.Image.{Loaded}
-use Rattle.bx_world.specs.declared.choices.Choice.{Choice}
-use Rattle.bx_world.specs.declared.choices.Choice.TheVariants.{Run}
+use Rattle.bx_world.specs.declared.choices.Choice.{Choice, TheVariants.Run}
 use Rattle.bx_world.specs.World.{State}
 use Rattle.bx_world.specs.Enabled.{can}
 use Rattle.bx_world.specs.Running.{ran, unchosen}
@@ -10,8 +9,7 @@ use Rattle.bx_world.specs.Seen.{place_in}
 use Rattle.bx_debug.specs.Leading.{led}
 use Rattle.bx_debug.specs.Places.{PlaceSet, is_set}
 use Rattle.bx_debug.specs.Sessions.{History, behind, world_of}
-use Rattle.bx_debug.specs.declared.stops.Stop.{Stop}
-use Rattle.bx_debug.specs.declared.stops.Stop.TheVariants.{Done, Break, NotEnabled, Trapped}
+use Rattle.bx_debug.specs.declared.stops.Stop.{Stop, TheVariants.Done, TheVariants.Break, TheVariants.NotEnabled, TheVariants.Trapped}
 
 -- all were applied; or the last was a run of this process, which stands at this breakpoint in a world that has not
 -- trapped; or the next is this one, which is not enabled in a world that has not trapped; or the world has trapped

@@ -1,7 +1,6 @@
 -- Exchanges of two choices that stand before the position of a session; choices are counted from 1.
 use Rattle.std.specs.Prelude.{◌≡◌, ℕ, ◌-◌, ◌<◌, drop, IsSome, Result, Ok, Err}
-use Rattle.bx_terms.specs.declared.faults.Fault.{Fault}
-use Rattle.bx_terms.specs.declared.faults.Fault.TheVariants.{Memory, NotIndependent}
+use Rattle.bx_terms.specs.declared.faults.Fault.{Fault, TheVariants.Memory, TheVariants.NotIndependent}
 use Rattle.bx_world.specs.Running.{unchosen}
 use Rattle.bx_replay.specs.Courses.{Course}
 use Rattle.bx_replay.specs.Exchanges.{exchanged_at, next_apart, MayExchange}

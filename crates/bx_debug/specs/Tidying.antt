@@ -1,7 +1,6 @@
 -- The choices before the position of a session, tidied; and one of them set aside. Choices are counted from 1.
 use Rattle.std.specs.Prelude.{ℕ, ◌-◌, ◌==◌, ◌||◌, nat_lt, if◌then◌else◌, Result, Ok, Err}
-use Rattle.bx_terms.specs.declared.faults.Fault.{Fault}
-use Rattle.bx_terms.specs.declared.faults.Fault.TheVariants.{NotIndependent}
+use Rattle.bx_terms.specs.declared.faults.Fault.{Fault, TheVariants.NotIndependent}
 use Rattle.bx_swaps.specs.Tidying.{tidied_of, undone_of}
 use Rattle.bx_debug.specs.Sessions.{History}
 use Rattle.bx_debug.specs.Swapping.{course_of}

@@ -6,8 +6,7 @@ use Rattle.std.specs.Io.KnownBytes.{Appends, Keeps}
 use Rattle.bx_debugger.specs.Answers.{answered, is_quit}
 use Rattle.bx_debugger.specs.Lines.{last_line}
 use Rattle.bx_debugger.specs.Talks.{Breaks, Feeds, Hearing, Lacks, Replies, quits, told}
-use Rattle.bx_engine.specs.declared.failures.Failure.{Failure}
-use Rattle.bx_engine.specs.declared.failures.Failure.TheVariants.{Refused, Read, Write, Start}
+use Rattle.bx_engine.specs.declared.failures.Failure.{Failure, TheVariants.Refused, TheVariants.Read, TheVariants.Write, TheVariants.Start}
 use Rattle.bx_terms.specs.declared.faults.Fault.TheVariants.{Memory}
 use Rattle.bx_debugger.specs.declared.talks.Next.TheVariants.{Over}
 

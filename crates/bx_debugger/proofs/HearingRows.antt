@@ -8,8 +8,7 @@ use Rattle.bx_engine.specs.Sources.{Sources}
 use Rattle.bx_debugger.specs.Answers.{after_lines, has_quit}
 use Rattle.bx_debugger.specs.Lines.{begun_line, ended_lines, last_line}
 use Rattle.bx_debugger.specs.Talks.{Ends, Follows, Hearing, Hears, Lacks, MayFail, Talks, ended_in, heard, lines_in, quits, told}
-use Rattle.bx_engine.specs.declared.failures.Failure.{Failure}
-use Rattle.bx_engine.specs.declared.failures.Failure.TheVariants.{Refused, Read, Write, Start}
+use Rattle.bx_engine.specs.declared.failures.Failure.{Failure, TheVariants.Refused, TheVariants.Read, TheVariants.Write, TheVariants.Start}
 use Rattle.bx_terms.specs.declared.faults.Fault.TheVariants.{Memory, TooLarge}
 use Rattle.bx_debugger.proofs.LineRows.{after-append, answers-append, begun-append, ended-append, quit-append}
 

@@ -5,8 +5,7 @@ use Rattle.std.proofs.KnownBytes.{Keeps-refl}
 use Rattle.std.proofs.lemmas.List.{length-map}
 use Rattle.bx_terms.specs.FixedAtoms.{fixed_atoms}
 use Rattle.bx_terms.specs.Outcomes.{Gives}
-use Rattle.bx_terms.specs.declared.faults.Fault.{Fault}
-use Rattle.bx_terms.specs.declared.faults.Fault.TheVariants.{Memory}
+use Rattle.bx_terms.specs.declared.faults.Fault.{Fault, TheVariants.Memory}
 use Rattle.bx_load.specs.Image.{Loaded}
 use Rattle.bx_debug.specs.Sessions.{History}
 use Rattle.bx_engine.specs.Loads.{image_of, of_no_file}
@@ -14,8 +13,7 @@ use Rattle.bx_engine.specs.Runs.{Names, or_start}
 use Rattle.bx_engine.specs.Sources.{Sources, sources_of}
 use Rattle.bx_engine.specs.Starts.{begun_by, start_in, token_in}
 use Rattle.bx_engine.specs.Units.{◌>>=◌, ClearBefore, FilesGive}
-use Rattle.bx_engine.specs.declared.failures.Failure.{Failure}
-use Rattle.bx_engine.specs.declared.failures.Failure.TheVariants.{Refused, Read, Write, Start}
+use Rattle.bx_engine.specs.declared.failures.Failure.{Failure, TheVariants.Refused, TheVariants.Read, TheVariants.Write, TheVariants.Start}
 use Rattle.bx_debugger.specs.Opening.{session_at, session_behind, session_of}
 use Rattle.bx_debugger.specs.Talks.{Debugs, Hearing, IsBefore, Talks, begins}
 

@@ -3,8 +3,7 @@ use Rattle.std.proofs.Common.{◌≡◌, ◌∙◌, ℕ, Bool, List, Result, Ok,
 use Rattle.std.proofs.lemmas.Bool.{false_from_ne_true}
 use Rattle.std.specs.Prelude.{IfOk}
 use Rattle.bx_terms.specs.Outcomes.{Does}
-use Rattle.bx_terms.specs.declared.faults.Fault.{Fault}
-use Rattle.bx_terms.specs.declared.faults.Fault.TheVariants.{Memory, NotIndependent}
+use Rattle.bx_terms.specs.declared.faults.Fault.{Fault, TheVariants.Memory, TheVariants.NotIndependent}
 use Rattle.bx_debug.specs.Exchanging.{may_swap, swap_by, swap_of}
 use Rattle.bx_debug.specs.Sessions.{History}
 use Rattle.bx_debug.specs.Swapping.{MaySwap, Swaps, swapped}

@@ -5,11 +5,9 @@ use Rattle.std.specs.Io.KnownBytes.{Appends, Consumes}
 use Rattle.std.proofs.KnownBytes.{Appends-trans}
 use Rattle.bx_debugger.specs.Lines.{begun_line, last_line}
 use Rattle.bx_debugger.specs.Talks.{Breaks, Broken, Ends, Follows, Hearing, Talks, ended_in, heard, lines_in, quits, told}
-use Rattle.bx_engine.specs.declared.failures.Failure.{Failure}
-use Rattle.bx_engine.specs.declared.failures.Failure.TheVariants.{Refused, Read, Write, Start}
+use Rattle.bx_engine.specs.declared.failures.Failure.{Failure, TheVariants.Refused, TheVariants.Read, TheVariants.Write, TheVariants.Start}
 use Rattle.bx_terms.specs.declared.faults.Fault.TheVariants.{Memory, TooLarge}
-use Rattle.bx_debugger.specs.declared.talks.Next.{Next}
-use Rattle.bx_debugger.specs.declared.talks.Next.TheVariants.{More, Over}
+use Rattle.bx_debugger.specs.declared.talks.Next.{Next, TheVariants.More, TheVariants.Over}
 use Rattle.bx_debugger.proofs.LineRows.{answers_past, ended-append}
 use Rattle.bx_debugger.proofs.HearingRows.{begun_behind, fails_behind, follows-append, lacks_behind, quits-append, told_behind}
 

@@ -2,8 +2,7 @@
 use Rattle.std.specs.Prelude.{◌≡◌, ℕ, ◌+◌, nat_lt, Bool, false, ◌||◌, if◌then◌else◌, List, [], ◌∷◌, ◌++◌, Option, Some, None, Result, Ok, Err, length, codes, decimal, slice_get, ◌-◌}
 use Rattle.std.specs.Str.{bytes_eq}
 use Rattle.bx_terms.specs.Refusals.{refusal}
-use Rattle.bx_terms.specs.declared.faults.Fault.{Fault}
-use Rattle.bx_terms.specs.declared.faults.Fault.TheVariants.{BadCommand, BeforeStart, Memory, TooLong}
+use Rattle.bx_terms.specs.declared.faults.Fault.{Fault, TheVariants.BadCommand, TheVariants.BeforeStart, TheVariants.Memory, TheVariants.TooLong}
 use Rattle.bx_load.specs.Image.{Loaded}
 use Rattle.bx_world.specs.Texts.{outcome_lines}
 use Rattle.bx_world.specs.Seen.{seen}
@@ -13,8 +12,7 @@ use Rattle.bx_debug.specs.Sessions.{History, behind, world_of, stepped, back, fo
 use Rattle.bx_debug.specs.Exchanging.{swap_of}
 use Rattle.bx_debug.specs.Pausing.{run_of}
 use Rattle.bx_debug.specs.Tidying.{tidy_of, undo_of}
-use Rattle.bx_debug.specs.declared.pauses.Bound.{Bound}
-use Rattle.bx_debug.specs.declared.pauses.Bound.TheVariants.{Event, Meeting}
+use Rattle.bx_debug.specs.declared.pauses.Bound.{Bound, TheVariants.Event, TheVariants.Meeting}
 use Rattle.bx_debug.specs.declared.stops.Stop.{Stop}
 use Rattle.bx_engine.specs.Sources.{Sources}
 use Rattle.bx_debugger.specs.declared.commands.Command.{Command}

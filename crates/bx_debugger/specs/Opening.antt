@@ -1,8 +1,7 @@
 -- The session that a debugger opens: at the start that was named, over the listings; or the first fault.
 use Rattle.std.specs.Prelude.{ℕ, List, Option, Some, Result, Err}
 use Rattle.bx_terms.specs.AtomTable.{number_of}
-use Rattle.bx_terms.specs.declared.faults.Fault.{Fault}
-use Rattle.bx_terms.specs.declared.faults.Fault.TheVariants.{NoEntry}
+use Rattle.bx_terms.specs.declared.faults.Fault.{Fault, TheVariants.NoEntry}
 use Rattle.bx_load.specs.Image.{Loaded}
 use Rattle.bx_debug.specs.Sessions.{History, opened}
 use Rattle.bx_engine.specs.Loads.{image_of, of_no_file}

@@ -2,8 +2,7 @@
 use Rattle.std.specs.Prelude.{ℕ, List, [], ◌∷◌, ◌++◌, codes}
 use Rattle.bx_terms.specs.Printed.{printed}
 use Rattle.bx_signals.specs.Channels.{Channels, pairs, waiting}
-use Rattle.bx_signals.specs.declared.signal.Signal.{Signal}
-use Rattle.bx_signals.specs.declared.signal.Signal.TheVariants.{Message, Link, Unlink, LinkExit, Exit}
+use Rattle.bx_signals.specs.declared.signal.Signal.{Signal, TheVariants.Message, TheVariants.Link, TheVariants.Unlink, TheVariants.LinkExit, TheVariants.Exit}
 use Rattle.bx_world.specs.Enabled.{delivery}
 use Rattle.bx_world.specs.Texts.{spelling}
 

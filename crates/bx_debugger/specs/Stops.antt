@@ -4,15 +4,12 @@ use Rattle.bx_terms.specs.Kinds.{trap_name}
 use Rattle.bx_terms.specs.Printed.{printed, printed_pid}
 use Rattle.bx_load.specs.Image.{Loaded}
 use Rattle.bx_load.specs.Names.{place_text}
-use Rattle.bx_proc.specs.declared.parts.Status.{Status}
-use Rattle.bx_proc.specs.declared.parts.Status.TheVariants.{Ended}
+use Rattle.bx_proc.specs.declared.parts.Status.{Status, TheVariants.Ended}
 use Rattle.bx_world.specs.Seen.{status_of}
 use Rattle.bx_world.specs.Texts.{spelling}
 use Rattle.bx_debug.specs.Sessions.{History, world_of}
-use Rattle.bx_debug.specs.declared.pauses.Bound.{Bound}
-use Rattle.bx_debug.specs.declared.pauses.Bound.TheVariants.{Event, Meeting}
-use Rattle.bx_debug.specs.declared.pauses.Pause.{Pause}
-use Rattle.bx_debug.specs.declared.pauses.Pause.TheVariants.{Stopped, Idle, Meets}
+use Rattle.bx_debug.specs.declared.pauses.Bound.{Bound, TheVariants.Event, TheVariants.Meeting}
+use Rattle.bx_debug.specs.declared.pauses.Pause.{Pause, TheVariants.Stopped, TheVariants.Idle, TheVariants.Meets}
 use Rattle.bx_debug.specs.declared.stops.Stop.{Stop}
 use Rattle.bx_debug.specs.declared.stops.Stop.TheVariants as stops
 use Rattle.bx_engine.specs.Sources.{Sources}

@@ -10,13 +10,11 @@ use Rattle.bx_engine.specs.Runs.{TakesMemory}
 use Rattle.bx_engine.specs.Sources.{Sources, sources_of}
 use Rattle.bx_engine.specs.Starts.{start_in}
 use Rattle.bx_engine.specs.Units.{ClearBefore}
-use Rattle.bx_engine.specs.declared.failures.Failure.{Failure}
-use Rattle.bx_engine.specs.declared.failures.Failure.TheVariants.{Refused, Read, Write, Start}
+use Rattle.bx_engine.specs.declared.failures.Failure.{Failure, TheVariants.Refused, TheVariants.Read, TheVariants.Write, TheVariants.Start}
 use Rattle.bx_debugger.specs.Answers.{after_lines, answered, answers, has_quit, is_quit}
 use Rattle.bx_debugger.specs.Lines.{begun_line, ended_lines, last_line}
 use Rattle.bx_debugger.specs.Program.{sources_code}
-use Rattle.bx_debugger.specs.declared.talks.Next.{Next}
-use Rattle.bx_debugger.specs.declared.talks.Next.TheVariants.{More, Over}
+use Rattle.bx_debugger.specs.declared.talks.Next.{Next, TheVariants.More, TheVariants.Over}
 
 -- a session whose lines are being read
 pub record Hearing : Type 0 where

@@ -7,8 +7,7 @@ use Rattle.bx_signals.specs.Channels.{waiting}
 use Rattle.bx_signals.specs.Waiting.{first}
 use Rattle.bx_signals.specs.declared.signal.Signal.{Signal}
 use Rattle.bx_load.specs.Image.{Loaded}
-use Rattle.bx_world.specs.declared.choices.Choice.{Choice}
-use Rattle.bx_world.specs.declared.choices.Choice.TheVariants.{Run, Deliver, Expire}
+use Rattle.bx_world.specs.declared.choices.Choice.{Choice, TheVariants.Run, TheVariants.Deliver, TheVariants.Expire}
 use Rattle.bx_world.specs.Choosing.{applied}
 use Rattle.bx_world.specs.Seen.{place_in}
 use Rattle.bx_world.specs.Texts.{spelling}

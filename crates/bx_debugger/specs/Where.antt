@@ -2,8 +2,7 @@
 use Rattle.std.specs.Prelude.{ℕ, ◌+◌, List, [], ◌∷◌, ◌++◌, Option, codes}
 use Rattle.bx_terms.specs.Printed.{printed, printed_pid}
 use Rattle.bx_terms.specs.declared.places.Place.{Place}
-use Rattle.bx_proc.specs.declared.parts.Status.{Status}
-use Rattle.bx_proc.specs.declared.parts.Status.TheVariants.{Ready, Waiting, Ended}
+use Rattle.bx_proc.specs.declared.parts.Status.{Status, TheVariants.Ready, TheVariants.Waiting, TheVariants.Ended}
 use Rattle.bx_world.specs.World.{Life, Live, Exited}
 use Rattle.bx_debugger.specs.Program.{Program}
 use Rattle.bx_debugger.specs.Words.{here_words}

@@ -7,8 +7,7 @@ use Rattle.bx_engine.specs.Campaigns.{campaign_behind, told_of}
 use Rattle.bx_engine.specs.Loads.{ClearUpTo, image_of}
 use Rattle.bx_engine.specs.Runs.{Names}
 use Rattle.bx_engine.specs.Units.{◌>>=◌, FileGives, FilesGive}
-use Rattle.bx_engine.specs.declared.failures.Failure.{Failure}
-use Rattle.bx_engine.specs.declared.failures.Failure.TheVariants.{Refused, Read, Write, Start}
+use Rattle.bx_engine.specs.declared.failures.Failure.{Failure, TheVariants.Refused, TheVariants.Read, TheVariants.Write, TheVariants.Start}
 use Rattle.bx_engine.specs.declared.forms.Form.{Form}
 
 pub behind_image : {X : Type 0} (view : X → List ℕ) (form : Form) (workers n : ℕ) (image : Loaded) (names : Names) (given : List (List ℕ)) (planned : List ℕ) (result : Result X Failure)

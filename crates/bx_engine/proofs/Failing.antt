@@ -7,8 +7,7 @@ use Rattle.bx_engine.specs.Starts.{begun_by, start_in, token_in}
 use Rattle.bx_engine.specs.Loads.{ClearUpTo}
 use Rattle.bx_engine.specs.Runs.{ClearStart, Names, TakesMemory, Writes, or_start}
 use Rattle.bx_engine.specs.Units.{◌>>=◌, FilesGive}
-use Rattle.bx_engine.specs.declared.failures.Failure.{Failure}
-use Rattle.bx_engine.specs.declared.failures.Failure.TheVariants.{Refused, Read, Write, Start}
+use Rattle.bx_engine.specs.declared.failures.Failure.{Failure, TheVariants.Refused, TheVariants.Read, TheVariants.Write, TheVariants.Start}
 
 -- a start begins with an atom
 begun : (token : Option (List ℕ × ℕ)) (start : List ℕ) (names : Names) → token_in start 0 ≡ token → start_in start ≡ Some names → IsSome token

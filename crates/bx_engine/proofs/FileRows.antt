@@ -6,14 +6,12 @@ use Rattle.bx_listing.specs.Code.{Code}
 use Rattle.bx_listing.specs.Reading.{Table}
 use Rattle.std.specs.Prelude.{Bool, true, false, IsOk, if◌then◌else◌, nat_lt}
 use Rattle.bx_terms.specs.Outcomes.{Gives}
-use Rattle.bx_terms.specs.declared.faults.Fault.{Fault}
-use Rattle.bx_terms.specs.declared.faults.Fault.TheVariants.{Memory, TooLarge}
-use Rattle.bx_engine.specs.declared.failures.Failure.TheVariants.{Refused, Read, Write, Start}
+use Rattle.bx_terms.specs.declared.faults.Fault.{Fault, TheVariants.Memory, TheVariants.TooLarge}
+use Rattle.bx_engine.specs.declared.failures.Failure.{Failure, TheVariants.Refused, TheVariants.Read, TheVariants.Write, TheVariants.Start}
 use Rattle.bx_listing.specs.Locations.{Location}
 use Rattle.bx_engine.specs.Inputs.{input_limit}
 use Rattle.bx_engine.specs.Sources.{Sources, located_in, sources_of}
 use Rattle.bx_engine.specs.Units.{ClearBefore, FileGives, FilesGive, ◌>>=◌, fault_in, in_file, sized, unit_in, units_from, units_of}
-use Rattle.bx_engine.specs.declared.failures.Failure.{Failure}
 
 -- the bytes of the next file
 pub record Next (A : Type 0) (rem : A → Option (List ℕ)) (x : A) (k : ℕ) (given : List (List ℕ)) : Type 0 where

@@ -11,8 +11,7 @@ use Rattle.bx_terms.specs.declared.faults.Fault.TheVariants.{TooManyAtoms, AtomT
 use Rattle.bx_engine.specs.FaultLines.{at_line, counted, detail_of, is_plain, name_at, named, raw_text, spelled, text_of, titled_text}
 use Rattle.bx_engine.specs.Lines.{is_unbroken}
 use Rattle.bx_terms.specs.Refusals.{refusal}
-use Rattle.bx_engine.specs.declared.failures.Failure.{Failure}
-use Rattle.bx_engine.specs.declared.failures.Failure.TheVariants.{Refused, Read, Write, Start}
+use Rattle.bx_engine.specs.declared.failures.Failure.{Failure, TheVariants.Refused, TheVariants.Read, TheVariants.Write, TheVariants.Start}
 
 abbrev stays : ℕ → Bool
 stays code = not (code == 10)

@@ -2,8 +2,7 @@
 use Rattle.std.proofs.Common.{ℕ, Result, Err, ap}
 use Rattle.bx_terms.specs.declared.faults.Fault.TheVariants.{Memory}
 use Rattle.bx_engine.specs.Units.{◌>>=◌, FileGives}
-use Rattle.bx_engine.specs.declared.failures.Failure.{Failure}
-use Rattle.bx_engine.specs.declared.failures.Failure.TheVariants.{Refused, Read, Write, Start}
+use Rattle.bx_engine.specs.declared.failures.Failure.{Failure, TheVariants.Refused, TheVariants.Read, TheVariants.Write, TheVariants.Start}
 
 -- a failure stays one of what follows
 pub fails_on : {X Y A B : Type 0} (view : X → A) (seen : Y → B) (n : ℕ) (failure : Failure) (said : Result A Failure) (next : A → Result B Failure)

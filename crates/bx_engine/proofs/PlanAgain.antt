@@ -5,8 +5,7 @@ use Rattle.std.proofs.lemmas.Bool.{or_parts}
 use Rattle.std.specs.List.{AllByRecursion}
 use Rattle.std.specs.Prelude.{codes, nat_lt}
 use Rattle.bx_terms.specs.Outcomes.{◌>>=◌}
-use Rattle.bx_terms.specs.declared.faults.Fault.{Fault}
-use Rattle.bx_terms.specs.declared.faults.Fault.TheVariants.{NameTwice, TooLong}
+use Rattle.bx_terms.specs.declared.faults.Fault.{Fault, TheVariants.NameTwice, TheVariants.TooLong}
 use Rattle.bx_plan.specs.Entry.{Entry}
 use Rattle.bx_plan.specs.Grammar.{AreEntries, HasPids, IsName}
 use Rattle.bx_plan.specs.Plans.{Named, has_name, is_too_long, named, plan_of, with_lines, with_read, with_schedule}

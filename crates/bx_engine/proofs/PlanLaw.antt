@@ -15,8 +15,7 @@ use Rattle.bx_plan.specs.Reading.{count_of, line_of, parts_of, spread}
 use Rattle.bx_plan.proofs.Headings.{line_again}
 use Rattle.bx_plan.proofs.Marks.{Lacks, Lacks-append, parts_at, parts_lacks}
 use Rattle.bx_plan.proofs.Spellings.{entry_lacks}
-use Rattle.bx_world.specs.declared.choices.Choice.{Choice}
-use Rattle.bx_world.specs.declared.choices.Choice.TheVariants.{Run, Deliver, Expire}
+use Rattle.bx_world.specs.declared.choices.Choice.{Choice, TheVariants.Run, TheVariants.Deliver, TheVariants.Expire}
 use Rattle.bx_world.specs.Texts.{spelling as shown_choice}
 use Rattle.bx_engine.specs.PlanLines.{before, entries_words, entry_words, gathered, plan_line}
 use Rattle.bx_engine.proofs.PlanRows.{same_choice}

@@ -4,8 +4,7 @@ use Rattle.std.proofs.lemmas.Bool.Decides.{nat_tests}
 use Rattle.std.specs.List.{AllByRecursion}
 use Rattle.std.specs.Prelude.{nat_lt, take, IsOk}
 use Rattle.bx_terms.specs.Outcomes.{Gives}
-use Rattle.bx_terms.specs.declared.faults.Fault.{Fault}
-use Rattle.bx_terms.specs.declared.faults.Fault.TheVariants.{Memory, NoEntry, TooLarge}
+use Rattle.bx_terms.specs.declared.faults.Fault.{Fault, TheVariants.Memory, TheVariants.NoEntry, TheVariants.TooLarge}
 use Rattle.bx_load.specs.Image.{Loaded}
 use Rattle.bx_plan.specs.Grammar.{HasPids, IsName}
 use Rattle.bx_plan.specs.Plans.{Named, plan_of}
@@ -30,8 +29,7 @@ use Rattle.bx_engine.specs.Runs.{Names, entry_in, or_start, report_in, report_of
 use Rattle.bx_engine.specs.Starts.{start_in}
 use Rattle.bx_engine.specs.Tidying.{AreTidied, IsPastLimits, IsTidiedText, IsTidyOf, LinesWithin, TidiesAt, TidiesBy}
 use Rattle.bx_engine.specs.Units.{◌>>=◌, FilesGive, fault_in, in_file, sized}
-use Rattle.bx_engine.specs.declared.failures.Failure.{Failure}
-use Rattle.bx_engine.specs.declared.failures.Failure.TheVariants.{Refused}
+use Rattle.bx_engine.specs.declared.failures.Failure.{Failure, TheVariants.Refused}
 use Rattle.bx_engine.proofs.FileRows.{failed_files, file_fails, same_failure, sized_is}
 use Rattle.bx_engine.proofs.ReportRows.{from_no_start, from_start_found}
 use Rattle.bx_engine.proofs.PlanAgain.{IsSound, plan_sound, reads_all_back}

@@ -1,7 +1,6 @@
 -- What `campaign` writes: what `run` writes, where there are 1 to 64 workers.
 use Rattle.std.specs.Prelude.{◌≡◌, ℕ, ◌||◌, ◌==◌, nat_lt, if◌then◌else◌, List, length, Result, Ok, Err}
-use Rattle.bx_terms.specs.declared.faults.Fault.{Fault}
-use Rattle.bx_terms.specs.declared.faults.Fault.TheVariants.{Workers}
+use Rattle.bx_terms.specs.declared.faults.Fault.{Fault, TheVariants.Workers}
 use Rattle.bx_load.specs.Image.{Loaded}
 use Rattle.bx_plan.specs.Plans.{Named, plan_of}
 use Rattle.bx_engine.specs.Starts.{start_in}
@@ -9,8 +8,7 @@ use Rattle.bx_engine.specs.Units.{◌>>=◌}
 use Rattle.bx_engine.specs.Loads.{image_of, of_no_file, plan_in}
 use Rattle.bx_engine.specs.Runs.{Names, or_start, written_in}
 use Rattle.bx_engine.specs.declared.failures.Failure.{Failure}
-use Rattle.bx_engine.specs.declared.forms.Form.{Form}
-use Rattle.bx_engine.specs.declared.forms.Form.TheVariants.{Report}
+use Rattle.bx_engine.specs.declared.forms.Form.{Form, TheVariants.Report}
 
 abbrev pub campaign_in : Form → ℕ → Loaded → Names → List Named → Result (List ℕ) Fault
 campaign_in form workers image names plan = if (workers == 0) || nat_lt 64 workers then Err Workers else written_in form image names plan

@@ -17,8 +17,7 @@ use Rattle.bx_terms.specs.declared.faults.Fault.TheVariants.{NameTwice, TooLong,
 use Rattle.bx_terms.specs.declared.faults.Fault.TheVariants.{NotLeased, Foreign, Twice, Unfinished}
 use Rattle.bx_terms.specs.declared.faults.Fault.TheVariants.{NoEntry, BadCommand, Workers, Memory}
 use Rattle.bx_terms.specs.Refusals.{refusal}
-use Rattle.bx_engine.specs.declared.failures.Failure.{Failure}
-use Rattle.bx_engine.specs.declared.failures.Failure.TheVariants.{Refused, Read, Write, Start}
+use Rattle.bx_engine.specs.declared.failures.Failure.{Failure, TheVariants.Refused, TheVariants.Read, TheVariants.Write, TheVariants.Start}
 
 -- a code that shows as itself, and doesn't break a line
 abbrev pub is_plain : ℕ → Bool

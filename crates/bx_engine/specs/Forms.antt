@@ -3,8 +3,7 @@ use Rattle.std.specs.Prelude.{ℕ, List}
 use Rattle.bx_board.specs.Texts.{report_lines}
 use Rattle.bx_board.specs.declared.reports.Scheduled.{Scheduled}
 use Rattle.bx_summary.specs.Texts.{summary_lines}
-use Rattle.bx_engine.specs.declared.forms.Form.{Form}
-use Rattle.bx_engine.specs.declared.forms.Form.TheVariants.{Report, Summary}
+use Rattle.bx_engine.specs.declared.forms.Form.{Form, TheVariants.Report, TheVariants.Summary}
 
 -- the report of each schedule; or each distinct outcome once, with how many schedules have it
 abbrev pub text_as : Form → List (List ℕ) → List Scheduled → List ℕ

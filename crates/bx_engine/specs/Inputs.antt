@@ -2,10 +2,8 @@
 use Rattle.std.specs.Prelude.{◌<◌, ◌≤◌, ℕ, List, Option, Some, None, length}
 use Rattle.std.specs.Io.KnownBytes.{Consumes, IsAtEnd}
 use Rattle.bx_terms.specs.declared.faults.Fault.TheVariants as fault
-use Rattle.bx_engine.specs.declared.failures.Failure.{Failure}
-use Rattle.bx_engine.specs.declared.failures.Failure.TheVariants.{Refused, Read}
-use Rattle.bx_engine.specs.declared.inputs.Unread.{Unread}
-use Rattle.bx_engine.specs.declared.inputs.Unread.TheVariants.{TooLarge, Failed, Memory}
+use Rattle.bx_engine.specs.declared.failures.Failure.{Failure, TheVariants.Refused, TheVariants.Read}
+use Rattle.bx_engine.specs.declared.inputs.Unread.{Unread, TheVariants.TooLarge, TheVariants.Failed, TheVariants.Memory}
 
 abbrev pub input_limit : ℕ
 input_limit = 16777216

@@ -6,8 +6,7 @@ use Rattle.bx_load.specs.Image.{Loaded}
 use Rattle.bx_load.specs.Loading.{loaded}
 use Rattle.bx_plan.specs.Plans.{Named, plan_of}
 use Rattle.bx_engine.specs.Units.{◌>>=◌, ClearBefore, in_file, sized, units_of}
-use Rattle.bx_engine.specs.declared.failures.Failure.{Failure}
-use Rattle.bx_engine.specs.declared.failures.Failure.TheVariants.{Refused}
+use Rattle.bx_engine.specs.declared.failures.Failure.{Failure, TheVariants.Refused}
 
 -- a fault that no file has alone
 abbrev pub of_no_file : {A : Type 0} → Result A Fault → Result A Failure

@@ -3,8 +3,7 @@
 use Rattle.std.specs.Prelude.{◌≡◌, ℕ, List, Option, Some, None, Result, Ok, Err, IsOk, IsSome, length}
 use Rattle.std.specs.Io.KnownBytes.{Appends, Keeps}
 use Rattle.bx_terms.specs.AtomTable.{number_of}
-use Rattle.bx_terms.specs.declared.faults.Fault.{Fault}
-use Rattle.bx_terms.specs.declared.faults.Fault.TheVariants.{NoEntry, Memory}
+use Rattle.bx_terms.specs.declared.faults.Fault.{Fault, TheVariants.NoEntry, TheVariants.Memory}
 use Rattle.bx_load.specs.Image.{Loaded}
 use Rattle.bx_plan.specs.Plans.{Named}
 use Rattle.bx_board.specs.Jobs.{Entry}
@@ -16,8 +15,7 @@ use Rattle.bx_engine.specs.Loads.{ClearUpTo, image_of, of_no_file, plan_in}
 use Rattle.bx_engine.specs.Forms.{text_as}
 use Rattle.bx_engine.specs.declared.failures.Failure.{Failure}
 use Rattle.bx_engine.specs.declared.failures.Failure.TheVariants as failures
-use Rattle.bx_engine.specs.declared.forms.Form.{Form}
-use Rattle.bx_engine.specs.declared.forms.Form.TheVariants.{Report}
+use Rattle.bx_engine.specs.declared.forms.Form.{Form, TheVariants.Report}
 
 -- the names of a module and of a function of it
 abbrev pub Names : Type 0

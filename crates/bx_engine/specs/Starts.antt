@@ -3,11 +3,9 @@
 use Rattle.std.specs.Prelude.{◌≡◌, ◌+◌, ◌==◌, ℕ, Bool, List, Option, Some, None, Result, Ok, Err, IsSome}
 use Rattle.std.specs.Prelude.{false, if◌then◌else◌, length, slice_get}
 use Rattle.std.specs.Option.{option_map_or}
-use Rattle.bx_terms.specs.declared.faults.Fault.{Fault}
-use Rattle.bx_terms.specs.declared.faults.Fault.TheVariants.{Memory}
+use Rattle.bx_terms.specs.declared.faults.Fault.{Fault, TheVariants.Memory}
 use Rattle.bx_text.specs.Forms.{atom_in}
-use Rattle.bx_engine.specs.declared.failures.Failure.{Failure}
-use Rattle.bx_engine.specs.declared.failures.Failure.TheVariants.{Refused, Read, Write, Start}
+use Rattle.bx_engine.specs.declared.failures.Failure.{Failure, TheVariants.Refused, TheVariants.Read, TheVariants.Write, TheVariants.Start}
 
 -- an atom, and where its token ends, where it is a good one
 abbrev pub good_token : Result (Option (List ℕ × ℕ)) Fault → Option (List ℕ × ℕ)

@@ -1,8 +1,7 @@
 -- What `tidy` writes: a plan of the same schedules, each with its choices exchanged so that those of one process stand together.
 use Rattle.std.specs.Prelude.{◌≡◌, ◌⊎◌, ◌<◌, ◌≤◌, ℕ, List, [], ◌∷◌, ◌++◌, Option, Some, None, Result, Ok, Err, IsErr, IsOk, codes, length}
 use Rattle.std.specs.Io.KnownBytes.{Appends}
-use Rattle.bx_terms.specs.declared.faults.Fault.{Fault}
-use Rattle.bx_terms.specs.declared.faults.Fault.TheVariants.{Memory, NoEntry}
+use Rattle.bx_terms.specs.declared.faults.Fault.{Fault, TheVariants.Memory, TheVariants.NoEntry}
 use Rattle.bx_load.specs.Image.{Loaded}
 use Rattle.bx_world.specs.World.{State, started}
 use Rattle.bx_world.specs.declared.choices.Choice.{Choice}

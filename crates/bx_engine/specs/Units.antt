@@ -1,7 +1,6 @@
 -- The code of the listings in order, or the first fault: each file is read and assembled before the next one is looked at.
 use Rattle.std.specs.Prelude.{◌≡◌, ℕ, ◌+◌, List, [], ◌∷◌, ◌++◌, None, Some, Result, Ok, Err, IsOk, ◌<◌, if◌then◌else◌, length, nat_lt, take}
-use Rattle.bx_terms.specs.declared.faults.Fault.{Fault}
-use Rattle.bx_terms.specs.declared.faults.Fault.TheVariants.{TooLarge, Memory}
+use Rattle.bx_terms.specs.declared.faults.Fault.{Fault, TheVariants.TooLarge, TheVariants.Memory}
 use Rattle.bx_text.specs.Place.{place_in}
 use Rattle.bx_listing.specs.Code.{Code}
 use Rattle.bx_listing.specs.Forms.{forms, last_line}
@@ -10,8 +9,7 @@ use Rattle.bx_listing.specs.Listing.{listing}
 use Rattle.bx_listing.specs.Reading.{Table, Outcome, read, refused}
 use Rattle.bx_asm.specs.Limits.{assembled}
 use Rattle.bx_engine.specs.Inputs.{input_limit}
-use Rattle.bx_engine.specs.declared.failures.Failure.{Failure}
-use Rattle.bx_engine.specs.declared.failures.Failure.TheVariants.{Refused, Read}
+use Rattle.bx_engine.specs.declared.failures.Failure.{Failure, TheVariants.Refused, TheVariants.Read}
 
 -- what follows is looked at only where what came first was good
 infixl 10 ◌>>=◌

@@ -13,8 +13,7 @@ use Rattle.bx_signals.specs.Channels.{waiting}
 use Rattle.bx_signals.specs.Waiting.{first}
 use Rattle.bx_signals.specs.declared.signal.Signal.{Signal}
 use Rattle.bx_signals.proofs.Maps.{waiting_empty}
-use Rattle.bx_world.specs.declared.choices.Choice.{Choice}
-use Rattle.bx_world.specs.declared.choices.Choice.TheVariants.{Run, Deliver, Expire}
+use Rattle.bx_world.specs.declared.choices.Choice.{Choice, TheVariants.Run, TheVariants.Deliver, TheVariants.Expire}
 use Rattle.bx_world.specs.World.{Life, State, begun, begun_at}
 use Rattle.bx_world.specs.Enabled.{able, actor, can, may_expire, may_run}
 use Rattle.bx_world.specs.Changes.{after, signal_coming}

@@ -12,8 +12,7 @@ use Rattle.bx_signals.specs.Channels.{Channels, put, waiting}
 use Rattle.bx_signals.specs.declared.signal.Signal.{Signal}
 use Rattle.bx_signals.proofs.Maps.{equal_pair, waiting_empty, waiting_same, waiting_with}
 use Rattle.bx_proc.specs.Process.{Process}
-use Rattle.bx_world.specs.declared.choices.Choice.{Choice}
-use Rattle.bx_world.specs.declared.choices.Choice.TheVariants.{Run, Deliver, Expire}
+use Rattle.bx_world.specs.declared.choices.Choice.{Choice, TheVariants.Run, TheVariants.Deliver, TheVariants.Expire}
 use Rattle.bx_world.specs.declared.turns.Turn.{Turn}
 use Rattle.bx_world.specs.declared.turns.Turn.TheVariants as turns
 use Rattle.bx_world.specs.World.{Life, Live, Exited, State}

@@ -10,8 +10,7 @@ use Rattle.bx_signals.specs.declared.signal.Signal.TheVariants as signals
 use Rattle.bx_proc.specs.declared.parts.Status.{Status}
 use Rattle.bx_proc.specs.declared.parts.Status.TheVariants as statuses
 use Rattle.bx_world.specs.World.{Life, Live, Exited, State}
-use Rattle.bx_world.specs.declared.choices.Choice.{Choice}
-use Rattle.bx_world.specs.declared.choices.Choice.TheVariants.{Run, Deliver, Expire}
+use Rattle.bx_world.specs.declared.choices.Choice.{Choice, TheVariants.Run, TheVariants.Deliver, TheVariants.Expire}
 use Rattle.bx_world.specs.Enabled.{actor}
 use Rattle.bx_world.specs.Seen.{place_in}
 use Rattle.bx_events.specs.declared.actors.Before.{Before}

@@ -1,7 +1,6 @@
 -- How a teller's answer stands to what it is to tell.
 use Rattle.std.specs.Prelude.{◌≡◌, ℕ, ◌<◌, ◌≤◌, Result, Ok, Err, length}
-use Rattle.bx_terms.specs.declared.faults.Fault.{Fault}
-use Rattle.bx_terms.specs.declared.faults.Fault.TheVariants.{Memory, TooLarge}
+use Rattle.bx_terms.specs.declared.faults.Fault.{Fault, TheVariants.Memory, TheVariants.TooLarge}
 use Rattle.bx_events.specs.declared.tellers.Teller.{Teller}
 use Rattle.bx_events.specs.Ledgers.{Keeps}
 use Rattle.bx_events.specs.Telling.{Telling}

@@ -2,8 +2,7 @@
 use Rattle.std.specs.Prelude.{List, Result, Ok, Err, if◌then◌else◌, length, nat_lt}
 use Rattle.bx_terms.specs.Outcomes.{◌>>=◌}
 use Rattle.bx_terms.specs.declared.atom_table.AtomId.{AtomId}
-use Rattle.bx_terms.specs.declared.faults.Fault.{Fault}
-use Rattle.bx_terms.specs.declared.faults.Fault.TheVariants.{TooLarge}
+use Rattle.bx_terms.specs.declared.faults.Fault.{Fault, TheVariants.TooLarge}
 use Rattle.bx_load.specs.Image.{Loaded}
 use Rattle.bx_signals.specs.Channels.{pairs}
 use Rattle.bx_world.specs.declared.choices.Choice.{Choice}

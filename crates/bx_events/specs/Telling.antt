@@ -6,8 +6,7 @@ use Rattle.bx_load.specs.Image.{Loaded}
 use Rattle.bx_signals.specs.Waiting.{first}
 use Rattle.bx_signals.specs.Channels.{Channels, waiting, pairs}
 use Rattle.bx_signals.specs.declared.signal.Signal.{Signal}
-use Rattle.bx_world.specs.declared.choices.Choice.{Choice}
-use Rattle.bx_world.specs.declared.choices.Choice.TheVariants.{Run, Deliver, Expire}
+use Rattle.bx_world.specs.declared.choices.Choice.{Choice, TheVariants.Run, TheVariants.Deliver, TheVariants.Expire}
 use Rattle.bx_world.specs.World.{Life, State}
 use Rattle.bx_world.specs.Enabled.{actor, can}
 use Rattle.bx_world.specs.Changes.{after, coming}

@@ -1,13 +1,11 @@
 -- Where memory may run out at all: where something is kept.
 use Rattle.std.specs.Prelude.{◌<◌, ◌⊎◌, Result, Err, List, length}
 use Rattle.bx_terms.specs.Outcomes.{Gives}
-use Rattle.bx_terms.specs.declared.faults.Fault.{Fault}
-use Rattle.bx_terms.specs.declared.faults.Fault.TheVariants.{Unsupported}
+use Rattle.bx_terms.specs.declared.faults.Fault.{Fault, TheVariants.Unsupported}
 use Rattle.bx_terms.specs.Tree.{height}
 use Rattle.bx_text.specs.Tree.{Tree}
 use Rattle.bx_ops.specs.declared.opcode.Op.{Op}
-use Rattle.bx_listing.specs.declared.items.Operand.{Operand}
-use Rattle.bx_listing.specs.declared.items.Operand.TheVariants.{Literal}
+use Rattle.bx_listing.specs.declared.items.Operand.{Operand, TheVariants.Literal}
 use Rattle.bx_text.specs.Place.{Place}
 use Rattle.bx_text.specs.Forms.{takes_memory}
 use Rattle.bx_listing.specs.Forms.{Forms, form, forms}

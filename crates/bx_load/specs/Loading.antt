@@ -1,8 +1,7 @@
 -- Which modules can be loaded together.
 use Rattle.std.specs.Prelude.{◌≡◌, ◌<◌, ℕ, ◌||◌, List, [], ◌∷◌, Bool, false, not, if◌then◌else◌, Option, Some, None, Result, length, nat_lt}
 use Rattle.std.specs.List.{list_any}
-use Rattle.bx_terms.specs.declared.faults.Fault.{Fault}
-use Rattle.bx_terms.specs.declared.faults.Fault.TheVariants.{TooManyModules, ModuleTwice, ExportMissing}
+use Rattle.bx_terms.specs.declared.faults.Fault.{Fault, TheVariants.TooManyModules, TheVariants.ModuleTwice, TheVariants.ExportMissing}
 use Rattle.bx_listing.specs.declared.code_form.Export.{Export}
 use Rattle.bx_listing.specs.Code.{Code, CodeFunction}
 use Rattle.bx_asm.specs.Limits.{or_refused}

@@ -3,8 +3,7 @@ use Rattle.std.proofs.Common.{◌≡◌, ◌↔◌, ℕ, List, Bool, ◌==◌, �
 use Rattle.std.proofs.lemmas.Bool.{and_parts}
 use Rattle.std.proofs.lemmas.Bool.Decides.{Decides-eqb}
 use Rattle.std.proofs.lemmas.Slice.Eq.{bytes_eq-Decides}
-use Rattle.bx_ops.specs.declared.guard_bif.Bif.{Bif}
-use Rattle.bx_ops.specs.declared.guard_bif.Bif.TheVariants.{SelfPid}
+use Rattle.bx_ops.specs.declared.guard_bif.Bif.{Bif, TheVariants.SelfPid}
 use Rattle.bx_ops.specs.GuardBifs.{guard_bif, every_guard_bif, guard_bif_with}
 use Rattle.bx_ops.proofs.Found.{find_passes}
 

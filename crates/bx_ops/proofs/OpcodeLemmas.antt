@@ -4,8 +4,7 @@ use Rattle.std.specs.Bool.{then_some}
 use Rattle.std.proofs.lemmas.Bool.{and_parts}
 use Rattle.std.proofs.lemmas.Bool.Decides.{Decides-eqb}
 use Rattle.std.proofs.lemmas.Slice.Eq.{bytes_eq-Decides}
-use Rattle.bx_ops.specs.declared.opcode.Op.{Op}
-use Rattle.bx_ops.specs.declared.opcode.Op.TheVariants.{Label}
+use Rattle.bx_ops.specs.declared.opcode.Op.{Op, TheVariants.Label}
 use Rattle.bx_ops.specs.Opcodes.{opcode, every_op, with_number, with_name}
 use Rattle.bx_ops.specs.Table.{arity, with_name_and_arity}
 use Rattle.bx_ops.proofs.Found.{find_passes, found_is}

@@ -1,7 +1,6 @@
 -- What sets some opcodes apart.
 use Rattle.std.specs.Prelude.{Bool, true, false}
-use Rattle.bx_ops.specs.declared.opcode.Op.{Op}
-use Rattle.bx_ops.specs.declared.opcode.Op.TheVariants.{Send, CallExt, CallExtLast, CallExtOnly}
+use Rattle.bx_ops.specs.declared.opcode.Op.{Op, TheVariants.Send, TheVariants.CallExt, TheVariants.CallExtLast, TheVariants.CallExtOnly}
 
 -- whether an instruction concerns only the process that runs it: `send` puts a message into a channel,
 -- and a call of an external function may be one of a native that spawns, links, sends or prints

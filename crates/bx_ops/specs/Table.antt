@@ -1,8 +1,7 @@
 -- What the table says of an opcode: how it is written, its operands, and how many they are.
 use Rattle.std.specs.Prelude.{ℕ, ◌&&◌, ◌==◌, Bool, true, false, List, Option, bytes_eq, count_by, find}
 use Rattle.bx_ops.specs.declared.opcode.Op.{Op}
-use Rattle.bx_ops.specs.declared.sorts.Slot.{Slot}
-use Rattle.bx_ops.specs.declared.sorts.Slot.TheVariants.{NoLabel, ToX0}
+use Rattle.bx_ops.specs.declared.sorts.Slot.{Slot, TheVariants.NoLabel, TheVariants.ToX0}
 use Rattle.bx_ops.specs.declared.sorts.Way.{Way}
 use Rattle.bx_ops.specs.declared.sorts.Way.TheVariants as ways
 use Rattle.bx_ops.specs.Opcodes.{opcode, every_op}

@@ -26,10 +26,9 @@ pub use Rattle.std.specs.Ordering.{ordering_reverse, is_gt, ordering_then, is_lt
 pub use Rattle.std.specs.Prelude.{nat_eq, nat_lt, ◌↔◌, nat_le, MatchOption, slice_index, OnErr}
 pub use Rattle.std.specs.Str.{bytes_eq, is_utf8, IsUtf8, IsAscii, all_ascii_digits}
 pub use Rattle.std.specs.Vec.{vec_capacity}
-pub use Rattle.std.specs.declared.cmp.Ordering.{Ordering}
+pub use Rattle.std.specs.declared.cmp.Ordering.{Ordering, TheVariants.Equal, TheVariants.Less, TheVariants.Greater}
 pub use Rattle.std.proofs.lemmas.Grind.{common_steps}
 pub use Rattle.std.proofs.lemmas.Map.Made.{length-le_from_is_member, is_member-Decides}
-pub use Rattle.std.specs.declared.cmp.Ordering.TheVariants.{Equal, Less, Greater}
 pub use Rattle.std.specs.Cmp.{IsTotalOrder, IsStrictWeakOrder, IsEquivalence}
 pub use Rattle.std.specs.List.Sorted.{IsSortedBy, IsNonDecreasingBy, IsPartitionPoint}
 pub use Rattle.std.proofs.lemmas.List.Sorted.{ranks_by, sorted_far, IsNonDecreasingBy-from_all_adjacent, IsPartitionPoint-from_clause, IsPartitionedBy-leb}
@@ -55,8 +54,6 @@ pub use Rattle.bx_plan.specs.declared.plans.Row.{Row}
 pub use Rattle.bx_plan.specs.declared.plans.building.Refusal.{Refusal}
 pub use Rattle.bx_plan.specs.declared.schedules.stretches.Stretch.{Stretch}
 pub use Rattle.bx_terms.specs.Outcomes.{◌>>=◌, Gives}
-pub use Rattle.bx_terms.specs.declared.faults.Fault.{Fault}
-pub use Rattle.bx_terms.specs.declared.faults.Fault.TheVariants.{NameTwice, TooLong, BadLine}
-pub use Rattle.bx_world.specs.declared.choices.Choice.{Choice}
-pub use Rattle.bx_world.specs.declared.choices.Choice.TheVariants.{Run, Deliver, Expire}
+pub use Rattle.bx_terms.specs.declared.faults.Fault.{Fault, TheVariants.NameTwice, TheVariants.TooLong, TheVariants.BadLine}
+pub use Rattle.bx_world.specs.declared.choices.Choice.{Choice, TheVariants.Run, TheVariants.Deliver, TheVariants.Expire}
 pub use Rattle.bx_plan.specs.Planned.{choices_at, Planned, schedules}

@@ -5,12 +5,10 @@ use Rattle.std.specs.Borrow.{Bor}
 use Rattle.std.specs.declared.cmp.Ordering.{Ordering}
 use Rattle.std.specs.Ordering.{nat_cmp}
 use Rattle.std.specs.Cmp.Lexicographic.{slice_cmp}
-use Rattle.bx_terms.specs.declared.faults.Fault.{Fault}
-use Rattle.bx_terms.specs.declared.faults.Fault.TheVariants.{BadLine, NameTwice, TooLong}
+use Rattle.bx_terms.specs.declared.faults.Fault.{Fault, TheVariants.BadLine, TheVariants.NameTwice, TheVariants.TooLong}
 use Rattle.bx_plan.specs.Entry.{Entry}
 use Rattle.bx_plan.specs.declared.plans.building.Builder.{Builder}
-use Rattle.bx_plan.specs.declared.plans.building.Refusal.{Refusal}
-use Rattle.bx_plan.specs.declared.plans.building.Refusal.TheVariants.{Bad, Twice, Long}
+use Rattle.bx_plan.specs.declared.plans.building.Refusal.{Refusal, TheVariants.Bad, TheVariants.Twice, TheVariants.Long}
 use Rattle.bx_plan.specs.Nodes.{node_count}
 use Rattle.bx_plan.specs.Plans.{Named, choices_of, has_name, named, plan_of, TakesMemory}
 use Rattle.bx_plan.specs.Reading.{parts_of}

@@ -3,8 +3,7 @@ use Rattle.std.specs.Prelude.{◌≡◌, ℕ, List, Option, Some, None}
 use Rattle.bx_plan.specs.Entry.{Entry}
 use Rattle.bx_plan.specs.Made.{Make}
 use Rattle.bx_plan.specs.declared.lines.Heading.{Heading}
-use Rattle.bx_plan.specs.declared.lines.Line.{Line}
-use Rattle.bx_plan.specs.declared.lines.Line.TheVariants.{Nothing, Schedule}
+use Rattle.bx_plan.specs.declared.lines.Line.{Line, TheVariants.Nothing, TheVariants.Schedule}
 use Rattle.bx_plan.specs.Reading.{line_of}
 
 -- there is a schedule of this name, and this was made of its entries

@@ -3,8 +3,7 @@ use Rattle.std.specs.Prelude.{ℕ, ◌+◌, ◌≤◌, ◌<◌, Bool, ◌||◌, 
 use Rattle.std.specs.List.{list_any}
 use Rattle.std.specs.Str.{bytes_eq}
 use Rattle.bx_terms.specs.Outcomes.{◌>>=◌, Gives}
-use Rattle.bx_terms.specs.declared.faults.Fault.{Fault}
-use Rattle.bx_terms.specs.declared.faults.Fault.TheVariants.{BadLine, NameTwice, TooLong}
+use Rattle.bx_terms.specs.declared.faults.Fault.{Fault, TheVariants.BadLine, TheVariants.NameTwice, TheVariants.TooLong}
 use Rattle.bx_world.specs.declared.choices.Choice.{Choice}
 use Rattle.bx_plan.specs.Entry.{Entry}
 use Rattle.bx_plan.specs.Nodes.{node_count}

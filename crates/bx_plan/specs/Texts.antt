@@ -1,8 +1,7 @@
 -- Which texts are plans, and the first line at fault in the others.
 use Rattle.std.specs.Prelude.{◌≡◌, ◌≢◌, ◌⊎◌, ℕ, ◌+◌, ◌<◌, List, [], ◌∷◌, ◌++◌, length}
 use Rattle.std.specs.List.{AllByRecursion, join_with_byte}
-use Rattle.bx_terms.specs.declared.faults.Fault.{Fault}
-use Rattle.bx_terms.specs.declared.faults.Fault.TheVariants.{BadLine, NameTwice, TooLong}
+use Rattle.bx_terms.specs.declared.faults.Fault.{Fault, TheVariants.BadLine, TheVariants.NameTwice, TheVariants.TooLong}
 use Rattle.bx_plan.specs.Entry.{Entry}
 use Rattle.bx_plan.specs.Nodes.{node_count}
 use Rattle.bx_plan.specs.Plans.{Named, named, choices_of}

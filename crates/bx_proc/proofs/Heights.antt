@@ -5,8 +5,7 @@ use Rattle.std.specs.Prelude.{IsOkAnd, List, max, nat_le, Result, Ok, Err, if◌
 use Rattle.bx_terms.specs.Outcomes.{◌>>=◌}
 use Rattle.bx_terms.specs.Tree.{Tree, cons, tuple, listed, height}
 use Rattle.bx_terms.specs.declared.kinds.Class.TheVariants.{Throw}
-use Rattle.bx_terms.specs.declared.kinds.Trap.{Trap}
-use Rattle.bx_terms.specs.declared.kinds.Trap.TheVariants.{TermHeight}
+use Rattle.bx_terms.specs.declared.kinds.Trap.{Trap, TheVariants.TermHeight}
 use Rattle.bx_proc.specs.Faults.{pair, reason, within_height}
 use Rattle.bx_proc.specs.Moving.{IsTallest}
 

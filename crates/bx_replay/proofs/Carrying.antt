@@ -4,8 +4,7 @@ use Rattle.std.specs.Prelude.{slice_index_or, Some, None, ◌==◌, if◌then◌
 use Rattle.std.proofs.lemmas.Bool.{both_ways, eq-eqb, cases_eq, cases_lt}
 use Rattle.std.proofs.lemmas.List.{drop_all, get_or_default, take_all, take_more}
 use Rattle.bx_load.specs.Image.{Loaded}
-use Rattle.bx_world.specs.declared.choices.Choice.{Choice}
-use Rattle.bx_world.specs.declared.choices.Choice.TheVariants.{Run}
+use Rattle.bx_world.specs.declared.choices.Choice.{Choice, TheVariants.Run}
 use Rattle.bx_world.specs.World.{State}
 use Rattle.bx_world.specs.Choosing.{chosen}
 use Rattle.bx_world.specs.Running.{Ended, advanced, ran}

@@ -13,8 +13,7 @@ use Rattle.bx_cells.specs.Links.{among}
 use Rattle.bx_proc.specs.Process.{Process}
 use Rattle.bx_proc.specs.Signals.{with_link, without_link}
 use Rattle.bx_proc.specs.Stepping.{attempted, settled, noted, settled_with}
-use Rattle.bx_proc.specs.declared.parts.Answer.{Answer}
-use Rattle.bx_proc.specs.declared.parts.Answer.TheVariants.{Value}
+use Rattle.bx_proc.specs.declared.parts.Answer.{Answer, TheVariants.Value}
 use Rattle.bx_proc.specs.declared.parts.Effect.{Effect}
 use Rattle.bx_proc.specs.declared.parts.Effect.TheVariants as effects
 use Rattle.bx_world.specs.declared.requests.Request.{Request}

@@ -13,8 +13,7 @@ use Rattle.bx_signals.specs.declared.signal.Signal.{Signal}
 use Rattle.bx_proc.specs.Process.{Process, new_process, can_run, can_expire}
 use Rattle.bx_proc.specs.Signals.{expired, expired_if}
 use Rattle.bx_proc.specs.declared.parts.Answer.TheVariants.{Value}
-use Rattle.bx_world.specs.declared.choices.Choice.{Choice}
-use Rattle.bx_world.specs.declared.choices.Choice.TheVariants.{Run, Deliver, Expire}
+use Rattle.bx_world.specs.declared.choices.Choice.{Choice, TheVariants.Run, TheVariants.Deliver, TheVariants.Expire}
 use Rattle.bx_world.specs.declared.requests.SpawnRequest.{SpawnRequest}
 use Rattle.bx_world.specs.declared.turns.Turn.{Turn}
 use Rattle.bx_world.specs.declared.turns.Turn.TheVariants as turns

@@ -15,8 +15,7 @@ use Rattle.bx_engine.specs.Loads.{image_of, of_no_file, plan_in}
 use Rattle.bx_engine.specs.Runs.{Names, or_start, report_of, run_as, run_behind, run_of, written_behind, written_in}
 use Rattle.bx_engine.specs.Starts.{start_in}
 use Rattle.bx_engine.specs.Units.{◌>>=◌, in_file}
-use Rattle.bx_engine.specs.declared.failures.Failure.{Failure}
-use Rattle.bx_engine.specs.declared.failures.Failure.TheVariants.{Refused}
+use Rattle.bx_engine.specs.declared.failures.Failure.{Failure, TheVariants.Refused}
 use Rattle.bx_engine.specs.declared.forms.Form.{Form}
 use Rattle.bx_engine.specs.Joints.{AreWhole}
 use Rattle.bx_engine.proofs.JointRows.{rows_behind}

@@ -9,8 +9,7 @@ use Rattle.std.proofs.lemmas.List.Splits.{length-slice_split}
 use Rattle.std.proofs.lemmas.Bool.{or_parts}
 use Rattle.std.specs.Str.{bytes_eq}
 use Rattle.bx_terms.specs.Outcomes.{◌>>=◌}
-use Rattle.bx_terms.specs.declared.faults.Fault.{Fault}
-use Rattle.bx_terms.specs.declared.faults.Fault.TheVariants.{NameTwice, NoEntry, TooLong}
+use Rattle.bx_terms.specs.declared.faults.Fault.{Fault, TheVariants.NameTwice, TheVariants.NoEntry, TheVariants.TooLong}
 use Rattle.bx_load.specs.Image.{Loaded}
 use Rattle.bx_world.specs.World.{State, started}
 use Rattle.bx_world.specs.declared.choices.Choice.{Choice}
@@ -24,8 +23,7 @@ use Rattle.bx_board.specs.Reported.{reported_alone}
 use Rattle.bx_board.specs.Texts.{report_lines}
 use Rattle.bx_engine.specs.Loads.{of_no_file}
 use Rattle.bx_engine.specs.Runs.{Names, entry_in, report_of, reported}
-use Rattle.bx_engine.specs.declared.failures.Failure.{Failure}
-use Rattle.bx_engine.specs.declared.failures.Failure.TheVariants.{Refused}
+use Rattle.bx_engine.specs.declared.failures.Failure.{Failure, TheVariants.Refused}
 use Rattle.bx_engine.specs.Joints.{AreWhole}
 use Rattle.bx_engine.proofs.PartsRead.{Answer, lines_after, lines_cut, ok_is, steps, whole_lines}
 use Rattle.bx_run_laws.specs.Parted.{IsCutInto, IsReadable}

@@ -24,8 +24,7 @@ use Rattle.bx_proc.specs.Rules.{went_on}
 use Rattle.bx_proc.specs.Stepping.{run, woken, tried, told, attempted}
 use Rattle.bx_proc.specs.Table.{rule, own_rule, row}
 use Rattle.bx_proc.proofs.Taking.{each}
-use Rattle.bx_world.specs.declared.choices.Choice.{Choice}
-use Rattle.bx_world.specs.declared.choices.Choice.TheVariants.{Run}
+use Rattle.bx_world.specs.declared.choices.Choice.{Choice, TheVariants.Run}
 use Rattle.bx_world.specs.World.{Live, State, begun}
 use Rattle.bx_world.specs.Enabled.{may_at, may_run}
 use Rattle.bx_world.specs.Deeds.{did}

@@ -4,8 +4,7 @@ use Rattle.std.specs.Prelude.{Bool, Option, Some, None, Result, Ok, Err, option_
 use Rattle.std.specs.declared.alloc.AllocError.{AllocError}
 use Rattle.bx_terms.specs.Tree.{Tree}
 use Rattle.bx_mail.specs.Mail.{Mail, added}
-use Rattle.bx_signals.specs.declared.signal.Signal.{Signal}
-use Rattle.bx_signals.specs.declared.signal.Signal.TheVariants.{Message}
+use Rattle.bx_signals.specs.declared.signal.Signal.{Signal, TheVariants.Message}
 use Rattle.bx_signals.specs.Handing.{message_of, Hands}
 
 hands_so : (o : Option Tree) (old new : Mail) (P Q same still : Type 0) (r : Result Bool AllocError) → (P → Q) → (same → still) → Hands added o old new P same r → Hands added o old new Q still r

@@ -2,8 +2,7 @@
 use Rattle.std.specs.Prelude.{◌≡◌, Bool, true, false, Option, Some, None, Result, Ok, Err}
 use Rattle.std.specs.declared.alloc.AllocError.{AllocError}
 use Rattle.bx_terms.specs.Tree.{Tree}
-use Rattle.bx_signals.specs.declared.signal.Signal.{Signal}
-use Rattle.bx_signals.specs.declared.signal.Signal.TheVariants.{Message, Link, Unlink, LinkExit, Exit}
+use Rattle.bx_signals.specs.declared.signal.Signal.{Signal, TheVariants.Message, TheVariants.Link, TheVariants.Unlink, TheVariants.LinkExit, TheVariants.Exit}
 
 abbrev pub message_of : Option Signal → Option Tree
 message_of None = None

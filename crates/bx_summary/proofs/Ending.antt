@@ -4,10 +4,8 @@ use Rattle.std.proofs.lemmas.Fmt.{decimal_digit}
 use Rattle.std.specs.Prelude.{decimal}
 use Rattle.bx_terms.specs.declared.faults.Fault.{Fault}
 use Rattle.bx_world.specs.Texts.{outcome_lines, output_lines, process_lines, state_words}
-use Rattle.bx_world.specs.declared.choices.Choice.{Choice}
-use Rattle.bx_world.specs.declared.choices.Choice.TheVariants.{Run}
-use Rattle.bx_world.specs.declared.outcomes.Standing.{Standing}
-use Rattle.bx_world.specs.declared.outcomes.Standing.TheVariants.{Trapped, Quiet, Open}
+use Rattle.bx_world.specs.declared.choices.Choice.{Choice, TheVariants.Run}
+use Rattle.bx_world.specs.declared.outcomes.Standing.{Standing, TheVariants.Trapped, TheVariants.Quiet, TheVariants.Open}
 use Rattle.bx_board.specs.declared.reports.Scheduled.{Scheduled}
 use Rattle.bx_summary.specs.Endings.{ending_lines, ending_words, is_open}
 

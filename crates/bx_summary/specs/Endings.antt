@@ -3,8 +3,7 @@ use Rattle.std.specs.Prelude.{ℕ, Bool, true, false, List, ◌++◌, Option, So
 use Rattle.bx_board.specs.declared.reports.Scheduled.{Scheduled}
 use Rattle.bx_world.specs.Texts.{output_lines, process_lines, state_words}
 use Rattle.bx_world.specs.declared.choices.Choice.{Choice}
-use Rattle.bx_world.specs.declared.outcomes.Standing.{Standing}
-use Rattle.bx_world.specs.declared.outcomes.Standing.TheVariants.{Trapped, Quiet, Open}
+use Rattle.bx_world.specs.declared.outcomes.Standing.{Standing, TheVariants.Trapped, TheVariants.Quiet, TheVariants.Open}
 
 -- choices are open, and none was refused
 abbrev pub is_open : Option Choice → Standing → Bool

@@ -10,11 +10,9 @@ pub use Rattle.bx_replay.specs.Moving.{brought, Brings, IsExchanged}
 pub use Rattle.bx_swaps.specs.Exchanges.{from_start, AtFaultAtOnce, ExchangesAll}
 pub use Rattle.bx_swaps.specs.Telling.{may_exchange}
 pub use Rattle.bx_swaps.specs.Tidying.{behind_came, set_aside, IsSetAside, IsUndone, IsTidied, IsTidy, IsUndo, forward, gathered, next_alike, settled, switches}
-pub use Rattle.bx_terms.specs.declared.faults.Fault.{Fault}
-pub use Rattle.bx_terms.specs.declared.faults.Fault.TheVariants.{Memory}
+pub use Rattle.bx_terms.specs.declared.faults.Fault.{Fault, TheVariants.Memory}
 pub use Rattle.bx_world.proofs.Lawful.{few_applied}
 pub use Rattle.bx_world.specs.Enabled.{can, actor}
 pub use Rattle.bx_world.specs.Running.{Ended, ran}
 pub use Rattle.bx_world.specs.World.{State, started}
-pub use Rattle.bx_world.specs.declared.choices.Choice.{Choice}
-pub use Rattle.bx_world.specs.declared.choices.Choice.TheVariants.{Run}
+pub use Rattle.bx_world.specs.declared.choices.Choice.{Choice, TheVariants.Run}

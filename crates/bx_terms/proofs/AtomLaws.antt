@@ -7,8 +7,7 @@ use Rattle.bx_terms.proofs.Words.{filter_agree, bytes_eq-Decides, list_any_at, l
 use Rattle.bx_terms.proofs.Words.{nat_list_eq_equiv, IsAtomTable, number_of, is_new, first_uses, used, is_short, Spells, naming, numbered, naming_all}
 use Rattle.bx_share.proofs.Places.{get_more, get_last}
 use Rattle.bx_terms.specs.declared.atom_table.AtomId.{AtomId}
-use Rattle.bx_terms.specs.declared.faults.Fault.{Fault}
-use Rattle.bx_terms.specs.declared.faults.Fault.TheVariants.{TooManyAtoms}
+use Rattle.bx_terms.specs.declared.faults.Fault.{Fault, TheVariants.TooManyAtoms}
 use Rattle.bx_terms.specs.Naming.{atom}
 use borrow.Author.Tests.{ltb-true}
 use Rattle.bx_terms.proofs.Outcomes.{ok_pair, bind_ok}

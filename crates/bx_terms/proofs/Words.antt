@@ -26,5 +26,4 @@ pub use Rattle.std.specs.List.{IsDistinct, flat_map, join_by, list_any, position
 pub use Rattle.std.specs.Ordering.{int_cmp, is_eq, nat_cmp, on, ordering_reverse, ordering_then, then_cmp}
 pub use Rattle.std.specs.Str.{IsUtf8, is_utf8}
 pub use Rattle.std.specs.String.{string_cmp, string_eq}
-pub use Rattle.std.specs.declared.cmp.Ordering.{Ordering}
-pub use Rattle.std.specs.declared.cmp.Ordering.TheVariants.{Equal, Greater, Less}
+pub use Rattle.std.specs.declared.cmp.Ordering.{Ordering, TheVariants.Equal, TheVariants.Greater, TheVariants.Less}

@@ -1,7 +1,6 @@
 -- When a term is not built.
 use Rattle.std.specs.Prelude.{◌<◌, ◌≤◌}
-use Rattle.bx_terms.specs.declared.terms.TermRefusal.{TermRefusal}
-use Rattle.bx_terms.specs.declared.terms.TermRefusal.TheVariants.{TooHigh, Memory}
+use Rattle.bx_terms.specs.declared.terms.TermRefusal.{TermRefusal, TheVariants.TooHigh, TheVariants.Memory}
 use Rattle.bx_terms.specs.Tree.{Tree, height}
 
 -- no term is higher

@@ -2,8 +2,7 @@
 use Rattle.std.specs.Prelude.{◌+◌, ◌≤◌, max, List, [], ◌∷◌}
 use Rattle.std.proofs.Common.{arith}
 use denote.Param.Weighed.{most}
-use Rattle.bx_terms.specs.declared.terms.Form.{Form}
-use Rattle.bx_terms.specs.declared.terms.Form.TheVariants.{Int, Atom, Pid, Tuple, Nil, Cons}
+use Rattle.bx_terms.specs.declared.terms.Form.{Form, TheVariants.Int, TheVariants.Atom, TheVariants.Pid, TheVariants.Tuple, TheVariants.Nil, TheVariants.Cons}
 use Rattle.bx_terms.specs.declared.terms.Term.TheDeep.{deep-Form}
 use Rattle.bx_terms.specs.Tree.{Tree, listed, nodes}
 use Rattle.bx_terms.specs.Form.{form_tree}

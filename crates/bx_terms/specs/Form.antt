@@ -1,7 +1,6 @@
 -- How a term is stored: what it holds is shared, with its height.
 use Rattle.std.specs.Prelude.{◌≡◌, ◌≤◌}
-use Rattle.bx_terms.specs.declared.terms.Form.{Form}
-use Rattle.bx_terms.specs.declared.terms.Form.TheVariants.{Int, Atom, Pid, Tuple, Nil, Cons}
+use Rattle.bx_terms.specs.declared.terms.Form.{Form, TheVariants.Int, TheVariants.Atom, TheVariants.Pid, TheVariants.Tuple, TheVariants.Nil, TheVariants.Cons}
 use Rattle.bx_terms.specs.Tree.{Tree, int, atom, pid, tuple, nil, cons, listed, height}
 
 -- the term that is stored so

@@ -2,8 +2,7 @@
 use Rattle.std.specs.Prelude.{ℕ, List, codes}
 use Rattle.bx_terms.specs.declared.atom_table.AtomId.{AtomId}
 use Rattle.bx_terms.specs.declared.fixed.TheConstants.{THROW, ERROR, EXIT}
-use Rattle.bx_terms.specs.declared.kinds.Class.{Class}
-use Rattle.bx_terms.specs.declared.kinds.Class.TheVariants.{Throw, Error, Exit}
+use Rattle.bx_terms.specs.declared.kinds.Class.{Class, TheVariants.Throw, TheVariants.Error, TheVariants.Exit}
 use Rattle.bx_terms.specs.declared.kinds.Trap.{Trap}
 use Rattle.bx_terms.specs.declared.kinds.Trap.TheVariants.{Unset, NotATerm, NoFrame, FrameSize, NoTag, NoPending, BadPlace, IntegerRange, TermHeight, NoMessage, WrongShape, Unsupported}
 

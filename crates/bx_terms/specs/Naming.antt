@@ -1,8 +1,7 @@
 -- What naming a text gives: its old number, or the next one, or a refusal.
 use Rattle.std.specs.Prelude.{◌≡◌, ℕ, List, [], ◌∷◌, ◌++◌, Option, Some, None, Result, Ok, Err, length, nat_lt, if◌then◌else◌}
 use Rattle.bx_terms.specs.declared.atom_table.AtomId.{AtomId}
-use Rattle.bx_terms.specs.declared.faults.Fault.{Fault}
-use Rattle.bx_terms.specs.declared.faults.Fault.TheVariants.{TooManyAtoms, AtomTooLong}
+use Rattle.bx_terms.specs.declared.faults.Fault.{Fault, TheVariants.TooManyAtoms, TheVariants.AtomTooLong}
 use Rattle.bx_terms.specs.AtomTable.{is_short, number_of}
 use Rattle.bx_terms.specs.Outcomes.{◌>>=◌}
 

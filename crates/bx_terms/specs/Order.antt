@@ -1,8 +1,7 @@
 -- The order of terms.
 -- Source: Erlang Reference Manual, "Expressions", "Term Comparisons"; pids by number.
 use Rattle.std.specs.Prelude.{ℕ, ◌+◌, List, Option, Some, None, option_map, slice_get, chars}
-use Rattle.std.specs.declared.cmp.Ordering.{Ordering}
-use Rattle.std.specs.declared.cmp.Ordering.TheVariants.{Less, Greater}
+use Rattle.std.specs.declared.cmp.Ordering.{Ordering, TheVariants.Less, TheVariants.Greater}
 use Rattle.std.specs.Ordering.{nat_cmp, int_cmp, ordering_then}
 use Rattle.std.specs.Cmp.Lexicographic.{slice_cmp}
 use Rattle.bx_terms.specs.Tree.{Tree, int, atom, pid, tuple, nil, cons}

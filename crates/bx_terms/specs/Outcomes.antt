@@ -1,8 +1,7 @@
 -- How a call's answer stands to the definition that it computes.
 -- A definition answers `Ok value` or `Err fault`, the first fault; it never answers Memory.
 use Rattle.std.specs.Prelude.{◌≡◌, Result, Ok, Err}
-use Rattle.bx_terms.specs.declared.faults.Fault.{Fault}
-use Rattle.bx_terms.specs.declared.faults.Fault.TheVariants.{Memory}
+use Rattle.bx_terms.specs.declared.faults.Fault.{Fault, TheVariants.Memory}
 
 -- what follows is looked at only where what came first was good
 infixl 10 ◌>>=◌

@@ -1,6 +1,5 @@
 -- What a term shows when it is matched on.
-use Rattle.bx_terms.specs.declared.terms.View.{View}
-use Rattle.bx_terms.specs.declared.terms.View.TheVariants.{Int, Atom, Pid, Tuple, Nil, Cons}
+use Rattle.bx_terms.specs.declared.terms.View.{View, TheVariants.Int, TheVariants.Atom, TheVariants.Pid, TheVariants.Tuple, TheVariants.Nil, TheVariants.Cons}
 use Rattle.bx_terms.specs.Tree.{Tree, int, atom, pid, tuple, nil, cons, listed}
 
 -- the term that is seen so

@@ -2,8 +2,7 @@
 use Rattle.std.proofs.Common.{◌≡◌, ℕ, zero, suc, ◌+◌, ◌*◌, ℤ, true, false, ◌↔◌, ◌≤◌, ◌<◌, List, [], ◌∷◌, length, get_or, drop, refl, sym, ap, subst, ◌∙◌, arith}
 use Rattle.std.proofs.lemmas.List.{drop_more}
 use Rattle.bx_text.specs.declared.node.Span.{Span}
-use Rattle.bx_text.specs.declared.node.Form.{Form}
-use Rattle.bx_text.specs.declared.node.Form.TheVariants.{Integer, Large}
+use Rattle.bx_text.specs.declared.node.Form.{Form, TheVariants.Integer, TheVariants.Large}
 use Rattle.bx_text.specs.Form.{form_tree, IsForm}
 use Rattle.bx_text.specs.Falls.{tail_le}
 use Rattle.bx_text.specs.Number.{number, is_large}

@@ -1,8 +1,7 @@
 -- Elements in a loop, and the depth of brackets.
 use Rattle.std.proofs.Common.{◌≡◌, ℕ, zero, suc, ◌+◌, ◌-◌, ◌<◌, ◌≤◌, inr, List, [], ◌∷◌, ◌++◌, Result, Ok, Err, IsOk, refl, sym, ap, ◌∙◌, subst, arith}
 use Rattle.bx_terms.specs.Outcomes.{Gives, ◌>>=◌}
-use Rattle.bx_terms.specs.declared.faults.Fault.{Fault}
-use Rattle.bx_terms.specs.declared.faults.Fault.TheVariants.{Truncated}
+use Rattle.bx_terms.specs.declared.faults.Fault.{Fault, TheVariants.Truncated}
 use Rattle.bx_text.specs.Token.{Lexeme}
 use Rattle.bx_text.specs.Tree.{Tree}
 use Rattle.bx_text.specs.Terms.{Reading, Follow, next, end, element_at, many, go_on, follow_at, term_at, kept}

@@ -1,8 +1,7 @@
 -- What a call's answer says, passed on from a definition to one that begins with it.
 use Rattle.std.proofs.Common.{◌≡◌, Result, Ok, Err, sym, refl, ◌∙◌, subst}
 use Rattle.bx_terms.specs.Outcomes.{Gives, ◌>>=◌}
-use Rattle.bx_terms.specs.declared.faults.Fault.{Fault}
-use Rattle.bx_terms.specs.declared.faults.Fault.TheVariants.{Memory}
+use Rattle.bx_terms.specs.declared.faults.Fault.{Fault, TheVariants.Memory}
 
 -- a refusal of one definition is that of another
 pub gives_err : {X Y A B T U : Type 0} (v : X → A) (w : Y → B) (e : Fault) (said : Result A Fault) (other : Result B Fault)

@@ -5,8 +5,7 @@ use Rattle.std.specs.Result.{result_ok}
 use Rattle.std.proofs.lemmas.Bool.{cond_both}
 use Rattle.std.proofs.lemmas.Slice.Eq.{bytes_eq-Decides}
 use Rattle.bx_terms.specs.Outcomes.{Gives, ◌>>=◌}
-use Rattle.bx_terms.specs.declared.faults.Fault.{Fault}
-use Rattle.bx_terms.specs.declared.faults.Fault.TheVariants.{Memory}
+use Rattle.bx_terms.specs.declared.faults.Fault.{Fault, TheVariants.Memory}
 use Rattle.bx_text.specs.Place.{Place}
 use Rattle.bx_text.specs.Token as token
 use Rattle.bx_text.specs.Token.{Token, Lexeme}

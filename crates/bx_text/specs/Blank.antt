@@ -2,8 +2,7 @@
 use Rattle.std.specs.Prelude.{ℕ, ◌+◌, ◌==◌, if◌then◌else◌, List, [], ◌∷◌, length, take, Option, Some, None, Result, Ok, Err}
 use Rattle.std.specs.List.{prefix_len}
 use Rattle.std.specs.Str.Lossy.{utf8_valid_len}
-use Rattle.bx_terms.specs.declared.faults.Fault.{Fault}
-use Rattle.bx_terms.specs.declared.faults.Fault.TheVariants.{NotUtf8}
+use Rattle.bx_terms.specs.declared.faults.Fault.{Fault, TheVariants.NotUtf8}
 use Rattle.bx_text.specs.Bytes.{is_space, is_not_feed}
 use Rattle.bx_text.specs.Place.{Place, after}
 

@@ -1,8 +1,7 @@
 -- A form: a term and its full stop.
 use Rattle.std.specs.Prelude.{ℕ, if◌then◌else◌, List, [], ◌∷◌, Option, Some, None, option_map, Result, Ok, Err, IsOkAnd}
 use Rattle.bx_terms.specs.Outcomes.{◌>>=◌}
-use Rattle.bx_terms.specs.declared.faults.Fault.{Fault}
-use Rattle.bx_terms.specs.declared.faults.Fault.TheVariants.{BadTerm}
+use Rattle.bx_terms.specs.declared.faults.Fault.{Fault, TheVariants.BadTerm}
 use Rattle.bx_text.specs.Place.{Place, place_in}
 use Rattle.bx_text.specs.Blank.{skip}
 use Rattle.bx_text.specs.Token.{spelled, Lexeme}

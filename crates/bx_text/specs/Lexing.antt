@@ -4,8 +4,7 @@ use Rattle.std.specs.List.{prefix_len}
 use Rattle.std.specs.Str.{bytes_eq}
 use Rattle.std.specs.Str.Lossy.{utf8_valid_len}
 use Rattle.bx_terms.specs.Outcomes.{◌>>=◌}
-use Rattle.bx_terms.specs.declared.faults.Fault.{Fault}
-use Rattle.bx_terms.specs.declared.faults.Fault.TheVariants.{BadToken, Truncated, NotUtf8}
+use Rattle.bx_terms.specs.declared.faults.Fault.{Fault, TheVariants.BadToken, TheVariants.Truncated, TheVariants.NotUtf8}
 use Rattle.bx_text.specs.declared.tokens.Mark.TheVariants.{CloseTuple, CloseList, CloseBinary, Comma, Bar, Arrow, Colon, Slash, Stop, Fun, Other}
 use Rattle.bx_text.specs.declared.escapes.Escape.{Escape}
 use Rattle.bx_text.specs.Escapes.{open_in, is_whole, may_go_on, is_bad}

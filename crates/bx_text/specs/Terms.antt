@@ -3,8 +3,7 @@ use Rattle.std.specs.Prelude.{ℕ, zero, suc, ◌+◌, ◌-◌, ◌<◌, ◌⊎�
 use Rattle.std.specs.Str.{chars, bytes_eq}
 use Rattle.std.specs.Str.Lossy.{utf8_valid_len}
 use Rattle.bx_terms.specs.Outcomes.{◌>>=◌}
-use Rattle.bx_terms.specs.declared.faults.Fault.{Fault}
-use Rattle.bx_terms.specs.declared.faults.Fault.TheVariants.{BadTerm, TooDeep, Truncated, NotUtf8}
+use Rattle.bx_terms.specs.declared.faults.Fault.{Fault, TheVariants.BadTerm, TheVariants.TooDeep, TheVariants.Truncated, TheVariants.NotUtf8}
 use Rattle.bx_text.specs.declared.node.Span.{Span}
 use Rattle.bx_text.specs.declared.tokens.Mark.TheVariants.{CloseTuple, CloseList, CloseBinary, Comma, Bar, Arrow, Colon, Slash, Stop, Fun}
 use Rattle.bx_text.specs.declared.node.Sort.{Sort}

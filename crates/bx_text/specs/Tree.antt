@@ -3,8 +3,7 @@ use Rattle.std.specs.Prelude.{◌≡◌, ℕ, zero, suc, ℤ, ◌+◌, List, [],
 use Rattle.std.proofs.Common.{inl, inr, ap, ◌∙◌}
 use Rattle.std.specs.Coded.{Coded, code_by, coded×, coded⊎, coded_ℕ, coded_ℤ, coded_list}
 use Rattle.bx_text.specs.declared.node.Span.{Span}
-use Rattle.bx_text.specs.declared.node.Sort.{Sort}
-use Rattle.bx_text.specs.declared.node.Sort.TheVariants.{Float, Map, Binary, Fun}
+use Rattle.bx_text.specs.declared.node.Sort.{Sort, TheVariants.Float, TheVariants.Map, TheVariants.Binary, TheVariants.Fun}
 
 pub data Tree : Type 0 where
   integer : Span → ℤ → Tree

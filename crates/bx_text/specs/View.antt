@@ -2,8 +2,7 @@
 use Rattle.std.specs.Prelude.{◌≡◌, true, List, Option, Some, None}
 use Rattle.std.specs.Borrow.{Bor}
 use Rattle.bx_text.specs.declared.node.Span.{Span}
-use Rattle.bx_text.specs.declared.node.Elements.{Elements}
-use Rattle.bx_text.specs.declared.node.Elements.TheVariants.{Nodes, Letters}
+use Rattle.bx_text.specs.declared.node.Elements.{Elements, TheVariants.Nodes, TheVariants.Letters}
 use Rattle.bx_text.specs.declared.node.Element.{Element}
 use Rattle.bx_text.specs.declared.node.Element.TheVariants as elements
 use Rattle.bx_text.specs.declared.node.View.{View}

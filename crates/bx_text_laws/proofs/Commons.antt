@@ -1,7 +1,6 @@
 -- The words that proofs here use, passed on from where they stand.
 pub use Rattle.bx_terms.specs.Outcomes.{◌>>=◌}
-pub use Rattle.bx_terms.specs.declared.faults.Fault.{Fault}
-pub use Rattle.bx_terms.specs.declared.faults.Fault.TheVariants.{BadTerm, NotUtf8, TooDeep}
+pub use Rattle.bx_terms.specs.declared.faults.Fault.{Fault, TheVariants.BadTerm, TheVariants.NotUtf8, TheVariants.TooDeep}
 pub use Rattle.bx_text.proofs.Outcomes.{bind_ok, ok_same}
 pub use Rattle.bx_text.specs.Blank.{line_of, skip, skip_from}
 pub use Rattle.bx_text.specs.Bytes.{begins, is_digit, is_lower, is_name, is_not_feed, is_percent, is_space}

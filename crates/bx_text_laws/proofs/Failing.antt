@@ -6,8 +6,7 @@ use Rattle.std.proofs.lemmas.Bool.{eqb-true, eq-eqb, leb-false, cases_lt, cond-t
 use Rattle.std.proofs.lemmas.Bool.Decides.{nat_tests}
 use Rattle.std.proofs.lemmas.Str.{utf8_valid_len-IsValidUpTo}
 use Rattle.bx_terms.specs.Outcomes.{◌>>=◌}
-use Rattle.bx_terms.specs.declared.faults.Fault.{Fault}
-use Rattle.bx_terms.specs.declared.faults.Fault.TheVariants.{BadToken, Truncated, NotUtf8}
+use Rattle.bx_terms.specs.declared.faults.Fault.{Fault, TheVariants.BadToken, TheVariants.Truncated, TheVariants.NotUtf8}
 use Rattle.bx_text.specs.Bytes.{begins, is_digit, is_lower, is_accented_lower}
 use Rattle.bx_text.specs.Place.{Place, feeds}
 use Rattle.bx_text.specs.Named as named

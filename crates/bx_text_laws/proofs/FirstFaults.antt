@@ -2,8 +2,7 @@
 use Rattle.std.proofs.Common.{◌≡◌, ℕ, zero, suc, ◌+◌, ◌<◌, true, false, cond, List, [], ◌∷◌, ◌++◌, length, Option, Some, None, Result, Ok, Err, refl, sym, ap, ◌∙◌, subst, arith, ◌⊎◌, inl, inr, ◌↔◌}
 use Rattle.std.proofs.lemmas.Bool.{cond_both}
 use Rattle.bx_terms.specs.Outcomes.{◌>>=◌}
-use Rattle.bx_terms.specs.declared.faults.Fault.{Fault}
-use Rattle.bx_terms.specs.declared.faults.Fault.TheVariants.{BadTerm}
+use Rattle.bx_terms.specs.declared.faults.Fault.{Fault, TheVariants.BadTerm}
 use Rattle.bx_text.specs.declared.node.Sort.{Sort}
 use Rattle.bx_text.specs.declared.node.Sort.TheVariants as sort
 use Rattle.bx_text.specs.Bytes.{begins}

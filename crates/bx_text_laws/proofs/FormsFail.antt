@@ -2,8 +2,7 @@
 use Rattle.std.proofs.Common.{arith, ◌≡◌, ℕ, List, [], ◌∷◌, Option, Result, Ok, Err, refl, sym, ap, ◌∙◌, subst, ◌↔◌}
 use Rattle.std.proofs.lemmas.Bool.{cond_both}
 use Rattle.bx_terms.specs.Outcomes.{◌>>=◌}
-use Rattle.bx_terms.specs.declared.faults.Fault.{Fault}
-use Rattle.bx_terms.specs.declared.faults.Fault.TheVariants.{BadTerm}
+use Rattle.bx_terms.specs.declared.faults.Fault.{Fault, TheVariants.BadTerm}
 use Rattle.bx_text.specs.Place.{Place}
 use Rattle.bx_text.specs.Blank.{skip}
 use Rattle.bx_text.specs.Named as named

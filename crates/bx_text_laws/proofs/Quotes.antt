@@ -9,8 +9,7 @@ use Rattle.std.proofs.lemmas.List.Folds.{list_all-append}
 use Rattle.std.proofs.lemmas.List.Recursion.{is_count_by}
 use Rattle.std.proofs.lemmas.Str.{utf8_valid_len-IsUtf8, chars-encodes, encodes-append, encode_ascii}
 use Rattle.bx_terms.specs.Outcomes.{◌>>=◌}
-use Rattle.bx_terms.specs.declared.faults.Fault.{Fault}
-use Rattle.bx_terms.specs.declared.faults.Fault.TheVariants.{BadToken, NotUtf8}
+use Rattle.bx_terms.specs.declared.faults.Fault.{Fault, TheVariants.BadToken, TheVariants.NotUtf8}
 use Rattle.bx_text.specs.Bytes.{is_plain, is_feed}
 use Rattle.bx_text.specs.Escapes.{step, open_in, is_whole, decoded}
 use Rattle.bx_text.specs.Place.{Place, feeds}

@@ -9,8 +9,7 @@ use Rattle.std.proofs.lemmas.Bool.{eqb-true, and_from, cases_lt, cond-true, cond
 use Rattle.std.proofs.lemmas.Bool.Decides.{nat_tests}
 use Rattle.std.proofs.Math.Utf8.{low_scalar}
 use Rattle.std.specs.Str.Lossy.{utf8_valid_len}
-use Rattle.bx_terms.specs.declared.faults.Fault.{Fault}
-use Rattle.bx_terms.specs.declared.faults.Fault.TheVariants.{NotUtf8, BadToken}
+use Rattle.bx_terms.specs.declared.faults.Fault.{Fault, TheVariants.NotUtf8, TheVariants.BadToken}
 use Rattle.bx_text.specs.Bytes.{begins, is_lower, is_name, is_accented, is_accented_lower}
 use Rattle.bx_text.specs.Place.{Place, after}
 use Rattle.bx_text.specs.Named as named

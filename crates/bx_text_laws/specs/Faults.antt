@@ -2,8 +2,7 @@
 -- Source: Erlang Reference Manual, "Data Types" and "Bit Syntax Expressions". The form is that of a table for predictive
 -- parsing (Aho, Lam, Sethi and Ullman, "Compilers", 4.4).
 use Rattle.std.specs.Prelude.{◌≡◌, ◌⊎◌, ℕ, ℤ, zero, suc, List, [], ◌∷◌, ◌++◌, codes}
-use Rattle.bx_terms.specs.declared.faults.Fault.{Fault}
-use Rattle.bx_terms.specs.declared.faults.Fault.TheVariants.{BadTerm, TooDeep}
+use Rattle.bx_terms.specs.declared.faults.Fault.{Fault, TheVariants.BadTerm, TheVariants.TooDeep}
 use Rattle.bx_text.specs.Place.{Place}
 use Rattle.bx_text.specs.Named as named
 use Rattle.bx_text.specs.Token as token

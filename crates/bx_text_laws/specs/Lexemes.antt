@@ -1,7 +1,6 @@
 -- A token behind blanks, and where it stands.
 use Rattle.std.specs.Prelude.{◌≡◌, ◌⊎◌, Ok}
-use Rattle.bx_terms.specs.declared.faults.Fault.{Fault}
-use Rattle.bx_terms.specs.declared.faults.Fault.TheVariants.{NotUtf8}
+use Rattle.bx_terms.specs.declared.faults.Fault.{Fault, TheVariants.NotUtf8}
 use Rattle.bx_text.specs.Place.{Place}
 use Rattle.bx_text.specs.Token.{Token, Lexeme}
 use Rattle.bx_text.specs.Lexing.{lexeme_at}

@@ -3,8 +3,7 @@
 -- File Encoding".
 use Rattle.std.specs.Prelude.{◌≡◌, ℕ, ◌+◌, List, [], ◌∷◌, ◌++◌, codes}
 use Rattle.std.specs.Str.{IsValidUpTo}
-use Rattle.bx_terms.specs.declared.faults.Fault.{Fault}
-use Rattle.bx_terms.specs.declared.faults.Fault.TheVariants.{BadToken, Truncated, NotUtf8}
+use Rattle.bx_terms.specs.declared.faults.Fault.{Fault, TheVariants.BadToken, TheVariants.Truncated, TheVariants.NotUtf8}
 use Rattle.bx_text_laws.specs.Numerals.{Digit, Numeral}
 use Rattle.bx_text_laws.specs.Quoted.{IsQuote, Quoted}
 use Rattle.bx_text_laws.specs.Spelling.{InUtf8}

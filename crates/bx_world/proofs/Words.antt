@@ -12,19 +12,16 @@ pub use Rattle.bx_proc.specs.Bursts.{Repeated, Bursts}
 pub use Rattle.bx_proc.specs.Process.{Process, can_run, can_expire}
 pub use Rattle.bx_proc.specs.Signals.{expired, with_link, without_link}
 pub use Rattle.bx_proc.specs.Stepping.{attempted, settled, settled_with, Whole}
-pub use Rattle.bx_proc.specs.declared.parts.Answer.{Answer}
-pub use Rattle.bx_proc.specs.declared.parts.Answer.TheVariants.{Value}
+pub use Rattle.bx_proc.specs.declared.parts.Answer.{Answer, TheVariants.Value}
 pub use Rattle.bx_proc.specs.declared.parts.Effect.{Effect}
 pub use Rattle.bx_proc.specs.declared.stops.Why.{Why}
 pub use Rattle.bx_signals.proofs.Maps.{equal_pair, waiting_empty}
 pub use Rattle.bx_signals.specs.Channels.{Channels, waiting, put}
 pub use Rattle.bx_signals.specs.Waiting.{first, front}
-pub use Rattle.bx_signals.specs.declared.signal.Signal.{Signal}
-pub use Rattle.bx_signals.specs.declared.signal.Signal.TheVariants.{Message}
+pub use Rattle.bx_signals.specs.declared.signal.Signal.{Signal, TheVariants.Message}
 pub use Rattle.bx_terms.specs.Outcomes.{Does}
 pub use Rattle.bx_terms.specs.Tree.{Tree, atom, pid}
-pub use Rattle.bx_terms.specs.declared.faults.Fault.{Fault}
-pub use Rattle.bx_terms.specs.declared.faults.Fault.TheVariants.{NotEnabled, Memory, Halted}
+pub use Rattle.bx_terms.specs.declared.faults.Fault.{Fault, TheVariants.NotEnabled, TheVariants.Memory, TheVariants.Halted}
 pub use Rattle.bx_terms.specs.declared.fixed.TheConstants.{KILLED}
 pub use Rattle.bx_terms.specs.declared.kinds.Trap.{Trap}
 pub use Rattle.bx_terms.specs.declared.places.Place.{Place}
@@ -50,11 +47,9 @@ pub use Rattle.bx_world.specs.Spawning.{childless_at_trap, lives_spawned, lives_
 pub use Rattle.bx_world.specs.Turning.{turned, runs}
 pub use Rattle.bx_world.specs.World.{Life, Live, Exited, State, begun}
 pub use Rattle.bx_world.specs.declared.acts.Act.TheVariants.{Spawned}
-pub use Rattle.bx_world.specs.declared.choices.Choice.{Choice}
-pub use Rattle.bx_world.specs.declared.choices.Choice.TheVariants.{Run, Deliver, Expire}
+pub use Rattle.bx_world.specs.declared.choices.Choice.{Choice, TheVariants.Run, TheVariants.Deliver, TheVariants.Expire}
 pub use Rattle.bx_world.specs.declared.lanes.Lanes.{Lanes}
 pub use Rattle.bx_world.specs.declared.requests.Request.{Request}
 pub use Rattle.bx_world.specs.declared.requests.SpawnRequest.{SpawnRequest}
 pub use Rattle.bx_world.specs.declared.turns.Tried.{Tried}
-pub use Rattle.bx_world.specs.declared.turns.Turn.{Turn}
-pub use Rattle.bx_world.specs.declared.turns.Turn.TheVariants.{Ran}
+pub use Rattle.bx_world.specs.declared.turns.Turn.{Turn, TheVariants.Ran}

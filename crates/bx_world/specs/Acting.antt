@@ -1,18 +1,15 @@
 -- What is asked of one process beside its runs, in its life and among the others.
 use Rattle.std.specs.Prelude.{ℕ, List, Option, Some, None, Result, Ok, Err, if◌then◌else◌, IsTrue, slice_get}
 use Rattle.bx_terms.specs.Tree.{pid}
-use Rattle.bx_terms.specs.declared.faults.Fault.{Fault}
-use Rattle.bx_terms.specs.declared.faults.Fault.TheVariants.{NotEnabled}
+use Rattle.bx_terms.specs.declared.faults.Fault.{Fault, TheVariants.NotEnabled}
 use Rattle.bx_load.specs.Image.{Loaded}
 use Rattle.bx_signals.specs.Waiting.{first}
 use Rattle.bx_signals.specs.Channels.{waiting}
 use Rattle.bx_proc.specs.Process.{Process, can_expire}
 use Rattle.bx_proc.specs.Signals.{expired}
-use Rattle.bx_proc.specs.declared.parts.Answer.{Answer}
-use Rattle.bx_proc.specs.declared.parts.Answer.TheVariants.{Value}
+use Rattle.bx_proc.specs.declared.parts.Answer.{Answer, TheVariants.Value}
 use Rattle.bx_world.specs.declared.choices.Choice.TheVariants.{Run}
-use Rattle.bx_world.specs.declared.acts.Act.{Act}
-use Rattle.bx_world.specs.declared.acts.Act.TheVariants.{Hear, Expire, Spawned, Unspawned}
+use Rattle.bx_world.specs.declared.acts.Act.{Act, TheVariants.Hear, TheVariants.Expire, TheVariants.Spawned, TheVariants.Unspawned}
 use Rattle.bx_world.specs.declared.lanes.Lanes.{Lanes}
 use Rattle.bx_world.specs.declared.turns.Turn.TheVariants as turns
 use Rattle.bx_world.specs.World.{Life, Live, Exited}

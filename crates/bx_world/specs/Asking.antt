@@ -9,12 +9,10 @@ use Rattle.bx_proc.specs.Process.{Process}
 use Rattle.bx_proc.specs.Stepping.{settled}
 use Rattle.bx_proc.specs.declared.parts.Answer.{Answer}
 use Rattle.bx_proc.specs.declared.parts.Effect.{Effect}
-use Rattle.bx_world.specs.declared.choices.Choice.{Choice}
-use Rattle.bx_world.specs.declared.choices.Choice.TheVariants.{Run}
+use Rattle.bx_world.specs.declared.choices.Choice.{Choice, TheVariants.Run}
 use Rattle.bx_world.specs.declared.lanes.Lanes.{Lanes}
 use Rattle.bx_world.specs.declared.requests.Request.{Request}
-use Rattle.bx_world.specs.declared.turns.Turn.{Turn}
-use Rattle.bx_world.specs.declared.turns.Turn.TheVariants.{Ran, Ended, Trapped, Spawns}
+use Rattle.bx_world.specs.declared.turns.Turn.{Turn, TheVariants.Ran, TheVariants.Ended, TheVariants.Trapped, TheVariants.Spawns}
 use Rattle.bx_world.specs.Sharing.{onto}
 use Rattle.bx_world.specs.Deeds.{Deed, closes, leaves, puts, exit_message, is_kill, low_enough, exits_itself, links, unlinks, performs}
 

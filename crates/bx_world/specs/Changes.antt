@@ -4,8 +4,7 @@
 use Rattle.std.specs.Prelude.{ℕ, List, [], ◌∷◌, ◌++◌, Bool, true, false, Option, Some, None, Result, Ok, Err, length, slice_get, slice_set, if◌then◌else◌}
 use Rattle.bx_terms.specs.Tree.{Tree, atom, pid}
 use Rattle.bx_terms.specs.declared.fixed.TheConstants.{NOPROC}
-use Rattle.bx_terms.specs.declared.faults.Fault.{Fault}
-use Rattle.bx_terms.specs.declared.faults.Fault.TheVariants.{NotEnabled}
+use Rattle.bx_terms.specs.declared.faults.Fault.{Fault, TheVariants.NotEnabled}
 use Rattle.bx_terms.specs.declared.kinds.Trap.{Trap}
 use Rattle.bx_load.specs.Image.{Loaded}
 use Rattle.bx_signals.specs.Waiting.{first}
@@ -15,8 +14,7 @@ use Rattle.bx_signals.specs.declared.signal.Signal.TheVariants as signals
 use Rattle.bx_proc.specs.Process.{Process, can_run, can_expire}
 use Rattle.bx_proc.specs.Signals.{expired}
 use Rattle.bx_proc.specs.declared.parts.Answer.TheVariants.{Value}
-use Rattle.bx_world.specs.declared.choices.Choice.{Choice}
-use Rattle.bx_world.specs.declared.choices.Choice.TheVariants.{Run, Deliver, Expire}
+use Rattle.bx_world.specs.declared.choices.Choice.{Choice, TheVariants.Run, TheVariants.Deliver, TheVariants.Expire}
 use Rattle.bx_world.specs.declared.requests.SpawnRequest.{SpawnRequest}
 use Rattle.bx_world.specs.declared.turns.Turn.{Turn}
 use Rattle.bx_world.specs.declared.turns.Turn.TheVariants as turns

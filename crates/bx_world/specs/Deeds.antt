@@ -13,15 +13,13 @@ use Rattle.bx_cells.specs.Links.{among}
 use Rattle.bx_proc.specs.Process.{Process, new_process}
 use Rattle.bx_proc.specs.Signals.{with_message, with_link, without_link}
 use Rattle.bx_proc.specs.Stepping.{attempted, settled, settled_with}
-use Rattle.bx_proc.specs.declared.parts.Answer.{Answer}
-use Rattle.bx_proc.specs.declared.parts.Answer.TheVariants.{Value, Fault}
+use Rattle.bx_proc.specs.declared.parts.Answer.{Answer, TheVariants.Value, TheVariants.Fault}
 use Rattle.bx_proc.specs.declared.parts.Effect.{Effect}
 use Rattle.bx_proc.specs.declared.parts.Effect.TheVariants as effects
 use Rattle.bx_world.specs.declared.requests.SpawnRequest.{SpawnRequest}
 use Rattle.bx_world.specs.declared.requests.Request.{Request}
 use Rattle.bx_world.specs.declared.requests.Request.TheVariants as requests
-use Rattle.bx_world.specs.declared.turns.Turn.{Turn}
-use Rattle.bx_world.specs.declared.turns.Turn.TheVariants.{Ran, Ended, Trapped, Spawns}
+use Rattle.bx_world.specs.declared.turns.Turn.{Turn, TheVariants.Ran, TheVariants.Ended, TheVariants.Trapped, TheVariants.Spawns}
 use Rattle.bx_world.specs.Requests.{requested}
 
 -- signals in order, each behind its receiver

@@ -3,12 +3,10 @@
 use Rattle.std.specs.Prelude.{ℕ, Option, Some, None, Result, Ok, Err}
 use Rattle.bx_terms.specs.Tree.{Tree, atom}
 use Rattle.bx_terms.specs.declared.fixed.TheConstants.{NOPROC}
-use Rattle.bx_terms.specs.declared.faults.Fault.{Fault}
-use Rattle.bx_terms.specs.declared.faults.Fault.TheVariants.{NotEnabled, Memory}
+use Rattle.bx_terms.specs.declared.faults.Fault.{Fault, TheVariants.NotEnabled, TheVariants.Memory}
 use Rattle.bx_signals.specs.Waiting.{first}
 use Rattle.bx_signals.specs.Channels.{waiting}
-use Rattle.bx_signals.specs.declared.signal.Signal.{Signal}
-use Rattle.bx_signals.specs.declared.signal.Signal.TheVariants.{Link, LinkExit, Exit}
+use Rattle.bx_signals.specs.declared.signal.Signal.{Signal, TheVariants.Link, TheVariants.LinkExit, TheVariants.Exit}
 use Rattle.bx_proc.specs.Process.{Process}
 use Rattle.bx_world.specs.declared.choices.Choice.TheVariants.{Deliver}
 use Rattle.bx_world.specs.declared.lanes.Lanes.{Lanes}

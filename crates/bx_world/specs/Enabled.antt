@@ -5,8 +5,7 @@ use Rattle.bx_signals.specs.Waiting.{first}
 use Rattle.bx_signals.specs.Channels.{Channels, waiting, pairs}
 use Rattle.bx_signals.specs.declared.signal.Signal.{Signal}
 use Rattle.bx_proc.specs.Process.{can_run, can_expire}
-use Rattle.bx_world.specs.declared.choices.Choice.{Choice}
-use Rattle.bx_world.specs.declared.choices.Choice.TheVariants.{Run, Deliver, Expire}
+use Rattle.bx_world.specs.declared.choices.Choice.{Choice, TheVariants.Run, TheVariants.Deliver, TheVariants.Expire}
 use Rattle.bx_world.specs.declared.lanes.Lanes.{Lanes}
 use Rattle.bx_world.specs.World.{Life, Live, Exited, State}
 

@@ -6,8 +6,7 @@ use Rattle.bx_ops.specs.Classes.{is_local}
 use Rattle.bx_listing.specs.Items.{Item}
 use Rattle.bx_load.specs.Image.{Loaded}
 use Rattle.bx_load.specs.Numbering.{numbered_at}
-use Rattle.bx_world.specs.declared.choices.Choice.{Choice}
-use Rattle.bx_world.specs.declared.choices.Choice.TheVariants.{Run, Deliver, Expire}
+use Rattle.bx_world.specs.declared.choices.Choice.{Choice, TheVariants.Run, TheVariants.Deliver, TheVariants.Expire}
 use Rattle.bx_world.specs.World.{State}
 use Rattle.bx_world.specs.Enabled.{can, actor}
 use Rattle.bx_world.specs.Choosing.{chosen}

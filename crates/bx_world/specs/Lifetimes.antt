@@ -1,15 +1,13 @@
 -- What a choice makes of one life among others, and of the lanes.
 use Rattle.std.specs.Prelude.{ℕ, List, Option, Some, None, Result, Ok, Err, if◌then◌else◌, is_some, IsTrue, slice_get, slice_set}
 use Rattle.bx_terms.specs.Tree.{Tree}
-use Rattle.bx_terms.specs.declared.faults.Fault.{Fault}
-use Rattle.bx_terms.specs.declared.faults.Fault.TheVariants.{NotEnabled}
+use Rattle.bx_terms.specs.declared.faults.Fault.{Fault, TheVariants.NotEnabled}
 use Rattle.bx_load.specs.Image.{Loaded}
 use Rattle.bx_signals.specs.Waiting.{first}
 use Rattle.bx_signals.specs.Channels.{waiting}
 use Rattle.bx_proc.specs.Process.{can_run}
 use Rattle.bx_world.specs.declared.lanes.Lanes.{Lanes}
-use Rattle.bx_world.specs.declared.turns.Turn.{Turn}
-use Rattle.bx_world.specs.declared.turns.Turn.TheVariants.{Ran, Ended, Trapped, Spawns}
+use Rattle.bx_world.specs.declared.turns.Turn.{Turn, TheVariants.Ran, TheVariants.Ended, TheVariants.Trapped, TheVariants.Spawns}
 use Rattle.bx_world.specs.World.{Life, Live, Exited}
 use Rattle.bx_world.specs.Asking.{Done}
 use Rattle.bx_world.specs.Turning.{runs}

@@ -6,8 +6,7 @@ use Rattle.bx_proc.specs.declared.parts.Status.{Status}
 use Rattle.bx_proc.specs.declared.parts.Status.TheVariants as states
 use Rattle.bx_world.specs.declared.choices.Choice.{Choice}
 use Rattle.bx_world.specs.declared.outcomes.Outcome.{Outcome}
-use Rattle.bx_world.specs.declared.outcomes.Standing.{Standing}
-use Rattle.bx_world.specs.declared.outcomes.Standing.TheVariants.{Trapped, Quiet, Open}
+use Rattle.bx_world.specs.declared.outcomes.Standing.{Standing, TheVariants.Trapped, TheVariants.Quiet, TheVariants.Open}
 use Rattle.bx_world.specs.declared.shown.Shown.{Shown}
 use Rattle.bx_world.specs.declared.shown.Shown.TheVariants as shown
 use Rattle.bx_world.specs.World.{Life, Live, Exited, State}

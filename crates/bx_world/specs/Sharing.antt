@@ -1,11 +1,9 @@
 -- What the processes of a world share changes by.
 use Rattle.std.specs.Prelude.{ℕ, List, [], ◌∷◌, ◌++◌, Bool, true, false, Option, Some, None}
 use Rattle.bx_terms.specs.Tree.{Tree}
-use Rattle.bx_signals.specs.declared.signal.Signal.{Signal}
-use Rattle.bx_signals.specs.declared.signal.Signal.TheVariants.{LinkExit}
+use Rattle.bx_signals.specs.declared.signal.Signal.{Signal, TheVariants.LinkExit}
 use Rattle.bx_signals.specs.Channels.{Channels, put, taken, put_to_all}
-use Rattle.bx_world.specs.declared.choices.Choice.{Choice}
-use Rattle.bx_world.specs.declared.choices.Choice.TheVariants.{Run, Deliver, Expire}
+use Rattle.bx_world.specs.declared.choices.Choice.{Choice, TheVariants.Run, TheVariants.Deliver, TheVariants.Expire}
 use Rattle.bx_world.specs.declared.lanes.Lanes.{Lanes}
 use Rattle.bx_world.specs.Enabled.{actor}
 use Rattle.bx_world.specs.Deeds.{Posts, Deed}

@@ -3,13 +3,10 @@ use Rattle.std.specs.Prelude.{ℕ, ◌+◌, List, [], ◌∷◌, ◌++◌, Optio
 use Rattle.bx_terms.specs.Tree.{Tree}
 use Rattle.bx_terms.specs.Kinds.{trap_name}
 use Rattle.bx_terms.specs.Printed.{printed, printed_pid}
-use Rattle.bx_world.specs.declared.choices.Choice.{Choice}
-use Rattle.bx_world.specs.declared.choices.Choice.TheVariants.{Run, Deliver, Expire}
+use Rattle.bx_world.specs.declared.choices.Choice.{Choice, TheVariants.Run, TheVariants.Deliver, TheVariants.Expire}
 use Rattle.bx_world.specs.declared.outcomes.Outcome.{Outcome}
-use Rattle.bx_world.specs.declared.outcomes.Standing.{Standing}
-use Rattle.bx_world.specs.declared.outcomes.Standing.TheVariants.{Trapped, Quiet, Open}
-use Rattle.bx_proc.specs.declared.parts.Status.{Status}
-use Rattle.bx_proc.specs.declared.parts.Status.TheVariants.{Ready, Waiting, Ended}
+use Rattle.bx_world.specs.declared.outcomes.Standing.{Standing, TheVariants.Trapped, TheVariants.Quiet, TheVariants.Open}
+use Rattle.bx_proc.specs.declared.parts.Status.{Status, TheVariants.Ready, TheVariants.Waiting, TheVariants.Ended}
 
 -- `r` and the pid that runs; `d`, the pid that sent, `>` and the pid that receives; or `e` and the pid whose wait expires
 abbrev pub spelling : Choice → List ℕ

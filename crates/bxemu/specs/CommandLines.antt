@@ -12,8 +12,7 @@ use Rattle.clap.specs.declared.builder.action.ArgAction.TheVariants.{Set, SetTru
 use Rattle.clap.specs.declared.builder.value_parser.ValueParser.TheVariants.{Signed}
 use Rattle.clap.specs.declared.error.Error.{Error}
 use Rattle.clap.specs.declared.error.kind.ErrorKind.TheVariants.{DisplayHelp, DisplayVersion, MissingSubcommand, OutOfMemory}
-use Rattle.bx_engine.specs.declared.forms.Form.{Form}
-use Rattle.bx_engine.specs.declared.forms.Form.TheVariants.{Report, Summary}
+use Rattle.bx_engine.specs.declared.forms.Form.{Form, TheVariants.Report, TheVariants.Summary}
 use Rattle.bxemu.specs.declared.commands.Order.{Order}
 use Rattle.bxemu.specs.declared.commands.Order.TheVariants.{Campaign, Chart, Debug, Dis, Run, Tidy}
 

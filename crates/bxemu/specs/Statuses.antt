@@ -1,11 +1,9 @@
 -- The status that a run ends with.
 use Rattle.std.specs.Prelude.{◌≡◌, ◌⊎◌, ℕ, Result, Ok, Err, Some}
-use Rattle.clap.specs.declared.error.kind.ErrorKind.{ErrorKind}
-use Rattle.clap.specs.declared.error.kind.ErrorKind.TheVariants.{DisplayHelp, DisplayVersion, OutOfMemory}
+use Rattle.clap.specs.declared.error.kind.ErrorKind.{ErrorKind, TheVariants.DisplayHelp, TheVariants.DisplayVersion, TheVariants.OutOfMemory}
 use Rattle.bx_terms.specs.declared.faults.Fault.TheVariants.{BadCommand}
 use Rattle.bx_engine.specs.FaultLines.{status_of}
-use Rattle.bx_engine.specs.declared.failures.Failure.{Failure}
-use Rattle.bx_engine.specs.declared.failures.Failure.TheVariants.{Refused}
+use Rattle.bx_engine.specs.declared.failures.Failure.{Failure, TheVariants.Refused}
 
 -- 0 where it was done, and else that of its failure
 abbrev pub status_after : {A : Type 0} → Result A Failure → ℕ

@@ -2,8 +2,7 @@ use Rattle.std.proofs.Common.{◌≡◌, ◌∙◌, [], ◌∷◌, ap, sym, arit
 use Rattle.std.specs.Prelude.{slice_index_or, List}
 use Rattle.std.proofs.lemmas.List.{take_more}
 use Rattle.bx_world.proofs.Many.{few_made}
-use Rattle.bx_world.specs.declared.choices.Choice.{Choice}
-use Rattle.bx_world.specs.declared.choices.Choice.TheVariants.{Run}
+use Rattle.bx_world.specs.declared.choices.Choice.{Choice, TheVariants.Run}
 use Rattle.bx_world.specs.Running.{ran}
 use Rattle.bx_world.proofs.Lawful.{ran_on}
 use Rattle.bx_replay.proofs.runs.advance_each.Goals as goal

@@ -1,6 +1,5 @@
 use Rattle.bx_bifs.proofs.Words.{◌≡◌, not, refl, ap, arith, is_lt, is_gt, ordering_reverse, false_from_ne_true, order_of, order_of_total, boolean, guard_two}
-use Rattle.std.specs.declared.cmp.Ordering.{Ordering}
-use Rattle.std.specs.declared.cmp.Ordering.TheVariants.{Less, Equal, Greater}
+use Rattle.std.specs.declared.cmp.Ordering.{Ordering, TheVariants.Less, TheVariants.Equal, TheVariants.Greater}
 use Rattle.bx_terms.specs.Same.{same_tree}
 use Rattle.bx_terms.specs.Sameness.{same_decides, same_to_equal}
 use Rattle.bx_terms.proofs.Ties.{only_equal_tied}
