@@ -70,7 +70,7 @@ pub record AreTaken (least : ℕ) (all marks cuts done : List ℕ) : Type 0 wher
   pub order : done ≡ taken ++ cuts
 
 pub taken_next : (least mark : ℕ) (all marks rest cuts done more : List ℕ) → Rise 0 all → AreTaken least all marks cuts done → least < mark → marks ≡ rest ++ mark ∷ [] → more ≡ mark ∷ done → AreTaken least all rest cuts more
-taken_next least mark all marks rest cuts done more rise is l e f = grind (arith, append_assoc, deepest_push, rise_apart, rise)
+taken_next least mark all marks rest cuts done more rise is l e f = grind (arith, append_assoc, deepest_push, rise_apart)
 
 -- ---- the marks of schedules
 

@@ -77,7 +77,7 @@ swap_there : (front : List Choice) (p q : ℕ) (a b : Choice) (more : List Choic
 swap_there [] p q a b more e f = ap (λ i. swap (a ∷ b ∷ more) i q) e ∙ ap (λ i. swap (a ∷ b ∷ more) 0 i) (f ∙ ap suc e)
 swap_there (c ∷ front) zero q a b more e f = absurd (omega (arith, e))
 swap_there (c ∷ front) (suc p) zero a b more e f = absurd (omega (arith, f))
-swap_there (c ∷ front) (suc p) (suc q) a b more e f = grind (arith, long, length-append, swap_is, swap_there front p q a b more (omega (arith, e)) (omega (arith, f)))
+swap_there (c ∷ front) (suc p) (suc q) a b more e f = grind (arith, length-append, swap_is, swap_there front p q a b more (omega (arith, e)) (omega (arith, f)))
 
 -- two single stretches in a row
 singles : (m : ℕ) (x y : Stretch) (more : List Stretch) → x.past ≡ m + 1 → y.past ≡ m + 2 → choices_from m (x ∷ y ∷ more) ≡ x.choice ∷ y.choice ∷ choices_from y.past more
@@ -115,7 +115,7 @@ put_later more s = record { choice = s.choice; past = s.past + more }
 
 pub later : (m n more : ℕ) (ss : List Stretch) → n ≡ m + more → AreStretches m ss → AreStretches n (map (put_later more) ss) × (choices_from n (map (put_later more) ss) ≡ choices_from m ss)
 later m n more [] e j = (tt, refl)
-later m n more (s ∷ ss) e j = grind (arith, rest, later s.past (s.past + more) more ss refl j.1)
+later m n more (s ∷ ss) e j = grind (arith, later s.past (s.past + more) more ss refl j.1)
 
 -- those behind so many choices
 pub chained : (ss behind after : List Stretch) (count : ℕ) → AreStretches 0 ss → AreStretches 0 behind → count ≡ length (choices_from 0 ss) → after ≡ ss ++ map (put_later count) behind → Makes after (choices_from 0 ss ++ choices_from 0 behind)

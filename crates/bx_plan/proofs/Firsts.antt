@@ -1,8 +1,8 @@
 -- Entries are read one after another, each from the head of the text that is left.
-use Rattle.bx_plan.proofs.Words.{◌≡◌, ◌⊎◌, inl, inr, ℕ, ◌+◌, ◌-◌, ◌*◌, ◌^◌, ◌<◌, ◌≤◌, true, false, cond, ◌&&◌, List, [], ◌∷◌, ◌++◌, Option, Some, None, length, refl, sym, ap, ◌∙◌, arith, subst, option_map, true_from_ne_false}
-use Rattle.bx_plan.proofs.Words.{number_first, deliver_first, choice_by, some_times, times_first, entry_first, next_of, next_first, first_view, IsFirst, append_assoc, append-nil, length-append, nat_eq, nat_le, MatchOption}
-use Rattle.bx_plan.proofs.Words.{option_and_then, option_map_or, is_ascii_digit, decimal, and_parts, cond_both, eqb-true, eqb-false, ne_eqb, le-leb, nat_tests, option_and_then_some, same_Some, Choice, Run, Deliver, Expire, Entry}
-use Rattle.bx_plan.proofs.Words.{digits_first, words_left, size_left, spelling, HasPids, IsEntry, cut, parts_of, digits_from, number_of, entry_of, entry_each, entries_of}
+use Rattle.bx_plan.proofs.Words.{◌≡◌, inl, inr, ℕ, ◌+◌, ◌-◌, ◌*◌, ◌^◌, ◌<◌, ◌≤◌, true, false, cond, ◌&&◌, List, [], ◌∷◌, ◌++◌, Option, Some, None, length, refl, sym, ap, ◌∙◌, arith, subst, option_map, true_from_ne_false, number_first}
+use Rattle.bx_plan.proofs.Words.{deliver_first, choice_by, some_times, times_first, entry_first, next_of, next_first, first_view, IsFirst, append_assoc, append-nil, length-append, nat_eq, nat_le, MatchOption, option_and_then}
+use Rattle.bx_plan.proofs.Words.{option_map_or, is_ascii_digit, decimal, and_parts, cond_both, eqb-true, eqb-false, ne_eqb, le-leb, nat_tests, option_and_then_some, same_Some, Choice, Run, Deliver, Expire, Entry, digits_first}
+use Rattle.bx_plan.proofs.Words.{words_left, size_left, spelling, HasPids, IsEntry, cut, parts_of, digits_from, number_of, entry_of, entry_each, entries_of}
 use Rattle.std.specs.Borrow.{Bor}
 use Rattle.bx_plan.specs.declared.entries.First.{First}
 use Rattle.bx_plan.specs.Firsts.{choice_first}

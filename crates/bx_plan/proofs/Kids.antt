@@ -1,6 +1,6 @@
 -- What stands on each chain, with a chain more.
-use Rattle.bx_plan.proofs.Words.{◌≡◌, ◌≢◌, ◌⊎◌, ℕ, zero, suc, ◌+◌, ◌<◌, ◌==◌, ◌&&◌, List, [], ◌∷◌, ◌++◌, length, get_or, set, refl, sym, ap, ◌∙◌, arith, length-append, get_or-append, get_or-append_seam, common_steps, is_kid, kids}
-use Rattle.bx_plan.proofs.Words.{no_head, one_if, get_or-set_same, get_or-set_other, length_push, length-set, cases_eq, nat_tests, Head, begun, Chained, above, head, times}
+use Rattle.bx_plan.proofs.Words.{◌≡◌, ℕ, zero, suc, ◌+◌, ◌<◌, ◌==◌, ◌&&◌, List, [], ◌∷◌, ◌++◌, length, get_or, set, refl, sym, ap, ◌∙◌, arith, length-append, get_or-append, get_or-append_seam, common_steps, is_kid, kids, no_head}
+use Rattle.bx_plan.proofs.Words.{one_if, get_or-set_same, get_or-set_other, length_push, length-set, cases_eq, nat_tests, Head, begun, Chained, above, head, times}
 use Rattle.std.proofs.Common.{nat_lt}
 use Rattle.bx_plan.proofs.Times.{times-append}
 

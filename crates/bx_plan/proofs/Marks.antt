@@ -1,5 +1,5 @@
 -- Texts without a mark, and where a text is cut.
-use Rattle.bx_plan.proofs.Words.{◌≡◌, ℕ, false, List, [], ◌∷◌, ◌++◌, Option, Some, None, refl, ap, ◌∙◌, option_map, subst, nat_eq, cond_both, eqb-true, eq-eqb, same_Some, cut, parts_of, rules}
+use Rattle.bx_plan.proofs.Words.{◌≡◌, ℕ, false, List, [], ◌∷◌, ◌++◌, Option, Some, None, refl, ap, option_map, subst, nat_eq, cond_both, eqb-true, eq-eqb, same_Some, cut, parts_of, rules}
 use Rattle.bx_plan.proofs.Cuts.{parts_none, parts_some}
 
 -- what comes of an option by a function

@@ -1,5 +1,5 @@
 -- Schedules in order: those stand together that begin alike.
-use Rattle.bx_plan.proofs.Words.{◌≡◌, ◌≢◌, ◌⊎◌, ◌<◌, ◌≤◌, true, false, List, [], ◌∷◌, ◌++◌, refl, sym, ap, ◌∙◌, arith, Ordering, ordering_reverse, is_gt, cases_Bool, cases_lt, nat_tests, lists_total, Equal, ordering_then, IsTotalOrder}
+use Rattle.bx_plan.proofs.Words.{◌≡◌, ◌≢◌, ◌<◌, ◌≤◌, true, false, List, [], ◌∷◌, ◌++◌, refl, sym, ap, ◌∙◌, arith, Ordering, ordering_reverse, is_gt, cases_Bool, cases_lt, nat_tests, lists_total, Equal, ordering_then, IsTotalOrder}
 use Rattle.bx_plan.proofs.Words.{nat_cmp_total, on_total, then_total, tied_itself, rank, Choice, choice_cmp, choices_cmp, common}
 use Rattle.bx_plan.proofs.Commons.{common_apart, common_here, common_least, common_turned, same_or_not}
 

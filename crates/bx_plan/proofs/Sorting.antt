@@ -19,7 +19,7 @@ lines_long lines = omega (arith, length-map (lines_view lines) (λ (s : Named). 
 pub compared : (lines : List Line) (x y : Row) (one other : Line) (n : ℕ) (o : Ordering) → x.line < length lines → y.line < length lines → n ≡ common (get_or lines x.line one).schedule (get_or lines y.line other).schedule
     → o ≡ choices_cmp (get_or lines x.line one).schedule (get_or lines y.line other).schedule
     → (n ≡ common (at_row (choices_of (lines_view lines)) x) (at_row (choices_of (lines_view lines)) y)) × (o ≡ choices_cmp (at_row (choices_of (lines_view lines)) x) (at_row (choices_of (lines_view lines)) y))
-compared lines x y one other n o h l alike order = search (rules, line_choices, one, lines_long)
+compared lines x y one other n o h l alike order = search (rules, line_choices, lines_long)
 
 module _ (schedules : List (List Choice)) where
   pub first_stands : (last : List Choice) (rows : List Row) (row : Row) → AreFrom schedules last rows → slice_get rows 0 ≡ Some row → Stands schedules last row
@@ -78,7 +78,7 @@ module _ (schedules : List (List Choice)) where
   pub takes_level : (xs ys left ys_left : List Row) (row y : Row) (n : ℕ) (o : Option Row) → slice_get xs 0 ≡ Some row → slice_get ys 0 ≡ Some y → TakesFirst xs left o → ys_left ≡ headed n ys
       → is_gt (choices_cmp (at_row schedules row) (at_row schedules y)) ≡ false → n ≡ common (at_row schedules row) (at_row schedules y) → Takes schedules xs ys left ys_left o
   takes_level xs [] left ys_left row y n o first second is rest behind e = cc
-  takes_level xs (z ∷ zs) left ys_left row y n o first second is rest behind e = grind (arith, common_steps, opened, first, line_first, behind)
+  takes_level xs (z ∷ zs) left ys_left row y n o first second is rest behind e = grind (arith, common_steps, opened, line_first)
 
   pub level_alike : (xs ys : List Row) (row y : Row) → GoOn schedules xs ys → slice_get xs 0 ≡ Some row → slice_get ys 0 ≡ Some y → row.common ≡ y.common → row.common ≤ common (at_row schedules row) (at_row schedules y)
   level_alike xs ys row y next first second level =

@@ -54,7 +54,7 @@ slice_get_drop (c ∷ cs) zero = refl
 slice_get_drop (c ∷ cs) (suc p) = slice_get_drop cs p
 
 pub first_choice : (n : ℕ) (c : Choice) (rest : List Choice) → 0 < n → slice_get (replicate n c ++ rest) 0 ≡ Some c
-first_choice n c rest h3 = grind (arith, rest)
+first_choice n c rest h3 = grind arith
 
 -- ---- at one of them
 
@@ -155,7 +155,7 @@ some_left : (m : ℕ) (cs : List Choice) (c : Choice) → slice_get (take m cs) 
 some_left m cs c h3 = grind (arith)
 
 front_choice : (m n : ℕ) (c : Choice) (rest : List Choice) → 0 < m → 0 < n → slice_get (take m (replicate n c ++ rest)) 0 ≡ Some c
-front_choice m n c rest h4 h5 = grind (arith, rest)
+front_choice m n c rest h4 h5 = grind arith
 
 pub skipped : (ss : List Stretch) (first past until : ℕ) (choice : Choice) → IsPart ss first past → slice_get (take (past - first) (choices_from first ss)) 0 ≡ Some choice → until ≡ min past (get_or ss 0 no_stretch).past
     → IsPart (behind until ss) until past × GoesOn choice (take (past - first) (choices_from first ss)) (take (past - until) (choices_from until (behind until ss)))

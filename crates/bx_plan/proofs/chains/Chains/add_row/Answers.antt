@@ -1,5 +1,4 @@
-use Rattle.bx_plan.proofs.Words.{◌≡◌, ◌+◌, ◌-◌, ◌<◌, ◌≤◌, zero, suc, ℕ, List, [], ◌∷◌, ◌++◌, length, reverse, refl, sym, ap, subst, ◌∙◌, arith, reverse-append, AllCuts, placed, Grown, choices_of, common_steps, length-reverse}
-use Rattle.bx_plan.proofs.Words.{lines_view}
+use Rattle.bx_plan.proofs.Words.{◌≡◌, ◌-◌, ◌<◌, ◌≤◌, zero, suc, ℕ, List, [], ◌∷◌, ◌++◌, length, reverse, refl, sym, ap, subst, ◌∙◌, arith, reverse-append, AllCuts, placed, Grown, choices_of, common_steps, length-reverse, lines_view}
 use Rattle.bx_plan.proofs.Commons.{common_short, taken_alike}
 use Rattle.bx_plan.proofs.Cutting.{cuts_over, cuts_within, next_cut, no_cuts, NextCut}
 use Rattle.bx_plan.proofs.Growing.{begin_cut, end_cut, grown_more, inside_cut}

@@ -1,4 +1,4 @@
-use Rattle.bx_plan.proofs.Words.{common_steps, ◌-◌, ◌∙◌, arith}
+use Rattle.bx_plan.proofs.Words.{common_steps, arith}
 use Rattle.bx_plan.proofs.Cutting.{deepest_last}
 use Rattle.bx_plan.proofs.chains.cuts.deepest.Goals as goal
 

@@ -1,4 +1,4 @@
-use Rattle.bx_plan.proofs.Words.{◌∙◌, arith, common_steps}
+use Rattle.bx_plan.proofs.Words.{arith, common_steps}
 use Rattle.bx_plan.proofs.Counts.{count-push, spread-push}
 use Rattle.bx_plan.proofs.entries.Entries.add.Goals as goal
 

@@ -1,4 +1,4 @@
-use Rattle.bx_plan.proofs.Words.{◌≡◌, ◌<◌, ◌∙◌, arith}
+use Rattle.bx_plan.proofs.Words.{arith}
 use Rattle.bx_plan.proofs.Stretching.{found, next}
 use Rattle.bx_plan.proofs.schedules.Schedule.get.Goals as goal
 

@@ -1,4 +1,4 @@
-use Rattle.bx_plan.proofs.Words.{◌≡◌, List, [], ◌∷◌, length, replicate, Result, Ok, Err, refl, ap, ◌∙◌, ◌-◌, arith, length-append, length-replicate, Stretch, choices_from, AreStretches, common_steps, OnErr}
+use Rattle.bx_plan.proofs.Words.{◌≡◌, List, [], ◌∷◌, length, replicate, Result, Ok, Err, refl, ap, ◌-◌, arith, length-append, length-replicate, Stretch, choices_from, AreStretches, common_steps, OnErr}
 use Rattle.bx_plan.proofs.schedules.Schedule.replace_tail.Goals as goal
 
 none_there : (ss : List Stretch) → AreStretches 0 ss → length (choices_from 0 ss) ≡ 0 → length ss ≡ 0

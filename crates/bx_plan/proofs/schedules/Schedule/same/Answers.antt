@@ -1,4 +1,4 @@
-use Rattle.bx_plan.proofs.Words.{◌∙◌, arith, eq-eqb, eqb-true, common_steps}
+use Rattle.bx_plan.proofs.Words.{arith, eq-eqb, eqb-true, common_steps}
 use Rattle.bx_plan.proofs.Commons.{all_alike, common_same}
 use Rattle.bx_plan.proofs.schedules.Schedule.same.Goals as goal
 

@@ -1,4 +1,4 @@
-use Rattle.bx_plan.proofs.Words.{◌≡◌, length, ap, ◌∙◌, arith, eqb-true, le-leb, leb-true, length-take-le, common_steps}
+use Rattle.bx_plan.proofs.Words.{length, ap, arith, eqb-true, le-leb, leb-true, length-take-le, common_steps}
 use Rattle.bx_plan.proofs.Commons.{common_long, taken_alike}
 use Rattle.bx_plan.proofs.schedules.Schedule.same_front.Goals as goal
 

@@ -1,4 +1,4 @@
-use Rattle.bx_plan.proofs.Words.{◌≡◌, ◌+◌, ◌∷◌, Bool, true, false, refl, ◌∙◌, arith, length_push, common_steps, not, not-true}
+use Rattle.bx_plan.proofs.Words.{◌≡◌, Bool, true, false, refl, arith, length_push, common_steps, not, not-true}
 use Rattle.bx_plan.proofs.Adding.{is_long, is_short, knows_more, loose_added, loose_long}
 use Rattle.bx_plan.proofs.plans.building.Builder.add.Goals as goal
 
