@@ -1,30 +1,24 @@
 -- The schedule that is asked for, and failures of what is drawn.
-use Rattle.std.proofs.Common.{◌≡◌, ℕ, ◌+◌, ◌<◌, List, [], ◌∷◌, Option, Result, Ok, Err, ap, drop, if◌then◌else◌, length, refl, subst, suc, sym, zero, ◌∙◌, arith}
-use Rattle.std.specs.Prelude.{slice_get, ⊤}
+use Rattle.std.proofs.Common.{◌≡◌, ℕ, ◌+◌, ◌<◌, Bool, false, List, [], ◌∷◌, Option, Result, Ok, Err, ap, drop, if◌then◌else◌, length, refl, subst, suc, sym, zero, ◌∙◌, arith}
+use Rattle.std.specs.Option.{option_map_or}
+use Rattle.std.specs.Prelude.{find, slice_get, ⊤}
 use Rattle.bx_terms.specs.Outcomes.{Gives}
 use Rattle.bx_terms.specs.declared.faults.Fault.{Fault, TheVariants.Memory, TheVariants.NoEntry}
 use Rattle.bx_load.specs.Image.{Loaded}
 use Rattle.bx_plan.specs.Plans.{Named}
-use Rattle.bx_events.specs.declared.stories.Story.{Story}
 use Rattle.bx_engine.specs.Loads.{image_of, plan_in}
 use Rattle.bx_engine.specs.Runs.{Names, entry_in}
 use Rattle.bx_engine.specs.Sources.{Sources, sources_of}
 use Rattle.bx_engine.specs.Units.{◌>>=◌, FilesGive}
 use Rattle.bx_engine.specs.declared.failures.Failure.{Failure}
-use Rattle.bx_chart.specs.Charts.{chart_at, chart_behind, chart_in, drawn, failure_of, in_plan, is_named, with_name}
+use Rattle.bx_chart.specs.Charts.{chart_at, chart_behind, failure_of, in_plan}
 
--- the one at hand has the name, or one behind it
-pub next_named : (name : List ℕ) (plan : List Named) (n : ℕ) → n < length plan
-    → with_name name (drop n plan) ≡ (if is_named name (slice_get plan n) then slice_get plan n else with_name name (drop (n + 1) plan))
-next_named name [] n h = absurd (omega arith)
-next_named name (schedule ∷ more) zero h = refl
-next_named name (schedule ∷ more) (suc n) h = let e : suc n + 1 ≡ suc (n + 1) = omega arith in rw e (next_named name more n (omega arith))
-
--- a fault of the story is one of the drawing
-pub drawn_fails : {X : Type 0} (takes : Type 0) (view : X → List ℕ) (image : Loaded) (sources : Sources) (name : List ℕ) (fault : Fault) (said : Result Story Fault)
-    → Gives {X = Story} takes (λ s. s) (Err fault) said → Gives ⊤ view (Err fault) (drawn image sources name said)
-drawn_fails takes view image sources name Memory said h = tt
-drawn_fails takes view image sources name fault said h = ap (drawn image sources name) h
+-- the one at hand is found, or one behind it
+pub next_found : (test : Named → Bool) (plan : List Named) (n : ℕ) → n < length plan
+    → find test (drop n plan) ≡ (if option_map_or test (slice_get plan n) false then slice_get plan n else find test (drop (n + 1) plan))
+next_found test [] n h = absurd (omega arith)
+next_found test (schedule ∷ more) zero h = refl
+next_found test (schedule ∷ more) (suc n) h = let e : suc n + 1 ≡ suc (n + 1) = omega arith in rw e (next_found test more n (omega arith))
 
 -- a fault of the drawing is a failure
 pub plan_fails : {X : Type 0} (view : X → List ℕ) (n : ℕ) (fault : Fault) (clear : ℕ → Type 0) (said : Result (List ℕ) Fault)
@@ -37,11 +31,7 @@ plan_fails view n fault clear said h = ap (in_plan n) h
 chart_is : (names : Names) (asked : Option (List ℕ)) (given : List (List ℕ)) (planned : List ℕ) (image : Loaded) (sources : Sources) (plan : List Named) (n : ℕ)
     → image_of given ≡ Ok image → sources ≡ sources_of given → length given ≡ n → plan_in n planned ≡ Ok plan
     → chart_behind names asked given planned ≡ in_plan n (chart_at image sources (entry_in image names) asked plan)
-chart_is names asked given planned image sources plan n loaded located many read =
-    ap (λ (r : Result Loaded Failure). r >>= λ i. plan_in (length given) planned >>= λ p. chart_in given names asked i p) loaded
-    ∙ ap (λ (r : Result (List Named) Failure). r >>= λ p. chart_in given names asked image p) (ap (λ (k : ℕ). plan_in k planned) many ∙ read)
-    ∙ ap (λ (k : ℕ). in_plan k (chart_at image (sources_of given) (entry_in image names) asked plan)) many
-    ∙ ap (λ (s : Sources). in_plan n (chart_at image s (entry_in image names) asked plan)) (sym located)
+chart_is names asked given planned image sources plan n loaded located many read = rw (loaded, many, read, sym located) refl
 
 pub text_refused : {X : Type 0} (view : X → List ℕ) (names : Names) (asked : Option (List ℕ)) (given : List (List ℕ)) (planned : List ℕ) (image : Loaded) (sources : Sources) (plan : List Named) (n : ℕ) (fault : Fault) (failure : Failure) (clear : ℕ → Type 0)
     → image_of given ≡ Ok image → sources ≡ sources_of given → length given ≡ n → plan_in n planned ≡ Ok plan

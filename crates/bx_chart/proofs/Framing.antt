@@ -14,7 +14,3 @@ framed name attributes inside a0 a1 a2 a3 opened told ended =
     ∙ ap (λ (l : List ℕ). l ++ back) (told ∙ ap (λ (l : List ℕ). l ++ inside) opened ∙ append_assoc a0 front inside)
     ∙ append_assoc a0 (front ++ inside) back
     ∙ ap (λ (l : List ℕ). a0 ++ l) (sym (flat (front ++ inside) (codes "</") name (codes ">\n")))
-
--- what was written in two pieces
-pub behind : (x y a0 a1 a2 : List ℕ) → a1 ≡ a0 ++ x → a2 ≡ a1 ++ y → a2 ≡ a0 ++ (x ++ y)
-behind x y a0 a1 a2 first second = second ∙ ap (λ (l : List ℕ). l ++ y) first ∙ append_assoc a0 x y

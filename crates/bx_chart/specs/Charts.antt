@@ -1,12 +1,11 @@
 -- What `chart` writes: the drawing of a schedule's run from the start; or the first fault.
-use Rattle.std.specs.Prelude.{ℕ, Bool, false, List, [], ◌∷◌, Option, Some, None, Result, Ok, Err, bytes_eq, if◌then◌else◌, is_none, length, slice_get}
+use Rattle.std.specs.Prelude.{ℕ, List, [], ◌∷◌, Option, Some, None, Result, Ok, Err, bytes_eq, find, if◌then◌else◌, is_none, length}
 use Rattle.bx_terms.specs.declared.faults.Fault.{Fault, TheVariants.BadCommand, TheVariants.Memory, TheVariants.NoEntry}
 use Rattle.bx_load.specs.Image.{Loaded, export}
 use Rattle.bx_plan.specs.Plans.{Named}
 use Rattle.bx_board.specs.Jobs.{Entry}
 use Rattle.bx_svg.specs.Markup.{written}
 use Rattle.bx_events.specs.Stories.{story}
-use Rattle.bx_events.specs.declared.stories.Story.{Story}
 use Rattle.bx_engine.specs.Loads.{image_of, plan_in}
 use Rattle.bx_engine.specs.Runs.{Names, entry_in, or_start}
 use Rattle.bx_engine.specs.Sources.{Sources, sources_of}
@@ -17,47 +16,26 @@ use Rattle.bx_chart.specs.Sheets.{sheet}
 
 -- ---- which schedule
 
-abbrev pub is_named : List ℕ → Option Named → Bool
-is_named name None = false
-is_named name (Some schedule) = bytes_eq schedule.0 name
-
-abbrev pub with_name : List ℕ → List Named → Option Named
-with_name name [] = None
-with_name name (schedule ∷ more) = if bytes_eq schedule.0 name then Some schedule else with_name name more
-
-abbrev pub only_one : List Named → Option Named
-only_one (schedule ∷ []) = Some schedule
-only_one plan = None
-
 -- the one of that name; where none is named, the only one
 abbrev pub asked_for : Option (List ℕ) → List Named → Option Named
-asked_for (Some name) plan = with_name name plan
-asked_for None plan = only_one plan
-
--- the schedule of that number
-abbrev pub numbered : List Named → Option ℕ → Option Named
-numbered plan None = None
-numbered plan (Some n) = slice_get plan n
+asked_for (Some name) plan = find (λ schedule. bytes_eq schedule.0 name) plan
+asked_for None (schedule ∷ []) = Some schedule
+asked_for None plan = None
 
 -- ---- its drawing
-
-abbrev pub drawn : Loaded → Sources → List ℕ → Result Story Fault → Result (List ℕ) Fault
-drawn image sources name (Ok story) = Ok (written (sheet image sources name story))
-drawn image sources name (Err fault) = Err fault
 
 -- of its run from that function of that module
 abbrev pub drawing_of : Loaded → Sources → Entry → Option Named → Result (List ℕ) Fault
 drawing_of image sources entry None = Err (BadCommand 0)
-drawing_of image sources entry (Some schedule) = drawn image sources schedule.0 (story image entry.0 entry.1 schedule.1)
+drawing_of image sources entry (Some schedule) = do
+  told ← story image entry.0 entry.1 schedule.1
+  Ok (written (sheet image sources schedule.0 told))
 
 -- a start that is not exported goes before a schedule that is not there
-abbrev pub chart_from : Loaded → Sources → Entry → Option (List ℕ) → List Named → Result (List ℕ) Fault
-chart_from image sources entry schedule plan =
-    if is_none (export image entry.0 entry.1 0) then Err NoEntry else drawing_of image sources entry (asked_for schedule plan)
-
 abbrev pub chart_at : Loaded → Sources → Option Entry → Option (List ℕ) → List Named → Result (List ℕ) Fault
 chart_at image sources None schedule plan = Err NoEntry
-chart_at image sources (Some entry) schedule plan = chart_from image sources entry schedule plan
+chart_at image sources (Some entry) schedule plan =
+    if is_none (export image entry.0 entry.1 0) then Err NoEntry else drawing_of image sources entry (asked_for schedule plan)
 
 -- ---- of files
 
@@ -71,15 +49,12 @@ abbrev pub in_plan : ℕ → Result (List ℕ) Fault → Result (List ℕ) Failu
 in_plan file (Ok text) = Ok text
 in_plan file (Err fault) = Err (failure_of file fault)
 
-abbrev pub chart_in : List (List ℕ) → Names → Option (List ℕ) → Loaded → List Named → Result (List ℕ) Failure
-chart_in given names schedule image plan = in_plan (length given) (chart_at image (sources_of given) (entry_in image names) schedule plan)
-
 -- the listings, then the plan, then what the start names
 abbrev pub chart_behind : Names → Option (List ℕ) → List (List ℕ) → List ℕ → Result (List ℕ) Failure
 chart_behind names schedule given planned = do
   image ← image_of given
   plan ← plan_in (length given) planned
-  chart_in given names schedule image plan
+  in_plan (length given) (chart_at image (sources_of given) (entry_in image names) schedule plan)
 
 -- the start first
 abbrev pub chart_of : List ℕ → Option (List ℕ) → List (List ℕ) → List ℕ → Result (List ℕ) Failure

@@ -18,10 +18,6 @@ on p row = spot p row 170 64
 abbrev pub beside : ℕ → ℕ → Point
 beside p row = spot p row 188 68
 
--- where the numbers of a row end
-abbrev pub margin : ℕ → Point
-margin row = spot 0 row 120 68
-
 -- an arrow ends a little before the line that it comes to, or behind it where it comes from the right
 abbrev pub arrow_end : ℕ → ℕ → ℕ → Point
 arrow_end from to row = if nat_lt from to then spot to row 168 64 else spot to row 172 64
@@ -34,11 +30,6 @@ begins (Some row) p right = spot p row right 50
 abbrev pub named_at : Option ℕ → ℕ → Point
 named_at None p = spot p 0 170 40
 named_at (Some row) p = spot p row 170 64
-
--- it ends in the row behind which it had ended, or behind all of them
-abbrev pub last_row : ℕ → Option ℕ → ℕ
-last_row rows None = rows
-last_row rows (Some row) = row
 
 -- the row of the n-th signal that waits, counted from 0, behind so many rows
 abbrev pub row_behind : ℕ → ℕ → ℕ

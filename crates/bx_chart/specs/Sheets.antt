@@ -22,87 +22,64 @@ last_line story = row_behind (length story.events) (length story.waiting)
 abbrev pub height_of : Story → ℕ
 height_of story = (spot 0 (last_line story) 0 96).y
 
--- ---- what is drawn: first what lies under the arrows, then these, then the texts that lie over them
+-- ---- what is drawn
 
-abbrev pub paper : Story → Markup
-paper story = box (codes "paper") (spot 0 0 0 0) (width_of story) (height_of story)
+-- how each process stands at the end, and what still waits
+abbrev pub ends : List (List ℕ) → Story → Markup
+ends texts story =
+    statuses_from texts (length story.events) story.lanes 0 story.outcome.statuses
+    ⨾ waiting_labels texts (length story.events) 0 story.waiting
 
-abbrev pub under : Story → Markup
-under story = paper story ⨾ lanes_from (length story.events) 0 story.lanes
-
-abbrev pub between : Story → Markup
-between story = arrows_from 0 story.events ⨾ waiting_arrows (length story.events) 0 story.waiting
-
-abbrev pub heading : List ℕ → Story → Markup
-heading name story = label (codes "title") (spot 0 0 12 18) (sentence name story)
-
-abbrev pub footer : Story → Markup
-footer story = label (codes "state") (spot 0 (last_line story) 12 76) (codes "state " ++ state_words story.refused story.outcome.state)
-
+-- which schedule it is, above all; where the run led, below all
 abbrev pub notes : List ℕ → Story → Markup
-notes name story = heading name story ⨾ footer story
+notes name story =
+    label (codes "title") (spot 0 0 12 18) (sentence name story)
+    ⨾ label (codes "state") (spot 0 (last_line story) 12 76) (codes "state " ++ state_words story.refused story.outcome.state)
 
-abbrev pub tags : Loaded → List ℕ → Story → Markup
-tags image name story = waiting_labels image.atoms (length story.events) 0 story.waiting ⨾ notes name story
+-- the texts, which lie over the arrows
+abbrev pub texts_of : Loaded → Sources → List ℕ → Story → Markup
+texts_of image sources name story = rows_from image sources 0 story.events ⨾ ends image.atoms story ⨾ notes name story
 
-abbrev pub ends : Loaded → List ℕ → Story → Markup
-ends image name story = statuses_from image.atoms (length story.events) story.lanes 0 story.outcome.statuses ⨾ tags image name story
-
-abbrev pub over : Loaded → Sources → List ℕ → Story → Markup
-over image sources name story = rows_from image sources 0 story.events ⨾ ends image name story
-
-abbrev pub upper : Loaded → Sources → List ℕ → Story → Markup
-upper image sources name story = between story ⨾ over image sources name story
-
+-- what lies under the arrows, these, and the texts
 abbrev pub body : Loaded → Sources → List ℕ → Story → Markup
-body image sources name story = under story ⨾ upper image sources name story
+body image sources name story =
+    box (codes "paper") (spot 0 0 0 0) (width_of story) (height_of story)
+    ⨾ lanes_from (length story.events) 0 story.lanes
+    ⨾ arrows_from 0 story.events
+    ⨾ waiting_arrows (length story.events) 0 story.waiting
+    ⨾ texts_of image sources name story
 
--- ---- the heads of arrows
+-- ---- how it is drawn
 
-abbrev pub marker_attributes : List ℕ → List ℕ
-marker_attributes names =
-    names ++ codes " viewBox=\"0 0 8 8\" refX=\"8\" refY=\"4\" markerWidth=\"8\" markerHeight=\"8\" orient=\"auto\""
-
-abbrev pub head_path : Markup
-head_path = element (codes "path") (codes " d=\"M0 0L8 4L0 8z\"") nothing
-
+-- the head of an arrow, which is named by these attributes
 abbrev pub arrow_head : List ℕ → Markup
-arrow_head names = element (codes "marker") (marker_attributes names) head_path
-
-abbrev pub signal_heads : Markup
-signal_heads =
-    arrow_head (codes " id=\"signal-head\" class=\"signal-head\"") ⨾ arrow_head (codes " id=\"spawn-head\" class=\"spawn-head\"")
+arrow_head names = element (codes "marker")
+    (names ++ codes " viewBox=\"0 0 8 8\" refX=\"8\" refY=\"4\" markerWidth=\"8\" markerHeight=\"8\" orient=\"auto\"")
+    (element (codes "path") (codes " d=\"M0 0L8 4L0 8z\"") nothing)
 
 abbrev pub arrow_heads : Markup
-arrow_heads = arrow_head (codes " id=\"message-head\" class=\"message-head\"") ⨾ signal_heads
+arrow_heads =
+    arrow_head (codes " id=\"message-head\" class=\"message-head\"")
+    ⨾ arrow_head (codes " id=\"signal-head\" class=\"signal-head\"")
+    ⨾ arrow_head (codes " id=\"spawn-head\" class=\"spawn-head\"")
 
-abbrev pub definitions : Markup
-definitions = element (codes "defs") [] arrow_heads
+-- what a reader that can't see is told, and the look of what follows
+abbrev pub front : List ℕ → Story → Markup
+front name story =
+    tip (title_words name)
+    ⨾ element (codes "desc") [] (words (sentence name story))
+    ⨾ element (codes "style") [] (words STYLE.now)
+    ⨾ element (codes "defs") [] arrow_heads
 
 -- ---- the whole
-
-abbrev pub look : Markup
-look = element (codes "style") [] (words STYLE.now) ⨾ definitions
-
--- what a reader that can't see is told
-abbrev pub told : List ℕ → Story → Markup
-told name story = tip (title_words name) ⨾ element (codes "desc") [] (words (sentence name story))
-
-abbrev pub front : List ℕ → Story → Markup
-front name story = told name story ⨾ look
-
-abbrev pub inside : Loaded → Sources → List ℕ → Story → Markup
-inside image sources name story = front name story ⨾ body image sources name story
 
 abbrev pub view : ℕ → ℕ → List ℕ
 view width height = codes " viewBox=\"0 0 " ++ decimal width ++ codes " " ++ decimal height ++ codes "\""
 
-abbrev pub size : ℕ → ℕ → List ℕ
-size width height = counted (codes "width") width ++ (counted (codes "height") height ++ view width height)
-
 abbrev pub sheet_attributes : ℕ → ℕ → List ℕ
-sheet_attributes width height = codes " xmlns=\"http://www.w3.org/2000/svg\" role=\"img\"" ++ size width height
+sheet_attributes width height = codes " xmlns=\"http://www.w3.org/2000/svg\" role=\"img\""
+    ++ (counted (codes "width") width ++ (counted (codes "height") height ++ view width height))
 
 abbrev pub sheet : Loaded → Sources → List ℕ → Story → Markup
 sheet image sources name story =
-    element (codes "svg") (sheet_attributes (width_of story) (height_of story)) (inside image sources name story)
+    element (codes "svg") (sheet_attributes (width_of story) (height_of story)) (front name story ⨾ body image sources name story)

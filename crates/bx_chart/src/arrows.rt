@@ -1,14 +1,17 @@
 //! Arrows: of signals, and of spawns.
 
-ghost use Rattle.std.specs.Prelude.{◌≡◌, ◌++◌, IfOk, OnOk, string_bytes};
+ghost use Rattle.std.specs.Prelude.{◌≡◌, ◌++◌, IfOk, OnOk, codes, length, string_bytes};
 ghost use Rattle.bx_svg.specs.Markup.{written};
-ghost use Rattle.bx_chart.specs.Arrows.{arrival_arrow, arrows_from, arrows_of, spawn_arrow, spawn_line, waiting_arrow, waiting_arrows, waiting_label, waiting_labels};
-ghost use Rattle.bx_chart.specs.Words.{signal_words};
+ghost use Rattle.bx_svg.specs.Shapes.{label, line};
+ghost use Rattle.bx_chart.specs.Arrows.{arrival_arrow, arrows_from, spawn_arrow, waiting_arrows, waiting_labels};
+ghost use Rattle.bx_chart.specs.Classes.{waiting_class};
+ghost use Rattle.bx_chart.specs.Points.{arrow_end, beside, on, spot};
+ghost use Rattle.bx_chart.specs.Words.{short, signal_words};
 
 use crate::classes::{arrow_class, waiting_class};
 use crate::points::{arrow_end, beside, on, row_behind, spot};
 use crate::words::{push_signal, short};
-use bx_events::{Event, Sent, What};
+use bx_events::{Sent, Story, What};
 use bx_signals::Signal;
 use bx_svg::{push_label, push_line};
 use bx_terms::Atoms;
@@ -31,8 +34,8 @@ fn push_arrival(out: &mut String, row: usize, what: &What) -> Result<(), AllocEr
 }
 
 fn push_spawn_line(out: &mut String, row: usize, pid: u32, child: u32) -> Result<(), AllocError>
-    ensures { OnOk result
-        (string_bytes out.new ≡ string_bytes out.old ++ written (spawn_line row pid child)) }
+    ensures { OnOk result (string_bytes out.new
+        ≡ string_bytes out.old ++ written (line (codes "spawn") (on pid row) (spot child row 135 60))) }
 {
     push_line(
         out,
@@ -53,28 +56,23 @@ fn push_spawn(out: &mut String, row: usize, pid: u32, child: Option<u32>) -> Res
     }
 }
 
-fn push_arrows_of(out: &mut String, row: usize, event: &Event) -> Result<(), AllocError>
+/// Adds the arrows of a story's events.
+pub(crate) fn push_arrows(out: &mut String, story: &Story) -> Result<(), AllocError>
     ensures { OnOk result
-        (string_bytes out.new ≡ string_bytes out.old ++ written (arrows_of row event.now)) }
+        (string_bytes out.new ≡ string_bytes out.old ++ written (arrows_from 0 story.now.events)) }
 {
-    push_arrival(out, row, &event.what)?;
-    push_spawn(out, row, event.actor, event.child)
-}
-
-/// Adds the arrows of events.
-pub(crate) fn push_arrows(out: &mut String, events: &[Event]) -> Result<(), AllocError>
-    ensures { OnOk result
-        (string_bytes out.new ≡ string_bytes out.old ++ written (arrows_from 0 events.now)) }
-{
+    let events = story.events.as_slice();
     for row in 0..events.len() {
-        push_arrows_of(out, row, &events[row])?;
+        let event = &events[row];
+        push_arrival(out, row, &event.what)?;
+        push_spawn(out, row, event.actor, event.child)?;
     }
     Ok(())
 }
 
 fn push_waiting_arrow(out: &mut String, row: usize, sent: &Sent) -> Result<(), AllocError>
-    ensures { OnOk result
-        (string_bytes out.new ≡ string_bytes out.old ++ written (waiting_arrow row sent.now)) }
+    ensures { OnOk result (string_bytes out.new ≡ string_bytes out.old ++ written
+        (line (waiting_class sent.now.signal) (on sent.now.from sent.now.event) (arrow_end sent.now.from sent.now.to row))) }
 {
     push_line(
         out,
@@ -84,15 +82,13 @@ fn push_waiting_arrow(out: &mut String, row: usize, sent: &Sent) -> Result<(), A
     )
 }
 
-/// Adds the arrows of the signals that wait, behind so many rows.
-pub(crate) fn push_waiting_arrows(
-    out: &mut String,
-    rows: usize,
-    waiting: &[Sent],
-) -> Result<(), AllocError>
-    ensures { OnOk result
-        (string_bytes out.new ≡ string_bytes out.old ++ written (waiting_arrows rows 0 waiting.now)) }
+/// Adds the arrows of the signals that wait at a story's end.
+pub(crate) fn push_waiting_arrows(out: &mut String, story: &Story) -> Result<(), AllocError>
+    ensures { OnOk result (string_bytes out.new ≡ string_bytes out.old
+        ++ written (waiting_arrows (length story.now.events) 0 story.now.waiting)) }
 {
+    let rows = story.events.as_slice().len();
+    let waiting = story.waiting.as_slice();
     for before in 0..waiting.len() {
         let row = row_behind(rows, before);
         push_waiting_arrow(out, row, &waiting[before])?;
@@ -115,8 +111,8 @@ fn push_waiting_label(
     row: usize,
     sent: &Sent,
 ) -> Result<(), AllocError>
-    ensures { OnOk result (string_bytes out.new
-        ≡ string_bytes out.old ++ written (waiting_label atoms.now row sent.now)) }
+    ensures { OnOk result (string_bytes out.new ≡ string_bytes out.old
+        ++ written (label (codes "left") (beside sent.now.to row) (short (signal_words atoms.now sent.now.signal)))) }
 {
     let text = signal_text(alloc, atoms, &sent.signal)?;
     let text = short(alloc, text.as_str())?;
@@ -124,7 +120,7 @@ fn push_waiting_label(
 }
 
 /// Adds what each signal that waits is, behind so many rows.
-pub(crate) fn push_waiting_labels(
+fn push_labels_behind(
     alloc: Global,
     out: &mut String,
     atoms: &Atoms,
@@ -139,4 +135,18 @@ pub(crate) fn push_waiting_labels(
         push_waiting_label(alloc, out, atoms, row, &waiting[before])?;
     }
     Ok(())
+}
+
+/// Adds what each signal is that waits at a story's end.
+pub(crate) fn push_waiting_labels(
+    alloc: Global,
+    out: &mut String,
+    atoms: &Atoms,
+    story: &Story,
+) -> Result<(), AllocError>
+    ensures { OnOk result (string_bytes out.new ≡ string_bytes out.old
+        ++ written (waiting_labels atoms.now (length story.now.events) 0 story.now.waiting)) }
+{
+    let rows = story.events.as_slice().len();
+    push_labels_behind(alloc, out, atoms, rows, story.waiting.as_slice())
 }

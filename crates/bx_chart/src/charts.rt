@@ -1,14 +1,14 @@
 //! `chart`: the drawing of a schedule's run.
 
-ghost use Rattle.std.specs.Prelude.{⊤, ◌≡◌, ◌⊎◌, List, ℕ, IfErr, Some, map, option_map, slice_get, string_bytes};
+ghost use Rattle.std.specs.Prelude.{⊤, ◌≡◌, ◌⊎◌, List, ℕ, IfErr, None, Some, bytes_eq, false, map, option_and_then, option_map, slice_get, string_bytes};
+ghost use Rattle.std.specs.Option.{option_map_or};
 ghost use Rattle.std.specs.Io.KnownBytes.{Keeps};
 ghost use Rattle.bx_terms.specs.Outcomes.{Gives};
 ghost use Rattle.bx_plan.specs.Planned.{schedules};
-ghost use Rattle.bx_events.specs.Stories.{story};
 ghost use Rattle.bx_engine.specs.Loads.{ClearUpTo};
 ghost use Rattle.bx_engine.specs.Runs.{ClearStart, TakesMemory, Writes, entry_in};
 ghost use Rattle.bx_engine.specs.Units.{FilesGive};
-ghost use Rattle.bx_chart.specs.Charts.{asked_for, chart_at, chart_behind, chart_from, chart_of, drawing_of, drawn, failure_of, is_named, numbered, only_one, with_name};
+ghost use Rattle.bx_chart.specs.Charts.{asked_for, chart_at, chart_behind, chart_of, drawing_of, failure_of};
 
 use crate::sheets::charted;
 use bx_engine::{Failure, Sources, Start, entry_in, located_image_of, plan_in, start_of};
@@ -21,7 +21,7 @@ use std::io::{Read, Write};
 
 /// Whether the schedule of that number is there, and has that name.
 fn is_named(plan: &Plan, number: usize, name: &str) -> bool
-    ensures { result ≡ is_named name.now (slice_get (schedules plan.now) number) }
+    ensures { result ≡ option_map_or (λ schedule. bytes_eq schedule.0 name.now) (slice_get (schedules plan.now) number) false }
 {
     match plan.label(number) {
         Some(label) => label == name,
@@ -31,7 +31,8 @@ fn is_named(plan: &Plan, number: usize, name: &str) -> bool
 
 /// The number of the schedule of that name.
 fn with_name(plan: &Plan, name: &str) -> Option<usize>
-    ensures { numbered (schedules plan.now) result ≡ with_name name.now (schedules plan.now) }
+    ensures { option_and_then (slice_get (schedules plan.now)) result
+        ≡ asked_for (Some name.now) (schedules plan.now) }
 {
     for number in 0..plan.len() {
         if is_named(plan, number, name) {
@@ -43,14 +44,14 @@ fn with_name(plan: &Plan, name: &str) -> Option<usize>
 
 /// The number of the only schedule.
 fn only_one(plan: &Plan) -> Option<usize>
-    ensures { numbered (schedules plan.now) result ≡ only_one (schedules plan.now) }
+    ensures { option_and_then (slice_get (schedules plan.now)) result ≡ asked_for None (schedules plan.now) }
 {
     if plan.len() == 1 { Some(0) } else { None }
 }
 
 /// The number of the schedule of that name; where none is named, of the only one.
 fn asked_for(plan: &Plan, name: Option<&str>) -> Option<usize>
-    ensures { numbered (schedules plan.now) result
+    ensures { option_and_then (slice_get (schedules plan.now)) result
         ≡ asked_for (option_map (λ text. text.now) name.entry) (schedules plan.now) }
 {
     match name {
@@ -71,8 +72,8 @@ struct Beginning<'a> {
 impl<'a> Beginning<'a> {
     /// The drawing of a schedule's run.
     fn drawn(&self, alloc: Global, name: &str, schedule: &Schedule) -> Result<String, Fault>
-        ensures { Gives ⊤ (λ text. string_bytes text) result (drawn self.now.image.now self.now.sources.now name.now
-            (story self.now.image.now self.now.module self.now.function schedule.now)) }
+        ensures { Gives ⊤ (λ text. string_bytes text) result (drawing_of self.now.image.now self.now.sources.now
+            (self.now.module, self.now.function) (Some (name.now, schedule.now))) }
     {
         let story = match told_story(alloc, self.image, self.module, self.function, schedule) {
             Ok(story) => story,
@@ -101,8 +102,8 @@ impl<'a> Beginning<'a> {
 
     /// The drawing of the run of the schedule that is asked for.
     fn chart(&self, alloc: Global, plan: &Plan, name: Option<&str>) -> Result<String, Fault>
-        ensures { Gives ⊤ (λ text. string_bytes text) result (chart_from self.now.image.now self.now.sources.now
-            (self.now.module, self.now.function) (option_map (λ text. text.now) name.entry) (schedules plan.now)) }
+        ensures { Gives ⊤ (λ text. string_bytes text) result (chart_at self.now.image.now self.now.sources.now
+            (Some (self.now.module, self.now.function)) (option_map (λ text. text.now) name.entry) (schedules plan.now)) }
     {
         if self.image.entry(self.module, self.function, 0).is_none() {
             return Err(Fault::NoEntry);

@@ -3,7 +3,7 @@
 ghost use Rattle.std.specs.Prelude.{◌≡◌};
 ghost use Rattle.bx_bifs.specs.Kinds.{is_the_atom};
 ghost use Rattle.bx_terms.specs.declared.fixed.TheConstants.{NORMAL};
-ghost use Rattle.bx_chart.specs.Classes.{arrow_class, effect_class, event_class, reason_class, shown_class, status_class, waiting_class, what_class};
+ghost use Rattle.bx_chart.specs.Classes.{arrow_class, event_class, status_class, waiting_class};
 
 use bx_events::{Effect, Event, Stands, What};
 use bx_signals::Signal;
@@ -30,41 +30,23 @@ pub(crate) fn waiting_class(signal: &Signal) -> &'static str
     }
 }
 
-fn effect_class(effect: Effect) -> &'static str
-    ensures { result.now ≡ effect_class effect }
-{
-    match effect {
-        Effect::Added => "term",
-        Effect::Ends => "bad",
-        _ => "name",
-    }
-}
-
-fn what_class(what: &What) -> &'static str
-    ensures { result.now ≡ what_class what.now }
-{
-    match what {
-        What::Arrived { effect, .. } => effect_class(*effect),
-        _ => "place",
-    }
-}
-
-fn shown_class(event: &Event) -> &'static str
-    ensures { result.now ≡ shown_class event.now.what event.now.shown }
-{
-    match event.shown {
-        None => what_class(&event.what),
-        Some(_) => "shown",
-    }
-}
-
 /// The class of what is said of an event.
 pub(crate) fn event_class(event: &Event) -> &'static str
     ensures { result.now ≡ event_class event.now }
 {
-    match event.stands {
-        Stands::Trapped(_) => "bad",
-        _ => shown_class(event),
+    if let Stands::Trapped(_) = event.stands {
+        return "bad";
+    }
+    if event.shown.is_some() {
+        return "shown";
+    }
+    match event.what {
+        What::Arrived { effect, .. } => match effect {
+            Effect::Added => "term",
+            Effect::Ends => "bad",
+            _ => "name",
+        },
+        _ => "place",
     }
 }
 
@@ -77,22 +59,12 @@ fn is_normal(reason: &Term) -> bool
     }
 }
 
-fn reason_class(reason: &Term) -> &'static str
-    ensures { result.now ≡ reason_class reason.now }
-{
-    if is_normal(reason) {
-        "status"
-    } else {
-        "bad status"
-    }
-}
-
 /// The class of how a process stands at the end.
 pub(crate) fn status_class(status: &Status) -> &'static str
     ensures { result.now ≡ status_class status.now }
 {
     match status {
-        Status::Ended(reason) => reason_class(reason),
+        Status::Ended(reason) if !is_normal(reason) => "bad status",
         _ => "status",
     }
 }

@@ -1,7 +1,7 @@
 //! Where things stand in a drawing.
 
 ghost use Rattle.std.specs.Prelude.{◌≡◌, ◌≤◌};
-ghost use Rattle.bx_chart.specs.Points.{arrow_end, begins, beside, bounded, last_row, margin, named_at, on, row_behind, spot};
+ghost use Rattle.bx_chart.specs.Points.{arrow_end, begins, beside, bounded, named_at, on, row_behind, spot};
 
 use bx_svg::Point;
 
@@ -39,13 +39,6 @@ pub(crate) fn beside(pid: u32, row: usize) -> Point
     spot(pid as usize, row, 188, 68)
 }
 
-/// Where the numbers of a row end.
-pub(crate) fn margin(row: usize) -> Point
-    ensures { result ≡ margin row }
-{
-    spot(0, row, 120, 68)
-}
-
 /// Where an arrow ends that comes from one process's line to another's.
 pub(crate) fn arrow_end(from: u32, to: u32, row: usize) -> Point
     ensures { result ≡ arrow_end from to row }
@@ -74,16 +67,6 @@ pub(crate) fn named_at(born: Option<usize>, pid: usize) -> Point
     match born {
         None => spot(pid, 0, 170, 40),
         Some(row) => spot(pid, row, 170, 64),
-    }
-}
-
-/// The row in which a process's line ends.
-pub(crate) fn last_row(rows: usize, ended: Option<usize>) -> usize
-    ensures { result ≡ last_row rows ended }
-{
-    match ended {
-        None => rows,
-        Some(row) => row,
     }
 }
 

@@ -1,9 +1,10 @@
 //! A drawing of the story of a schedule.
 
 ghost use Rattle.std.specs.Prelude.{◌≡◌, ◌++◌, [], IfOk, OnOk, codes, string_bytes};
-ghost use Rattle.bx_svg.specs.Markup.{counted, element, words, written};
-ghost use Rattle.bx_svg.specs.Shapes.{tip};
-ghost use Rattle.bx_chart.specs.Sheets.{arrow_head, arrow_heads, between, body, definitions, ends, footer, front, head_path, heading, height_of, inside, last_line, look, marker_attributes, notes, over, paper, sheet, sheet_attributes, signal_heads, size, tags, told, under, upper, view, width_of};
+ghost use Rattle.bx_svg.specs.Markup.{counted, element, nothing, words, written, ◌⨾◌};
+ghost use Rattle.bx_svg.specs.Shapes.{box, label, tip};
+ghost use Rattle.bx_chart.specs.Points.{spot};
+ghost use Rattle.bx_chart.specs.Sheets.{arrow_head, arrow_heads, body, ends, front, height_of, last_line, notes, sheet, sheet_attributes, texts_of, view, width_of};
 ghost use Rattle.bx_chart.specs.Words.{sentence, state_words, title_words};
 
 use crate::arrows::{push_arrows, push_waiting_arrows, push_waiting_labels};
@@ -15,8 +16,7 @@ use bx_engine::Sources;
 use bx_events::Story;
 use bx_load::Image;
 use bx_svg::{
-    close_empty, close_tag, open_element, open_tag, push_box, push_counted, push_element,
-    push_label, push_tip,
+    close_tag, open_element, open_tag, push_box, push_counted, push_element, push_label, push_tip,
 };
 use std::alloc::{AllocError, Global};
 
@@ -34,18 +34,17 @@ const STYLE: &str = "\
 
 // ---- the heads of arrows
 
+/// Adds the path that an arrow's head is.
 fn push_head_path(out: &mut String) -> Result<(), AllocError>
-    ensures { OnOk result (string_bytes out.new ≡ string_bytes out.old ++ written head_path) }
+    ensures { OnOk result (string_bytes out.new ≡ string_bytes out.old
+        ++ written (element (codes "path") (codes " d=\"M0 0L8 4L0 8z\"") nothing)) }
 {
-    open_tag(out, "path")?;
-    out.push_str(" d=\"M0 0L8 4L0 8z\"")?;
-    close_empty(out, "path")?;
-    Ok(())
+    out.push_str("<path d=\"M0 0L8 4L0 8z\"></path>\n")
 }
 
 fn push_marker_attributes(out: &mut String, names: &str) -> Result<(), AllocError>
-    ensures { OnOk result
-        (string_bytes out.new ≡ string_bytes out.old ++ marker_attributes names.now) }
+    ensures { OnOk result (string_bytes out.new ≡ string_bytes out.old ++ (names.now
+        ++ codes " viewBox=\"0 0 8 8\" refX=\"8\" refY=\"4\" markerWidth=\"8\" markerHeight=\"8\" orient=\"auto\"")) }
 {
     out.push_str(names)?;
     out.push_str(
@@ -53,56 +52,29 @@ fn push_marker_attributes(out: &mut String, names: &str) -> Result<(), AllocErro
     )
 }
 
-fn open_marker(out: &mut String, names: &str) -> Result<(), AllocError>
-    ensures { OnOk result (string_bytes out.new
-        ≡ string_bytes out.old ++ (codes "<" ++ codes "marker" ++ marker_attributes names.now ++ codes ">")) }
-{
-    open_tag(out, "marker")?;
-    push_marker_attributes(out, names)?;
-    out.push_str(">")
-}
-
 /// Adds the head of an arrow, which is named by these attributes.
 fn push_arrow_head(out: &mut String, names: &str) -> Result<(), AllocError>
     ensures { OnOk result
         (string_bytes out.new ≡ string_bytes out.old ++ written (arrow_head names.now)) }
 {
-    open_marker(out, names)?;
+    open_tag(out, "marker")?;
+    push_marker_attributes(out, names)?;
+    out.push_str(">")?;
     push_head_path(out)?;
     close_tag(out, "marker")?;
     Ok(())
 }
 
-fn push_signal_heads(out: &mut String) -> Result<(), AllocError>
-    ensures { OnOk result (string_bytes out.new ≡ string_bytes out.old ++ written signal_heads) }
-{
-    push_arrow_head(out, " id=\"signal-head\" class=\"signal-head\"")?;
-    push_arrow_head(out, " id=\"spawn-head\" class=\"spawn-head\"")?;
-    Ok(())
-}
-
+/// Adds the heads of arrows.
 fn push_arrow_heads(out: &mut String) -> Result<(), AllocError>
-    ensures { OnOk result (string_bytes out.new ≡ string_bytes out.old ++ written arrow_heads) }
-{
-    push_arrow_head(out, " id=\"message-head\" class=\"message-head\"")?;
-    push_signal_heads(out)?;
-    Ok(())
-}
-
-fn push_definitions(out: &mut String) -> Result<(), AllocError>
-    ensures { OnOk result (string_bytes out.new ≡ string_bytes out.old ++ written definitions) }
+    ensures { OnOk result (string_bytes out.new
+        ≡ string_bytes out.old ++ written (element (codes "defs") [] arrow_heads)) }
 {
     open_element(out, "defs")?;
-    push_arrow_heads(out)?;
+    push_arrow_head(out, " id=\"message-head\" class=\"message-head\"")?;
+    push_arrow_head(out, " id=\"signal-head\" class=\"signal-head\"")?;
+    push_arrow_head(out, " id=\"spawn-head\" class=\"spawn-head\"")?;
     close_tag(out, "defs")?;
-    Ok(())
-}
-
-fn push_look(alloc: Global, out: &mut String) -> Result<(), AllocError>
-    ensures { OnOk result (string_bytes out.new ≡ string_bytes out.old ++ written look) }
-{
-    push_element(alloc, out, "style", STYLE)?;
-    push_definitions(out)?;
     Ok(())
 }
 
@@ -129,20 +101,15 @@ fn push_description(
     push_element(alloc, out, "desc", text.as_str())
 }
 
-fn push_told(alloc: Global, out: &mut String, name: &str, story: &Story) -> Result<(), AllocError>
-    ensures { OnOk result
-        (string_bytes out.new ≡ string_bytes out.old ++ written (told name.now story.now)) }
-{
-    push_title(alloc, out, name)?;
-    push_description(alloc, out, name, story)
-}
-
 fn push_front(alloc: Global, out: &mut String, name: &str, story: &Story) -> Result<(), AllocError>
     ensures { OnOk result
         (string_bytes out.new ≡ string_bytes out.old ++ written (front name.now story.now)) }
 {
-    push_told(alloc, out, name, story)?;
-    push_look(alloc, out)
+    push_title(alloc, out, name)?;
+    push_description(alloc, out, name, story)?;
+    push_element(alloc, out, "style", STYLE)?;
+    push_arrow_heads(out)?;
+    Ok(())
 }
 
 // ---- what is drawn
@@ -169,8 +136,8 @@ fn height_of(story: &Story) -> usize
 }
 
 fn push_paper(out: &mut String, story: &Story) -> Result<(), AllocError>
-    ensures { OnOk result
-        (string_bytes out.new ≡ string_bytes out.old ++ written (paper story.now)) }
+    ensures { OnOk result (string_bytes out.new ≡ string_bytes out.old
+        ++ written (box (codes "paper") (spot 0 0 0 0) (width_of story.now) (height_of story.now))) }
 {
     push_box(
         out,
@@ -181,38 +148,14 @@ fn push_paper(out: &mut String, story: &Story) -> Result<(), AllocError>
     )
 }
 
-/// Adds what lies under the arrows.
-fn push_under(alloc: Global, out: &mut String, story: &Story) -> Result<(), AllocError>
-    ensures { OnOk result
-        (string_bytes out.new ≡ string_bytes out.old ++ written (under story.now)) }
-{
-    push_paper(out, story)?;
-    push_lanes(
-        alloc,
-        out,
-        story.events.as_slice().len(),
-        story.lanes.as_slice(),
-    )
-}
-
-/// Adds the arrows.
-fn push_between(out: &mut String, story: &Story) -> Result<(), AllocError>
-    ensures { OnOk result
-        (string_bytes out.new ≡ string_bytes out.old ++ written (between story.now)) }
-{
-    let events = story.events.as_slice();
-    push_arrows(out, events)?;
-    push_waiting_arrows(out, events.len(), story.waiting.as_slice())
-}
-
 fn push_heading(
     alloc: Global,
     out: &mut String,
     name: &str,
     story: &Story,
 ) -> Result<(), AllocError>
-    ensures { OnOk result
-        (string_bytes out.new ≡ string_bytes out.old ++ written (heading name.now story.now)) }
+    ensures { OnOk result (string_bytes out.new ≡ string_bytes out.old
+        ++ written (label (codes "title") (spot 0 0 12 18) (sentence name.now story.now))) }
 {
     let text = sentence(alloc, name, story)?;
     push_label(alloc, out, "title", spot(0, 0, 12, 18), text.as_str())
@@ -229,8 +172,8 @@ fn state_text(alloc: Global, story: &Story) -> Result<String, AllocError>
 
 /// Adds where the run led.
 fn push_footer(alloc: Global, out: &mut String, story: &Story) -> Result<(), AllocError>
-    ensures { OnOk result
-        (string_bytes out.new ≡ string_bytes out.old ++ written (footer story.now)) }
+    ensures { OnOk result (string_bytes out.new ≡ string_bytes out.old ++ written (label (codes "state")
+        (spot 0 (last_line story.now) 12 76) (codes "state " ++ state_words story.now.refused story.now.outcome.state))) }
 {
     let text = state_text(alloc, story)?;
     push_label(
@@ -250,37 +193,21 @@ fn push_notes(alloc: Global, out: &mut String, name: &str, story: &Story) -> Res
     push_footer(alloc, out, story)
 }
 
-fn push_tags(
-    alloc: Global,
-    out: &mut String,
-    image: &Image,
-    name: &str,
-    story: &Story,
-) -> Result<(), AllocError>
-    ensures { OnOk result (string_bytes out.new
-        ≡ string_bytes out.old ++ written (tags image.now name.now story.now)) }
-{
-    let rows = story.events.as_slice().len();
-    push_waiting_labels(alloc, out, image.atoms(), rows, story.waiting.as_slice())?;
-    push_notes(alloc, out, name, story)
-}
-
 fn push_ends(
     alloc: Global,
     out: &mut String,
     image: &Image,
-    name: &str,
     story: &Story,
 ) -> Result<(), AllocError>
     ensures { OnOk result (string_bytes out.new
-        ≡ string_bytes out.old ++ written (ends image.now name.now story.now)) }
+        ≡ string_bytes out.old ++ written (ends image.now.atoms story.now)) }
 {
     push_statuses(alloc, out, image.atoms(), story)?;
-    push_tags(alloc, out, image, name, story)
+    push_waiting_labels(alloc, out, image.atoms(), story)
 }
 
 /// Adds the texts that lie over the arrows.
-fn push_over(
+fn push_texts(
     alloc: Global,
     out: &mut String,
     code: &Code<'_>,
@@ -288,24 +215,12 @@ fn push_over(
     story: &Story,
 ) -> Result<(), AllocError>
     ensures { OnOk result (string_bytes out.new ≡ string_bytes out.old
-        ++ written (over code.now.image.now code.now.sources.now name.now story.now)) }
+        ++ written (texts_of code.now.image.now code.now.sources.now name.now story.now)) }
 {
     push_rows(alloc, out, code, story.events.as_slice())?;
-    push_ends(alloc, out, code.image, name, story)
-}
-
-fn push_upper(
-    alloc: Global,
-    out: &mut String,
-    code: &Code<'_>,
-    name: &str,
-    story: &Story,
-) -> Result<(), AllocError>
-    ensures { OnOk result (string_bytes out.new ≡ string_bytes out.old
-        ++ written (upper code.now.image.now code.now.sources.now name.now story.now)) }
-{
-    push_between(out, story)?;
-    push_over(alloc, out, code, name, story)
+    push_ends(alloc, out, code.image, story)?;
+    push_notes(alloc, out, name, story)?;
+    Ok(())
 }
 
 fn push_body(
@@ -318,8 +233,12 @@ fn push_body(
     ensures { OnOk result (string_bytes out.new ≡ string_bytes out.old
         ++ written (body code.now.image.now code.now.sources.now name.now story.now)) }
 {
-    push_under(alloc, out, story)?;
-    push_upper(alloc, out, code, name, story)
+    push_paper(out, story)?;
+    push_lanes(alloc, out, story)?;
+    push_arrows(out, story)?;
+    push_waiting_arrows(out, story)?;
+    push_texts(alloc, out, code, name, story)?;
+    Ok(())
 }
 
 fn push_inside(
@@ -329,8 +248,8 @@ fn push_inside(
     name: &str,
     story: &Story,
 ) -> Result<(), AllocError>
-    ensures { OnOk result (string_bytes out.new ≡ string_bytes out.old
-        ++ written (inside code.now.image.now code.now.sources.now name.now story.now)) }
+    ensures { OnOk result (string_bytes out.new ≡ string_bytes out.old ++ written
+        (front name.now story.now ⨾ body code.now.image.now code.now.sources.now name.now story.now)) }
 {
     push_front(alloc, out, name, story)?;
     push_body(alloc, out, code, name, story)
@@ -343,19 +262,14 @@ fn push_view(out: &mut String, width: usize, height: usize) -> Result<(), AllocE
     Ok(())
 }
 
-fn push_height(out: &mut String, width: usize, height: usize) -> Result<(), AllocError>
-    ensures { OnOk result (string_bytes out.new
-        ≡ string_bytes out.old ++ (counted (codes "height") height ++ view width height)) }
-{
-    push_counted(out, "height", height)?;
-    push_view(out, width, height)
-}
-
 fn push_size(out: &mut String, width: usize, height: usize) -> Result<(), AllocError>
-    ensures { OnOk result (string_bytes out.new ≡ string_bytes out.old ++ size width height) }
+    ensures { OnOk result (string_bytes out.new ≡ string_bytes out.old
+        ++ (counted (codes "width") width ++ (counted (codes "height") height ++ view width height))) }
 {
     push_counted(out, "width", width)?;
-    push_height(out, width, height)
+    push_counted(out, "height", height)?;
+    push_view(out, width, height)?;
+    Ok(())
 }
 
 fn push_sheet_attributes(out: &mut String, width: usize, height: usize) -> Result<(), AllocError>
@@ -366,21 +280,13 @@ fn push_sheet_attributes(out: &mut String, width: usize, height: usize) -> Resul
     push_size(out, width, height)
 }
 
-/// Adds the attributes of a story's drawing.
-fn push_attributes(out: &mut String, story: &Story) -> Result<(), AllocError>
-    ensures { OnOk result (string_bytes out.new
-        ≡ string_bytes out.old ++ sheet_attributes (width_of story.now) (height_of story.now)) }
-{
-    push_sheet_attributes(out, width_of(story), height_of(story))
-}
-
 /// Opens a story's drawing.
 fn open_sheet(out: &mut String, story: &Story) -> Result<(), AllocError>
     ensures { OnOk result (string_bytes out.new ≡ string_bytes out.old
         ++ (codes "<" ++ codes "svg" ++ sheet_attributes (width_of story.now) (height_of story.now) ++ codes ">")) }
 {
     open_tag(out, "svg")?;
-    push_attributes(out, story)?;
+    push_sheet_attributes(out, width_of(story), height_of(story))?;
     out.push_str(">")
 }
 

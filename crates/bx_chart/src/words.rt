@@ -1,19 +1,18 @@
 //! What a drawing says: of events, of signals, of processes and of the run.
 
-ghost use Rattle.std.specs.Prelude.{◌≡◌, ◌++◌, IfOk, OnOk, chars, codes, length, option_map, string_bytes, take};
+ghost use Rattle.std.specs.Prelude.{◌≡◌, ◌++◌, IfOk, OnOk, chars, codes, length, option_and_then, option_map, string_bytes, take};
 ghost use Rattle.std.proofs.Math.Utf8.{encodes};
-ghost use Rattle.bx_terms.specs.Kinds.{trap_name};
-ghost use Rattle.bx_terms.specs.Printed.{printed, printed_pid};
-ghost use Rattle.bx_load.specs.Numbering.{numbered_at};
+ghost use Rattle.bx_terms.specs.Printed.{printed};
 ghost use Rattle.bx_world.specs.Texts.{spelling};
-ghost use Rattle.bx_chart.specs.Words.{count_words, detail_words, effect_words, end_words, event_words, found, item_at, item_or_nothing, items_words, last_item, location_words, last_words, number_words, onward_words, run_words, sentence, short, shown_words, signal_words, span_words, stands_words, standing_words, state_words, status_words, then_words, tip_words, title_words, wait_words, what_words};
+ghost use Rattle.bx_engine.specs.Sources.{location_at};
+ghost use Rattle.bx_chart.specs.Words.{detail_words, effect_words, event_words, item_at, last_item, location_words, number_words, onward_words, run_words, sentence, short, signal_words, span_words, state_words, status_words, tip_words, title_words, wait_words, what_words};
 
 use bx_dis::item_text;
 use bx_engine::Sources;
 use bx_events::{Effect, Event, Stands, Story, What};
 use bx_load::Image;
 use bx_signals::Signal;
-use bx_terms::{Atoms, Place, Term, Trap, print, push_pid};
+use bx_terms::{Atoms, Place, Term, print, push_pid};
 use bx_world::{Choice, Standing, Status, choice_text};
 use std::alloc::{AllocError, Global};
 
@@ -115,38 +114,20 @@ fn push_location(out: &mut String, file: &str, line: u32) -> Result<(), AllocErr
     write!(out, ":{line}")
 }
 
-/// Adds that one goes on in another file.
-fn push_elsewhere(out: &mut String, file: &str, line: u32) -> Result<(), AllocError>
-    ensures { OnOk result (string_bytes out.new
-        ≡ string_bytes out.old ++ (codes " .. " ++ location_words (file.now, line))) }
-{
-    out.push_str(" .. ")?;
-    push_location(out, file, line)
-}
-
 /// Adds where one goes on, where that is another line.
 fn push_onward(out: &mut String, from: (&str, u32), to: (&str, u32)) -> Result<(), AllocError>
     ensures { OnOk result (string_bytes out.new
         ≡ string_bytes out.old ++ onward_words (from.entry.0.now, from.entry.1) (to.entry.0.now, to.entry.1)) }
 {
     if from.0 != to.0 {
-        return push_elsewhere(out, to.0, to.1);
+        out.push_str(" .. ")?;
+        return push_location(out, to.0, to.1);
     }
     if from.1 == to.1 {
         return Ok(());
     }
     let line = to.1;
     write!(out, " .. {line}")
-}
-
-fn push_then(out: &mut String, from: (&str, u32), to: Option<(&str, u32)>) -> Result<(), AllocError>
-    ensures { OnOk result (string_bytes out.new ≡ string_bytes out.old
-        ++ then_words (from.entry.0.now, from.entry.1) (option_map (λ l. (l.0.now, l.1)) to.entry)) }
-{
-    match to {
-        None => Ok(()),
-        Some(to) => push_onward(out, from, to),
-    }
 }
 
 fn push_span(
@@ -161,11 +142,14 @@ fn push_span(
         return Ok(());
     };
     push_location(out, from.0, from.1)?;
-    push_then(out, from, to)
+    match to {
+        None => Ok(()),
+        Some(to) => push_onward(out, from, to),
+    }
 }
 
 fn found<'a>(sources: &'a Sources, place: Option<Place>) -> Option<(&'a str, u32)>
-    ensures { option_map (λ l. (l.0.now, l.1)) result ≡ found sources.now place }
+    ensures { option_map (λ l. (l.0.now, l.1)) result ≡ option_and_then (location_at sources.now) place }
 {
     match place {
         None => None,
@@ -191,28 +175,6 @@ fn push_run(out: &mut String, sources: &Sources, event: &Event) -> Result<(), Al
     out.push_str(wait_words(&event.stands))
 }
 
-fn push_taken(out: &mut String, sources: &Sources, event: &Event) -> Result<(), AllocError>
-    ensures { OnOk result (string_bytes out.new
-        ≡ string_bytes out.old ++ (codes "takes " ++ run_words sources.now event.now)) }
-{
-    out.push_str("takes ")?;
-    push_run(out, sources, event)
-}
-
-fn push_arrived(
-    alloc: Global,
-    out: &mut String,
-    atoms: &Atoms,
-    signal: &Signal,
-    effect: Effect,
-) -> Result<(), AllocError>
-    ensures { OnOk result (string_bytes out.new
-        ≡ string_bytes out.old ++ (signal_words atoms.now signal.now ++ effect_words effect)) }
-{
-    push_signal(alloc, out, atoms, signal)?;
-    out.push_str(effect_words(effect))
-}
-
 /// Adds what an event was.
 fn push_what(
     alloc: Global,
@@ -225,27 +187,15 @@ fn push_what(
 {
     match &event.what {
         What::Ran => push_run(out, code.sources, event),
-        What::Took(_) => push_taken(out, code.sources, event),
+        What::Took(_) => {
+            out.push_str("takes ")?;
+            push_run(out, code.sources, event)
+        }
         What::Arrived { signal, effect } => {
-            push_arrived(alloc, out, code.image.atoms(), &signal.signal, *effect)
+            push_signal(alloc, out, code.image.atoms(), &signal.signal)?;
+            out.push_str(effect_words(*effect))
         }
         What::Expired => out.push_str("wait over"),
-    }
-}
-
-/// Adds what was displayed, or else what the event was.
-fn push_shown(
-    alloc: Global,
-    out: &mut String,
-    code: &Code<'_>,
-    event: &Event,
-) -> Result<(), AllocError>
-    ensures { OnOk result (string_bytes out.new ≡ string_bytes out.old
-        ++ shown_words code.now.image.now code.now.sources.now event.now event.now.shown) }
-{
-    match &event.shown {
-        None => push_what(alloc, out, code, event),
-        Some(term) => push_term(alloc, out, code.image.atoms(), term),
     }
 }
 
@@ -264,7 +214,10 @@ fn push_event(
             out.push_str("trapped ")?;
             out.push_str(kind.name())
         }
-        _ => push_shown(alloc, out, code, event),
+        _ => match &event.shown {
+            None => push_what(alloc, out, code, event),
+            Some(term) => push_term(alloc, out, code.image.atoms(), term),
+        },
     }
 }
 
@@ -283,26 +236,6 @@ pub(crate) fn event_text(
 }
 
 /// Adds the item at an address behind a mark, where there is one.
-fn push_item(
-    alloc: Global,
-    out: &mut String,
-    mark: &str,
-    image: &Image,
-    place: Place,
-) -> Result<(), AllocError>
-    ensures { OnOk result (string_bytes out.new
-        ≡ string_bytes out.old ++ item_or_nothing mark.now image.now (numbered_at image.now place)) }
-{
-    match image.item(place) {
-        Some(item) => {
-            let text = item_text(alloc, image.atoms(), item)?;
-            out.push_str(mark)?;
-            out.push_str(text.as_str())
-        }
-        None => Ok(()),
-    }
-}
-
 fn push_item_at(
     alloc: Global,
     out: &mut String,
@@ -313,10 +246,15 @@ fn push_item_at(
     ensures { OnOk result
         (string_bytes out.new ≡ string_bytes out.old ++ item_at mark.now image.now place) }
 {
-    match place {
-        None => Ok(()),
-        Some(place) => push_item(alloc, out, mark, image, place),
-    }
+    let Some(place) = place else {
+        return Ok(());
+    };
+    let Some(item) = image.item(place) else {
+        return Ok(());
+    };
+    let text = item_text(alloc, image.atoms(), item)?;
+    out.push_str(mark)?;
+    out.push_str(text.as_str())
 }
 
 /// Adds the last item of a run of several.
@@ -335,20 +273,6 @@ fn push_last_item(
     push_item_at(alloc, out, " .. ", image, event.last_from)
 }
 
-/// Adds the first item of a run, and the last one.
-fn push_items(
-    alloc: Global,
-    out: &mut String,
-    image: &Image,
-    event: &Event,
-) -> Result<(), AllocError>
-    ensures { OnOk result
-        (string_bytes out.new ≡ string_bytes out.old ++ items_words image.now event.now) }
-{
-    push_item_at(alloc, out, ": ", image, event.from)?;
-    push_last_item(alloc, out, image, event)
-}
-
 /// Adds what was run, or the message that was taken.
 fn push_detail(
     alloc: Global,
@@ -360,7 +284,10 @@ fn push_detail(
         ≡ string_bytes out.old ++ detail_words image.now event.now event.now.what) }
 {
     match &event.what {
-        What::Ran => push_items(alloc, out, image, event),
+        What::Ran => {
+            push_item_at(alloc, out, ": ", image, event.from)?;
+            push_last_item(alloc, out, image, event)
+        }
         What::Took(message) => push_behind(alloc, out, image.atoms(), ": ", message),
         _ => Ok(()),
     }
@@ -376,22 +303,14 @@ pub(crate) fn tip_text(alloc: Global, code: &Code<'_>, event: &Event) -> Result<
     Ok(out)
 }
 
-/// Adds the last number behind the first, where it is another.
-fn push_last(out: &mut String, first: u64, last: u64) -> Result<(), AllocError>
-    ensures { OnOk result (string_bytes out.new ≡ string_bytes out.old ++ last_words first last) }
-{
-    if first == last {
-        return Ok(());
-    }
-    write!(out, "..{last}")
-}
-
 /// The numbers of an event's choices.
 pub(crate) fn number_text(alloc: Global, first: u64, last: u64) -> Result<String, AllocError>
     ensures { IfOk result (λ text. string_bytes text ≡ number_words first last) }
 {
     let mut out = format!(in alloc; "{first}")?;
-    push_last(&mut out, first, last)?;
+    if first != last {
+        write!(out, "..{last}")?;
+    }
     Ok(out)
 }
 
@@ -410,43 +329,6 @@ pub(crate) fn status_text(
         Status::Ended(reason) => push_behind(alloc, &mut out, atoms, "ended ", reason)?,
     }
     Ok(out)
-}
-
-/// Adds the process of that pid behind a space.
-fn push_spaced_pid(alloc: Global, out: &mut String, pid: u32) -> Result<(), AllocError>
-    ensures { OnOk result
-        (string_bytes out.new ≡ string_bytes out.old ++ (codes " " ++ printed_pid pid)) }
-{
-    out.push_str(" ")?;
-    push_pid(alloc, out, pid)
-}
-
-/// Adds a trap's kind, and the process that trapped.
-fn push_trap(alloc: Global, out: &mut String, kind: Trap, pid: u32) -> Result<(), AllocError>
-    ensures { OnOk result (string_bytes out.new
-        ≡ string_bytes out.old ++ (trap_name kind ++ (codes " " ++ printed_pid pid))) }
-{
-    out.push_str(kind.name())?;
-    push_spaced_pid(alloc, out, pid)
-}
-
-fn push_trapped(alloc: Global, out: &mut String, kind: Trap, pid: u32) -> Result<(), AllocError>
-    ensures { OnOk result (string_bytes out.new
-        ≡ string_bytes out.old ++ (codes "trapped " ++ (trap_name kind ++ (codes " " ++ printed_pid pid)))) }
-{
-    out.push_str("trapped ")?;
-    push_trap(alloc, out, kind, pid)
-}
-
-fn push_standing(alloc: Global, out: &mut String, state: &Standing) -> Result<(), AllocError>
-    ensures { OnOk result
-        (string_bytes out.new ≡ string_bytes out.old ++ standing_words state.now) }
-{
-    match state {
-        Standing::Trapped(kind, pid) => push_trapped(alloc, out, *kind, *pid),
-        Standing::Quiet => out.push_str("quiet"),
-        Standing::Open(_) => out.push_str("open"),
-    }
 }
 
 /// Adds the choice that was refused, behind a word.
@@ -471,27 +353,19 @@ pub(crate) fn push_state(
     ensures { OnOk result
         (string_bytes out.new ≡ string_bytes out.old ++ state_words refused state.now) }
 {
-    match refused {
-        Some(choice) => push_stopped(alloc, out, choice),
-        None => push_standing(alloc, out, state),
+    if let Some(choice) = refused {
+        return push_stopped(alloc, out, choice);
     }
-}
-
-/// Adds how many choices were applied.
-fn push_count(out: &mut String, story: &Story) -> Result<(), AllocError>
-    ensures { OnOk result
-        (string_bytes out.new ≡ string_bytes out.old ++ count_words story.now) }
-{
-    let applied = story.applied;
-    write!(out, ": {applied} choices, state ")
-}
-
-/// Adds how many choices were applied, and where they led.
-fn push_end(alloc: Global, out: &mut String, story: &Story) -> Result<(), AllocError>
-    ensures { OnOk result (string_bytes out.new ≡ string_bytes out.old ++ end_words story.now) }
-{
-    push_count(out, story)?;
-    push_state(alloc, out, story.refused, &story.outcome.state)
+    match state {
+        Standing::Trapped(kind, pid) => {
+            out.push_str("trapped ")?;
+            out.push_str(kind.name())?;
+            out.push_str(" ")?;
+            push_pid(alloc, out, *pid)
+        }
+        Standing::Quiet => out.push_str("quiet"),
+        Standing::Open(_) => out.push_str("open"),
+    }
 }
 
 /// Which schedule it is.
@@ -507,7 +381,9 @@ pub(crate) fn title_text(alloc: Global, name: &str) -> Result<String, AllocError
 pub(crate) fn sentence(alloc: Global, name: &str, story: &Story) -> Result<String, AllocError>
     ensures { IfOk result (λ text. string_bytes text ≡ sentence name.now story.now) }
 {
+    let applied = story.applied;
     let mut out = title_text(alloc, name)?;
-    push_end(alloc, &mut out, story)?;
+    write!(out, ": {applied} choices, state ")?;
+    push_state(alloc, &mut out, story.refused, &story.outcome.state)?;
     Ok(out)
 }

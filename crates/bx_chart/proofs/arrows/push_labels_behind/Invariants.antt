@@ -1,7 +1,7 @@
 use Rattle.std.proofs.Common.{◌≡◌, ◌++◌, drop, string_bytes}
 use Rattle.bx_svg.specs.Markup.{written}
 use Rattle.bx_chart.specs.Arrows.{waiting_labels}
-use Rattle.bx_chart.proofs.arrows.push_waiting_labels.Given as goal
+use Rattle.bx_chart.proofs.arrows.push_labels_behind.Given as goal
 
 -- what is written and what is left to write make the whole
 abbrev pub invariant-loop-before : goal.invariant-loop-before
