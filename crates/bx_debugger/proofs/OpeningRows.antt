@@ -2,7 +2,6 @@
 use Rattle.std.proofs.Common.{◌≡◌, ◌∙◌, inl, inr, ℕ, List, length, map, Option, Some, None, Result, Ok, Err, refl, sym, ap, subst}
 use Rattle.std.specs.Prelude.{IsSome}
 use Rattle.std.proofs.KnownBytes.{Keeps-refl}
-use Rattle.std.proofs.lemmas.List.{length-map}
 use Rattle.bx_terms.specs.FixedAtoms.{fixed_atoms}
 use Rattle.bx_terms.specs.Outcomes.{Gives}
 use Rattle.bx_terms.specs.declared.faults.Fault.{Fault, TheVariants.Memory}
@@ -14,7 +13,7 @@ use Rattle.bx_engine.specs.Sources.{Sources, sources_of}
 use Rattle.bx_engine.specs.Starts.{begun_by, start_in, token_in}
 use Rattle.bx_engine.specs.Units.{◌>>=◌, ClearBefore, FilesGive}
 use Rattle.bx_engine.specs.declared.failures.Failure.{Failure, TheVariants.Refused, TheVariants.Read, TheVariants.Write, TheVariants.Start}
-use Rattle.bx_debugger.specs.Opening.{session_at, session_behind, session_of}
+use Rattle.bx_debugger.specs.Opening.{session_at, session_of}
 use Rattle.bx_debugger.specs.Talks.{Debugs, Hearing, IsBefore, Talks, begins}
 
 -- a start begins with an atom
@@ -25,11 +24,9 @@ begun (Some token) start names t e = refl
 pub takes_start : (start : List ℕ) (names : Names) → start_in start ≡ Some names → IsSome (token_in start 0)
 takes_start start names e = begun (token_in start 0) start names refl e
 
-named : (start : List ℕ) (given : List (List ℕ)) (names : Names) → start_in start ≡ Some names → session_of start given ≡ session_behind names given
-named start given names e = ap (λ (o : Option Names). or_start o >>= λ n. session_behind n given) e
-
-loaded : (given : List (List ℕ)) (names : Names) (said : Result Loaded Failure) → image_of given ≡ said → session_behind names given ≡ said >>= λ image. of_no_file (session_at image names)
-loaded given names said e = ap (λ (r : Result Loaded Failure). r >>= λ image. of_no_file (session_at image names)) e
+begun_with : (start : List ℕ) (given : List (List ℕ)) (names : Names) (said : Result Loaded Failure) → start_in start ≡ Some names → image_of given ≡ said
+    → session_of start given ≡ said >>= λ image. of_no_file (session_at image names)
+begun_with start given names said e i = rw (e, i) refl
 
 -- the listings have a fault, or can't be read
 pub before_image : (start : List ℕ) (given : List (List ℕ)) (names : Names) (w r : Option (List ℕ)) (failure : Failure) → start_in start ≡ Some names
@@ -38,7 +35,7 @@ before_image start given names w r failure e h = inl (go failure h, Keeps-refl w
   where
     go : (f : Failure) → FilesGive {X = Loaded} (λ image. image) (Err f) (ClearBefore fixed_atoms given) (image_of given) → IsBefore start given (session_of start given) (Err f)
     go (Refused Memory file) g = (takes_start start names e, g)
-    go (Refused fault file) g = named start given names e ∙ loaded given names (Err (Refused fault file)) g
+    go (Refused fault file) g = begun_with start given names (Err (Refused fault file)) e g
     go (Read n) g = (subst IsSome (sym e) refl, g)
     go Write g = absurd g
     go Start g = absurd g
@@ -50,7 +47,7 @@ before_session start given names w r image fault takes e i h = inl (go fault h, 
   where
     go : (f : Fault) → Gives {X = History} takes (λ s. s) (Err f) (session_at image names) → IsBefore start given (session_of start given) (Err (Refused f None))
     go Memory g = (takes_start start names e, refl)
-    go f g = named start given names e ∙ loaded given names (Ok image) i ∙ ap of_no_file g
+    go f g = begun_with start given names (Ok image) e i ∙ ap of_no_file g
 
 -- nothing was read yet of the lines
 begun_so : (file count : ℕ) (talk begun : Hearing) (old new had rest : Option (List ℕ)) (answer : Result (Unit {0}) Failure) → file ≡ count → talk ≡ begun
@@ -65,9 +62,6 @@ pub debugs_so : (start : List ℕ) (given : List (List ℕ)) (names : Names) (ol
 debugs_so start given names old new had rest image sources s file talk answer e i l h n t talks =
     inr (
       s,
-      named start given names e ∙ loaded given names (Ok image) i ∙ ap of_no_file h,
+      begun_with start given names (Ok image) e i ∙ ap of_no_file h,
       begun_so file (length given) talk (begins (sources_of given) s) old new had rest answer n (t ∙ ap (λ x. begins x s) l) talks,
     )
-
-pub same_length : {A : Type 0} (rem : A → Option (List ℕ)) (old : List A) (given : List (List ℕ)) → map rem old ≡ map (λ text. Some text) given → length old ≡ length given
-same_length rem old given known = sym (length-map old rem) ∙ ap length known ∙ length-map given (λ text. Some text)

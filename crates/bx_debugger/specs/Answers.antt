@@ -1,33 +1,23 @@
 -- What each line of a debugger is answered, and what it makes of the session.
-use Rattle.std.specs.Prelude.{◌≡◌, ℕ, ◌+◌, nat_lt, Bool, false, ◌||◌, if◌then◌else◌, List, [], ◌∷◌, ◌++◌, Option, Some, None, Result, Ok, Err, length, codes, decimal, slice_get, ◌-◌}
-use Rattle.std.specs.Str.{bytes_eq}
+use Rattle.std.specs.Prelude.{◌≡◌, ℕ, ◌+◌, nat_lt, Bool, false, ◌||◌, if◌then◌else◌, List, [], ◌∷◌, ◌++◌, Option, Some, None, Result, Ok, Err, bytes_eq, length, codes, decimal, slice_get, ◌-◌}
 use Rattle.bx_terms.specs.Refusals.{refusal}
 use Rattle.bx_terms.specs.declared.faults.Fault.{Fault, TheVariants.BadCommand, TheVariants.BeforeStart, TheVariants.Memory, TheVariants.TooLong}
 use Rattle.bx_load.specs.Image.{Loaded}
-use Rattle.bx_world.specs.Texts.{outcome_lines}
-use Rattle.bx_world.specs.Seen.{seen}
+use Rattle.bx_world.specs.{Seen.seen, Texts.outcome_lines}
 use Rattle.bx_world.specs.declared.choices.Choice.{Choice}
 use Rattle.bx_world.specs.World.{Life}
 use Rattle.bx_debug.specs.Sessions.{History, behind, world_of, stepped, back, forward, gone, with_break, without_break}
-use Rattle.bx_debug.specs.Exchanging.{swap_of}
-use Rattle.bx_debug.specs.Pausing.{run_of}
-use Rattle.bx_debug.specs.Tidying.{tidy_of, undo_of}
+use Rattle.bx_debug.specs.{Exchanging.swap_of, Pausing.run_of, Tidying.tidy_of, Tidying.undo_of}
 use Rattle.bx_debug.specs.declared.pauses.Bound.{Bound, TheVariants.Event, TheVariants.Meeting}
 use Rattle.bx_debug.specs.declared.stops.Stop.{Stop}
+use Rattle.bx_engine.specs.PlanLines.{plan_line}
 use Rattle.bx_engine.specs.Sources.{Sources}
 use Rattle.bx_debugger.specs.declared.commands.Command.{Command}
 use Rattle.bx_debugger.specs.declared.commands.Command.TheVariants.{Step, Back, Forward, Go, Until, Run, Swap, Tidy, Undo, Break, Clear, Show, Where, Look, Signals, Open, Items, Trace, Plan, Help}
-use Rattle.bx_debugger.specs.Commands.{ordered_by}
-use Rattle.bx_debugger.specs.Functions.{list_answer}
-use Rattle.bx_debugger.specs.Help.{help_answer}
-use Rattle.bx_debugger.specs.Look.{look_answer}
-use Rattle.bx_debugger.specs.Open.{open_answer}
-use Rattle.bx_engine.specs.PlanLines.{plan_line}
+use Rattle.bx_debugger.specs.{Commands.ordered_by, Functions.list_answer, Help.help_answer, Look.look_answer, Open.open_answer}
+use Rattle.bx_debugger.specs.{Signals.signals_answer, Trace.trace_answer, Where.where_answer}
 use Rattle.bx_debugger.specs.Program.{Program, program_of}
-use Rattle.bx_debugger.specs.Signals.{signals_answer}
 use Rattle.bx_debugger.specs.Stops.{paused_line, standing, stop_words, stopped_line}
-use Rattle.bx_debugger.specs.Trace.{trace_answer}
-use Rattle.bx_debugger.specs.Where.{where_answer}
 
 -- a call that moves the session and its definition; where memory runs out, nothing is said
 abbrev pub Moves : History → History → Result (Unit {0}) Fault → Result (History × Unit {0}) Fault → Type 0
@@ -52,16 +42,9 @@ abbrev pub went_line : History × Stop → List ℕ
 went_line went = stopped_line went.0 (stop_words went.0.image went.1)
 
 -- a process that is not there is refused
-abbrev pub ran_if : Sources → ℕ → Bound → ℕ → History → Option Life → List ℕ × History
-ran_if sources n bound p s None = (refused_line n (BadCommand n), s)
-ran_if sources n bound p s (Some life) = (paused_line sources bound p (run_of bound p s), (run_of bound p s).0)
-
-abbrev pub ran_line : Sources → ℕ → Bound → ℕ → History → List ℕ × History
-ran_line sources n bound p s = ran_if sources n bound p s (slice_get (world_of s).processes p)
-
--- the outcome of the choices before the position
-abbrev pub shown_lines : History → List ℕ
-shown_lines s = outcome_lines s.image.atoms s.at None (seen (world_of s))
+abbrev pub ran : Sources → ℕ → Bound → ℕ → History → Option Life → List ℕ × History
+ran sources n bound p s None = (refused_line n (BadCommand n), s)
+ran sources n bound p s (Some life) = (paused_line sources bound p (run_of bound p s), (run_of bound p s).0)
 
 -- a process that is not there is refused
 abbrev pub looked : ℕ → Program → ℕ → Option Life → List ℕ
@@ -84,14 +67,14 @@ replied sources n (Step choice) s = moved n s (stepped choice s)
 replied sources n (Back count) s = moved n s (back count s)
 replied sources n (Forward count) s = moved n s (forward count s)
 replied sources n (Go choices) s = (went_line (gone choices s), (gone choices s).0)
-replied sources n (Until p) s = ran_line sources n Event p s
-replied sources n (Run p) s = ran_line sources n Meeting p s
+replied sources n (Until p) s = ran sources n Event p s (slice_get (world_of s).processes p)
+replied sources n (Run p) s = ran sources n Meeting p s (slice_get (world_of s).processes p)
 replied sources n (Swap number) s = moved n s (swap_of number s)
 replied sources n Tidy s = moved n s (Ok (tidy_of s, tt))
 replied sources n (Undo number) s = moved n s (undo_of number s)
 replied sources n (Break place) s = (codes "ok\n", with_break place s)
 replied sources n (Clear place) s = (codes "ok\n", without_break place s)
-replied sources n Show s = (shown_lines s, s)
+replied sources n Show s = (outcome_lines s.image.atoms s.at None (seen (world_of s)), s)
 replied sources n Where s = (where_answer (program_of sources s) (world_of s).processes, s)
 replied sources n (Look p) s = (looked n (program_of sources s) p (slice_get (world_of s).processes p), s)
 replied sources n Signals s = (signals_answer s.image.atoms (world_of s).lanes.channels, s)

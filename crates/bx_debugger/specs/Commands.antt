@@ -1,7 +1,6 @@
 -- The commands of a debugger: a word, and behind one space what it is about.
-use Rattle.std.specs.Prelude.{ℕ, ◌+◌, ◌==◌, Bool, false, List, [], ◌∷◌, ◌++◌, Option, Some, None, Result, Ok, Err, option_map, if◌then◌else◌, codes, drop, slice_get}
-use Rattle.std.specs.Option.{option_map_or}
-use Rattle.std.specs.Str.{bytes_eq}
+use Rattle.std.specs.Prelude.{ℕ, ◌+◌, ◌==◌, Bool, false, List, [], ◌∷◌, ◌++◌, Option, Some, None, Result, Ok, Err, bytes_eq, option_map, if◌then◌else◌, codes, drop, slice_get}
+use Rattle.std.specs.Option.{option_map_or, option_or}
 use Rattle.bx_terms.specs.AtomTable as atoms
 use Rattle.bx_terms.specs.Options.{◌>>=◌}
 use Rattle.bx_terms.specs.declared.places.Place.{Place}
@@ -24,42 +23,28 @@ most_pid = 1023
 abbrev pub has_slash : Option ℕ → Bool
 has_slash code = option_map_or (λ c. c == 47) code false
 
--- the instruction of that number in the module of that name, which the loaded code may not hold
-abbrev pub place_there : Loaded → Option ℕ → Option ℕ → Option Place
-place_there image (Some m) (Some item) = place_of image (record { 0 = m }) item
-place_there image m item = None
-
--- the address whose module's token this is, behind which a colon and a number stand
-abbrev pub place_behind : Loaded → List ℕ → Option (List ℕ × ℕ) → Option Place
-place_behind image text None = None
-place_behind image text (Some m) = if has_colon (slice_get text m.1)
-    then place_there image (atoms.number_of image.atoms m.0) (number_of most_number (drop (m.1 + 1) text)) else None
-
 -- `M:I`: a module's name, one atom's token, bare or quoted; and the number of an instruction of it, from 0
 abbrev pub place_in : Loaded → List ℕ → Option Place
-place_in image text = place_behind image text (token_in text 0)
+place_in image text = do
+  token ← token_in text 0
+  item ← if has_colon (slice_get text token.1) then number_of most_number (drop (token.1 + 1) text) else None
+  m ← atoms.number_of image.atoms token.0
+  place_of image (record { 0 = m }) item
 
 -- the function of those names, which the loaded code may not hold, and of that arity
-abbrev pub function_there : Loaded → Option ℕ → Option ℕ → Option ℕ → Option (Place × Head)
-function_there image (Some m) (Some f) (Some arity) = function_of image (record { 0 = m }) (record { 0 = f }) arity
-function_there image m f arity = None
-
--- the function whose name's token this is, behind which a slash and its arity stand
-abbrev pub function_behind : Loaded → List ℕ → List ℕ → Option (List ℕ × ℕ) → Option (Place × Head)
-function_behind image text m None = None
-function_behind image text m (Some f) = if has_slash (slice_get text f.1)
-    then function_there image (atoms.number_of image.atoms m) (atoms.number_of image.atoms f.0) (number_of most_number (drop (f.1 + 1) text))
-    else None
-
--- the same where its module's token is this, behind which a colon stands
-abbrev pub function_within : Loaded → List ℕ → Option (List ℕ × ℕ) → Option (Place × Head)
-function_within image text None = None
-function_within image text (Some m) = if has_colon (slice_get text m.1)
-    then function_behind image text m.0 (token_in text (m.1 + 1)) else None
+abbrev pub function_there : Loaded → List ℕ → List ℕ → ℕ → Option (Place × Head)
+function_there image owner name arity = do
+  m ← atoms.number_of image.atoms owner
+  f ← atoms.number_of image.atoms name
+  function_of image (record { 0 = m }) (record { 0 = f }) arity
 
 -- `M:F/A`: a module's and a function's names, each one atom's token, and a number; the first function of that name and arity
 abbrev pub function_in : Loaded → List ℕ → Option (Place × Head)
-function_in image text = function_within image text (token_in text 0)
+function_in image text = do
+  token ← token_in text 0
+  name ← if has_colon (slice_get text token.1) then token_in text (token.1 + 1) else None
+  arity ← if has_slash (slice_get text name.1) then number_of most_number (drop (name.1 + 1) text) else None
+  function_there image token.0 name.0 arity
 
 -- where a call of a function begins: at its entry, where an instruction stands there
 abbrev pub beginning : Loaded → Option (Place × Head) → Option Place
@@ -68,21 +53,9 @@ beginning image function = do
   place ← target image f.0.«module» f.1.entry
   there place (item_at image place)
 
-abbrev pub or_place : Option Place → Option Place → Option Place
-or_place None other = other
-or_place (Some place) other = Some place
-
 -- an address by the number of its item, or by the function whose calls begin there
 abbrev pub place_named : Loaded → List ℕ → Option Place
-place_named image text = or_place (place_in image text) (beginning image (function_in image text))
-
--- the items of a function
-abbrev pub items_of : Place × Head → Command
-items_of f = Items f.0 (f.0.item + f.1.count)
-
--- a name that a plan takes
-abbrev pub plan_named : List ℕ → Option Command
-plan_named name = if is_name name then Some (Plan name) else None
+place_named image text = option_or (place_in image text) (beginning image (function_in image text))
 
 -- a command that is a word alone; `go` alone makes no choice
 abbrev pub alone : List ℕ → Option Command
@@ -110,15 +83,11 @@ about image parts =
     else if bytes_eq parts.0 (codes "break") then option_map Break (place_named image parts.1)
     else if bytes_eq parts.0 (codes "clear") then option_map Clear (place_named image parts.1)
     else if bytes_eq parts.0 (codes "look") then option_map Look (number_of most_pid parts.1)
-    else if bytes_eq parts.0 (codes "list") then option_map items_of (function_in image parts.1)
+    else if bytes_eq parts.0 (codes "list") then option_map (λ f. Items f.0 (f.0.item + f.1.count)) (function_in image parts.1)
     else if bytes_eq parts.0 (codes "trace") then option_map Trace (number_of most_number parts.1)
-    else if bytes_eq parts.0 (codes "plan") then plan_named parts.1
+    else if bytes_eq parts.0 (codes "plan") then (if is_name parts.1 then Some (Plan parts.1) else None)
     else None
-
-abbrev pub by_parts : Loaded → List ℕ → Option (List ℕ × List ℕ) → Option Command
-by_parts image line None = alone line
-by_parts image line (Some parts) = about image parts
 
 -- what a line orders, over that loaded code
 abbrev pub ordered_by : Loaded → List ℕ → Option Command
-ordered_by image line = by_parts image line (cut 32 line)
+ordered_by image line = option_map_or (about image) (cut 32 line) (alone line)

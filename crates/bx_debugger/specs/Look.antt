@@ -5,7 +5,6 @@ use Rattle.bx_terms.specs.Printed.{printed, printed_pid}
 use Rattle.bx_terms.specs.declared.places.Place.{Place}
 use Rattle.bx_cells.specs.StackFrame.{StackFrame}
 use Rattle.bx_cells.specs.declared.values.Value.{Value}
-use Rattle.bx_mail.specs.Mail.{Mail}
 use Rattle.bx_proc.specs.Process.{Process}
 use Rattle.bx_proc.specs.declared.parts.Pending.{Pending}
 use Rattle.bx_world.specs.World.{Life, Live, Exited}
@@ -38,10 +37,6 @@ frame_lines program [] = []
 frame_lines program (frame ∷ below) =
     codes "frame " ++ place_words program frame.return_to ++ codes "\n" ++ y_lines program 0 frame.cells ++ frame_lines program below
 
--- the messages that were passed over, then the rest
-abbrev pub mail_lines : List (List ℕ) → Mail → List ℕ
-mail_lines texts mail = term_lines texts (codes "passed") mail.passed ++ term_lines texts (codes "message") mail.rest
-
 abbrev pub link_lines : List ℕ → List ℕ
 link_lines [] = []
 link_lines (q ∷ more) = codes "link " ++ printed_pid q ++ codes "\n" ++ link_lines more
@@ -60,17 +55,15 @@ own_lines program process =
     place_line program (codes "expires") process.expires ++ place_line program (codes "cp") process.cp
     ++ x_lines program (map.entries process.x) ++ frame_lines program process.frames
 
--- what it has to do with others, and the fault that it has to look at
+-- its messages, those that were passed over first; what else it has to do with others; and the fault that it has to look at
 abbrev pub other_lines : List (List ℕ) → Process → List ℕ
 other_lines texts process =
-    mail_lines texts process.mailbox ++ link_lines process.links ++ trapping_line process.trap_exit ++ fault_line texts process.fault
-
-abbrev pub held_lines : Program → Process → List ℕ
-held_lines program process = own_lines program process ++ other_lines program.image.atoms process
+    term_lines texts (codes "passed") process.mailbox.passed ++ term_lines texts (codes "message") process.mailbox.rest
+    ++ link_lines process.links ++ trapping_line process.trap_exit ++ fault_line texts process.fault
 
 -- one that has ended holds nothing
 abbrev pub life_holds : Program → Life → List ℕ
-life_holds program (Live process) = held_lines program process
+life_holds program (Live process) = own_lines program process ++ other_lines program.image.atoms process
 life_holds program (Exited reason) = []
 
 abbrev pub look_answer : Program → ℕ → Life → List ℕ

@@ -7,13 +7,11 @@ use Rattle.bx_world.specs.World.{State}
 use Rattle.bx_debugger.specs.Program.{Program}
 use Rattle.bx_debugger.specs.Trace.{met_words}
 
--- `r1 race:31 race.erl:11 ITEM`
-abbrev pub open_line : Program → State → Choice → List ℕ
-open_line program w choice = spelling choice ++ codes " " ++ met_words program choice w ++ codes "\n"
-
+-- a line for each: `r1 race:31 race.erl:11 ITEM`
 abbrev pub open_lines : Program → State → List Choice → List ℕ
 open_lines program w [] = []
-open_lines program w (choice ∷ more) = open_line program w choice ++ open_lines program w more
+open_lines program w (choice ∷ more) =
+    spelling choice ++ codes " " ++ met_words program choice w ++ codes "\n" ++ open_lines program w more
 
 abbrev pub open_answer : Program → State → List ℕ
 open_answer program w = open_lines program w (enabled w) ++ codes "end\n"

@@ -13,13 +13,11 @@ signal_words texts Unlink = codes "unlink"
 signal_words texts (LinkExit reason) = codes "exit " ++ printed texts reason
 signal_words texts (Exit reason) = codes "exit/2 " ++ printed texts reason
 
--- `d1>0 message TERM`
-abbrev pub signal_line : List (List ℕ) → ℕ × ℕ → Signal → List ℕ
-signal_line texts pair signal = spelling (delivery pair) ++ codes " " ++ signal_words texts signal ++ codes "\n"
-
+-- a line for each of a channel: `d1>0 message TERM`
 abbrev pub signal_lines : List (List ℕ) → ℕ × ℕ → List Signal → List ℕ
 signal_lines texts pair [] = []
-signal_lines texts pair (signal ∷ more) = signal_line texts pair signal ++ signal_lines texts pair more
+signal_lines texts pair (signal ∷ more) =
+    spelling (delivery pair) ++ codes " " ++ signal_words texts signal ++ codes "\n" ++ signal_lines texts pair more
 
 abbrev pub channel_lines : List (List ℕ) → Channels Signal → List (ℕ × ℕ) → List ℕ
 channel_lines texts channels [] = []

@@ -10,8 +10,7 @@ use Rattle.bx_world.specs.Texts.{spelling}
 use Rattle.bx_debug.specs.Sessions.{History, world_of}
 use Rattle.bx_debug.specs.declared.pauses.Bound.{Bound, TheVariants.Event, TheVariants.Meeting}
 use Rattle.bx_debug.specs.declared.pauses.Pause.{Pause, TheVariants.Stopped, TheVariants.Idle, TheVariants.Meets}
-use Rattle.bx_debug.specs.declared.stops.Stop.{Stop}
-use Rattle.bx_debug.specs.declared.stops.Stop.TheVariants as stops
+use Rattle.bx_debug.specs.declared.stops.Stop.{Stop, TheVariants.Done, TheVariants.Break, TheVariants.NotEnabled, TheVariants.Trapped}
 use Rattle.bx_engine.specs.Sources.{Sources}
 use Rattle.bx_debugger.specs.Program.{program_of}
 use Rattle.bx_debugger.specs.Words.{here_words}
@@ -25,10 +24,10 @@ stopped_line s why = standing s ++ codes ": " ++ why ++ codes "\n"
 
 -- why `go` stopped
 abbrev pub stop_words : Loaded → Stop → List ℕ
-stop_words image stops.Done = codes "done"
-stop_words image (stops.Break p place) = codes "break " ++ printed_pid p ++ codes " " ++ place_text image place
-stop_words image (stops.NotEnabled choice) = codes "stopped " ++ spelling choice
-stop_words image (stops.Trapped kind p) = codes "trapped " ++ trap_name kind ++ codes " " ++ printed_pid p
+stop_words image Done = codes "done"
+stop_words image (Break p place) = codes "break " ++ printed_pid p ++ codes " " ++ place_text image place
+stop_words image (NotEnabled choice) = codes "stopped " ++ spelling choice
+stop_words image (Trapped kind p) = codes "trapped " ++ trap_name kind ++ codes " " ++ printed_pid p
 
 -- how a process stands that cannot run
 abbrev pub idle_words : List (List ℕ) → Option Status → List ℕ

@@ -1,11 +1,11 @@
 -- `trace N`: the last choices before the position, oldest first, each with what it met.
 use Rattle.std.specs.Prelude.{ℕ, ◌+◌, List, [], ◌∷◌, ◌++◌, Option, Some, None, Result, Ok, Err, codes, decimal, drop, slice_get, take}
+use Rattle.std.specs.Option.{option_map_or}
 use Rattle.bx_terms.specs.Options.{◌>>=◌}
 use Rattle.bx_terms.specs.declared.faults.Fault.{Fault}
 use Rattle.bx_terms.specs.declared.places.Place.{Place}
 use Rattle.bx_signals.specs.Channels.{waiting}
 use Rattle.bx_signals.specs.Waiting.{first}
-use Rattle.bx_signals.specs.declared.signal.Signal.{Signal}
 use Rattle.bx_load.specs.Image.{Loaded}
 use Rattle.bx_world.specs.declared.choices.Choice.{Choice, TheVariants.Run, TheVariants.Deliver, TheVariants.Expire}
 use Rattle.bx_world.specs.Choosing.{applied}
@@ -26,25 +26,16 @@ expires_of (Exited reason) = None
 abbrev pub expires_in : ℕ → State → Option Place
 expires_in p w = slice_get w.processes p >>= expires_of
 
--- a signal as `signals` shows it, and a dash where none waits
-abbrev pub signal_or_dash : List (List ℕ) → Option Signal → List ℕ
-signal_or_dash texts None = codes "-"
-signal_or_dash texts (Some signal) = signal_words texts signal
-
--- what a choice meets: a run the item at its process's address, a delivery the signal that waits first, and an expiration the address
--- where its process goes on
+-- what a choice meets: a run the item at its process's address, a delivery the signal that waits first, or a dash, and an expiration the
+-- address where its process goes on
 abbrev pub met_words : Program → Choice → State → List ℕ
 met_words program (Run p) w = here_words program (place_in p w)
-met_words program (Deliver p q) w = signal_or_dash program.image.atoms (first (waiting w.lanes.channels (p, q)))
+met_words program (Deliver p q) w = option_map_or (signal_words program.image.atoms) (first (waiting w.lanes.channels (p, q))) (codes "-")
 met_words program (Expire p) w = place_words program (expires_in p w)
-
--- `12 r1 `
-abbrev pub choice_words : ℕ → Choice → List ℕ
-choice_words n choice = decimal n ++ codes " " ++ spelling choice ++ codes " "
 
 -- `12 r1 race:31 race.erl:11 ITEM`
 abbrev pub trace_line : Program → ℕ → Choice → State → List ℕ
-trace_line program n choice w = choice_words n choice ++ met_words program choice w ++ codes "\n"
+trace_line program n choice w = decimal n ++ codes " " ++ spelling choice ++ codes " " ++ met_words program choice w ++ codes "\n"
 
 -- a choice that is refused changes nothing
 abbrev pub world_behind : State → Result (State × Unit {0}) Fault → State

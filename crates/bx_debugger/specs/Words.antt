@@ -2,11 +2,9 @@
 use Rattle.std.specs.Prelude.{ℕ, List, [], ◌∷◌, ◌++◌, Option, Some, None, codes}
 use Rattle.bx_terms.specs.Printed.{printed}
 use Rattle.bx_terms.specs.Tree.{Tree}
-use Rattle.bx_terms.specs.declared.kinds.Class.{Class}
-use Rattle.bx_terms.specs.declared.kinds.Class.TheVariants as classes
+use Rattle.bx_terms.specs.declared.kinds.Class.{Class, TheVariants.Throw, TheVariants.Error, TheVariants.Exit}
 use Rattle.bx_terms.specs.declared.places.Place.{Place}
-use Rattle.bx_cells.specs.declared.values.Value.{Value}
-use Rattle.bx_cells.specs.declared.values.Value.TheVariants as values
+use Rattle.bx_cells.specs.declared.values.Value.{Value, TheVariants.Term, TheVariants.Tag, TheVariants.Trace}
 use Rattle.bx_listing.specs.Items.{Item}
 use Rattle.bx_listing.specs.Writing.{item_words}
 use Rattle.bx_load.specs.Image.{Loaded}
@@ -29,15 +27,15 @@ here_words program None = codes "- -"
 here_words program (Some place) = located_text program place ++ codes " " ++ item_or_dash program.image (numbered_at program.image place)
 
 abbrev pub class_words : Class → List ℕ
-class_words classes.Throw = codes "throw"
-class_words classes.Error = codes "error"
-class_words classes.Exit = codes "exit"
+class_words Throw = codes "throw"
+class_words Error = codes "error"
+class_words Exit = codes "exit"
 
 -- what a register holds: a term, a catch tag or a trace
 abbrev pub value_words : Program → Value → List ℕ
-value_words program (values.Term term) = printed program.image.atoms term
-value_words program (values.Tag place) = codes "catch " ++ located_text program place
-value_words program (values.Trace class) = codes "trace " ++ class_words class
+value_words program (Term term) = printed program.image.atoms term
+value_words program (Tag place) = codes "catch " ++ located_text program place
+value_words program (Trace class) = codes "trace " ++ class_words class
 
 -- a line for each term, behind a word
 abbrev pub term_lines : List (List ℕ) → List ℕ → List Tree → List ℕ

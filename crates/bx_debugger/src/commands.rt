@@ -1,10 +1,10 @@
 //! Commands, as lines spell them.
 
-ghost use Rattle.std.specs.Prelude.{⊤, ◌≡◌, ◌+◌, ◌≤◌, Ok, Some, IfOk, IfSome, option_map};
-ghost use Rattle.bx_terms.specs.AtomTable as atoms;
+ghost use Rattle.std.specs.Prelude.{⊤, ◌≡◌, ◌+◌, ◌≤◌, Ok, Some, IfOk, IfSome, None, if◌then◌else◌, option_map};
 ghost use Rattle.bx_terms.specs.Outcomes.{Gives};
-ghost use Rattle.bx_plan.specs.Reading.{number_of};
-ghost use Rattle.bx_debugger.specs.Commands.{about, alone, beginning, function_in, function_there, items_of, ordered_by, place_in, place_named, place_there, plan_named};
+ghost use Rattle.bx_plan.specs.Reading.{is_name, number_of};
+ghost use Rattle.bx_debugger.specs.declared.commands.Command.TheVariants.{Items, Plan};
+ghost use Rattle.bx_debugger.specs.Commands.{about, alone, beginning, function_in, function_there, ordered_by, place_in, place_named};
 
 use bx_asm::Head;
 use bx_engine::token_at;
@@ -165,15 +165,13 @@ fn place_in(alloc: Global, image: &Image, text: &[u8]) -> Result<Option<Place>, 
     if text.get(colon).copied() != Some(b':') {
         return Ok(None);
     }
-    let item = number_of(&text[colon + 1..], u32::MAX);
-    Ok(place_there(image, module.as_str(), item))
-}
-
-/// The address of the instruction of that number, in the module of that name.
-fn place_there(image: &Image, module: &str, item: Option<u32>) -> Option<Place>
-    ensures { result ≡ place_there image.now (atoms.number_of image.now.atoms module.now) item }
-{
-    image.place(image.atoms().find(module)?, item?)
+    let Some(item) = number_of(&text[colon + 1..], u32::MAX) else {
+        return Ok(None);
+    };
+    let Some(module) = image.atoms().find(module.as_str()) else {
+        return Ok(None);
+    };
+    Ok(image.place(module, item))
 }
 
 /// The first function of the name and the arity that `M:F/A` names: the address of its first item, and its head.
@@ -197,24 +195,20 @@ fn function_in(
     if text.get(slash).copied() != Some(b'/') {
         return Ok(None);
     }
-    let arity = number_of(&text[slash + 1..], u32::MAX);
+    let Some(arity) = number_of(&text[slash + 1..], u32::MAX) else {
+        return Ok(None);
+    };
     Ok(function_there(image, module.as_str(), function.as_str(), arity))
 }
 
 /// The first function of that name and arity, in the module of that name.
-fn function_there(
-    image: &Image,
-    module: &str,
-    function: &str,
-    arity: Option<u32>,
-) -> Option<(Place, Head)>
-    ensures named { result ≡ function_there image.now (atoms.number_of image.now.atoms module.now)
-        (atoms.number_of image.now.atoms function.now) arity }
+fn function_there(image: &Image, owner: &str, name: &str, arity: u32) -> Option<(Place, Head)>
+    ensures named { result ≡ function_there image.now owner.now name.now arity }
     ensures within { IfSome result (λ f. f.0.item + f.1.count ≤ 1000000) }
 {
-    let module = image.atoms().find(module)?;
-    let function = image.atoms().find(function)?;
-    image.function(module, function, arity?)
+    let module = image.atoms().find(owner)?;
+    let function = image.atoms().find(name)?;
+    image.function(module, function, arity)
 }
 
 /// Where a call of a function begins, where an instruction stands there.
@@ -242,7 +236,8 @@ fn place_named(alloc: Global, image: &Image, text: &[u8]) -> Result<Option<Place
 
 /// The command to show the items of the function that `M:F/A` names, where there is one.
 fn items_named(alloc: Global, image: &Image, text: &[u8]) -> Result<Option<Command>, Fault>
-    ensures { Gives ⊤ (λ command. command) result (Ok (option_map items_of (function_in image.now text.now))) }
+    ensures { Gives ⊤ (λ command. command) result
+        (Ok (option_map (λ f. Items f.0 (f.0.item + f.1.count)) (function_in image.now text.now))) }
 {
     match function_in(alloc, image, text)? {
         Some((first, head)) => Ok(Some(Command::Items(first, first.item + head.count))),
@@ -252,7 +247,7 @@ fn items_named(alloc: Global, image: &Image, text: &[u8]) -> Result<Option<Comma
 
 /// The command to show the choices as a line of a plan of this name, where a plan takes it.
 fn plan_named(alloc: Global, name: &[u8]) -> Result<Option<Command>, Fault>
-    ensures { Gives ⊤ (λ command. command) result (Ok (plan_named name.now)) }
+    ensures { Gives ⊤ (λ command. command) result (Ok (if is_name name.now then Some (Plan name.now) else None)) }
 {
     match name_of(name) {
         Some(name) => Ok(Some(Command::Plan(Name::new(alloc, name)?))),

@@ -8,7 +8,7 @@ ghost use Rattle.bx_debugger.specs.Talks.{Debugs, DebugsAny};
 use crate::prompts::{NoPrompt, Prompt};
 use crate::talks::Talk;
 use bx_debug::Session;
-use bx_engine::{Failure, Start, located_image_of, start_of};
+use bx_engine::{Failure, Start, entry_in, located_image_of, start_of};
 use bx_load::Image;
 use bx_terms::Fault;
 use std::alloc::Global;
@@ -84,10 +84,8 @@ fn session_at<'a>(alloc: Global, image: &'a Image, start: &Start) -> Result<Sess
     ensures { Gives (IsOk (session_at image.entry.now start.now)) (λ session. session) result
         (session_at image.entry.now start.now) }
 {
-    let atoms = image.atoms();
-    let (Some(module), Some(function)) = (atoms.find(start.module()), atoms.find(start.function()))
-    else {
-        return Err(Fault::NoEntry);
-    };
-    Session::new(alloc, image, module, function)
+    match entry_in(image, start) {
+        Some((module, function)) => Session::new(alloc, image, module, function),
+        None => Err(Fault::NoEntry),
+    }
 }

@@ -3,8 +3,8 @@
 ghost use Rattle.std.specs.Prelude.{◌≡◌, ◌++◌, ◌∷◌, [], OnOk, codes, option_map, string_bytes};
 ghost use Rattle.bx_cells.specs.Indexed.{listed};
 ghost use Rattle.bx_world.specs.Seen.{life_of};
-ghost use Rattle.bx_debugger.specs.Words.{place_words};
-ghost use Rattle.bx_debugger.specs.Look.{fault_line, frame_lines, held_lines, life_holds, link_lines, look_answer, mail_lines, other_lines, own_lines, place_line, trapping_line, x_lines, y_lines};
+ghost use Rattle.bx_debugger.specs.Words.{place_words, term_lines};
+ghost use Rattle.bx_debugger.specs.Look.{fault_line, frame_lines, life_holds, link_lines, look_answer, other_lines, own_lines, place_line, trapping_line, x_lines, y_lines};
 
 use crate::programs::Program;
 use crate::standings::push_life_line;
@@ -141,8 +141,8 @@ fn push_mail(
     atoms: &Atoms,
     mailbox: &Mailbox,
 ) -> Result<(), AllocError>
-    ensures { OnOk result
-        (string_bytes out.new ≡ string_bytes out.old ++ mail_lines atoms.now mailbox.now) }
+    ensures { OnOk result (string_bytes out.new ≡ string_bytes out.old ++ (term_lines atoms.now (codes "passed") mailbox.now.passed
+        ++ term_lines atoms.now (codes "message") mailbox.now.rest)) }
 {
     let messages = mailbox.messages(alloc)?;
     let (passed, rest) = messages.split_at(mailbox.passed());
@@ -219,19 +219,6 @@ fn push_other(
     push_fault(alloc, out, atoms, process.pending())
 }
 
-fn push_held(
-    alloc: Global,
-    out: &mut String,
-    program: &Program<'_>,
-    process: &Proc,
-) -> Result<(), AllocError>
-    ensures { OnOk result
-        (string_bytes out.new ≡ string_bytes out.old ++ held_lines program.now process.now) }
-{
-    push_own(alloc, out, program, process)?;
-    push_other(alloc, out, program.image().atoms(), process)
-}
-
 fn push_holdings(
     alloc: Global,
     out: &mut String,
@@ -242,7 +229,10 @@ fn push_holdings(
         ≡ string_bytes out.old ++ life_holds program.now (life_of shown.now)) }
 {
     match shown {
-        Shown::Live(process) => push_held(alloc, out, program, *process),
+        Shown::Live(process) => {
+            push_own(alloc, out, program, *process)?;
+            push_other(alloc, out, program.image().atoms(), *process)
+        }
         Shown::Exited(_) => Ok(()),
     }
 }

@@ -1,7 +1,8 @@
 //! `list M:F/A`: the items of a function.
 
-ghost use Rattle.std.specs.Prelude.{◌≡◌, ◌++◌, ◌-◌, OnOk, string_bytes};
-ghost use Rattle.bx_debugger.specs.Functions.{item_line, item_lines, list_answer};
+ghost use Rattle.std.specs.Prelude.{◌≡◌, ◌++◌, ◌-◌, OnOk, Some, codes, string_bytes};
+ghost use Rattle.bx_debugger.specs.Functions.{item_lines, list_answer};
+ghost use Rattle.bx_debugger.specs.Words.{here_words};
 
 use crate::programs::Program;
 use crate::words::push_here;
@@ -15,8 +16,8 @@ fn push_item_line(
     program: &Program<'_>,
     place: Place,
 ) -> Result<(), AllocError>
-    ensures { OnOk result
-        (string_bytes out.new ≡ string_bytes out.old ++ item_line program.now place) }
+    ensures { OnOk result (string_bytes out.new
+        ≡ string_bytes out.old ++ (here_words program.now (Some place) ++ codes "\n")) }
 {
     push_here(alloc, out, program, Some(place))?;
     out.push_str("\n")

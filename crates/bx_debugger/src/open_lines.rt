@@ -1,7 +1,9 @@
 //! `open`: the choices that are enabled, each with what it would meet.
 
-ghost use Rattle.std.specs.Prelude.{◌≡◌, ◌++◌, OnOk, string_bytes};
-ghost use Rattle.bx_debugger.specs.Open.{open_answer, open_line, open_lines};
+ghost use Rattle.std.specs.Prelude.{◌≡◌, ◌++◌, OnOk, codes, string_bytes};
+ghost use Rattle.bx_world.specs.Texts.{spelling};
+ghost use Rattle.bx_debugger.specs.Open.{open_answer, open_lines};
+ghost use Rattle.bx_debugger.specs.Trace.{met_words};
 
 use crate::programs::Program;
 use crate::traces::{push_met, push_spelled};
@@ -17,7 +19,7 @@ fn push_open_line(
     world: &RcWorld,
 ) -> Result<(), AllocError>
     ensures { OnOk result (string_bytes out.new
-        ≡ string_bytes out.old ++ open_line program.now world.now choice) }
+        ≡ string_bytes out.old ++ (spelling choice ++ codes " " ++ met_words program.now choice world.now ++ codes "\n")) }
 {
     push_spelled(alloc, out, choice)?;
     push_met(alloc, out, program, choice, world)?;

@@ -1,10 +1,12 @@
 //! What a session answers to a line.
 
-ghost use Rattle.std.specs.Prelude.{◌≡◌, ◌++◌, IfOk, IsSome, Result, Some, codes, slice_get, string_bytes};
+ghost use Rattle.std.specs.Prelude.{◌≡◌, ◌++◌, IfOk, IsSome, None, Result, Some, codes, slice_get, string_bytes};
 ghost use Rattle.bx_terms.specs.Refusals.{refusal};
 ghost use Rattle.bx_terms.specs.declared.faults.Fault.{Fault};
+ghost use Rattle.bx_world.specs.Seen.{seen};
+ghost use Rattle.bx_world.specs.Texts.{outcome_lines};
 ghost use Rattle.bx_debug.specs.Sessions.{History, behind, world_of};
-ghost use Rattle.bx_debugger.specs.Answers.{Moves, answered, looked, moved, planned, ran_line, refused_line, refused_text, replied, traced, went_line, shown_lines};
+ghost use Rattle.bx_debugger.specs.Answers.{Moves, answered, looked, moved, planned, ran, refused_line, refused_text, replied, traced, went_line};
 ghost use Rattle.bx_debugger.specs.Functions.{list_answer};
 ghost use Rattle.bx_debugger.specs.Help.{help_answer};
 ghost use Rattle.bx_debugger.specs.Open.{open_answer};
@@ -212,7 +214,7 @@ fn ran_line(
     order: (u32, Bound),
 ) -> Result<String, Fault>
     ensures { IfOk result (λ text. (string_bytes text, session.new)
-        ≡ ran_line sources.now number order.1 order.0 session.old) }
+        ≡ ran sources.now number order.1 order.0 session.old (slice_get (world_of session.old).processes order.0)) }
 {
     let (pid, bound) = order;
     let Some(_) = session.world().process(pid) else {
@@ -225,7 +227,8 @@ fn ran_line(
 
 /// The outcome of the choices before the position.
 fn shown_lines(alloc: Global, session: &Session<'_>) -> Result<String, Fault>
-    ensures { IfOk result (λ text. string_bytes text ≡ shown_lines session.now) }
+    ensures { IfOk result (λ text. string_bytes text
+        ≡ outcome_lines session.now.image.atoms session.now.at None (seen (world_of session.now))) }
 {
     let outcome = session.world().outcome(alloc)?;
     outcome_text(

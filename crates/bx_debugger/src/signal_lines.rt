@@ -1,8 +1,10 @@
 //! `signals`: the signals that wait.
 
-ghost use Rattle.std.specs.Prelude.{◌≡◌, ◌++◌, OnOk, string_bytes};
+ghost use Rattle.std.specs.Prelude.{◌≡◌, ◌++◌, OnOk, codes, string_bytes};
 ghost use Rattle.bx_terms.specs.Printed.{printed};
-ghost use Rattle.bx_debugger.specs.Signals.{channel_lines, signal_line, signal_lines, signal_words, signals_answer};
+ghost use Rattle.bx_world.specs.Enabled.{delivery};
+ghost use Rattle.bx_world.specs.Texts.{spelling};
+ghost use Rattle.bx_debugger.specs.Signals.{channel_lines, signal_lines, signal_words, signals_answer};
 
 use crate::words::push_term;
 use bx_signals::{Channels, Signal};
@@ -50,8 +52,8 @@ fn push_signal_line(
     pair: (u32, u32),
     signal: &Signal,
 ) -> Result<(), AllocError>
-    ensures { OnOk result
-        (string_bytes out.new ≡ string_bytes out.old ++ signal_line atoms.now pair signal.now) }
+    ensures { OnOk result (string_bytes out.new ≡ string_bytes out.old
+        ++ (spelling (delivery pair) ++ codes " " ++ signal_words atoms.now signal.now ++ codes "\n")) }
 {
     let (from, to) = pair;
     write!(out, "d{from}>{to} ")?;

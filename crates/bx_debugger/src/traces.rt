@@ -1,9 +1,11 @@
 //! `trace N`: the last choices before the position, each with what it met.
 
 ghost use Rattle.std.specs.Prelude.{◌≡◌, ◌+◌, ◌^◌, ◌<◌, ◌≤◌, ◌++◌, List, OnOk, codes, option_map, replicate, string_bytes};
+ghost use Rattle.std.specs.Option.{option_map_or};
 ghost use Rattle.bx_world.specs.Texts.{spelling};
 ghost use Rattle.bx_world.specs.declared.choices.Choice.{Choice};
-ghost use Rattle.bx_debugger.specs.Trace.{choice_words, expires_in, made, met_words, signal_or_dash, trace_answer, trace_line, trace_lines};
+ghost use Rattle.bx_debugger.specs.Signals.{signal_words};
+ghost use Rattle.bx_debugger.specs.Trace.{expires_in, made, met_words, trace_answer, trace_line, trace_lines};
 
 use crate::programs::Program;
 use crate::signal_lines::push_signal;
@@ -34,7 +36,7 @@ fn push_signal_or_dash(
     signal: Option<&Signal>,
 ) -> Result<(), AllocError>
     ensures { OnOk result (string_bytes out.new
-        ≡ string_bytes out.old ++ signal_or_dash atoms.now (option_map (λ s. s.now) signal.entry)) }
+        ≡ string_bytes out.old ++ option_map_or (signal_words atoms.now) (option_map (λ s. s.now) signal.entry) (codes "-")) }
 {
     match signal {
         Some(signal) => push_signal(alloc, out, atoms, signal),
@@ -79,20 +81,6 @@ pub(crate) fn push_spelled(
     out.push_str(" ")
 }
 
-/// Adds a choice behind its number.
-fn push_choice(
-    alloc: Global,
-    out: &mut String,
-    number: usize,
-    choice: Choice,
-) -> Result<(), AllocError>
-    ensures { OnOk result
-        (string_bytes out.new ≡ string_bytes out.old ++ choice_words number choice) }
-{
-    write!(out, "{number} ")?;
-    push_spelled(alloc, out, choice)
-}
-
 /// Adds the line of a choice, before which its number stands, in the world where it is made.
 fn push_trace_line(
     alloc: Global,
@@ -105,7 +93,8 @@ fn push_trace_line(
         ≡ string_bytes out.old ++ trace_line program.now numbered.0 numbered.1 world.now) }
 {
     let (number, choice) = numbered;
-    push_choice(alloc, out, number, choice)?;
+    write!(out, "{number} ")?;
+    push_spelled(alloc, out, choice)?;
     push_met(alloc, out, program, choice, world)?;
     out.push_str("\n")
 }

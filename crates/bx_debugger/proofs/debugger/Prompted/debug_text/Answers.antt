@@ -1,8 +1,9 @@
-use Rattle.std.proofs.Common.{IsOk, inl, inr, length, rules, subst}
+use Rattle.std.proofs.Common.{IsOk, inl, inr, length, rules, subst, sym}
 use Rattle.std.proofs.KnownBytes.{Keeps-refl}
+use Rattle.bx_engine.proofs.FileRows.{same_length}
 use Rattle.bx_debugger.specs.Opening.{session_at}
 use Rattle.bx_debugger.specs.Talks.{Hearing, Talks}
-use Rattle.bx_debugger.proofs.OpeningRows.{before_image, before_session, debugs_so, same_length}
+use Rattle.bx_debugger.proofs.OpeningRows.{before_image, before_session, debugs_so}
 use Rattle.bx_debugger.proofs.debugger.Prompted.debug_text.Goals as goal
 
 pub returns-in-Err-located_image_of-clause-talked : goal.returns-in-Err-located_image_of-clause-talked
@@ -21,7 +22,7 @@ returns-clause-talked g c given known =
     debugs_so c.args.start.now given c.in-Ok.start (g.W.Write.contents c.args.writer.now) (g.W.Write.contents c.answer_all.new.writer)
     (g.C.Read.remaining c.args.commands.now) (g.C.Read.remaining c.answer_all.new.commands) c.in-Ok-located_image_of.program.0 c.in-Ok-located_image_of.program.1
     c.in-Ok-session_at.session (length c.args.listings.now) c.new-talk.result c.answer_all.result c.in-Ok.ensures.ok (c.in-Ok-located_image_of.ensures.loaded given known)
-    (c.in-Ok-located_image_of.ensures.located given known) c.in-Ok-session_at.ensures (same_length g.R.Read.remaining c.args.listings.now given known) c.new-talk.ensures c.answer_all.ensures
+    (c.in-Ok-located_image_of.ensures.located given known) c.in-Ok-session_at.ensures (sym (same_length g.R.Read.remaining c.args.listings.now given known)) c.new-talk.ensures c.answer_all.ensures
 
 pub returns-in-Err-clause-unknown : goal.returns-in-Err-clause-unknown
 returns-in-Err-clause-unknown g c = inl (search rules, Keeps-refl (g.W.Write.contents c.args.writer.now), Keeps-refl (g.C.Read.remaining c.args.commands.now))
