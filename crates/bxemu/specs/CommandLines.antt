@@ -1,7 +1,6 @@
 -- The command lines of the program, and what each orders, by the meaning that `clap` gives to the
 -- words of simple commands.
-use Rattle.std.specs.Prelude.{◌≡◌, ◌≢◌, ◌⊎◌, ◌<◌, ◌^◌, ℕ, pos, true, false, List, [], ◌∷◌, ◌++◌, Option, Some, None, codes, if◌then◌else◌, map, option_map}
-use Rattle.std.specs.Str.{bytes_eq}
+use Rattle.std.specs.Prelude.{◌≡◌, ◌≢◌, ◌⊎◌, ◌<◌, ◌^◌, ℕ, pos, true, false, List, [], ◌∷◌, ◌++◌, Option, Some, None, IsSomeAnd, bytes_eq, codes, if◌then◌else◌, map, option_map, option_to_list}
 use Rattle.std.specs.Str.Parse.{IsNumeral, signed_digits_value, without_leading_sign}
 use Rattle.clap.specs.Kinds.{HasKind, IsAmong}
 use Rattle.clap.specs.Faults.{fault_of}
@@ -102,23 +101,17 @@ abbrev pub form_by : Option Text → Form
 form_by None = Report
 form_by (Some value) = if bytes_eq value (codes "true") then Summary else Report
 
--- the start and the listings are what the values of a subcommand say
-abbrev pub NamesListings : List Row → Text → List Text → Type 0
-NamesListings rows start files = (first_of (codes "start") rows ≡ Some start) × (all_of (codes "FILES") rows ≡ Some files)
-
 -- a run with these parts is what the subcommand's values say
-abbrev pub IsRun : Option (Text × List Row) → Text → Text → Form → List Text → Type 0
-IsRun None start plan form files = ⊥
-IsRun (Some p) start plan form files = (p.0 ≡ codes "run")
+abbrev pub IsRun : Text → Text → Form → List Text → Text × List Row → Type 0
+IsRun start plan form files p = (p.0 ≡ codes "run")
     × (first_of (codes "start") p.1 ≡ Some start)
     × (first_of (codes "plan") p.1 ≡ Some plan)
     × (form_by (first_of (codes "summary") p.1) ≡ form)
     × (all_of (codes "FILES") p.1 ≡ Some files)
 
 -- a campaign with these parts is what the subcommand's values say
-abbrev pub IsCampaign : Option (Text × List Row) → Text → Text → ℕ → Form → List Text → Type 0
-IsCampaign None start plan workers form files = ⊥
-IsCampaign (Some p) start plan workers form files = (p.0 ≡ codes "campaign")
+abbrev pub IsCampaign : Text → Text → ℕ → Form → List Text → Text × List Row → Type 0
+IsCampaign start plan workers form files p = (p.0 ≡ codes "campaign")
     × (first_of (codes "start") p.1 ≡ Some start)
     × (first_of (codes "plan") p.1 ≡ Some plan)
     × ((text : Text) × (first_of (codes "workers") p.1 ≡ Some text) × Spells text workers)
@@ -126,51 +119,40 @@ IsCampaign (Some p) start plan workers form files = (p.0 ≡ codes "campaign")
     × (all_of (codes "FILES") p.1 ≡ Some files)
 
 -- a tidying with these parts is what the subcommand's values say
-abbrev pub IsTidy : Option (Text × List Row) → Text → Text → List Text → Type 0
-IsTidy None start plan files = ⊥
-IsTidy (Some p) start plan files = (p.0 ≡ codes "tidy")
+abbrev pub IsTidy : Text → Text → List Text → Text × List Row → Type 0
+IsTidy start plan files p = (p.0 ≡ codes "tidy")
     × (first_of (codes "start") p.1 ≡ Some start)
     × (first_of (codes "plan") p.1 ≡ Some plan)
     × (all_of (codes "FILES") p.1 ≡ Some files)
 
 -- a drawing with these parts is what the subcommand's values say
-abbrev pub IsChart : Option (Text × List Row) → Text → Text → Option Text → List Text → Type 0
-IsChart None start plan schedule files = ⊥
-IsChart (Some p) start plan schedule files = (p.0 ≡ codes "chart")
+abbrev pub IsChart : Text → Text → Option Text → List Text → Text × List Row → Type 0
+IsChart start plan schedule files p = (p.0 ≡ codes "chart")
     × (first_of (codes "start") p.1 ≡ Some start)
     × (first_of (codes "plan") p.1 ≡ Some plan)
     × (first_of (codes "schedule") p.1 ≡ schedule)
     × (all_of (codes "FILES") p.1 ≡ Some files)
 
 -- a session with these parts is what the subcommand's values say
-abbrev pub IsDebug : Option (Text × List Row) → Text → List Text → Type 0
-IsDebug None start files = ⊥
-IsDebug (Some p) start files = (p.0 ≡ codes "debug")
+abbrev pub IsDebug : Text → List Text → Text × List Row → Type 0
+IsDebug start files p = (p.0 ≡ codes "debug")
     × (first_of (codes "start") p.1 ≡ Some start)
     × (all_of (codes "FILES") p.1 ≡ Some files)
 
 -- a code form of this file is what the subcommand's values say
-abbrev pub IsDis : Option (Text × List Row) → Text → Type 0
-IsDis None file = ⊥
-IsDis (Some p) file = (p.0 ≡ codes "dis") × (first_of (codes "FILE") p.1 ≡ Some file)
+abbrev pub IsDis : Text → Text × List Row → Type 0
+IsDis file p = (p.0 ≡ codes "dis") × (first_of (codes "FILE") p.1 ≡ Some file)
 
 -- the order is the one that the subcommand's values say
 abbrev pub Orders : Option (Text × List Row) → Order → Type 0
-Orders named (Run start plan form files) =
-    IsRun named start.now plan.now form (map (λ file. file.now) files.items)
+Orders named (Run start plan form files) = IsSomeAnd named (IsRun start.now plan.now form (map (λ file. file.now) files.items))
 Orders named (Campaign start plan workers form files) =
-    IsCampaign named start.now plan.now workers form (map (λ file. file.now) files.items)
-Orders named (Tidy start plan files) =
-    IsTidy named start.now plan.now (map (λ file. file.now) files.items)
+    IsSomeAnd named (IsCampaign start.now plan.now workers form (map (λ file. file.now) files.items))
+Orders named (Tidy start plan files) = IsSomeAnd named (IsTidy start.now plan.now (map (λ file. file.now) files.items))
 Orders named (Chart start plan schedule files) =
-    IsChart named start.now plan.now (option_map (λ name. name.now) schedule) (map (λ file. file.now) files.items)
-Orders named (Debug start files) = IsDebug named start.now (map (λ file. file.now) files.items)
-Orders named (Dis file) = IsDis named file.now
-
--- a name that may be left out
-abbrev pub or_none : Option Text → List Text
-or_none None = []
-or_none (Some name) = name ∷ []
+    IsSomeAnd named (IsChart start.now plan.now (option_map (λ name. name.now) schedule) (map (λ file. file.now) files.items))
+Orders named (Debug start files) = IsSomeAnd named (IsDebug start.now (map (λ file. file.now) files.items))
+Orders named (Dis file) = IsSomeAnd named (IsDis file.now)
 
 -- what it names, in the order by which a failure numbers it: the listings, then the plan, then the schedule, where one is named; or
 -- the only file; the lines of a session stand behind its listings
@@ -179,23 +161,14 @@ names_in (Run start plan form files) = map (λ file. file.now) files.items ++ pl
 names_in (Campaign start plan workers form files) = map (λ file. file.now) files.items ++ plan.now ∷ []
 names_in (Tidy start plan files) = map (λ file. file.now) files.items ++ plan.now ∷ []
 names_in (Chart start plan schedule files) =
-    (map (λ file. file.now) files.items ++ plan.now ∷ []) ++ or_none (option_map (λ name. name.now) schedule)
+    (map (λ file. file.now) files.items ++ plan.now ∷ []) ++ option_to_list (option_map (λ name. name.now) schedule)
 names_in (Debug start files) = map (λ file. file.now) files.items ++ codes "-" ∷ []
 names_in (Dis file) = file.now ∷ []
 
 -- an order whose text goes out line by line, so that some of it may be out where it fails
 abbrev pub TellsByLine : Order → Type 0
-TellsByLine (Run start plan form files) = ⊥
-TellsByLine (Campaign start plan workers form files) = ⊥
-TellsByLine (Tidy start plan files) = ⊥
-TellsByLine (Chart start plan schedule files) = ⊥
 TellsByLine (Debug start files) = Unit {0}
-TellsByLine (Dis file) = ⊥
-
--- the subcommand whose text does
-abbrev pub NamesSession : Option (Text × List Row) → Type 0
-NamesSession None = ⊥
-NamesSession (Some p) = p.0 ≡ codes "debug"
+TellsByLine order = ⊥
 
 -- no order has these values
 abbrev pub IsUnordered : Option (Text × List Row) → Type 0
@@ -224,30 +197,6 @@ abbrev pub RefusesWords : List Text → ℕ → Type 0
 RefusesWords words status = (status ≡ 2) ⊎ (status ≡ 3)
     ⊎ (MayAskHelp words × ((status ≡ 0) ⊎ (status ≡ 4)))
 
--- the words order a run with these parts, and have no fault
-abbrev pub OrdersRun : List Text → Text → Text → Form → List Text → Type 0
-OrdersRun words start plan form files =
-    (fault_of program words ≡ []) × IsRun (subcommand_of program words) start plan form files
-
--- the words order a campaign with these parts, and have no fault
-abbrev pub OrdersCampaign : List Text → Text → Text → ℕ → Form → List Text → Type 0
-OrdersCampaign words start plan workers form files =
-    (fault_of program words ≡ []) × IsCampaign (subcommand_of program words) start plan workers form files
-
--- the words order a tidying with these parts, and have no fault
-abbrev pub OrdersTidy : List Text → Text → Text → List Text → Type 0
-OrdersTidy words start plan files =
-    (fault_of program words ≡ []) × IsTidy (subcommand_of program words) start plan files
-
--- the words order a drawing with these parts, and have no fault
-abbrev pub OrdersChart : List Text → Text → Text → Option Text → List Text → Type 0
-OrdersChart words start plan schedule files =
-    (fault_of program words ≡ []) × IsChart (subcommand_of program words) start plan schedule files
-
--- the words order a session with these parts, and have no fault
-abbrev pub OrdersDebug : List Text → Text → List Text → Type 0
-OrdersDebug words start files = (fault_of program words ≡ []) × IsDebug (subcommand_of program words) start files
-
--- the words order the code form of this file, and have no fault
-abbrev pub OrdersDis : List Text → Text → Type 0
-OrdersDis words file = (fault_of program words ≡ []) × IsDis (subcommand_of program words) file
+-- the words have no fault, and the values of their subcommand say that
+abbrev pub WithoutFault : List Text → (Text × List Row → Type 0) → Type 0
+WithoutFault words Says = (fault_of program words ≡ []) × IsSomeAnd (subcommand_of program words) Says

@@ -2,8 +2,8 @@
 ghost use Rattle.std.specs.Prelude.{◌≡◌, ◌≢◌, ◌⊎◌, ℕ, [], Some, IfErr, IfNone, IfOk, IfSome, codes, map, string_bytes};
 ghost use Rattle.clap.specs.Words.{found_of, kind_of, rows_of, subcommand_of, subcommand_rows_of};
 ghost use Rattle.clap.specs.Faults.{fault_of};
-ghost use Rattle.clap.specs.Walk.{Text, first_of};
-ghost use Rattle.bxemu.specs.CommandLines.{Lacks, NamesListings, Orders, OrdersNothing, Spells, form_by, program};
+ghost use Rattle.clap.specs.Walk.{Text, all_of, first_of};
+ghost use Rattle.bxemu.specs.CommandLines.{Lacks, Orders, OrdersNothing, Spells, form_by, program};
 
 use crate::syntax::program_command;
 use bx_engine::Form;
@@ -115,7 +115,8 @@ struct Listings<'a> {
 
 /// The start and the listings, by the values of a subcommand.
 fn listings_of<'a>(alloc: Global, values: &ArgMatches<'a>) -> Result<Listings<'a>, Error>
-    ensures ok { IfOk result (λ it. NamesListings (rows_of (found_of values.now)) it.start.now (map (λ file. file.now) it.files.items)) }
+    ensures ok { IfOk result (λ it. (first_of (codes "start") (rows_of (found_of values.now)) ≡ Some it.start.now)
+        × (all_of (codes "FILES") (rows_of (found_of values.now)) ≡ Some (map (λ file. file.now) it.files.items))) }
     ensures err { IfErr result (λ e. (name : Text) → name ≢ codes "dis" → Lacks (Some (name, rows_of (found_of values.now))) e) }
 {
     let Some(start) = values.get_str("start") else {

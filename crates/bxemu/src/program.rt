@@ -1,11 +1,11 @@
 //! The program over a runtime: its words, its files, and the status that it ends with.
-ghost use Rattle.std.specs.Prelude.{◌≡◌, ◌≢◌, ◌≤◌, ◌↔◌, ◌⊎◌, ◌++◌, ◌∷◌, [], IfErr, IfOk, IsOk, IsOkAnd, map, option_map, string_bytes};
+ghost use Rattle.std.specs.Prelude.{◌≡◌, ◌≢◌, ◌≤◌, ◌↔◌, ◌⊎◌, ◌++◌, ◌∷◌, [], IfErr, IfOk, IsOk, IsOkAnd, IsSomeAnd, codes, map, option_map, option_to_list, string_bytes};
 ghost use Rattle.std.specs.Io.KnownBytes.{Keeps};
 ghost use Rattle.std.specs.IoError.{error_kind};
 ghost use Rattle.std.specs.declared.io.ErrorKind.TheVariants.{OutOfMemory};
 ghost use Rattle.clap.specs.Words.{kind_of, subcommand_of};
 ghost use Rattle.bx_terms.specs.declared.faults.Fault.TheVariants.{Memory};
-ghost use Rattle.bxemu.specs.CommandLines.{IsMistaken, NamesSession, RefusesWords, TellsByLine, names_in, or_none, program};
+ghost use Rattle.bxemu.specs.CommandLines.{IsMistaken, RefusesWords, TellsByLine, names_in, program};
 ghost use Rattle.bxemu.specs.Statuses.{EndsByKind, by_name, status_after};
 
 use crate::commands::{Order, command_of};
@@ -72,7 +72,7 @@ where
     W: Write + IsTerminal,
     ensures few { result ≤ 4 }
     ensures unwritten { (result ≡ 0) ⊎ (result ≡ 4)
-        ⊎ IsOkAnd words.now (λ words. NamesSession (subcommand_of program (map string_bytes words.items)))
+        ⊎ IsOkAnd words.now (λ words. IsSomeAnd (subcommand_of program (map string_bytes words.items)) (λ named. named.0 ≡ codes "debug"))
         ⊎ Keeps (O.contents output.old) (O.contents output.new) }
     ensures refused { IfOk words.now (λ words. IsMistaken (map string_bytes words.items)
         → RefusesWords (map string_bytes words.items) result) }
@@ -260,7 +260,7 @@ fn names_with(
     schedule: Option<&str>,
 ) -> Result<Vec<String>, AllocError>
     ensures { IfOk result (λ names. map string_bytes names.items ≡ (map (λ file. file.now) files.now ++ plan.now ∷ [])
-        ++ or_none (option_map (λ name. name.now) schedule.entry)) }
+        ++ option_to_list (option_map (λ name. name.now) schedule.entry)) }
 {
     let mut names = names_of(alloc, files, plan)?;
     if let Some(name) = schedule {
