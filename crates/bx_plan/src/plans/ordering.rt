@@ -1,6 +1,6 @@
 //! Schedules in an order in which those stand together that begin alike.
 
-ghost use Rattle.std.specs.Prelude.{◌≡◌, ◌<◌, ◌≤◌, [], length, slice_get, Some, IfOk, OnErr};
+ghost use Rattle.std.specs.Prelude.{◌≡◌, ◌<◌, ◌≤◌, [], length, slice_get, Some, IfOk, IfSome, OnErr};
 ghost use Rattle.bx_plan.specs.Gathered.{AreRows};
 ghost use Rattle.bx_plan.specs.Ordered.{headed, AreFrom, AreInOrder, AreMerged, GoOn, Takes, TakesFirst};
 ghost use Rattle.bx_plan.specs.Plans.{choices_of};
@@ -9,6 +9,9 @@ ghost use Rattle.bx_plan.specs.View.{lines_view};
 use super::{Line, Row};
 use std::alloc::{AllocError, Global};
 use std::marker::Model;
+
+/// From how many schedules on it is looked whether they stand in order. Where they are drawn, the second or third is out of it mostly.
+const MANY: usize = 64;
 
 /// Rows in order that are left, and how many choices the first of them begins with as the row that was taken last.
 #[derive(Drop)]
@@ -52,15 +55,9 @@ impl<'a> Left<'a> {
     fn take(&mut self) -> Option<Row>
         ensures { TakesFirst self.old self.new result }
     {
-        let [first, rows @ ..] = self.rows else {
-            return None;
-        };
-        let row = Row {
-            line: first.line,
-            common: self.common,
-        };
-        self.rows = rows;
-        if let [next, ..] = rows {
+        let row = self.first()?;
+        self.rows = &self.rows[1..];
+        if let [next, ..] = self.rows {
             self.common = next.common;
         }
         Some(row)
@@ -71,33 +68,6 @@ impl<'a> Left<'a> {
         ensures { self.new ≡ headed common self.old }
     {
         self.common = common;
-    }
-}
-
-/// Takes the row that stands first, where both begin with as many choices as the row that was taken last.
-fn take_level(
-    lines: &[Line],
-    one: &mut Left<'_>,
-    other: &mut Left<'_>,
-    first: Row,
-    second: Row,
-) -> Option<Row>
-    requires next { GoOn (choices_of (lines_view lines.now)) one.old other.old }
-    requires first { slice_get one.old 0 ≡ Some first }
-    requires second { slice_get other.old 0 ≡ Some second }
-    requires level { first.common ≡ second.common }
-    requires one { first.line < length lines.now }
-    requires other { second.line < length lines.now }
-    ensures { Takes (choices_of (lines_view lines.now)) one.old other.old one.new other.new result }
-{
-    let schedule = &lines[first.line].schedule;
-    let (common, order) = schedule.compare(&lines[second.line].schedule, first.common);
-    if order.is_gt() {
-        one.stand_behind(common);
-        other.take()
-    } else {
-        other.stand_behind(common);
-        one.take()
     }
 }
 
@@ -113,12 +83,19 @@ fn take_first(lines: &[Line], one: &mut Left<'_>, other: &mut Left<'_>) -> Optio
         return one.take();
     };
     if first.common > second.common {
-        one.take()
-    } else if first.common < second.common {
-        other.take()
-    } else {
-        take_level(lines, one, other, first, second)
+        return one.take();
     }
+    if first.common < second.common {
+        return other.take();
+    }
+    let schedule = &lines[first.line].schedule;
+    let (common, order) = schedule.compare(&lines[second.line].schedule, first.common);
+    if order.is_gt() {
+        one.stand_behind(common);
+        return other.take();
+    }
+    other.stand_behind(common);
+    one.take()
 }
 
 /// The rows of both in order.
@@ -135,6 +112,30 @@ fn merge(alloc: Global, lines: &[Line], one: &[Row], other: &[Row]) -> Result<Ve
     Ok(rows)
 }
 
+/// The rows of the schedules from that line on up to the one before another, where they stand in order already.
+fn run_of(
+    alloc: Global,
+    lines: &[Line],
+    line: usize,
+    past: usize,
+) -> Result<Option<Vec<Row>>, AllocError>
+    requires order { line < past }
+    requires within { past ≤ length lines.now }
+    ensures { IfOk result (λ run. IfSome run (λ rows. AreInOrder (choices_of (lines_view lines.now)) line past rows.items)) }
+{
+    let mut rows = Vec::with_capacity(alloc, past - line)?;
+    rows.push_reserved(Row { line, common: 0 });
+    for next in line + 1..past {
+        let last = &lines[next - 1].schedule;
+        let (common, order) = last.compare(&lines[next].schedule, 0);
+        if order.is_gt() {
+            return Ok(None);
+        }
+        rows.push_reserved(Row { line: next, common });
+    }
+    Ok(Some(rows))
+}
+
 /// The rows of the schedules from that line on up to the one before another, in order.
 fn in_order(alloc: Global, lines: &[Line], line: usize, past: usize) -> Result<Vec<Row>, AllocError>
     requires order { line ≤ past }
@@ -147,6 +148,11 @@ fn in_order(alloc: Global, lines: &[Line], line: usize, past: usize) -> Result<V
     }
     if line + 1 == past {
         return vec![in alloc; Row { line, common: 0 }; 1];
+    }
+    if past - line >= MANY {
+        if let Some(rows) = run_of(alloc, lines, line, past)? {
+            return Ok(rows);
+        }
     }
     let middle = line + (past - line) / 2;
     let one = in_order(alloc, lines, line, middle)?;
