@@ -47,6 +47,15 @@ module _ (n : ℕ) (plan : List Named) (schedule : Named) where
   pub loose : Loose (with_loose n plan schedule)
   loose = grind (arith, cases_Bool)
 
+-- what is refused in the one way is in the other
+pub read_fault : (n : ℕ) (plan : List Named) (read : Option (Option (List ℕ × List Entry))) (fault : Fault) → read_loose n plan read ≡ Err fault → with_read n plan read ≡ Err fault
+read_fault n plan None fault h = h
+read_fault n plan (Some None) fault h = cc
+read_fault n plan (Some (Some line)) fault h = one (loose n plan (named line)) where
+  one : Loose n plan (named line) (with_loose n plan (named line)) → with_schedule n plan (named line) ≡ Err fault
+  one (inl (first, loosely, strictly)) = strictly ∙ (sym loosely ∙ h)
+  one (inr (loosely, strictly)) = let clash : Ok (plan ++ named line ∷ []) ≡ Err fault = sym loosely ∙ h in cc
+
 -- ---- whether there are too many prefixes so far
 
 -- too many with one of the schedules stay too many

@@ -32,7 +32,7 @@ pub use Rattle.std.proofs.lemmas.Map.Made.{length-le_from_is_member, is_member-D
 pub use Rattle.std.specs.Cmp.{IsTotalOrder, IsStrictWeakOrder, IsEquivalence}
 pub use Rattle.std.specs.List.Sorted.{IsSortedBy, IsNonDecreasingBy, IsPartitionPoint}
 pub use Rattle.std.proofs.lemmas.List.Sorted.{ranks_by, sorted_far, IsNonDecreasingBy-from_all_adjacent, IsPartitionPoint-from_clause, IsPartitionedBy-leb}
-pub use Rattle.bx_plan.specs.Building.{read_loose, text_cmp, Stands, so_far, IsBuilding, with_loose, Overfull, answer_of, fault_of, Adds, IsNoted}
+pub use Rattle.bx_plan.specs.Building.{read_loose, text_cmp, Stands, so_far, IsBuilding, with_loose, Overfull, answer_of, Adds, IsNoted}
 pub use Rattle.bx_plan.specs.Chains.{above, begun, chain_path, head, Chained, IsCut, times, path_at, AreChains, AreForest, Begins, Owns, is_kid, kids, no_head, one_if}
 pub use Rattle.bx_plan.specs.Cuts.{marked, AllCuts, AreCuts, IsCutBy, deepest, Rise}
 pub use Rattle.bx_plan.specs.Entry.{Entry}
@@ -51,7 +51,6 @@ pub use Rattle.bx_plan.specs.View.{line_view, lines_view}
 pub use Rattle.bx_plan.specs.declared.chains.Head.{Head}
 pub use Rattle.bx_plan.specs.declared.plans.Line.{Line}
 pub use Rattle.bx_plan.specs.declared.plans.Row.{Row}
-pub use Rattle.bx_plan.specs.declared.plans.building.Refusal.{Refusal}
 pub use Rattle.bx_plan.specs.declared.schedules.stretches.Stretch.{Stretch}
 pub use Rattle.bx_terms.specs.Outcomes.{◌>>=◌, Gives}
 pub use Rattle.bx_terms.specs.declared.faults.Fault.{Fault, TheVariants.NameTwice, TheVariants.TooLong, TheVariants.BadLine}

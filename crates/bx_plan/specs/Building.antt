@@ -8,7 +8,6 @@ use Rattle.std.specs.Cmp.Lexicographic.{slice_cmp}
 use Rattle.bx_terms.specs.declared.faults.Fault.{Fault, TheVariants.BadLine, TheVariants.NameTwice, TheVariants.TooLong}
 use Rattle.bx_plan.specs.Entry.{Entry}
 use Rattle.bx_plan.specs.declared.plans.building.Builder.{Builder}
-use Rattle.bx_plan.specs.declared.plans.building.Refusal.{Refusal, TheVariants.Bad, TheVariants.Twice, TheVariants.Long}
 use Rattle.bx_plan.specs.Nodes.{node_count}
 use Rattle.bx_plan.specs.Plans.{Named, choices_of, has_name, named, plan_of, TakesMemory}
 use Rattle.bx_plan.specs.Reading.{parts_of}
@@ -40,19 +39,14 @@ read_loose n plan (Some (Some line)) = with_loose n plan (named line)
 abbrev pub IsNoted : ℕ → Builder → Builder → Type 0
 IsNoted n old new = ((new.numbers.items ≡ old.numbers.items) × (so_far new ≡ so_far old)) ⊎ ((new.numbers.items ≡ old.numbers.items ++ n ∷ []) × (length (so_far new) ≡ length (so_far old) + 1))
 
-abbrev pub fault_of : Refusal → Fault
-fault_of (Bad n) = BadLine n
-fault_of (Twice n) = NameTwice n
-fault_of (Long n) = TooLong n
-
-abbrev pub answer_of : Option Refusal → List Named → Result (List Named) Fault
+abbrev pub answer_of : Option Fault → List Named → Result (List Named) Fault
 answer_of None plan = Ok plan
-answer_of (Some refusal) plan = Err (fault_of refusal)
+answer_of (Some fault) plan = Err fault
 
 -- a step is what the definition says of the schedules before it; out of memory only where `takes` holds
-abbrev pub Adds : {E : Type 0} → Type 0 → ℕ → Builder → Builder → Result (Option Refusal) E → Result (List Named) Fault → Type 0
+abbrev pub Adds : {E : Type 0} → Type 0 → ℕ → Builder → Builder → Result (Option Fault) E → Result (List Named) Fault → Type 0
 Adds takes n old new (Ok None) said = (said ≡ Ok (so_far new)) × IsBuilding new × IsNoted n old new
-Adds takes n old new (Ok (Some refusal)) said = (said ≡ Err (fault_of refusal)) × (new.numbers.items ≡ old.numbers.items) × (so_far new ≡ so_far old)
+Adds takes n old new (Ok (Some fault)) said = (said ≡ Err fault) × (new.numbers.items ≡ old.numbers.items) × (so_far new ≡ so_far old)
 Adds takes n old new (Err e) said = takes
 
 -- with one of the schedules there are too many prefixes, and the answer names its line

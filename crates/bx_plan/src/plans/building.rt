@@ -2,7 +2,7 @@
 
 ghost use Rattle.std.specs.Prelude.{◌≡◌, ◌≤◌, ◌++◌, ◌∷◌, [], List, ℕ, length, IfOk, OnOk, OnErr};
 ghost use Rattle.bx_terms.specs.Outcomes.{Gives};
-ghost use Rattle.bx_plan.specs.Building.{answer_of, fault_of, read_loose, so_far, with_loose, Adds, IsBuilding, IsRead};
+ghost use Rattle.bx_plan.specs.Building.{answer_of, read_loose, so_far, with_loose, Adds, IsBuilding, IsRead};
 ghost use Rattle.bx_plan.specs.Entry.{Entry};
 ghost use Rattle.bx_plan.specs.Made.{Make};
 ghost use Rattle.bx_plan.specs.Planned.{schedules};
@@ -19,29 +19,6 @@ use crate::schedules::Schedule;
 use bx_terms::{Fault, Name};
 use std::alloc::{AllocError, Global};
 use std::collections::BTreeSet;
-
-/// Why the line of a number is refused, whatever the schedules before it share.
-#[derive(Clone, Copy, Debug, PartialEq, Eq)]
-pub(super) enum Refusal {
-    /// It is no line of a plan.
-    Bad(usize),
-    /// An earlier line has its name.
-    Twice(usize),
-    /// Its schedule makes too many choices.
-    Long(usize),
-}
-
-impl Refusal {
-    fn fault(self) -> Fault
-        ensures { result ≡ fault_of self }
-    {
-        match self {
-            Refusal::Bad(line) => Fault::BadLine { line },
-            Refusal::Twice(line) => Fault::NameTwice { line },
-            Refusal::Long(line) => Fault::TooLong { line },
-        }
-    }
-}
 
 /// A plan while its lines are read.
 #[derive(Drop)]
@@ -68,7 +45,7 @@ impl<'a> Builder<'a> {
     }
 
     /// Reads lines up to the first that is refused by itself, by its name or by its length.
-    pub(super) fn read_all(&mut self, text: &'a [u8]) -> Result<Option<Refusal>, AllocError>
+    pub(super) fn read_all(&mut self, text: &'a [u8]) -> Result<Option<Fault>, AllocError>
         requires empty { so_far self.old ≡ [] }
         requires building { IsBuilding self.old }
         ensures ok { IfOk result (λ refusal. IsRead text.entry.now self.new (answer_of refusal (so_far self.new))) }
@@ -86,20 +63,20 @@ impl<'a> Builder<'a> {
     }
 
     /// Reads the line of this number, from 1.
-    fn read_line(&mut self, number: usize, text: &'a [u8]) -> Result<Option<Refusal>, AllocError>
+    fn read_line(&mut self, number: usize, text: &'a [u8]) -> Result<Option<Fault>, AllocError>
         requires { IsBuilding self.old }
         ensures { Adds (TakesFirst (line_of text.entry.now) ⊥) number self.old self.new result
             (read_loose number (so_far self.old) (line_of text.entry.now)) }
     {
         match line_of(self.alloc, text) {
-            None => Ok(Some(Refusal::Bad(number))),
+            None => Ok(Some(Fault::BadLine { line: number })),
             Some(lines::Line::Nothing) => Ok(None),
             Some(lines::Line::Schedule(heading)) => self.add(number, heading),
         }
     }
 
     /// Adds the schedule of the line of this number.
-    fn add(&mut self, number: usize, heading: Heading<'a>) -> Result<Option<Refusal>, AllocError>
+    fn add(&mut self, number: usize, heading: Heading<'a>) -> Result<Option<Fault>, AllocError>
         requires { IsBuilding self.old }
         ensures { (entries : List Entry) → Make heading.entry.entries entries
             → Adds (length (spread entries) ≤ 100000) number self.old self.new result
@@ -108,23 +85,21 @@ impl<'a> Builder<'a> {
         let Heading { name, entries } = heading;
         if entries.count > MOST_CHOICES {
             if self.names.contains(&name) {
-                return Ok(Some(Refusal::Twice(number)));
+                return Ok(Some(Fault::NameTwice { line: number }));
             }
-            return Ok(Some(Refusal::Long(number)));
+            return Ok(Some(Fault::TooLong { line: number }));
         }
         let Ok(is_new) = self.names.insert(name) else {
             return Err(AllocError);
         };
         if !is_new {
-            return Ok(Some(Refusal::Twice(number)));
+            return Ok(Some(Fault::NameTwice { line: number }));
         }
         if !entries.is_whole {
             return Err(AllocError);
         }
-        match self.push(number, name, entries.schedule) {
-            Ok(()) => Ok(None),
-            Err(refused) => Err(refused),
-        }
+        self.push(number, name, entries.schedule)?;
+        Ok(None)
     }
 
     /// Adds a schedule with its line's number.
@@ -140,7 +115,7 @@ impl<'a> Builder<'a> {
     }
 
     /// The plan of the lines that were read, up to the first that was refused; or the fault of the first at fault.
-    pub(super) fn finish(self, refusal: Option<Refusal>) -> Result<Plan, Fault>
+    pub(super) fn finish(self, refusal: Option<Fault>) -> Result<Plan, Fault>
         requires { length self.numbers.items ≡ length (so_far self) }
         ensures { (text : List ℕ) → IsRead text self.entry (answer_of refusal (so_far self.entry)) → Gives (TakesMemory (parts_of 10 text))
             (λ plan. schedules plan) result (plan_of text) }
@@ -160,7 +135,7 @@ impl<'a> Builder<'a> {
         }
         match refusal {
             None => Ok(Plan { lines, rows }),
-            Some(refusal) => Err(refusal.fault()),
+            Some(fault) => Err(fault),
         }
     }
 }

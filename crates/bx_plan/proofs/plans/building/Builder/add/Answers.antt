@@ -15,8 +15,8 @@ whole : (b : Bool) → not b ≡ false → b ≡ true
 whole true h = refl
 whole false h = cc
 
-pub returns-in-Ok-push : goal.returns-in-Ok-push
-returns-in-Ok-push c entries made = grind (arith, common_steps, not-true, whole, length_push, loose_added, is_short, knows_more)
+pub returns : goal.returns
+returns c entries made = grind (arith, common_steps, not-true, whole, length_push, loose_added, is_short, knows_more)
 
-pub returns-in-Err : goal.returns-in-Err
-returns-in-Err c entries made = is_short _ _ made.counted (omega arith)
+pub returns-in_err-push : goal.returns-in_err-push
+returns-in_err-push c entries made = grind (arith, common_steps, is_short)

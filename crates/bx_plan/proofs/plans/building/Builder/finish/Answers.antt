@@ -1,5 +1,7 @@
-use Rattle.bx_plan.proofs.Words.{◌≡◌, ◌<◌, ◌≤◌, ◌+◌, List, Option, Result, Err, length, take, sym, ap, subst, ◌∙◌, arith, get_or_default, length-map, Fault, TooLong, Line, Refusal, parts_of, so_far, node_count, common_steps, Gives}
-use Rattle.bx_plan.proofs.Words.{Planned, schedules, answer_of, fault_of, Named, choices_of, plan_of, TakesMemory, line_view, lines_view}
+use Rattle.bx_plan.proofs.Words.{◌≡◌, ◌<◌, ◌≤◌, ◌+◌, ℕ, List, Option, Err, length, take, sym, ap, subst, ◌∙◌, arith, get_or_default, length-map, Fault, TooLong, Line, parts_of, so_far, node_count, Gives}
+use Rattle.bx_plan.proofs.Words.{Planned, schedules, answer_of, Named, choices_of, plan_of, TakesMemory, line_view, lines_view}
+use Rattle.bx_terms.specs.declared.faults.Fault.{TheVariants.Memory}
+use Rattle.bx_plan.proofs.Accepting.{fault_law}
 use Rattle.bx_plan.proofs.Adding.{few_all, stands_few, stands_full}
 use Rattle.bx_plan.proofs.plans.building.Builder.finish.Goals as goal
 
@@ -17,14 +19,16 @@ pub returns-in-None : goal.returns-in-None
 returns-in-None c text is =
     let self = c.args.self in
     let few = few_all c.deref-2.result.now self.lines.items c.len.result c.is_full.result c.deref-2.ensures.value (omega arith) c.is_full.ensures.1 c.if-is_full.false in
-    sym (stands_few (so_far self) self.numbers.items (answer_of c.args.refusal (so_far self)) (plan_of text) few is.stands) ∙ ap (λ (o : Option Refusal). answer_of o (so_far self)) c.in-None.is
+    sym (stands_few (so_far self) self.numbers.items (answer_of c.args.refusal (so_far self)) (plan_of text) few is.stands) ∙ ap (λ (o : Option Fault). answer_of o (so_far self)) c.in-None.is
 
-given : (takes : Type 0) (r : Refusal) (fault : Fault) (said : Result (List Named) Fault) → fault ≡ fault_of r → Err (fault_of r) ≡ said → Gives {X = Planned} {A = List Named} takes (λ plan. schedules plan) (Err fault) said
-given takes r fault said e f = grind (arith, common_steps)
+-- no text has a fault of memory
+given : (text : List ℕ) (fault : Fault) → Err fault ≡ plan_of text → Gives {X = Planned} {A = List Named} (TakesMemory (parts_of 10 text)) (λ plan. schedules plan) (Err fault) (plan_of text)
+given text Memory e = absurd ((fault_law text Memory).0 (sym e)).6
+given text fault e = sym e
 
 pub returns : goal.returns
 returns c text is =
     let self = c.args.self in
     let few = few_all c.deref-2.result.now self.lines.items c.len.result c.is_full.result c.deref-2.ensures.value (omega arith) c.is_full.ensures.1 c.if-is_full.false in
-    given (TakesMemory (parts_of 10 text)) c.in-Some.refusal c.fault.result (plan_of text) c.fault.ensures
-    (sym (ap (λ (o : Option Refusal). answer_of o (so_far self)) c.in-Some.is) ∙ stands_few (so_far self) self.numbers.items (answer_of c.args.refusal (so_far self)) (plan_of text) few is.stands)
+    given text c.in-Some.fault
+    (sym (ap (λ (o : Option Fault). answer_of o (so_far self)) c.in-Some.is) ∙ stands_few (so_far self) self.numbers.items (answer_of c.args.refusal (so_far self)) (plan_of text) few is.stands)
