@@ -206,9 +206,12 @@ module _ (schedules : List (List Choice)) (count : ℕ) where
         so : so_far (k + 1) ≡ so_far k
         so = next_is k false h (le-ltb (row_at rows k).line count l) ∙ append-nil (so_far k)
 
+pub lines_long : (lines : List Line) → length (choices_of (lines_view lines)) ≡ length lines
+lines_long lines = omega (arith, length-map (lines_view lines) (λ (s : Named). s.1), length-map lines line_view)
+
 -- the schedule of a line
 pub line_choices : (lines : List Line) (i : ℕ) (x : Line) → i < length (choices_of (lines_view lines)) → get_or (choices_of (lines_view lines)) i [] ≡ (get_or lines i x).schedule
 line_choices lines i x h =
-    let long : i < length lines = omega (arith, h, length-map (lines_view lines) (λ (s : Named). s.1), length-map lines line_view) in
+    let long : i < length lines = omega (arith, h, lines_long lines) in
     get_or-map (λ (s : Named). s.1) (lines_view lines) i ([], []) [] (omega (arith, long, length-map lines line_view))
     ∙ ap (λ (s : Named). s.1) (get_or-map line_view lines i x ([], []) long)

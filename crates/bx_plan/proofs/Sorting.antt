@@ -1,25 +1,15 @@
 -- Rows in order, and how two of them are merged.
-use Rattle.bx_plan.proofs.Words.{⊎_elim, ◌≡◌, ℕ, zero, suc, ◌+◌, ◌<◌, ◌≤◌, Bool, true, false, cond, List, [], ◌∷◌, ◌++◌, Option, None, Some, length, get_or, refl, sym, ap, subst, ◌∙◌, arith, add-one, nat_eq, rules, common_steps, is_lt}
-use Rattle.bx_plan.proofs.Words.{IsStrictWeakOrder, IsSortedBy, ranks_by, sorted_far, sum_by-cons, headed, GoOn, slice_get, Ordering, ordering_reverse, is_gt, cases_lt, eqb-true, eq-eqb, cond-true, length_push, lists_total, length-map, sum_by-append, Choice, Line}
-use Rattle.bx_plan.proofs.Words.{Row, choices_cmp, common, common_before, no_row, placed, row_at, AreRows, at_row, rows_at, AreFrom, AreInOrder, AreMerged, Takes, Named, choices_of, line_view, lines_view}
+use Rattle.bx_plan.proofs.Words.{⊎_elim, ◌≡◌, ℕ, zero, suc, ◌+◌, ◌<◌, ◌≤◌, Bool, true, false, cond, List, [], ◌∷◌, ◌++◌, Option, None, Some, length, get_or, refl, sym, ap, subst, ◌∙◌, arith, add-one, nat_eq, common_steps, is_lt}
+use Rattle.bx_plan.proofs.Words.{IsStrictWeakOrder, IsSortedBy, ranks_by, sorted_far, sum_by-cons, headed, GoOn, slice_get, Ordering, ordering_reverse, is_gt, cases_lt, eqb-true, eq-eqb, cond-true, lists_total, sum_by-append, Choice}
+use Rattle.bx_plan.proofs.Words.{Row, choices_cmp, common, common_before, no_row, placed, row_at, AreRows, at_row, rows_at, AreFrom, AreInOrder, AreMerged, Takes}
 use Rattle.bx_plan.specs.Ordered.{Stands, TakesFirst}
 use Rattle.bx_plan.proofs.Commons.{common_least, common_turned}
-use Rattle.bx_plan.proofs.Counting.{line_choices}
 use Rattle.bx_plan.proofs.Ordering.{between, choice_total, more_first}
 
 -- ---- rows without their first, and with another number at their first
 
 pub rows_push : (line : ℕ) (rows : List Row) (row : Row) → rows_at line (rows ++ row ∷ []) ≡ rows_at line rows + rows_at line (row ∷ [])
 rows_push line rows row = sum_by-append (λ (r : Row). cond (nat_eq r.line line) 1 0) rows (row ∷ [])
-
-pub lines_long : (lines : List Line) → length (choices_of (lines_view lines)) ≡ length lines
-lines_long lines = omega (arith, length-map (lines_view lines) (λ (s : Named). s.1), length-map lines line_view)
-
--- what was said of two lines, of their rows
-pub compared : (lines : List Line) (x y : Row) (one other : Line) (n : ℕ) (o : Ordering) → x.line < length lines → y.line < length lines → n ≡ common (get_or lines x.line one).schedule (get_or lines y.line other).schedule
-    → o ≡ choices_cmp (get_or lines x.line one).schedule (get_or lines y.line other).schedule
-    → (n ≡ common (at_row (choices_of (lines_view lines)) x) (at_row (choices_of (lines_view lines)) y)) × (o ≡ choices_cmp (at_row (choices_of (lines_view lines)) x) (at_row (choices_of (lines_view lines)) y))
-compared lines x y one other n o h l alike order = search (rules, line_choices, lines_long)
 
 module _ (schedules : List (List Choice)) where
   pub first_stands : (last : List Choice) (rows : List Row) (row : Row) → AreFrom schedules last rows → slice_get rows 0 ≡ Some row → Stands schedules last row
@@ -39,19 +29,17 @@ module _ (schedules : List (List Choice)) where
   from_push last [] row are next = (next, tt)
   from_push last (r ∷ rows) row are next = (are.0, from_push (at_row schedules r) rows row are.1 next)
 
-  -- rows of lines in order, one for each, and the last of them
+  -- rows of lines in order, and the last of them
   pub record IsRun (first next : ℕ) (rows : List Row) : Type 0 where
     pub are : AreInOrder schedules first next rows
-    pub long : length rows + first ≡ next
     pub last : (k : ℕ) → k + 1 ≡ next → last_of [] rows ≡ get_or schedules k []
 
-  pub run_push : (first next : ℕ) (rows : List Row) (row : Row) → AreInOrder schedules first next rows → length rows + first ≡ next → Stands schedules (last_of [] rows) row → row.line ≡ next → IsRun first (next + 1) (rows ++ row ∷ [])
-  run_push first next rows row are long stands e = record {
+  pub run_push : (first next : ℕ) (rows : List Row) (row : Row) → AreInOrder schedules first next rows → Stands schedules (last_of [] rows) row → row.line ≡ next → IsRun first (next + 1) (rows ++ row ∷ [])
+  run_push first next rows row are stands e = record {
     are = record {
       from = from_push [] rows row are.from stands;
       all = λ line h l. ⊎_elim (λ (low : line < next). omega (arith, rows_push line rows row, are.all line h low)) (λ (high : next ≤ line). omega (arith, rows_push line rows row, here line (omega arith))) (cases_lt line next);
     };
-    long = omega (arith, long, length_push rows row);
     last = λ k f. last_push [] rows row ∙ ap (λ n. get_or schedules n []) (omega arith);
   } where
     here : (line : ℕ) → row.line ≡ line → rows_at line (row ∷ []) ≡ 1
@@ -164,7 +152,3 @@ module _ (schedules : List (List Choice)) where
       gathered = λ i j k a b h. between (placed schedules rows i) (placed schedules rows j) (placed schedules rows k) (behind i j a (omega arith)) (behind j k b h);
       commons = commons;
     }
-
--- the first of them is a line's
-pub first_there : (lines : List Line) (last : List Choice) (rows : List Row) (row : Row) → AreFrom (choices_of (lines_view lines)) last rows → slice_get rows 0 ≡ Some row → row.line < length lines
-first_there lines last rows row are e = omega (arith, (first_stands (choices_of (lines_view lines)) last rows row are e).within, lines_long lines)

@@ -1,6 +1,6 @@
 //! Plans, and the reading of their texts.
 
-ghost use Rattle.std.specs.Prelude.{◌≡◌, ◌↔◌, ◌^◌, ◌≤◌, ◌<◌, length, option_map, slice_get, take, IsTrue, MatchOption, None, Ok};
+ghost use Rattle.std.specs.Prelude.{◌≡◌, ◌↔◌, ◌^◌, ◌≤◌, ◌<◌, [], length, option_map, slice_get, slice_index_or, take, IsTrue, MatchOption, None, Ok};
 ghost use Rattle.bx_terms.specs.Outcomes.{Gives};
 ghost use Rattle.bx_plan.specs.Gathered.{placed, AreRows};
 ghost use Rattle.bx_plan.specs.Planned.{choices_at, part_of, schedules};
@@ -122,11 +122,21 @@ impl Plan {
     }
 
     /// Whether both name the same schedules in the same order.
+    #[tactic(auto, using(crate::proofs::Looking::lines_same, std::proofs::lemmas::Grind::common_steps))]
     pub fn same(&self, other: &Plan) -> bool
         ensures { IsTrue result ↔ (self.now ≡ other.now) }
     {
         same_rows(&self.lines, &other.lines)
     }
+}
+
+/// The schedule of a line.
+#[tactic(auto, using(crate::proofs::Counting::line_choices, crate::proofs::Counting::lines_long))]
+fn schedule_at(lines: &[Line], line: usize) -> &Schedule
+    requires { line < length (choices_of (lines_view lines.now)) }
+    ensures { result.now ≡ slice_index_or (choices_of (lines_view lines.now)) line [] }
+{
+    &lines[line].schedule
 }
 
 /// How many choices the schedule at a place of a row makes.
@@ -135,7 +145,7 @@ pub(crate) fn length_at(lines: &[Line], rows: &[Row], place: usize) -> usize
     requires place { place < length rows.now }
     ensures { result ≡ length (placed (choices_of (lines_view lines.now)) rows.now place) }
 {
-    lines[rows[place].line].schedule.len()
+    schedule_at(lines, rows[place].line).len()
 }
 
 /// The schedule that makes these choices.

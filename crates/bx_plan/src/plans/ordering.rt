@@ -6,7 +6,7 @@ ghost use Rattle.bx_plan.specs.Ordered.{headed, AreFrom, AreInOrder, AreMerged, 
 ghost use Rattle.bx_plan.specs.Plans.{choices_of};
 ghost use Rattle.bx_plan.specs.View.{lines_view};
 
-use super::{Line, Row};
+use super::{Line, Row, schedule_at};
 use std::alloc::{AllocError, Global};
 use std::marker::Model;
 
@@ -42,13 +42,9 @@ impl<'a> Left<'a> {
     fn first(&self) -> Option<Row>
         ensures { result ≡ slice_get self.now 0 }
     {
-        let [first, ..] = self.rows else {
-            return None;
-        };
-        Some(Row {
-            line: first.line,
-            common: self.common,
-        })
+        let mut row = *self.rows.first()?;
+        row.common = self.common;
+        Some(row)
     }
 
     /// Takes the first row.
@@ -88,8 +84,8 @@ fn take_first(lines: &[Line], one: &mut Left<'_>, other: &mut Left<'_>) -> Optio
     if first.common < second.common {
         return other.take();
     }
-    let schedule = &lines[first.line].schedule;
-    let (common, order) = schedule.compare(&lines[second.line].schedule, first.common);
+    let schedule = schedule_at(lines, first.line);
+    let (common, order) = schedule.compare(schedule_at(lines, second.line), first.common);
     if order.is_gt() {
         one.stand_behind(common);
         return other.take();
@@ -123,16 +119,17 @@ fn run_of(
     requires within { past ≤ length lines.now }
     ensures { IfOk result (λ run. IfSome run (λ rows. AreInOrder (choices_of (lines_view lines.now)) line past rows.items)) }
 {
-    let mut rows = Vec::with_capacity(alloc, past - line)?;
-    rows.push_reserved(Row { line, common: 0 });
+    let mut rows = Vec::new(alloc);
+    rows.push(Row { line, common: 0 })?;
     for next in line + 1..past {
-        let last = &lines[next - 1].schedule;
-        let (common, order) = last.compare(&lines[next].schedule, 0);
+        let last = schedule_at(lines, next - 1);
+        let (common, order) = last.compare(schedule_at(lines, next), 0);
         if order.is_gt() {
             return Ok(None);
         }
-        rows.push_reserved(Row { line: next, common });
+        rows.push(Row { line: next, common })?;
     }
+    rows.shrink_to_fit();
     Ok(Some(rows))
 }
 

@@ -30,6 +30,7 @@ impl Schedule {
 
     /// How many choices both begin with alike, of which so many are known; and which stands first: the one that ends where both part,
     /// or the one whose choice does.
+    #[inline(always)]
     pub(crate) fn compare(&self, other: &Schedule, known: usize) -> (usize, Ordering)
         requires { known ≤ common self.now other.now }
         ensures common { result.0 ≡ common self.now other.now }
@@ -95,10 +96,7 @@ fn begin_alike(one: &[Stretch], other: &[Stretch]) -> bool
 fn choice_at(stretches: &[Stretch]) -> Option<Choice>
     ensures { result ≡ choice_first stretches.now }
 {
-    let [first, ..] = stretches else {
-        return None;
-    };
-    Some(first.choice)
+    Some(stretches.first()?.choice)
 }
 
 /// A choice's kind and pids, by which choices are ordered.

@@ -1,6 +1,7 @@
-use Rattle.bx_plan.proofs.Words.{◌+◌, ◌-◌, [], ◌∷◌, ◌++◌, refl, sym, ap, subst, ◌∙◌, arith, common_steps, is_gt, Row, at_row, choices_of, lines_view}
+use Rattle.bx_plan.proofs.Words.{◌≡◌, ◌+◌, ◌-◌, [], ◌∷◌, ◌++◌, List, Choice, refl, sym, ap, subst, ◌∙◌, arith, common_steps, is_gt, Row, AreInOrder, choices_of, lines_view}
 use Rattle.bx_plan.specs.Ordered.{Stands}
-use Rattle.bx_plan.proofs.Sorting.{compared, lines_long, run_push, IsRun}
+use Rattle.bx_plan.proofs.Counting.{lines_long}
+use Rattle.bx_plan.proofs.Sorting.{last_of, run_push, IsRun}
 use Rattle.bx_plan.proofs.plans.ordering.run_of.Goals as goal
 
 pub loop-next-init : goal.loop-next-init
@@ -8,26 +9,32 @@ loop-next-init c =
     let schedules = choices_of (lines_view c.args.lines.now) in
     let row : Row = record { line = c.args.line; common = 0 } in
     let stands : Stands schedules [] row = record { within = omega (arith, lines_long c.args.lines.now); behind = grind (arith, common_steps); common = refl } in
-    record {
-      run = subst (IsRun schedules c.args.line (c.args.line + 1)) (sym (c.push_reserved.ensures.items ∙ ap (λ rows. rows ++ row ∷ []) c.in_ok-rows.ensures.items))
-          (run_push schedules c.args.line c.args.line [] row (record { from = tt; all = λ k h l. absurd (omega arith) }) (omega arith) stands refl);
-      room = omega (arith, c.in_ok-rows.ensures.exact, c.push_reserved.ensures.capacity);
-    }
+    subst (IsRun schedules c.args.line (c.args.line + 1)) (sym (c.in_ok-push.ensures.items ∙ ap (λ rows. rows ++ row ∷ []) c.new-rows.ensures.items))
+    (run_push schedules c.args.line c.args.line [] row (record { from = tt; all = λ k h l. absurd (omega arith) }) stands refl)
+
+pub schedule_at-last-requires : goal.schedule_at-last-requires
+schedule_at-last-requires c = omega (arith, lines_long c.args.lines.now)
+
+pub schedule_at-requires : goal.schedule_at-requires
+schedule_at-requires c = omega (arith, lines_long c.args.lines.now)
 
 pub loop-next-preserved : goal.loop-next-preserved
 loop-next-preserved c =
     let schedules = choices_of (lines_view c.args.lines.now) in
     let at = c.loop-next in
-    let last : Row = record { line = at.next - 1; common = 0 } in
     let row : Row = record { line = at.next; common = c.compare-common.result.0 } in
-    let both = compared c.args.lines.now last row c.index-lines-next.result c.index-lines-next-in-loop-next.result _ c.compare-common.result.1 (omega arith) (omega arith) c.compare-common.ensures.common c.compare-common.ensures.order in
-    let stands : Stands schedules (at_row schedules last) row = record {
+    let last : last_of schedules [] at.rows.items ≡ c.schedule_at-last.result.now = at.invariant.last (at.next - 1) (omega arith) ∙ sym c.schedule_at-last.ensures in
+    let here = c.schedule_at.ensures in
+    let stands : Stands schedules c.schedule_at-last.result.now row = record {
       within = omega (arith, lines_long c.args.lines.now);
-      behind = sym (ap is_gt both.1) ∙ sym c.is_gt.ensures ∙ c.if-is_gt.false;
-      common = both.0;
+      behind = rw here at (sym (ap is_gt c.compare-common.ensures.order) ∙ sym c.is_gt.ensures ∙ c.if-is_gt.false);
+      common = rw here at c.compare-common.ensures.common;
     } in
-    record {
-      run = subst (IsRun schedules c.args.line (at.next + 1)) (sym c.push_reserved-in-loop-next.ensures.items)
-          (run_push schedules c.args.line at.next at.rows.items row at.invariant.run.are at.invariant.run.long (subst (λ cs. Stands schedules cs row) (sym (at.invariant.run.last (at.next - 1) (omega arith))) stands) refl);
-      room = omega arith;
-    }
+    subst (IsRun schedules c.args.line (at.next + 1)) (sym c.in_ok-push-2.ensures.items)
+    (run_push schedules c.args.line at.next at.rows.items row at.invariant.are (subst (λ (cs : List Choice). Stands schedules cs row) (sym last) stands) refl)
+
+pub returns : goal.returns
+returns c =
+    let whole : c.loop-next.next ≡ c.args.past = omega arith in
+    subst (AreInOrder (choices_of (lines_view c.args.lines.now)) c.args.line c.args.past) (sym c.shrink_to_fit.ensures.items)
+    (subst (λ k. AreInOrder (choices_of (lines_view c.args.lines.now)) c.args.line k c.loop-next.rows.items) whole c.loop-next.invariant.are)

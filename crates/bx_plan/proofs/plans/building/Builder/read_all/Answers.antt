@@ -44,10 +44,8 @@ returns-in-Some-2-clause-ok c =
     let new = c.read_line.new.self in
     let is = c.loop-line.invariant in
     let line = line_of c.in-Some.line.now in
-    let left = parts_left c.next.new.self in
-    let said = read_loose n (so_far old) line in
-    let refused : (said ≡ Err c.in-Some-2.refusal) × (new.numbers.items ≡ old.numbers.items) × (so_far new ≡ so_far old) =
-    subst (λ (o : Option Fault). Adds {E = AllocError} (TakesFirst line ⊥) n old new (Ok o) said) c.in-Some-2.is c.in_ok-read_line.ensures in
+    let refused : (read_loose n (so_far old) line ≡ Err c.in-Some-2.refusal) × (new.numbers.items ≡ old.numbers.items) × (so_far new ≡ so_far old) =
+    subst (λ (o : Option Fault). Adds {E = AllocError} (TakesFirst line ⊥) n old new (Ok o) (read_loose n (so_far old) line)) c.in-Some-2.is c.in_ok-read_line.ensures in
     let here = subst (λ (ls : List (List ℕ)). Stands (so_far old) old.numbers.items (with_lines n (so_far old) ls) (plan_of c.args.text.now)) c.in-Some.ensures.steps is.stands in
     let stands = rw (read_fault n (so_far old) line c.in-Some-2.refusal refused.0) at here in
     record {
