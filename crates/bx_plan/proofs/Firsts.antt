@@ -4,8 +4,7 @@ use Rattle.bx_plan.proofs.Words.{deliver_first, choice_by, some_times, times_fir
 use Rattle.bx_plan.proofs.Words.{option_map_or, is_ascii_digit, decimal, and_parts, cond_both, eqb-true, eqb-false, ne_eqb, le-leb, nat_tests, option_and_then_some, same_Some, Choice, Run, Deliver, Expire, Entry, digits_first}
 use Rattle.bx_plan.proofs.Words.{words_left, size_left, spelling, HasPids, IsEntry, cut, parts_of, digits_from, number_of, entry_of, entry_each, entries_of}
 use Rattle.std.specs.Borrow.{Bor}
-use Rattle.bx_plan.specs.declared.entries.First.{First}
-use Rattle.bx_plan.specs.Firsts.{choice_first}
+use Rattle.bx_plan.specs.Firsts.{choice_first, First}
 use Rattle.bx_plan.proofs.Decimals.{number_again, number_plain, number_spelled, plain_number}
 use Rattle.bx_plan.proofs.Marks.{Lacks, cut_takes, option_map_some, parts_at, parts_lacks}
 use Rattle.bx_plan.proofs.Cuts.{parts_none, parts_some}
@@ -195,8 +194,8 @@ next_is text entry behind h =
 pub first_is : (text : List ℕ) (o : Option First) → option_map first_view o ≡ next_first text → MatchOption o (entries_of text ≡ None) (IsFirst text)
 first_is text None h = next_none text (sym h)
 first_is text (Some first) h =
-    let is = next_is text (first.choice, first.times) (option_map (λ (t : Bor (List ℕ)). t.now) first.behind) (sym h) in
-    let same = both first.behind in
+    let is = next_is text first.0 (option_map (λ (t : Bor (List ℕ)). t.now) first.1) (sym h) in
+    let same = both first.1 in
     record { word = is.0; split = is.1 ∙ ap (λ ws. is.0 ∷ ws) same.0; is = is.2; shorter = omega (arith, is.3, same.1) }
   where
     both : (b : Option (Bor (List ℕ))) → (option_map_or (parts_of 32) (option_map (λ (t : Bor (List ℕ)). t.now) b) [] ≡ words_left b)

@@ -4,7 +4,6 @@ use Rattle.std.specs.Option.{option_and_then, option_map_or}
 use Rattle.std.specs.Borrow.{Bor}
 use Rattle.std.specs.Char.{is_ascii_digit}
 use Rattle.bx_world.specs.declared.choices.Choice.{Choice, TheVariants.Run, TheVariants.Deliver, TheVariants.Expire}
-use Rattle.bx_plan.specs.declared.entries.First.{First}
 use Rattle.bx_plan.specs.Entry.{Entry}
 use Rattle.bx_plan.specs.Reading.{entry_of, parts_of}
 
@@ -47,8 +46,11 @@ next_of (entry, b ∷ bs) = if b == 32 then Some (entry, Some bs) else None
 abbrev pub next_first : List ℕ → Option (Entry × Option (List ℕ))
 next_first text = option_and_then next_of (entry_first text)
 
+abbrev pub First : Type 0
+First = Entry × Option (Bor (List ℕ))
+
 abbrev pub first_view : First → Entry × Option (List ℕ)
-first_view first = ((first.choice, first.times), option_map (λ text. text.now) first.behind)
+first_view first = (first.0, option_map (λ text. text.now) first.1)
 
 -- the words of a text that is left, and how long it is, with the space before it
 abbrev pub words_left : Option (Bor (List ℕ)) → List (List ℕ)
@@ -60,6 +62,6 @@ size_left left = option_map_or (λ text. length text.now + 1) left 0
 -- the first word spells the entry, and the others are left
 pub record IsFirst (text : List ℕ) (first : First) : Type 0 where
   pub word : List ℕ
-  pub split : parts_of 32 text ≡ word ∷ words_left first.behind
-  pub is : entry_of word ≡ Some (first.choice, first.times)
-  pub shorter : size_left first.behind ≤ length text
+  pub split : parts_of 32 text ≡ word ∷ words_left first.1
+  pub is : entry_of word ≡ Some first.0
+  pub shorter : size_left first.1 ≤ length text

@@ -4,7 +4,7 @@ ghost use Rattle.std.specs.Prelude.{◌≡◌, ◌++◌, ◌∷◌, [], List, op
 ghost use Rattle.bx_terms.specs.Outcomes.{Gives};
 ghost use Rattle.bx_plan.specs.Entry.{Entry};
 ghost use Rattle.bx_plan.specs.Made.{Make, MakesThese};
-ghost use Rattle.bx_plan.specs.Firsts.{choice_first, deliver_first, entry_first, first_view, next_first, times_first, IsFirst};
+ghost use Rattle.bx_plan.specs.Firsts.{choice_first, deliver_first, entry_first, first_view, next_first, times_first};
 ghost use Rattle.bx_plan.specs.Reading.{choice_of, entries_of, spread};
 
 use crate::numbers::{number_first, number_of};
@@ -88,36 +88,16 @@ fn entry_first(text: &[u8]) -> Option<((Choice, u32), &[u8])>
     Some(((choice, times), rest))
 }
 
-/// The first entry of a text, and the text behind the space that follows it.
-#[derive(Drop)]
-pub(crate) struct First<'a> {
-    choice: Choice,
-    times: u32,
-    behind: Option<&'a [u8]>,
-}
-
-/// The first entry, where the text ends behind it or goes on by a space.
-fn first_by_space(text: &[u8]) -> Option<First<'_>>
+/// The first entry of a text, where the text ends behind it or goes on by a space; and the text behind that space.
+fn first_of(text: &[u8]) -> Option<((Choice, u32), Option<&[u8]>)>
     ensures { option_map first_view result ≡ next_first text.now }
 {
-    let ((choice, times), rest) = entry_first(text)?;
-    let behind = match rest {
-        [] => None,
-        [b' ', more @ ..] => Some(more),
-        _ => return None,
-    };
-    Some(First {
-        choice,
-        times,
-        behind,
-    })
-}
-
-/// The first entry of a text of entries.
-fn first_of(text: &[u8]) -> Option<First<'_>>
-    ensures { MatchOption result (entries_of text.now ≡ None) (IsFirst text.now) }
-{
-    first_by_space(text)
+    let (entry, rest) = entry_first(text)?;
+    match rest {
+        [] => Some((entry, None)),
+        [b' ', more @ ..] => Some((entry, Some(more))),
+        _ => None,
+    }
 }
 
 /// What entries make: how many choices, no number past `usize::MAX`, and these choices.
@@ -130,28 +110,14 @@ pub(crate) struct Entries {
 }
 
 impl Entries {
-    /// No entries.
-    pub(crate) fn new(alloc: Global) -> Entries
+    /// No entries, and room for so many stretches where there is memory for it.
+    pub(crate) fn new(alloc: Global, room: usize) -> Entries
         ensures { Make result [] }
     {
         Entries {
             count: 0,
-            schedule: Schedule::new(alloc),
+            schedule: Schedule::with_room(alloc, room),
             is_whole: true,
-        }
-    }
-
-    /// No entries, and room for so many stretches where there is memory for it.
-    fn with_room(alloc: Global, room: usize) -> Entries
-        ensures { Make result [] }
-    {
-        match Schedule::with_room(alloc, room) {
-            Ok(schedule) => Entries {
-                count: 0,
-                schedule,
-                is_whole: true,
-            },
-            Err(_) => Entries::new(alloc),
         }
     }
 
@@ -179,14 +145,10 @@ pub(crate) fn read_entries(alloc: Global, words: &[u8], most: usize) -> Option<E
         (λ made. MakesThese made (entries_of words.now)) }
 {
     let room = words.len() / 3 + 1; // most entries have three bytes or more, with the space
-    let mut entries = Entries::with_room(alloc, room.min(most));
+    let mut entries = Entries::new(alloc, room.min(most));
     let mut left = Some(words);
     while let Some(text) = left {
-        let First {
-            choice,
-            times,
-            behind,
-        } = first_of(text)?;
+        let ((choice, times), behind) = first_of(text)?;
         entries.add(choice, times, most);
         left = behind;
     }
@@ -204,13 +166,8 @@ pub fn read_choices(alloc: Global, text: &[u8]) -> Result<Option<Schedule>, Faul
     let Some(entries) = read_entries(alloc, text, usize::MAX) else {
         return Ok(None);
     };
-    let Entries {
-        count: _,
-        schedule,
-        is_whole,
-    } = entries;
-    if is_whole {
-        Ok(Some(schedule))
+    if entries.is_whole {
+        Ok(Some(entries.schedule))
     } else {
         Err(Fault::Memory)
     }

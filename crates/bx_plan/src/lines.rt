@@ -2,7 +2,6 @@
 
 ghost use Rattle.std.specs.Prelude.{◌≡◌, true, false, None, MatchOption};
 ghost use Rattle.std.specs.List.{list_all};
-ghost use Rattle.std.specs.Str.{is_utf8};
 ghost use Rattle.bx_plan.specs.Reading.{is_name_byte, is_name, tail_of, schedule_of, line_of};
 ghost use Rattle.bx_plan.specs.Lines.{IsHeading, Reads};
 ghost use Rattle.bx_plan.specs.Made.{MakesThese};
@@ -51,14 +50,6 @@ fn is_name(name: &[u8]) -> bool
     !name.is_empty() && name.len() <= MOST_NAME && are_name_bytes(name)
 }
 
-/// Whether the bytes are UTF-8.
-#[tactic(auto, using(crate::proofs::Names::is_utf8_where, crate::proofs::Names::not_utf8_where))]
-fn is_utf8(bytes: &[u8]) -> bool
-    ensures { result ≡ is_utf8 bytes.now }
-{
-    str::from_utf8(bytes).is_ok()
-}
-
 /// The name of a schedule that the bytes spell: 1 to 64 ASCII letters, digits, `_` and `-`.
 #[tactic(auto, using(crate::proofs::Names::name_is_utf8))]
 pub fn name_of(name: &[u8]) -> Option<&str>
@@ -80,7 +71,7 @@ fn read_tail(alloc: Global, tail: &[u8]) -> Option<Entries>
         (λ made. MakesThese made (tail_of tail.now)) }
 {
     match tail {
-        [] => Some(Entries::new(alloc)),
+        [] => Some(Entries::new(alloc, 0)),
         [b' ', words @ ..] => read_entries(alloc, words, MOST_CHOICES),
         _ => None,
     }
@@ -98,12 +89,13 @@ fn heading_of(alloc: Global, text: &[u8]) -> Option<Heading<'_>>
 }
 
 /// Reads one line, without its line feed.
+#[tactic(auto, using(crate::proofs::Names::is_utf8_where, crate::proofs::Names::not_utf8_where))]
 pub(crate) fn line_of(alloc: Global, text: &[u8]) -> Option<Line<'_>>
     ensures { MatchOption result (line_of text.now ≡ None) (λ line. Reads line text.now) }
 {
     match text {
         [] => Some(Line::Nothing),
-        [b'#', ..] if is_utf8(text) => Some(Line::Nothing),
+        [b'#', ..] if str::from_utf8(text).is_ok() => Some(Line::Nothing),
         [b'#', ..] => None,
         _ => Some(Line::Schedule(heading_of(alloc, text)?)),
     }

@@ -56,12 +56,14 @@ impl Schedule {
         }
     }
 
-    /// The schedule that makes no choice, with room for so many stretches.
-    pub(crate) fn with_room(alloc: Global, room: usize) -> Result<Schedule, AllocError>
-        ensures { IfOk result (λ schedule. schedule ≡ []) }
+    /// The schedule that makes no choice, with room for so many stretches where there is memory for it.
+    pub(crate) fn with_room(alloc: Global, room: usize) -> Schedule
+        ensures { result ≡ [] }
     {
-        let stretches = Vec::with_capacity(alloc, room)?;
-        Ok(Schedule { stretches })
+        match Vec::with_capacity(alloc, room) {
+            Ok(stretches) => Schedule { stretches },
+            Err(_) => Schedule::new(alloc),
+        }
     }
 
     /// The schedule that makes the choices of these runs in order. It takes memory where there are any.
@@ -182,6 +184,7 @@ impl Schedule {
     }
 
     /// The choice at a position, from 0; none past the last. It is found by halving.
+    #[tactic(auto, using(crate::proofs::Stretching::found, crate::proofs::Stretching::next))]
     pub fn get(&self, position: usize) -> Option<Choice>
         ensures { result ≡ slice_get self.now position }
     {
