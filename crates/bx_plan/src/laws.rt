@@ -11,11 +11,9 @@ ghost use Rattle.bx_plan.specs.Plans.{Named, plan_of};
 ghost use Rattle.bx_plan.specs.Reading.{entry_of, line_of, number_of, tail_of};
 ghost use Rattle.bx_plan.specs.Texts.{IsFirstFault, IsPlan};
 
-/// A number is read where it is spelled in decimal without leading zeros and is not over the limit, and
-/// nowhere else.
+/// A number is read where it is spelled in decimal without leading zeros and is not over the limit, and nowhere else.
 pub fn numbers_are_decimals()
-    ensures { (most n : ℕ) (text : List ℕ) → most < 2 ^ 64 → (number_of most text ≡ Some n) ↔
-        ((n ≤ most) × (text ≡ decimal n)) }
+    ensures { (most n : ℕ) (text : List ℕ) → most < 2 ^ 64 → (number_of most text ≡ Some n) ↔ ((n ≤ most) × (text ≡ decimal n)) }
 {}
 
 /// An entry is read where the text spells it, and nowhere else.
@@ -24,20 +22,20 @@ pub fn entries_are_spelled()
 {}
 
 /// Entries are read behind a colon where each stands behind one space, and nowhere else.
+#[tactic(auto, using(crate::proofs::Spellings::tail_law))]
 pub fn entries_are_spaced()
-    ensures { (text : List ℕ) (entries : List Entry) → (tail_of text ≡ Some entries) ↔ AreEntries
-        text entries }
+    ensures { (text : List ℕ) (entries : List Entry) → (tail_of text ≡ Some entries) ↔ AreEntries text entries }
 {}
 
 /// A line stands for nothing where it is empty or a comment, and nowhere else.
+#[tactic(auto, using(crate::proofs::Headings::nothing_law))]
 pub fn empty_lines_and_comments_are_nothing()
     ensures { (text : List ℕ) → (line_of text ≡ Some None) ↔ IsNothing text }
 {}
 
 /// A line names a schedule where the grammar has it so, and nowhere else.
 pub fn schedules_are_spelled()
-    ensures { (text : List ℕ) (line : List ℕ × List Entry) → (line_of text ≡ Some (Some line)) ↔
-        IsSchedule text line }
+    ensures { (text : List ℕ) (line : List ℕ × List Entry) → (line_of text ≡ Some (Some line)) ↔ IsSchedule text line }
 {}
 
 /// A text is read as a plan where it is that plan's text, and nowhere else.

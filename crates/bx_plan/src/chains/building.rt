@@ -1,7 +1,7 @@
 //! The chains of a plan, one behind the other.
 
 ghost use Rattle.std.specs.Prelude.{◌≡◌, ◌+◌, ◌-◌, ◌<◌, ◌≤◌, length, take, reverse, IfOk, OnOk};
-ghost use Rattle.bx_plan.specs.Chains.{begun, chain_path, noted, AreChains, AreForest, IsCut};
+ghost use Rattle.bx_plan.specs.Chains.{begun, chain_path, AreChains, AreForest, IsCut};
 ghost use Rattle.bx_plan.specs.Cuts.{AllCuts};
 ghost use Rattle.bx_plan.specs.Gathered.{common_before, placed, row_at, AreRows};
 ghost use Rattle.bx_plan.specs.Growing.{Grown};
@@ -85,26 +85,16 @@ impl Chains {
                 unreachable!()
             };
             let above = self.up_to(lines, first);
-            self.begin(
-                alloc,
-                Head {
-                    line,
-                    first,
-                    past,
-                    above,
-                },
-            )?;
+            let head = Head {
+                line,
+                first,
+                past,
+                above,
+            };
+            self.begin(alloc, head)?;
             first = past;
         }
         Ok(())
-    }
-
-    /// Notes the chain with which a schedule ends.
-    fn note(&mut self, line: usize, chain: usize)
-        requires { line < length self.old.ends }
-        ensures { self.new ≡ noted line chain self.old }
-    {
-        self.ends[line] = chain;
     }
 
     /// Notes the chain with which the schedule at a place ends.
@@ -115,7 +105,7 @@ impl Chains {
         ensures { Grown (lines_view lines.now) rows.now (place + 1) (common_before (choices_of (lines_view lines.now)) rows.now (place + 1)) self.new }
     {
         let chain = self.up_to(lines, length_at(lines, rows, place));
-        self.note(rows[place].line, chain);
+        self.ends[rows[place].line] = chain;
     }
 }
 

@@ -10,6 +10,7 @@ use crate::plans::{Line, Row, length_at};
 use std::alloc::{AllocError, Global};
 
 /// The deepest mark; 0 where there is none.
+#[tactic(auto, using(crate::proofs::Cutting::deepest_last))]
 fn deepest(marks: &[usize]) -> usize
     ensures { result ≡ deepest 0 marks.now }
 {

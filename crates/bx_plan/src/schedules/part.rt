@@ -73,10 +73,7 @@ impl<'a> Part<'a> {
     fn begins_with(&self, choice: Choice) -> bool
         ensures { IsTrue result ↔ (slice_get self.now 0 ≡ Some choice) }
     {
-        match self.first() {
-            Some(first) => first.same(&choice),
-            None => false,
-        }
+        matches!(self.first(), Some(first) if first.same(&choice))
     }
 
     /// Takes the choices that lie on the first stretch.

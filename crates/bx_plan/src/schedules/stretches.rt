@@ -105,11 +105,9 @@ pub(super) fn cut(stretches: &mut Vec<Stretch>, count: usize)
     }
     let last = over_by(stretches, count - 1);
     let choice = stretches[last].choice;
+    let past = count;
     stretches.truncate(last);
-    stretches.push_reserved(Stretch {
-        choice,
-        past: count,
-    });
+    stretches.push_reserved(Stretch { choice, past });
 }
 
 /// Puts stretches behind so many choices, for which there is room.
@@ -156,15 +154,10 @@ pub(super) fn part_at(
     ensures over { OnOk result (made_before (at + 1) stretches.new.items ≡ position) }
     ensures err { OnErr result (slice_get (choices_from 0 stretches.old.items) (position - 1) ≡ slice_get (choices_from 0 stretches.old.items) position) }
 {
-    let Stretch { choice, past } = stretches[at];
-    if position < past {
-        stretches.insert(
-            at,
-            Stretch {
-                choice,
-                past: position,
-            },
-        )?;
+    let mut stretch = stretches[at];
+    if position < stretch.past {
+        stretch.past = position;
+        stretches.insert(at, stretch)?;
     }
     Ok(())
 }
@@ -196,14 +189,7 @@ pub(super) fn exchange(stretches: &mut Vec<Stretch>, at: usize)
     ensures choices { choices_from 0 stretches.new.items ≡
         swap (choices_from 0 stretches.old.items) (made_before at stretches.old.items) (made_before at stretches.old.items + 1) }
 {
-    let first = stretches[at];
-    let second = stretches[at + 1];
-    stretches[at] = Stretch {
-        choice: second.choice,
-        past: first.past,
-    };
-    stretches[at + 1] = Stretch {
-        choice: first.choice,
-        past: second.past,
-    };
+    let first = stretches[at].choice;
+    stretches[at].choice = stretches[at + 1].choice;
+    stretches[at + 1].choice = first;
 }

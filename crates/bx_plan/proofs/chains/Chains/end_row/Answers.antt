@@ -1,4 +1,5 @@
-use Rattle.bx_plan.proofs.Words.{◌≡◌, ◌+◌, ◌-◌, length, sym, subst, ◌∙◌, inl, arith, take_all, chain_path, IsCut, common_before, placed, Grown, choices_of, lines_view, common_steps}
+use Rattle.bx_plan.proofs.Words.{◌≡◌, ◌+◌, ◌-◌, length, sym, subst, ◌∙◌, inl, arith, take_all, chain_path, Chained, IsCut, common_before, placed, row_at, Grown, choices_of, lines_view, common_steps}
+use Rattle.bx_plan.specs.Chains.{noted}
 use Rattle.bx_plan.proofs.Commons.{common_short, taken_alike}
 use Rattle.bx_plan.proofs.Growing.{end_cut, grown_row}
 use Rattle.bx_plan.proofs.chains.Chains.end_row.Goals as goal
@@ -23,4 +24,5 @@ returns c =
     let long = c.length_at.ensures in
     let path : chain_path plan all c.up_to-chain.result ≡ here =
     c.up_to-chain.ensures.path ∙ taken_alike (chain_path plan all (length all.heads - 1)) here c.length_at.result (omega (arith, long, c.requires.grown.last)) ∙ take_all c.length_at.result here (omega (arith, long)) in
-    subst (Grown plan rows (c.args.place + 1) (common_before (choices_of plan) rows (c.args.place + 1))) (sym c.note.ensures) (grown_row plan rows c.requires.rows c.args.place all c.up_to-chain.result c.requires.place c.requires.grown c.up_to-chain.ensures.there path)
+    subst (λ (cs : Chained). Grown plan rows (c.args.place + 1) (common_before (choices_of plan) rows (c.args.place + 1)) (noted (row_at rows c.args.place).line c.up_to-chain.result cs)) (sym c.self.view_is)
+    (grown_row plan rows c.requires.rows c.args.place all c.up_to-chain.result c.requires.place c.requires.grown c.up_to-chain.ensures.there path)

@@ -14,8 +14,8 @@ pub returns-in_ok-insert : goal.returns-in_ok-insert
 returns-in_ok-insert c =
     let ss = c.args.stretches.now.items in
     let n = c.args.at in
-    let is = read ss c.requires.rising n c.args.position c.index.result.now c.requires.begin c.requires.end c.index.ensures in
-    let to : c.args.position < (get_or ss n no_stretch).past = omega (arith, c.if-position-past.true, ap (λ (s : Stretch). s.past) is.1) in
+    let is = read ss c.requires.rising n c.args.position c.index-stretch.result.now c.requires.begin c.requires.end c.index-stretch.ensures in
+    let to : c.args.position < (get_or ss n no_stretch).past = omega (arith, c.if-position-stretch.true, ap (λ (s : Stretch). s.past) is.1) in
     let x : Stretch = record { choice = (get_or ss n no_stretch).choice; past = c.args.position } in
     let edit = c.in_ok-insert.ensures.items ∙ ap (λ (s : Stretch). insert ss n (record { choice = s.choice; past = c.args.position })) is.1 in
     let both = parted_at ss c.requires.rising n is.0 c.args.position c.requires.begin to in
@@ -27,5 +27,5 @@ returns-in_ok-insert c =
       err = search rules;
     }
 
-pub returns-else-position-past-clause-over : goal.returns-else-position-past-clause-over
-returns-else-position-past-clause-over c = grind (arith, read, next)
+pub returns-else-position-stretch-clause-over : goal.returns-else-position-stretch-clause-over
+returns-else-position-stretch-clause-over c = grind (arith, read, next)
