@@ -1,6 +1,7 @@
 -- A campaign to which nothing has happened.
-use Rattle.std.proofs.Common.{◌≡◌, ◌≢◌, ◌⊎◌, inl, inr, ℕ, zero, suc, ◌-◌, ◌<◌, ◌≤◌, ◌==◌, ◌&&◌, nat_lt, false, None, Some, List, [], ◌∷◌, length, replicate, refl, sym, ap, subst, ◌∙◌, arith}
-use Rattle.std.specs.Prelude.{Ok}
+use Rattle.std.proofs.Common.{◌≡◌, ◌≢◌, ◌⊎◌, inl, inr, ℕ, zero, suc, ◌-◌, ◌<◌, ◌≤◌, ◌==◌, ◌&&◌, nat_lt, true, false, Global, Vec, Option, None, Some, List, [], ◌∷◌, get_or, length, replicate, refl, sym, ap, subst, ◌∙◌, arith}
+use Rattle.std.specs.Prelude.{IsOk, Ok}
+use Rattle.std.specs.List.{All}
 use Rattle.std.specs.Ordering.{nat_cmp}
 use Rattle.std.specs.BTreeMap.{BTreeMap, is_at}
 use Rattle.std.specs.Map.{lookup}
@@ -12,22 +13,40 @@ use Rattle.bx_world.specs.Running.{Ended, ran, unchosen}
 use Rattle.bx_plan.specs.Planned.{Planned}
 use Rattle.bx_plan.specs.Chains.{AreChains, Chained, above, chain_count, is_kid, kids, one_if, path_at}
 use Rattle.bx_plan.proofs.Times.{below_or_past, both_true, mid_false, not_eq}
-use Rattle.bx_board.specs.declared.slots.Slot.{Slot, TheVariants.Waiting, TheVariants.Leased, TheVariants.Done}
-use Rattle.bx_board.specs.Jobs.{Entry, Job, end_of, origin, work_of, world_or_none}
-use Rattle.bx_board.specs.Machine.{standing, is_waiting, is_leased, is_done, is_free, is_held, how_many, initial}
+use Rattle.bx_board.specs.declared.books.stands.Stand.{Stand}
+use Rattle.bx_board.specs.declared.books.stands.Stand.TheVariants as stands
+use Rattle.bx_board.specs.declared.books.stands.Way.{Way}
+use Rattle.bx_board.specs.declared.reports.Shown.{Shown}
+use Rattle.bx_board.specs.Jobs.{Entry, Job, chain_end, origin, world_or_none}
+use Rattle.bx_board.specs.Machine.{Slot, Waiting, Leased, Done, standing, is_waiting, is_leased, is_done, is_free, is_held, how_many, initial}
 use Rattle.bx_board.specs.Alone.{IsIdle}
 use Rattle.bx_board.specs.Kept.{IsOpening, Kept, begun_with}
-use Rattle.bx_board.specs.Tended.{IsTended, kept_view}
+use Rattle.bx_board.specs.Reported.{IsShown}
+use Rattle.bx_board.specs.Stands.{Keeps, book_view, kept_for, left_on, stand_at}
+use Rattle.bx_board.specs.Tended.{IsTended}
 use Rattle.bx_board.proofs.Histories.{initial_kept, initial_waits, none_finished}
+use Rattle.bx_board.proofs.Holding.{all_left, slots_waiting}
+use Rattle.bx_board.proofs.Keeping.{AreKept}
 use Rattle.bx_board.proofs.RowLengths.{how_many_low, length_many}
 use Rattle.bx_board.proofs.Tending.{free_waits}
 
 -- the root's chain ends at the start
 pub root_end : (image : Loaded) (start : Entry) (plan : Planned) (chains : Chained) (world : State) → AreChains plan chains → started image start.0 start.1 ≡ Ok world
-    → unchosen world ≡ end_of (work_of (record { image = image; start = start; plan = plan; chains = chains }) 0)
+    → unchosen world ≡ chain_end (record { image = image; start = start; plan = plan; chains = chains }) 0
 root_end image start plan chains world are is =
     ap (λ r. unchosen (world_or_none r)) (sym is)
     ∙ ap (λ choices. ran image choices (origin image start)) (sym (ap (λ h. path_at plan h h.past) are.forest.root))
+
+all_wait : (count n : ℕ) → get_or (replicate count stands.Waiting) n stands.Waiting ≡ stands.Waiting
+all_wait zero n = refl
+all_wait (suc count) zero = refl
+all_wait (suc count) (suc n) = all_wait count n
+
+-- nothing has happened to a book that was just opened
+pub begins_so : (job : Job) (all : List Stand) (told : Vec Shown Global) (way : Option Way) (count : ℕ) → all ≡ stands.Done told way ∷ replicate (count - 1) stands.Waiting → count ≡ length job.chains.heads → book_view job all false ≡ begun_with job
+begins_so job all told way count e f =
+    ap (λ xs. book_view job xs false) (e ∙ ap (λ n. stands.Done told way ∷ replicate (n - 1) stands.Waiting) f)
+    ∙ ap (λ more. record { job = job; state = record { slots = Done (chain_end job 0) ∷ more; stopped = false } }) (slots_waiting (λ n. chain_end job (suc n)) (length job.chains.heads - 1))
 
 module _ (job : Job) (are : AreChains job.plan job.chains) where
   pub long : length (initial job).slots ≡ length job.chains.heads
@@ -82,19 +101,20 @@ module _ (job : Job) (are : AreChains job.plan job.chains) where
   }
 
   -- the fields of a book that was just opened
-  pub opened : (slots : List Slot) (ready : List ℕ) (holders : BTreeMap ℕ ℕ) → holders.entries ≡ [] → slots ≡ (initial job).slots → ready ≡ kids job.chains 0
-      → IsTended (kept_view job.image job.start job.plan job.chains slots false) ready holders 0 1
-  opened slots ready holders none e f =
-      let P : List Slot → List ℕ → Type 0 = λ xs row. IsTended (kept_view job.image job.start job.plan job.chains xs false) row holders 0 1 in
-      subst (λ xs. P xs ready) (sym e) (subst (λ row. P (initial job).slots row) (sym f) (initial_tended holders none))
+  pub opened : (all : List Stand) (told : Vec Shown Global) (way : Option Way) (count : ℕ) (ready : List ℕ) (holders : BTreeMap ℕ ℕ) → holders.entries ≡ [] → IsOk (started job.image job.start.0 job.start.1)
+      → All (IsShown (chain_end job 0)) told.items → way ≡ kept_for (chain_end job 0) (length (kids job.chains 0)) → all ≡ stands.Done told way ∷ replicate (count - 1) stands.Waiting → count ≡ length job.chains.heads → ready ≡ kids job.chains 0
+      → AreKept (book_view job all false) all ready holders 0 1
+  opened all told way count ready holders none exported shows kept e f g =
+      subst (λ row. AreKept (book_view job all false) all row holders 0 1) (sym g)
+      (subst (λ b. AreKept b all (kids job.chains 0) holders 0 1) (sym (begins_so job all told way count e f)) (initial_tended holders none, record { exported = exported; each = λ n. subst (λ xs. Keeps (chain_end job n) (left_on (begun_with job) n) (stand_at xs n)) (sym e) (each n) }))
+    where
+      undone : (n : ℕ) → is_kid job.chains 0 n ≡ true → is_done (standing (initial job) n) ≡ false
+      undone zero kid = cc
+      undone (suc n) kid = ap is_done (initial_waits job (suc n) (omega arith))
 
--- nothing has happened to a book that was just opened
-pub begins_so : (job : Job) (slots : List Slot) → slots ≡ (initial job).slots → kept_view job.image job.start job.plan job.chains slots false ≡ begun_with job
-begins_so job slots e = ap (λ xs. kept_view job.image job.start job.plan job.chains xs false) e
-
--- the slots that were made are those of the start
-pub slots_so : (job : Job) (root : Ended) (count : ℕ) (slots : List Slot) → slots ≡ Done root ∷ replicate (count - 1) Waiting → root ≡ end_of (work_of job 0) → count ≡ length job.chains.heads → slots ≡ (initial job).slots
-slots_so job root count slots e f g = e ∙ ap (λ end. Done end ∷ replicate (count - 1) Waiting) f ∙ ap (λ k. Done (end_of (work_of job 0)) ∷ replicate (k - 1) Waiting) g
+      each : (n : ℕ) → Keeps (chain_end job n) (left_on (begun_with job) n) (stand_at (stands.Done told way ∷ replicate (count - 1) stands.Waiting) n)
+      each zero = (shows, kept ∙ ap (kept_for (chain_end job 0)) (all_left (begun_with job) are.forest long 0 undone))
+      each (suc n) = subst (Keeps (chain_end job (suc n)) (left_on (begun_with job) (suc n))) (sym (all_wait (count - 1) n)) tt
 
 -- nobody holds a chain of a campaign that was just opened
 pub begun_idle : (image : Loaded) (start : Entry) (plan : Planned) (b : Kept) → IsOpening image start plan b → IsIdle b

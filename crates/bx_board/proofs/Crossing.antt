@@ -7,17 +7,17 @@ use Rattle.bx_terms.proofs.Crossing.{term_send, term_sync}
 use Rattle.bx_proc.proofs.Crossing.{process_send, process_sync}
 use Rattle.bx_world.proofs.choices.Choice.TheSendSync as choices
 use Rattle.bx_world.proofs.Crossing.{lanes_send, lanes_sync}
-use Rattle.bx_board.specs.contracts.slots.Slot as slot
+use Rattle.bx_board.specs.contracts.books.stands.Stand as stand
 use Rattle.bx_terms.proofs.atom_table.AtomId.TheSendSync as ids
 use Rattle.bx_load.proofs.Crossing.{image_sync}
 use Rattle.bx_plan.proofs.plans.Plan.TheSendSync as plans
 use Rattle.bx_plan.proofs.chains.Chains.TheSendSync as chains
 use Rattle.bx_board.proofs.working.Crew.TheSendSync as crews
 
--- how a chain stands may go to another thread, with the end of its run
-pub slot_send : IsSend slot.the_row
-slot_send =
+-- how a chain stands may go to another thread, with the end of its run and what that shows
+pub stand_send : IsSend stand.the_row
+stand_send =
     let a = process_send in let b = process_sync in let c = lanes_send in let d = lanes_sync in let e = term_send in let f = term_sync in
     search (holds.the_send, holds.the_sync, traps.the_send, traps.the_sync, choices.the_send, choices.the_sync, sendable, owned.crosses) depth 50 fits 20000
 
-pub ruleset crosses = (image_sync, slot_send, ids.the_send, plans.the_sync, chains.the_send, crews.the_sync)
+pub ruleset crosses = (image_sync, stand_send, ids.the_send, plans.the_sync, chains.the_send, crews.the_sync)

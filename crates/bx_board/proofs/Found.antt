@@ -1,16 +1,14 @@
 -- What look-ups found.
 use Rattle.std.proofs.Common.{◌≡◌, ℕ, zero, suc, ◌+◌, ◌-◌, ◌≤◌, true, false, Option, None, Some, is_some, List, [], ◌∷◌, ◌++◌, length, map, option_map, slice_get, take, refl, sym, ap, ◌∙◌, arith}
-use Rattle.std.specs.Prelude.{Result, Ok, Err, IfErr}
+use Rattle.std.specs.Prelude.{Result, Ok, Err, IfErr, IfOk}
+use Rattle.bx_terms.specs.Outcomes.{◌>>=◌, Gives}
+use Rattle.bx_terms.specs.declared.faults.Fault.{Fault}
 use Rattle.bx_load.specs.Image.{Loaded}
-use Rattle.bx_world.specs.declared.choices.Choice.{Choice}
-use Rattle.bx_world.specs.Running.{Ended}
-use Rattle.bx_plan.specs.Planned.{choices_at}
+use Rattle.bx_world.specs.World.{State, started}
 use Rattle.bx_plan.specs.Plans.{Named}
 use Rattle.bx_board.specs.declared.reports.Scheduled.{Scheduled}
-use Rattle.bx_board.specs.declared.slots.Slot.{Slot, TheVariants.Waiting, TheVariants.Leased, TheVariants.Done}
-use Rattle.bx_board.specs.Jobs.{Entry, run_alone}
-use Rattle.bx_board.specs.Machine.{is_done}
-use Rattle.bx_board.specs.Reported.{told, told_alone}
+use Rattle.bx_board.specs.Jobs.{Entry}
+use Rattle.bx_board.specs.Reported.{report_from, reported_alone, told_alone}
 
 -- ---- options
 
@@ -53,28 +51,7 @@ pub some_last : (xs : List ℕ) (i n : ℕ) → i ≡ length xs - 1 → slice_ge
 some_last [] i n e h = cc
 some_last (x ∷ xs) i n e h = omega (arith, e)
 
--- ---- slots
-
-pub done_is : (x : Slot) → is_done x ≡ true → (e : Ended) × (x ≡ Done e)
-done_is Waiting h = absurd (cc)
-done_is (Leased k) h = absurd (cc)
-done_is (Done e) h = (e, refl)
-
 -- ---- schedules
-
--- the choices of a schedule that was found
-pub choices_found : (plan : List Named) (i : ℕ) (name : List ℕ) (choices : List Choice) → slice_get plan i ≡ Some (name, choices) → choices_at plan i ≡ choices
-choices_found [] i name choices h = cc
-choices_found (s ∷ plan) zero name choices h = let same : s ≡ (name, choices) = cc in ap (λ (s : Named). s.1) same
-choices_found (s ∷ plan) (suc i) name choices h = choices_found plan i name choices h
-
--- what is told of a schedule that was found
-pub told_at : (image : Loaded) (start : Entry) (found : Option Named) (name : List ℕ) (end : Ended) (one : Scheduled) → Some name ≡ option_map (λ schedule. schedule.0) found
-    → ((n : List ℕ) (p : List Choice) → found ≡ Some (n, p) → end ≡ run_alone image start p) → one ≡ told name end → option_map (told_alone image start) found ≡ Some one
-told_at image start None name end one e leads is = cc
-told_at image start (Some (n, p)) name end one e leads is =
-    let same : name ≡ n = cc in
-    ap (λ x. Some x) (ap (told n) (sym (leads n p refl)) ∙ ap (λ m. told m end) (sym same) ∙ sym is)
 
 -- one schedule more is told behind those before it
 pub told_next : (image : Loaded) (start : Entry) (plan : List Named) (i : ℕ) (one : Scheduled) → option_map (told_alone image start) (slice_get plan i) ≡ Some one
@@ -84,3 +61,11 @@ told_next image start (s ∷ more) zero one e = ap (λ (t : Scheduled). t ∷ []
 told_next image start (s ∷ more) (suc i) one e =
     let counted : suc i + 1 ≡ suc (i + 1) = omega arith in
     rw counted (ap (λ (ts : List Scheduled). told_alone image start s ∷ ts) (told_next image start more i one e))
+
+-- what a report is that was made anew
+pub made_anew : (image : Loaded) (start : Entry) (plan : List Named) (takes : Type 0) (r : Result (List Scheduled) Fault) → Gives takes (λ report. report) r (report_from image start plan) → IfOk r (λ report. report ≡ reported_alone image start plan)
+made_anew image start plan takes (Ok report) said = by (started image start.0 start.1) said where
+  by : (s : Result State Fault) → (s >>= λ world. Ok (reported_alone image start plan)) ≡ Ok report → report ≡ reported_alone image start plan
+  by (Ok world) e = cc
+  by (Err fault) e = cc
+made_anew image start plan takes (Err fault) said = tt

@@ -4,12 +4,11 @@ use Rattle.std.specs.Prelude.{MatchBool}
 use Rattle.std.proofs.lemmas.List.{length-set}
 use Rattle.std.proofs.lemmas.Bool.{cases_eq}
 use Rattle.bx_plan.specs.Chains.{Begins, above, chain_count, chain_path, head, one_if}
-use Rattle.bx_board.specs.declared.slots.Slot.{Slot, TheVariants.Waiting, TheVariants.Leased, TheVariants.Done}
 use Rattle.bx_board.specs.declared.slots.Event.TheVariants.{Lease, Submit}
 use Rattle.bx_board.specs.Alone.{GoesOn, IsIdle, IsUnheld, TakesBack, done_in}
 use Rattle.bx_board.specs.Jobs.{end_of, work_of}
 use Rattle.bx_board.specs.Kept.{GivesBack, IsAllDone, IsKept, Kept, then}
-use Rattle.bx_board.specs.Machine.{Holds, May, is_done, is_finished, is_free, is_leased, is_waiting, standing}
+use Rattle.bx_board.specs.Machine.{Slot, Waiting, Leased, Done, Holds, May, is_done, is_finished, is_free, is_leased, is_waiting, standing}
 use Rattle.bx_board.proofs.RowLengths.{how_many_low}
 use Rattle.bx_board.proofs.Steps.{Free, free_is, is_free_from, is_true, leased_within, slot_kept, slot_set, true_is, waiting_is}
 use Rattle.bx_board.proofs.Tending.{finished_but, held_but}

@@ -1,27 +1,32 @@
--- What a book keeps, field by field, with each event.
-use Rattle.std.proofs.Common.{◌≡◌, ◌⊎◌, inl, inr, ℕ, zero, suc, ◌+◌, ◌-◌, ◌<◌, ◌≤◌, ◌==◌, ◌&&◌, not, nat_lt, Bool, true, false, None, Some, is_some, List, [], ◌∷◌, ◌++◌, length, set, slice_get, take, refl, sym, ap, subst, ◌∙◌, arith, length-append}
+-- What a book keeps with each event.
+use Rattle.std.proofs.Common.{◌≡◌, ◌⊎◌, inl, inr, ℕ, zero, suc, ◌+◌, ◌-◌, ◌<◌, ◌≤◌, ◌==◌, ◌&&◌, not, nat_lt, Bool, true, false, Global, Vec, Option, None, Some, is_some, List, [], ◌∷◌, ◌++◌, get_or, length, set, slice_get, take, refl, sym, ap, subst, ◌∙◌, arith, length-append}
 use Rattle.std.specs.Prelude.{◌↔◌, IsTrue}
 use Rattle.std.specs.Ordering.{nat_cmp}
 use Rattle.std.specs.BTreeMap.{BTreeMap, get, is_at, Updates, IsUnchanged}
 use Rattle.std.specs.Map.{lookup}
 use Rattle.std.proofs.lemmas.List.{length-set}
 use Rattle.std.proofs.lemmas.Bool.{eq-eqb, eqb-true, le-ltb, lt-ltb, true_from_ne_false}
-use Rattle.bx_load.specs.Image.{Loaded}
-use Rattle.bx_plan.specs.Planned.{Planned}
-use Rattle.bx_plan.specs.Chains.{Chained, above, kids, chain_count, one_if}
-use Rattle.bx_board.specs.declared.slots.Slot.{Slot, TheVariants.Waiting, TheVariants.Leased, TheVariants.Done}
-use Rattle.bx_board.specs.declared.slots.Event.TheVariants.{Lease, Submit, GiveBack, Stop}
-use Rattle.bx_board.specs.Jobs.{Entry, Job, end_of, work_of}
-use Rattle.bx_board.specs.Machine.{Frontier, standing, is_waiting, is_leased, is_done, is_free, is_unborn, is_held, is_finished, how_many, May}
-use Rattle.bx_board.specs.Alone.{IsUnheld}
-use Rattle.bx_board.specs.Kept.{Kept, IsAllDone}
-use Rattle.bx_board.specs.Tended.{IsTended, kept_view}
-use Rattle.bx_board.proofs.RowLengths.{length_many, how_many_low, how_many_less}
-use Rattle.bx_world.specs.Running.{Ended}
-use Rattle.bx_board.proofs.Steps.{below_or_past, is_true, true_is, leased_within}
+use Rattle.std.specs.List.{All}
+use Rattle.bx_plan.specs.declared.chains.Head.{Head}
+use Rattle.bx_plan.specs.Chains.{above, head, kids, chain_count, one_if}
+use Rattle.bx_board.specs.declared.books.stands.Stand.{Stand}
+use Rattle.bx_board.specs.declared.books.stands.Stand.TheVariants as stands
+use Rattle.bx_board.specs.declared.books.stands.Way.{Way}
+use Rattle.bx_board.specs.declared.reports.Shown.{Shown}
 use Rattle.bx_board.specs.declared.slots.Counts.{Counts}
+use Rattle.bx_board.specs.declared.slots.Event.TheVariants.{Lease, Submit, GiveBack, Stop}
+use Rattle.bx_board.specs.Alone.{IsUnheld}
 use Rattle.bx_board.specs.Counted.{counts_of}
+use Rattle.bx_board.specs.Jobs.{Job, chain_end}
+use Rattle.bx_board.specs.Kept.{Kept, IsAllDone, then}
+use Rattle.bx_board.specs.Machine.{Slot, Waiting, Leased, Done, Frontier, standing, is_waiting, is_leased, is_done, is_free, is_unborn, is_held, is_finished, how_many, May}
+use Rattle.bx_board.specs.Reported.{IsShown}
+use Rattle.bx_board.specs.Stands.{IsHeld, Keeps, book_view, kept_for, left_on, passed, slot_of, slots_of, stand_at}
+use Rattle.bx_board.specs.Tended.{IsTended}
 use Rattle.bx_board.proofs.Found.{empty_is, none_is, some_last, split_last}
+use Rattle.bx_board.proofs.Holding.{held_set, keeps_set, seen_long, seen_same, seen_set, submit_held, submit_seen}
+use Rattle.bx_board.proofs.RowLengths.{length_many, how_many_low, how_many_less, how_many_some}
+use Rattle.bx_board.proofs.Steps.{free_is, is_true, true_is, leased_within, waiting_is}
 use Rattle.bx_board.proofs.Tending.{last_free, none_free, free_waits, done_waits, holds_none, tended_lease, tended_back, tended_submit, tended_stop}
 
 module _ (b : Kept) (ready : List ℕ) (holders : BTreeMap ℕ ℕ) (leased done : ℕ) (is : IsTended b ready holders leased done) where
@@ -96,14 +101,6 @@ module _ (job : Job) (s : Frontier) where
   four_ways zero h = refl
   four_ways (suc n) h = omega (arith, four_ways n (omega (arith, h)), one_way n h)
 
--- one passes at least, where one below the bound does
-pub how_many_some : (p : ℕ → Bool) (bound at : ℕ) → at < bound → p at ≡ true → 0 < how_many p bound
-how_many_some p zero at h t = absurd (omega (arith, h))
-how_many_some p (suc n) at h t = one (below_or_past at n) (how_many_some p n at) where
-  one : (at < n) ⊎ (n ≤ at) → (at < n → p at ≡ true → 0 < how_many p n) → 0 < how_many p (suc n)
-  one (inl l) later = omega (arith, later l t)
-  one (inr g) later = let place : at ≡ n = omega (arith, g, h) in omega (arith, ap (λ i. one_if (p i)) place, ap one_if t)
-
 -- what the numbers at hand come to
 pub ways_sum : (b : Kept) (ready : List ℕ) (holders : BTreeMap ℕ ℕ) (leased done : ℕ) → IsTended b ready holders leased done → how_many (is_unborn b.job b.state) (length b.state.slots) + length ready + leased + done ≡ length b.state.slots
 ways_sum b ready holders leased done is = omega (arith, four_ways b.job b.state (length b.state.slots) (omega arith), ready_many b ready holders leased done is, is.some_leased, is.some_done)
@@ -130,49 +127,67 @@ all_done b count e n h = true_is _ (true_from_ne_false (is_finished b.state n) (
 pub done_all : (b : Kept) → length b.state.slots ≡ chain_count b.job.chains → IsAllDone b → how_many (is_finished b.state) (length b.state.slots) ≡ length b.state.slots
 done_all b count all = all_or_less (is_finished b.state) (length b.state.slots) (λ n h. is_true _ (all n (omega (arith, h, count))))
 
--- ---- the events, field by field
+-- ---- the events, as a book keeps them
 
-module _ (image : Loaded) (start : Entry) (plan : Planned) (chains : Chained) (slots : List Slot) (stopped : Bool)
-    (ready : List ℕ) (holders : BTreeMap ℕ ℕ) (leased done : ℕ) where
-  abbrev the_job : Job
-  the_job = record { image = image; start = start; plan = plan; chains = chains }
+abbrev pub AreKept : Kept → List Stand → List ℕ → BTreeMap ℕ ℕ → ℕ → ℕ → Type 0
+AreKept b all ready holders leased done = IsTended b ready holders leased done × IsHeld b all
 
-  abbrev here : Kept
-  here = kept_view image start plan chains slots stopped
+module _ {b : Kept} {ready : List ℕ} {holders : BTreeMap ℕ ℕ} {leased done : ℕ} (is : IsTended b ready holders leased done) where
+  -- who holds a chain is counted
+  pub some_held : (k n : ℕ) → standing b.state n ≡ Leased k → 0 < leased
+  some_held k n had = omega (arith, is.some_leased, how_many_some (is_held b.state) (length b.state.slots) n (leased_within b.state n k had) (ap is_leased had))
 
-  module _ (is : IsTended here ready holders leased done) where
-    pub view_stop : stopped ≡ false → IsTended (kept_view image start plan chains slots true) ready holders leased done
-    view_stop may = tended_stop here ready holders leased done is may
+  -- the chain that is held isn't done
+  pub some_undone : (k n : ℕ) → standing b.state n ≡ Leased k → done < length b.state.slots
+  some_undone k n had = omega (arith, is.some_done, how_many_less (is_finished b.state) (length b.state.slots) n (leased_within b.state n k had) (ap is_done had))
 
-    module _ (k n : ℕ) (now : List Slot) (row : List ℕ) (map : BTreeMap ℕ ℕ) where
-      pub view_lease : May the_job here.state (Lease k n) → now ≡ set slots n (Leased k) → ready ≡ row ++ n ∷ [] → Updates nat_cmp holders map k (Some n)
-          → IsTended (kept_view image start plan chains now stopped) row map (leased + 1) done
-      view_lease may e front up = subst (λ xs. IsTended (kept_view image start plan chains xs stopped) row map (leased + 1) done) (sym e) (tended_lease here ready holders leased done is k n row map may front up)
+  -- there is room for what stands on it
+  pub kids_room : (k n : ℕ) (map : BTreeMap ℕ ℕ) → standing b.state n ≡ Leased k → Updates nat_cmp holders map k None → length ready + length (kids b.job.chains n) ≤ length b.state.slots
+  kids_room k n map had up =
+      let next = tended_submit b ready holders leased done is k n (ready ++ kids b.job.chains n) map (leased - 1) had refl up (omega (arith, some_held k n had)) in
+      let low = ready_low (then b (Submit k n)) (ready ++ kids b.job.chains n) map (leased - 1) (done + 1) next in
+      omega (arith, low, length-append ready (kids b.job.chains n), length-set b.state.slots n (Done (chain_end b.job n)))
 
-      pub view_back : (less : ℕ) → standing here.state n ≡ Leased k → now ≡ set slots n Waiting → row ≡ ready ++ n ∷ [] → Updates nat_cmp holders map k None → less + 1 ≡ leased
-          → IsTended (kept_view image start plan chains now stopped) row map less done
-      view_back less had e more up fewer = subst (λ xs. IsTended (kept_view image start plan chains xs stopped) row map less done) (sym e) (tended_back here ready holders leased done is k n row map less had more up fewer)
+  module _ {all : List Stand} (held : IsHeld b all) (see : b.state.slots ≡ slots_of (chain_end b.job) all) where
+    pub view_stop : b.state.stopped ≡ false → AreKept (book_view b.job all true) all ready holders leased done
+    view_stop may =
+        subst (λ c. AreKept c all ready holders leased done) (ap (λ slots. record { job = b.job; state = record { slots = slots; stopped = true } }) see)
+        (tended_stop b ready holders leased done is may, record { exported = held.exported; each = held.each })
 
-      pub view_submit : (less : ℕ) (end : Ended) → standing here.state n ≡ Leased k → end ≡ end_of (work_of the_job n) → now ≡ set slots n (Done end) → row ≡ ready ++ kids chains n
-          → Updates nat_cmp holders map k None → less + 1 ≡ leased → IsTended (kept_view image start plan chains now stopped) row map less (done + 1)
-      view_submit less end had is_end e more up fewer =
-          subst (λ xs. IsTended (kept_view image start plan chains xs stopped) row map less (done + 1)) (sym (e ∙ ap (λ x. set slots n (Done x)) is_end)) (tended_submit here ready holders leased done is k n row map less had more up fewer)
+    pub view_lease : (k n : ℕ) (row : List ℕ) (map : BTreeMap ℕ ℕ) → May b.job b.state (Lease k n) → ready ≡ row ++ n ∷ [] → Updates nat_cmp holders map k (Some n)
+        → AreKept (book_view b.job (set all n (stands.Leased k)) b.state.stopped) (set all n (stands.Leased k)) row map (leased + 1) done
+    view_lease k n row map may front up =
+        let was = free_is b.job b.state n (is_true _ may.0) in
+        subst (λ c. AreKept c (set all n (stands.Leased k)) row map (leased + 1) done) (sym (seen_set held see n (stands.Leased k)))
+        (tended_lease b ready holders leased done is k n row map may front up, held_set held see n (stands.Leased k) (omega (arith, was.within, seen_long held see)) tt (ap is_done (sym (waiting_is _ was.waiting))))
 
-    -- who holds a chain is counted
-    pub some_held : (k n : ℕ) → standing here.state n ≡ Leased k → 0 < leased
-    some_held k n had = omega (arith, is.some_leased, how_many_some (is_held here.state) (length slots) n (leased_within here.state n k had) (ap is_leased had))
+    pub view_back : (k n : ℕ) (row : List ℕ) (map : BTreeMap ℕ ℕ) → standing b.state n ≡ Leased k → row ≡ ready ++ n ∷ [] → Updates nat_cmp holders map k None
+        → AreKept (book_view b.job (set all n stands.Waiting) b.state.stopped) (set all n stands.Waiting) row map (leased - 1) done
+    view_back k n row map had more up =
+        subst (λ c. AreKept c (set all n stands.Waiting) row map (leased - 1) done) (sym (seen_set held see n stands.Waiting))
+        (tended_back b ready holders leased done is k n row map (leased - 1) had more up (omega (arith, some_held k n had)), held_set held see n stands.Waiting (omega (arith, leased_within b.state n k had, seen_long held see)) tt (ap is_done (sym had)))
 
-    -- the chain that is held isn't done
-    pub some_undone : (k n : ℕ) → standing here.state n ≡ Leased k → done < length slots
-    some_undone k n had = omega (arith, is.some_done, how_many_less (is_finished here.state) (length slots) n (leased_within here.state n k had) (ap is_done had))
+    module _ (k n : ℕ) (had : standing b.state n ≡ Leased k) (h : Head) (x y : Stand) (told : Vec Shown Global) (way : Option Way) (is_head : h ≡ head b.job.chains n) (read : x ≡ get_or all h.above x) (fewer : y ≡ passed x) where
+      abbrev after : List Stand
+      after = set (set all h.above y) n (stands.Done told way)
 
-    -- there is room for what stands on it
-    pub kids_room : (k n : ℕ) (map : BTreeMap ℕ ℕ) → standing here.state n ≡ Leased k → Updates nat_cmp holders map k None → length ready + length (kids chains n) ≤ length slots
-    kids_room k n map had up =
-        let some = some_held k n had in
-        let next = view_submit k n (set slots n (Done (end_of (work_of the_job n)))) (ready ++ kids chains n) map (leased - 1) (end_of (work_of the_job n)) had refl refl refl up (omega (arith, some)) in
-        let low = ready_low (kept_view image start plan chains (set slots n (Done (end_of (work_of the_job n)))) stopped) (ready ++ kids chains n) map (leased - 1) (done + 1) next in
-        omega (arith, low, length-append ready (kids chains n), length-set slots n (Done (end_of (work_of the_job n))))
+      pub submit_view : book_view b.job after b.state.stopped ≡ then b (Submit k n)
+      submit_view = ap (λ (g : Head). book_view b.job (set (set all g.above y) n (stands.Done told way)) b.state.stopped) is_head ∙ submit_seen held see is.kept k n had x y told way (read ∙ ap (λ (g : Head). get_or all g.above x) is_head) fewer
+
+      pub view_submit : (row : List ℕ) (map : BTreeMap ℕ ℕ) → row ≡ ready ++ kids b.job.chains n → Updates nat_cmp holders map k None → All (IsShown (chain_end b.job n)) told.items → way ≡ kept_for (chain_end b.job n) (length (kids b.job.chains n))
+          → AreKept (book_view b.job after b.state.stopped) after row map (leased - 1) (done + 1)
+      view_submit row map more up shows kept =
+          subst (λ c. AreKept c after row map (leased - 1) (done + 1)) (sym submit_view) (
+            tended_submit b ready holders leased done is k n row map (leased - 1) had more up (omega (arith, some_held k n had)),
+            subst (λ (g : Head). IsHeld (then b (Submit k n)) (set (set all g.above y) n (stands.Done told way))) (sym is_head)
+                (submit_held held see is.kept k n had x y told way (read ∙ ap (λ (g : Head). get_or all g.above x) is_head) fewer shows kept),
+          )
+
+    -- one of what was told is taken
+    pub view_taken : (n : ℕ) (x y : Stand) → n < length all → y ≡ get_or all n y → slot_of (chain_end b.job n) x ≡ slot_of (chain_end b.job n) y → Keeps (chain_end b.job n) (left_on b n) x
+        → AreKept (book_view b.job (set all n x) b.state.stopped) (set all n x) ready holders leased done
+    view_taken n x y within read same keeps =
+        subst (λ c. AreKept c (set all n x) ready holders leased done) (sym (seen_same held see n x y within read same)) (is, record { exported = held.exported; each = keeps_set held see n x within keeps })
 
 -- as many are done as there are exactly where all are
 pub all_told : (b : Kept) (ready : List ℕ) (holders : BTreeMap ℕ ℕ) (leased done count : ℕ) → IsTended b ready holders leased done → count ≡ length b.state.slots → IsTrue (done == count) ↔ IsAllDone b

@@ -4,6 +4,7 @@ pub mod RowLengths
 pub mod Histories
 pub mod Running
 pub mod Tending
+pub mod Holding
 pub mod Places
 pub mod Keeping
 pub mod Beginning

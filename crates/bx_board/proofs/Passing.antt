@@ -12,9 +12,9 @@ use Rattle.bx_plan.specs.Chains.{above, end, head, path_at}
 use Rattle.bx_plan.specs.Planned.{choices_at, schedules}
 use Rattle.bx_board.specs.declared.reports.Scheduled.{Scheduled}
 use Rattle.bx_board.specs.declared.walks.Course.{Course}
-use Rattle.bx_board.specs.Jobs.{Entry, Job, origin, run_alone, world_or_none}
+use Rattle.bx_board.specs.Jobs.{Entry, Job, chain_end, origin, run_alone, world_or_none}
 use Rattle.bx_board.specs.Reported.{told_alone}
-use Rattle.bx_board.specs.Walks.{AreTold, IsCourse, chain_end, job_of}
+use Rattle.bx_board.specs.Walks.{AreTold, IsCourse, job_of}
 use Rattle.bx_board.specs.Working.{IsSpan, run_up_to}
 use Rattle.bx_board.proofs.Places.{some_chain}
 

@@ -72,3 +72,11 @@ how_many_less p (suc n) at h f = one (below_or_past at n) (how_many_less p n at)
   one : (at < n) ⊎ (n ≤ at) → (at < n → p at ≡ false → how_many p n < n) → how_many p n ≤ n → one_if (p n) ≤ 1 → how_many p (suc n) < suc n
   one (inl l) later all last = omega (arith, later l f, last)
   one (inr g) later all last = let place : at ≡ n = omega (arith, g, h) in omega (arith, all, ap (λ i. one_if (p i)) place, ap one_if f)
+
+-- one passes at least, where one below the bound does
+pub how_many_some : (p : ℕ → Bool) (bound at : ℕ) → at < bound → p at ≡ true → 0 < how_many p bound
+how_many_some p zero at h t = absurd (omega (arith, h))
+how_many_some p (suc n) at h t = one (below_or_past at n) (how_many_some p n at) where
+  one : (at < n) ⊎ (n ≤ at) → (at < n → p at ≡ true → 0 < how_many p n) → 0 < how_many p (suc n)
+  one (inl l) later = omega (arith, later l t)
+  one (inr g) later = let place : at ≡ n = omega (arith, g, h) in omega (arith, ap (λ i. one_if (p i)) place, ap one_if t)

@@ -5,10 +5,9 @@ use Rattle.std.proofs.lemmas.List.{get_or-set_same, get_or-set_other, length-set
 use Rattle.std.proofs.lemmas.Bool.{cases_eq, both_ways, and_parts, and_from, ltb-true, lt-ltb, ltb-false, cases_Bool}
 use Rattle.bx_world.specs.Running.{Ended}
 use Rattle.bx_plan.specs.Chains.{above}
-use Rattle.bx_board.specs.declared.slots.Slot.{Slot, TheVariants.Waiting, TheVariants.Leased, TheVariants.Done}
 use Rattle.bx_board.specs.declared.slots.Event.{Event, TheVariants.Lease, TheVariants.Submit, TheVariants.GiveBack, TheVariants.Stop}
 use Rattle.bx_board.specs.Jobs.{Job, end_of, work_of}
-use Rattle.bx_board.specs.Machine.{Frontier, standing, is_waiting, is_done, is_free, May, with_slot, after, initial, replay, IsLegal}
+use Rattle.bx_board.specs.Machine.{Slot, Waiting, Leased, Done, Frontier, standing, is_waiting, is_done, is_free, May, with_slot, after, initial, replay, IsLegal}
 use Rattle.bx_board.specs.Kept.{Kept, then, HasHistory, IsKept}
 
 pub is_true : (b : Bool) → IsTrue b → b ≡ true

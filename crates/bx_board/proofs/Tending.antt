@@ -9,10 +9,9 @@ use Rattle.std.proofs.lemmas.List.{length-set}
 use Rattle.std.proofs.lemmas.Bool.{cases_eq, both_ways, eq-eqb, lt-ltb, le-ltb, false_from_ne_true, true_from_ne_false, cases_Bool}
 use Rattle.bx_plan.specs.Chains.{above, kids, is_kid, one_if, times}
 use Rattle.bx_plan.proofs.Times.{not_eq, times-append, mid_false, both_true, and_false}
-use Rattle.bx_board.specs.declared.slots.Slot.{Slot, TheVariants.Waiting, TheVariants.Leased, TheVariants.Done}
 use Rattle.bx_board.specs.declared.slots.Event.TheVariants.{Lease, Submit, GiveBack, Stop}
 use Rattle.bx_board.specs.Jobs.{Job, end_of, work_of}
-use Rattle.bx_board.specs.Machine.{Frontier, standing, is_waiting, is_leased, is_done, is_free, is_held, is_finished, how_many, Holds, May, with_slot}
+use Rattle.bx_board.specs.Machine.{Slot, Waiting, Leased, Done, Frontier, standing, is_waiting, is_leased, is_done, is_free, is_held, is_finished, how_many, Holds, May, with_slot}
 use Rattle.bx_board.specs.Kept.{Kept, then}
 use Rattle.bx_board.specs.Tended.{IsTended}
 use Rattle.bx_board.proofs.Numbers.{how_many_but}

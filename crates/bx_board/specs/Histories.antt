@@ -2,10 +2,9 @@
 use Rattle.std.specs.Prelude.{◌≡◌, ℕ, ◌+◌, ◌<◌, ◌==◌, List, [], ◌∷◌, length}
 use Rattle.bx_world.specs.Running.{Ended}
 use Rattle.bx_plan.specs.Chains.{AreChains, one_if}
-use Rattle.bx_board.specs.declared.slots.Slot.TheVariants.{Leased, Done}
 use Rattle.bx_board.specs.declared.slots.Event.{Event, TheVariants.Lease, TheVariants.Submit, TheVariants.GiveBack, TheVariants.Stop}
 use Rattle.bx_board.specs.Jobs.{Job, end_of, work_of}
-use Rattle.bx_board.specs.Machine.{Frontier, standing, is_done, is_finished, how_many, initial, replay, IsLegal}
+use Rattle.bx_board.specs.Machine.{Frontier, Leased, Done, standing, is_done, is_finished, how_many, initial, replay, IsLegal}
 
 -- how many pieces were accepted of a chain
 abbrev pub accepted_by : ℕ → Event → ℕ

@@ -64,6 +64,10 @@ end_of work = run_alone work.image work.start work.path
 abbrev pub work_of : Job → ℕ → Work
 work_of job n = record { image = job.image; start = job.start; path = chain_path job.plan job.chains n; own = chain_length job.chains n }
 
+-- where a chain leads, run alone from the start
+abbrev pub chain_end : Job → ℕ → Ended
+chain_end job chain = end_of (work_of job chain)
+
 -- what a proof tells two of them apart by
 abbrev pub work_code : Coded Loaded → Coded AtomId → Coded Choice → Coded Work
 work_code image atom choice =

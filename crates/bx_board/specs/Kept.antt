@@ -8,10 +8,9 @@ use Rattle.bx_world.specs.World.{started}
 use Rattle.bx_world.specs.Running.{Ended}
 use Rattle.bx_plan.specs.Planned.{Planned}
 use Rattle.bx_plan.specs.Chains.{AreChains, Chained, above, chain_count}
-use Rattle.bx_board.specs.declared.slots.Slot.{Slot, TheVariants.Leased, TheVariants.Done}
 use Rattle.bx_board.specs.declared.slots.Event.{Event, TheVariants.Lease, TheVariants.Submit, TheVariants.GiveBack}
 use Rattle.bx_board.specs.Jobs.{Entry, IsSameRun, Job, Work, end_of, work_of}
-use Rattle.bx_board.specs.Machine.{Frontier, standing, is_waiting, is_done, May, after, initial, replay, IsLegal}
+use Rattle.bx_board.specs.Machine.{Frontier, Slot, Leased, Done, slot_code, standing, is_waiting, is_done, May, after, initial, replay, IsLegal}
 
 -- the campaign, and how it stands
 pub record Kept : Type 0 where
@@ -42,10 +41,10 @@ pub record IsKept (b : Kept) : Type 0 where
   pub one : (k m n : ℕ) → standing b.state m ≡ Leased k → standing b.state n ≡ Leased k → m ≡ n
 
 -- what a proof tells two of them apart by
-abbrev pub kept_code : Coded Loaded → Coded AtomId → Coded Planned → Coded Chained → Coded Slot → Coded Kept
-kept_code image atom plan chains slot =
+abbrev pub kept_code : Coded Loaded → Coded AtomId → Coded Planned → Coded Chained → Coded Ended → Coded Kept
+kept_code image atom plan chains end =
     code_by ((Loaded × (Entry × (Planned × Chained))) × (List Slot × Bool))
-    (coded× (coded× image (coded× (coded× atom atom) (coded× plan chains))) (coded× (coded_list slot) coded_bool))
+    (coded× (coded× image (coded× (coded× atom atom) (coded× plan chains))) (coded× (coded_list (slot_code end)) coded_bool))
     (λ b. ((b.job.image, (b.job.start, (b.job.plan, b.job.chains))), (b.state.slots, b.state.stopped)))
     (λ t. record {
       job = record { image = t.0.0; start = t.0.1.0; plan = t.0.1.1.0; chains = t.0.1.1.1 };

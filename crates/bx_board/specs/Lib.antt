@@ -2,7 +2,9 @@ pub mod Jobs
 pub mod Machine
 pub mod Working
 pub mod Kept
+pub mod Stands
 pub mod Tended
+pub mod Codes
 pub mod Histories
 pub mod Texts
 pub mod Counted

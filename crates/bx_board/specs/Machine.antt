@@ -1,10 +1,18 @@
 -- The machine that workers share: how each chain stands, which events may happen, and what each changes. Chain 0, the
 -- root, is done from the start. A chain that waits is free once the chain that it stands on is done, and unborn until then.
-use Rattle.std.specs.Prelude.{◌≡◌, ℕ, zero, suc, ◌+◌, ◌-◌, ◌&&◌, not, nat_lt, Bool, true, false, IsTrue, List, [], ◌∷◌, length, replicate, slice_index_or, slice_set}
+use Rattle.std.specs.Prelude.{◌≡◌, ◌⊎◌, ℕ, zero, suc, ◌+◌, ◌-◌, ◌&&◌, not, nat_lt, Bool, true, false, IsTrue, List, [], ◌∷◌, Option, None, Some, length, replicate, slice_index_or, slice_set, refl}
+use Rattle.std.specs.Coded.{Coded, code_by, coded⊎, coded_ℕ, coded_option}
+use Rattle.std.proofs.Common.{inl, inr}
+use Rattle.bx_world.specs.Running.{Ended}
 use Rattle.bx_plan.specs.Chains.{above, chain_count, one_if}
-use Rattle.bx_board.specs.declared.slots.Slot.{Slot, TheVariants.Waiting, TheVariants.Leased, TheVariants.Done}
 use Rattle.bx_board.specs.declared.slots.Event.{Event, TheVariants.Lease, TheVariants.Submit, TheVariants.GiveBack, TheVariants.Stop}
 use Rattle.bx_board.specs.Jobs.{Job, end_of, work_of}
+
+-- a chain that nobody has, one that a worker holds, and one that was run, with its end
+pub data Slot : Type 0 where
+  Waiting : Slot
+  Leased : ℕ → Slot
+  Done : Ended → Slot
 
 pub record Frontier : Type 0 where
   -- by chain
@@ -78,3 +86,18 @@ is_held s n = is_leased (standing s n)
 
 abbrev pub is_finished : Frontier → ℕ → Bool
 is_finished s n = is_done (standing s n)
+
+-- ---- what a proof tells two slots apart by
+
+abbrev pub slot_out : Slot → Option (ℕ ⊎ Ended)
+slot_out Waiting = None
+slot_out (Leased k) = Some (inl k)
+slot_out (Done e) = Some (inr e)
+
+abbrev pub slot_in : Option (ℕ ⊎ Ended) → Slot
+slot_in None = Waiting
+slot_in (Some (inl k)) = Leased k
+slot_in (Some (inr e)) = Done e
+
+abbrev pub slot_code : Coded Ended → Coded Slot
+slot_code end = code_by (Option (ℕ ⊎ Ended)) (coded_option (coded⊎ coded_ℕ end)) slot_out slot_in (λ s. elim s as (λ t. slot_in (slot_out t) ≡ t) [ Waiting ↦ refl | Leased k ↦ refl | Done e ↦ refl ])

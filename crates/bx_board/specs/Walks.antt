@@ -9,7 +9,7 @@ use Rattle.bx_board.specs.declared.walks.Course.{Course}
 use Rattle.bx_board.specs.declared.walks.Ending.{Ending}
 use Rattle.bx_board.specs.declared.walks.Passed.{Passed}
 use Rattle.bx_board.specs.declared.walks.Walk.{Walk}
-use Rattle.bx_board.specs.Jobs.{Job, end_of, work_of}
+use Rattle.bx_board.specs.Jobs.{Job, chain_end}
 use Rattle.bx_board.specs.Reported.{told_alone}
 
 abbrev pub job_of : Course → Job
@@ -18,10 +18,6 @@ job_of course = record { image = course.image.now; start = course.start; plan = 
 -- its chains are those of its plan
 abbrev pub IsCourse : Course → Type 0
 IsCourse course = AreChains course.plan.now course.chains
-
--- where a chain leads, run alone from the start
-abbrev pub chain_end : Job → ℕ → Ended
-chain_end job chain = end_of (work_of job chain)
 
 -- an end is the one that its chain has
 abbrev pub EndsSo : (ℕ → Ended) → Passed → Type 0

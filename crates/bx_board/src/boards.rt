@@ -3,10 +3,10 @@
 ghost use Rattle.std.specs.Prelude.{◌≡◌, ◌≢◌, ◌⊎◌, IfErr, IfOk, IfSome, MatchBool};
 ghost use Rattle.bx_board.specs.Counted.{counts_of};
 ghost use Rattle.bx_board.specs.Kept.{GivesBack, Happens, IsOf, MayLease, Takes};
-ghost use Rattle.bx_board.specs.Machine.{standing, Holds};
+ghost use Rattle.bx_board.specs.Machine.{standing, Holds, Leased};
 
 use crate::books::Book;
-use crate::slots::{Counts, Event, Slot};
+use crate::slots::{Counts, Event};
 use crate::working::{Crew, Lease, Piece, work_over};
 use bx_load::Image;
 use bx_terms::Fault;
@@ -76,13 +76,13 @@ impl<'a, J: Campaign> Model for Shelf<'a, J> {
     ghost use Rattle.bx_load.specs.Image.{loaded_code};
     ghost use Rattle.bx_plan.specs.contracts.plans.Plan as plans;
     ghost use Rattle.bx_plan.specs.contracts.chains.Chains as chained;
-    ghost use Rattle.bx_board.specs.contracts.slots.Slot as slot;
+    ghost use Rattle.bx_board.specs.Codes.{end_code};
     ghost use Rattle.bx_board.specs.Kept.{Kept, kept_code};
 
     ghost Value = { Kept };
 
     ghost coded = { kept_code (loaded_code unit.the_row.coded) ids.the_row.coded plans.the_row.coded
-        chained.the_row.coded slot.the_row.coded };
+        chained.the_row.coded end_code };
 
     ghost view = { λ s. s.book };
 
@@ -134,7 +134,7 @@ impl<'a, J: Campaign> Shelf<'a, J> {
     fn accept(&mut self, worker: usize, chain: usize, piece: Piece<'a>) -> bool
         requires { IsOf J.job piece chain }
         ensures { MatchBool result (Happens self.old (Event.Submit worker chain) self.new)
-            ((self.new ≡ self.old) × (standing self.old.state chain ≢ Slot.Leased worker)) }
+            ((self.new ≡ self.old) × (standing self.old.state chain ≢ Leased worker)) }
     {
         self.book.accept(worker, chain, piece)
     }

@@ -10,8 +10,10 @@ mod ending;
 mod leasing;
 mod opening;
 mod reporting;
+mod stands;
 
-use crate::slots::{Counts, Slot};
+use crate::books::stands::Stand;
+use crate::slots::Counts;
 use bx_load::Image;
 use bx_plan::{Chains, Plan};
 use bx_terms::AtomId;
@@ -27,7 +29,9 @@ pub struct Book<'a> {
     start: (AtomId, AtomId),
     plan: &'a Plan,
     chains: Chains,
-    slots: Vec<Slot>,
+    /// By chain, how many schedules end with it.
+    endings: Vec<usize>,
+    stands: Vec<Stand>,
     stopped: bool,
     ready: Vec<usize>,
     holders: BTreeMap<usize, usize>,
@@ -36,28 +40,32 @@ pub struct Book<'a> {
 }
 
 impl<'a> Model for Book<'a> {
-    ghost use Rattle.std.specs.Prelude.{◌≤◌, length, vec_capacity};
+    ghost use Rattle.std.specs.Prelude.{◌≡◌, ◌≤◌, length, vec_capacity};
     ghost use Rattle.bx_terms.specs.contracts.atom_table.AtomId as ids;
     ghost use Rattle.bx_asm.specs.contracts.unit.Unit as unit;
     ghost use Rattle.bx_load.specs.Image.{loaded_code};
     ghost use Rattle.bx_plan.specs.contracts.plans.Plan as plans;
     ghost use Rattle.bx_plan.specs.contracts.chains.Chains as chained;
-    ghost use Rattle.bx_board.specs.contracts.slots.Slot as slot;
+    ghost use Rattle.bx_board.specs.Codes.{end_code};
     ghost use Rattle.bx_board.specs.Kept.{Kept, kept_code};
 
     ghost Value = { Kept };
 
     ghost coded = { kept_code (loaded_code unit.the_row.coded) ids.the_row.coded plans.the_row.coded
-        chained.the_row.coded slot.the_row.coded };
+        chained.the_row.coded end_code };
 
+    ghost use Rattle.bx_board.specs.Stands.{IsHeld};
     ghost use Rattle.bx_board.specs.Tended.{kept_view, IsTended};
 
-    ghost view = { λ b. kept_view b.image.now b.start b.plan.now b.chains b.slots.items b.stopped };
+    ghost view = { λ b. kept_view b.image.now b.start b.plan.now b.chains b.stands.items b.stopped };
 
     ghost invariant = { λ b.
-        IsTended (kept_view b.image.now b.start b.plan.now b.chains b.slots.items b.stopped)
+        IsTended (kept_view b.image.now b.start b.plan.now b.chains b.stands.items b.stopped)
         b.ready.items b.holders b.leased b.done
-        × (length b.slots.items ≤ vec_capacity b.ready) };
+        × (length b.stands.items ≤ vec_capacity b.ready)
+        × IsHeld (kept_view b.image.now b.start b.plan.now b.chains b.stands.items b.stopped)
+        b.stands.items
+        × (length b.endings.items ≡ length b.stands.items) };
 }
 
 impl<'a> Book<'a> {
@@ -89,7 +97,7 @@ impl<'a> Book<'a> {
         let free = self.ready.len();
         let leased = self.leased;
         let done = self.done;
-        let unborn = self.slots.len() - free - leased - done;
+        let unborn = self.stands.len() - free - leased - done;
         Counts {
             unborn,
             free,

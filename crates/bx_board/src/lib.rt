@@ -15,7 +15,7 @@ pub use boards::{Board, Campaign, FreeGate, Gate};
 pub use books::Book;
 pub use campaigns::campaign;
 pub use reports::{Report, Scheduled};
-pub use slots::{ArcEnd, Counts, Event, Slot};
+pub use slots::{ArcEnd, Counts, Event};
 pub use texts::report_text;
 pub use walks::report_alone;
 pub use working::{Lease, Piece, work};

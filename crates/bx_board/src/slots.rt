@@ -1,4 +1,4 @@
-//! How a chain of a campaign stands, and what has happened to it.
+//! Ends that threads may share, what happens to a chain of a campaign, and how many chains stand how.
 
 use bx_proc::Proc;
 use bx_share::ArcHold;
@@ -6,17 +6,6 @@ use bx_world::{Lanes, RunEnd};
 
 /// Where a list of choices has led, in a world whose parts threads may share.
 pub type ArcEnd = RunEnd<ArcHold<Proc>, ArcHold<Lanes>>;
-
-/// How a chain stands.
-#[derive(Drop)]
-pub enum Slot {
-    /// Nobody has it. It is free where the chain that it stands on is done, else unborn.
-    Waiting,
-    /// This worker holds it.
-    Leased(usize),
-    /// It was run: this is its end.
-    Done(ArcHold<ArcEnd>),
-}
 
 /// What changes a campaign: each names the worker, and the chain's number.
 #[derive(Clone, Copy, Debug, PartialEq, Eq)]

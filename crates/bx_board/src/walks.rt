@@ -8,9 +8,9 @@ ghost use Rattle.bx_load.specs.Image.{export};
 ghost use Rattle.bx_world.specs.World.{started};
 ghost use Rattle.bx_plan.specs.Chains.{above};
 ghost use Rattle.bx_plan.specs.Planned.{choices_at, schedules};
-ghost use Rattle.bx_board.specs.Jobs.{origin, run_alone};
+ghost use Rattle.bx_board.specs.Jobs.{chain_end, origin, run_alone};
 ghost use Rattle.bx_board.specs.Reported.{report_from, reported_alone, told_alone};
-ghost use Rattle.bx_board.specs.Walks.{chain_end, job_of, AreTold, EndsSo, IsCourse, IsEnding, IsWalk};
+ghost use Rattle.bx_board.specs.Walks.{job_of, AreTold, EndsSo, IsCourse, IsEnding, IsWalk};
 ghost use Rattle.bx_board.specs.Working.{run_up_to, IsSpan};
 
 use crate::reports::{Report, Scheduled};

@@ -1,10 +1,13 @@
 //! A chain on its way: leased with the end that it goes on from, and worked.
 
 ghost use Rattle.std.specs.Prelude.{⊤, ◌≡◌, ◌<◌, ◌≤◌, length, take, IfOk, IfErr, Ok};
+ghost use Rattle.std.specs.List.{All};
 ghost use Rattle.bx_terms.specs.Outcomes.{Gives};
 ghost use Rattle.bx_plan.specs.Planned.{choices_at};
 ghost use Rattle.bx_board.specs.Jobs.{end_of};
+ghost use Rattle.bx_board.specs.Reported.{IsShown};
 
+use crate::reports::Shown;
 use crate::slots::ArcEnd;
 use bx_load::Image;
 use bx_plan::{Plan, Schedule};
@@ -42,6 +45,8 @@ pub struct Lease<'a> {
     pub(crate) start: (AtomId, AtomId),
     pub(crate) plan: &'a Plan,
     pub(crate) span: Span,
+    /// How many schedules end with the chain.
+    pub(crate) endings: usize,
     pub(crate) from: ArcHold<ArcEnd>,
 }
 
@@ -66,14 +71,15 @@ impl<'a> Model for Lease<'a> {
         (l.from ≡ run_up_to l.image.now l.start l.plan.now l.span.line l.span.first) };
 }
 
-/// A chain that was run, with its end.
+/// A chain that was run, with its end, and what that shows, for each schedule that ends with the chain.
 #[derive(Drop)]
 pub struct Piece<'a> {
     pub(crate) image: &'a Image,
     pub(crate) start: (AtomId, AtomId),
     pub(crate) plan: &'a Plan,
     pub(crate) span: Span,
-    pub(crate) end: ArcHold<ArcEnd>,
+    end: ArcHold<ArcEnd>,
+    told: Vec<Shown>,
 }
 
 impl<'a> Model for Piece<'a> {
@@ -89,12 +95,15 @@ impl<'a> Model for Piece<'a> {
     ghost coded = { work_code (loaded_code unit.the_row.coded) ids.the_row.coded
         choices.the_row.coded };
 
+    ghost use Rattle.std.specs.List.{All};
+    ghost use Rattle.bx_board.specs.Reported.{IsShown};
     ghost use Rattle.bx_board.specs.Working.{run_up_to, work_at, IsSpan};
 
     ghost view = { λ p. work_at p.image.now p.start p.plan.now p.span };
 
     ghost invariant = { λ p. IsSpan p.plan.now p.span ×
-        (p.end ≡ run_up_to p.image.now p.start p.plan.now p.span.line p.span.past) };
+        (p.end ≡ run_up_to p.image.now p.start p.plan.now p.span.line p.span.past) ×
+        All (IsShown p.end) p.told.items };
 }
 
 impl<'a> Lease<'a> {
@@ -131,6 +140,26 @@ impl<'a> Lease<'a> {
             advance_many(alloc, &mut end, code, run.choice, run.times as u64)?;
         }
         Ok(end)
+    }
+
+    /// The chain's end, and what it shows, for each schedule that ends with the chain.
+    fn made(
+        &self,
+        alloc: Global,
+        code: &Image,
+        crew: Crew,
+    ) -> Result<(ArcHold<ArcEnd>, Vec<Shown>), Fault>
+        requires { code.now ≡ self.now.image }
+        ensures end { IfOk result (λ made. made.0 ≡ end_of self.now) }
+        ensures told { IfOk result (λ made. All (IsShown (end_of self.now)) made.1.items) }
+        ensures err { IfErr result (λ fault. fault ≡ Fault.Memory) }
+    {
+        let end = self.run(alloc, code, crew)?;
+        let told = Shown::many(alloc, &end, self.endings)?;
+        let Ok(end) = ArcHold::put(alloc, end) else {
+            return Err(Fault::Memory);
+        };
+        Ok((end, told))
     }
 }
 
@@ -171,9 +200,10 @@ impl<'a> Piece<'a> {
         self.end.see()
     }
 
-    /// Where those choices lead, to be kept.
-    pub(crate) fn into_end(self) -> ArcHold<ArcEnd>
-        ensures { result ≡ end_of self.entry }
+    /// Where those choices lead, and what that shows, to be kept.
+    pub(crate) fn into_parts(self) -> (ArcHold<ArcEnd>, Vec<Shown>)
+        ensures end { result.0 ≡ end_of self.entry }
+        ensures told { All (IsShown (end_of self.entry)) result.1.items }
     {
         let Piece {
             image: _,
@@ -181,8 +211,9 @@ impl<'a> Piece<'a> {
             plan: _,
             span: _,
             end,
+            told,
         } = self;
-        end
+        (end, told)
     }
 }
 
@@ -236,18 +267,16 @@ pub(crate) fn work_over<'a>(
     ensures ok { IfOk result (λ piece. piece ≡ lease.entry) }
     ensures err { IfErr result (λ refused. (refused.0 ≡ Fault.Memory) × (refused.1 ≡ lease.entry)) }
 {
-    let end = match lease.run(alloc, code, crew) {
-        Ok(end) => end,
+    let (end, told) = match lease.made(alloc, code, crew) {
+        Ok(made) => made,
         Err(fault) => return Err((fault, lease)),
-    };
-    let Ok(end) = ArcHold::put(alloc, end) else {
-        return Err((Fault::Memory, lease));
     };
     let Lease {
         image,
         start,
         plan,
         span,
+        endings: _,
         from: _,
     } = lease;
     Ok(Piece {
@@ -256,5 +285,6 @@ pub(crate) fn work_over<'a>(
         plan,
         span,
         end,
+        told,
     })
 }

@@ -1,6 +1,6 @@
 //! Calls of a book in a row, by several workers.
 
-use crate::samples::{APART, APART_TEXT, BELOW, book, finished, image, plan};
+use crate::samples::{APART, APART_TEXT, BELOW, ONE, ONE_TEXT, book, finished, image, plan};
 use bx_board::{Book, Piece, work};
 use bx_load::Image;
 use bx_plan::Plan;
@@ -151,15 +151,16 @@ fn each_call_is_one_event_or_a_refusal(rt: HostRuntime) -> Result<(), Fail> {
     Ok(())
 }
 
-/// A piece of two choices; none where a call before it is answered otherwise than it should be.
-fn longer_piece<'a>(
+/// The last piece that was worked; none where a call is answered otherwise than it should be.
+fn last_piece<'a>(
     alloc: Global,
     image: &'a Image,
     plan: &'a Plan,
+    history: &[(Call, &str)],
 ) -> Result<Option<Piece<'a>>, Fault> {
     let mut book = book(alloc, image, plan)?;
     let mut pieces = Vec::new(alloc);
-    if first_other(alloc, &mut book, &ABOVE_ONE, &mut pieces)?.is_some() {
+    if first_other(alloc, &mut book, history, &mut pieces)?.is_some() {
         return Ok(None);
     }
     match pieces.pop() {
@@ -175,7 +176,7 @@ fn is_foreign<'a>(
     short: &'a Plan,
     long: &'a Plan,
 ) -> Result<bool, Fault> {
-    let Some(piece) = longer_piece(alloc, image, long)? else {
+    let Some(piece) = last_piece(alloc, image, long, &ABOVE_ONE)? else {
         return Ok(false);
     };
     let mut book = book(alloc, image, short)?;
@@ -192,6 +193,35 @@ fn a_chain_of_another_plan_is_foreign(rt: HostRuntime) -> Result<(), Fail> {
     let short = plan(alloc, APART)?;
     let long = plan(alloc, BELOW)?;
     assert!(rt; is_foreign(alloc, &image, &short, &long)?);
+    Ok(())
+}
+
+/// The text of the report of a plan of one chain, of which a piece of another plan is handed in.
+fn finished_by_another<'a>(
+    alloc: Global,
+    image: &'a Image,
+    one: &'a Plan,
+    other: &'a Plan,
+) -> Result<String, Fault> {
+    let Some(piece) = last_piece(alloc, image, other, &ABOVE_ONE[..2])? else {
+        return Ok(String::from_str(alloc, "no piece")?);
+    };
+    let mut book = book(alloc, image, one)?;
+    let _lease = book.lease(alloc, 1)?;
+    match book.submit(1, piece) {
+        Ok(()) => finished(alloc, image, book),
+        Err((fault, _piece)) => Err(fault),
+    }
+}
+
+#[test]
+fn a_piece_of_a_plan_in_which_nothing_ends_there_is_reported(rt: HostRuntime) -> Result<(), Fail> {
+    let alloc = rt.alloc();
+    let image = image(alloc)?;
+    let one = plan(alloc, ONE)?;
+    let other = plan(alloc, BELOW)?;
+    let text = finished_by_another(alloc, &image, &one, &other)?;
+    assert_eq!(&rt; text.as_str(), ONE_TEXT);
     Ok(())
 }
 

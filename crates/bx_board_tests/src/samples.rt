@@ -11,6 +11,13 @@ use std::alloc::Global;
 const LISTING: &str = "{module,m}. {exports,[{f,0}]}. {labels,3}. {function,f,0,2}.
 {label,1}. {func_info,{atom,m},{atom,f},0}. {label,2}. {move,{atom,ok},{x,0}}. return.";
 
+/// One schedule of one choice.
+pub const ONE: &str = "x: r0\n";
+
+/// What comes of it.
+pub const ONE_TEXT: &str =
+    "schedule x\napplied 1\nstate open r0\nprocess <0.0.0> ready\nend\n";
+
 /// Two schedules that share nothing; the second one's choice is refused.
 pub const APART: &str = "x: r0\ny: r1\n";
 

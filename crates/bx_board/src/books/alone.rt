@@ -31,7 +31,7 @@ impl<'a> Book<'a> {
         let Some(chain) = self.held_by(0) else {
             unreachable!()
         };
-        self.hand_in(0, chain, piece.into_end());
+        self.hand_in(0, chain, piece);
         Ok(true)
     }
 

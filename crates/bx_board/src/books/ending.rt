@@ -2,14 +2,14 @@
 
 ghost use Rattle.std.specs.Prelude.{◌≡◌, ◌≢◌, ◌⊎◌, ◌+◌, ◌++◌, ◌≤◌, ◌<◌, false, length, vec_len, vec_capacity, IfErr, OnOk, MatchBool, MatchOption, IsTrue};
 ghost use Rattle.bx_plan.specs.Chains.{chain_count};
-ghost use Rattle.bx_board.specs.Jobs.{end_of, work_of};
+ghost use Rattle.bx_board.specs.Jobs.{chain_end, end_of};
 ghost use Rattle.bx_board.specs.Kept.{GivesBack, Happens, IsOf, RefusesPiece, Submits};
-ghost use Rattle.bx_board.specs.Machine.{standing, is_done, Holds};
+ghost use Rattle.bx_board.specs.Machine.{standing, is_done, Holds, Leased};
 
 use crate::books::Book;
-use crate::slots::{ArcEnd, Event, Slot};
+use crate::books::stands::{Stand, Way};
+use crate::slots::Event;
 use crate::working::Piece;
-use bx_share::ArcHold;
 use bx_terms::Fault;
 
 /// Puts all chains of a row last, for which there is room.
@@ -28,7 +28,7 @@ impl<'a> Book<'a> {
     /// The chain that a worker holds.
     pub(super) fn held_by(&self, worker: usize) -> Option<usize>
         ensures { MatchOption result (Holds self.now.state worker → ⊥)
-            (λ n. standing self.now.state n ≡ Slot.Leased worker) }
+            (λ n. standing self.now.state n ≡ Leased worker) }
     {
         self.holders.get(&worker).copied()
     }
@@ -36,25 +36,29 @@ impl<'a> Book<'a> {
     /// Why a worker may not hand in a chain's end.
     fn refusal(&self, worker: usize, chain: usize) -> Option<Fault>
         requires { chain < chain_count self.now.job.chains }
-        ensures { MatchOption result (standing self.now.state chain ≡ Slot.Leased worker)
+        ensures { MatchOption result (standing self.now.state chain ≡ Leased worker)
             (λ fault. ((fault ≡ Fault.Twice) × IsTrue (is_done (standing self.now.state chain)))
-            ⊎ ((fault ≡ Fault.NotLeased) × (is_done (standing self.now.state chain) ≡ false) × (standing self.now.state chain ≢ Slot.Leased worker))) }
+            ⊎ ((fault ≡ Fault.NotLeased) × (is_done (standing self.now.state chain) ≡ false) × (standing self.now.state chain ≢ Leased worker))) }
     {
-        match &self.slots[chain] {
-            Slot::Done(_) => Some(Fault::Twice),
-            Slot::Leased(holder) if *holder == worker => None,
+        match &self.stands[chain] {
+            Stand::Done(_, _) => Some(Fault::Twice),
+            Stand::Leased(holder) if *holder == worker => None,
             _ => Some(Fault::NotLeased),
         }
     }
 
-    /// The end of a chain that the worker holds.
-    pub(super) fn hand_in(&mut self, worker: usize, chain: usize, end: ArcHold<ArcEnd>)
-        requires held { standing self.old.state chain ≡ Slot.Leased worker }
-        requires end { end ≡ end_of (work_of self.old.job chain) }
+    /// Takes what came of a chain that the worker holds. With the last chain that goes on from an end, that end goes.
+    pub(super) fn hand_in(&mut self, worker: usize, chain: usize, piece: Piece<'a>)
+        requires held { standing self.old.state chain ≡ Leased worker }
+        requires end { end_of piece ≡ chain_end self.old.job chain }
         ensures { Happens self.old (Event.Submit worker chain) self.new }
     {
         let _held = self.holders.remove(&worker);
-        self.slots[chain] = Slot::Done(end);
+        let head = self.chains.head(chain);
+        self.stands[head.above].pass();
+        let (end, told) = piece.into_parts();
+        let left = self.chains.kids(chain).len();
+        self.stands[chain] = Stand::Done(told, Way::kept_for(end, left));
         self.leased -= 1;
         self.done += 1;
         push_all(&mut self.ready, self.chains.kids(chain));
@@ -65,12 +69,12 @@ impl<'a> Book<'a> {
     pub(crate) fn accept(&mut self, worker: usize, chain: usize, piece: Piece<'a>) -> bool
         requires { IsOf self.old.job piece chain }
         ensures { MatchBool result (Happens self.old (Event.Submit worker chain) self.new)
-            ((self.new ≡ self.old) × (standing self.old.state chain ≢ Slot.Leased worker)) }
+            ((self.new ≡ self.old) × (standing self.old.state chain ≢ Leased worker)) }
     {
         if let Some(_fault) = self.refusal(worker, chain) {
             return false;
         }
-        self.hand_in(worker, chain, piece.into_end());
+        self.hand_in(worker, chain, piece);
         true
     }
 
@@ -90,17 +94,17 @@ impl<'a> Book<'a> {
         if let Some(fault) = self.refusal(worker, chain) {
             return Err((fault, piece));
         }
-        self.hand_in(worker, chain, piece.into_end());
+        self.hand_in(worker, chain, piece);
         Ok(())
     }
 
     /// The chain that the worker holds is free again.
     fn put_back(&mut self, worker: usize, chain: usize)
-        requires { standing self.old.state chain ≡ Slot.Leased worker }
+        requires { standing self.old.state chain ≡ Leased worker }
         ensures { Happens self.old (Event.GiveBack worker chain) self.new }
     {
         let _held = self.holders.remove(&worker);
-        self.slots[chain] = Slot::Waiting;
+        self.stands[chain] = Stand::Waiting;
         self.leased -= 1;
         self.ready.push_reserved(chain);
     }

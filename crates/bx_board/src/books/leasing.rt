@@ -6,7 +6,7 @@ ghost use Rattle.bx_board.specs.Kept.{Leases, MayLease, Takes};
 ghost use Rattle.bx_board.specs.Machine.{is_free};
 
 use crate::books::Book;
-use crate::slots::Slot;
+use crate::books::stands::Stand;
 use crate::working::{Lease, Span};
 use bx_share::Hold;
 use bx_terms::Fault;
@@ -19,7 +19,7 @@ impl<'a> Book<'a> {
         ensures { IfOk result (λ lease. lease ≡ work_of self.now.job chain) }
     {
         let head = self.chains.head(chain);
-        let Slot::Done(end) = &self.slots[head.above] else {
+        let Some(end) = self.stands[head.above].end() else {
             unreachable!()
         };
         let from = end.share(alloc)?;
@@ -34,6 +34,7 @@ impl<'a> Book<'a> {
             start: self.start,
             plan: self.plan,
             span,
+            endings: self.endings[chain],
             from,
         })
     }
@@ -62,7 +63,7 @@ impl<'a> Book<'a> {
             return Err(Fault::Memory);
         };
         let _taken = self.ready.pop();
-        self.slots[chain] = Slot::Leased(worker);
+        self.stands[chain] = Stand::Leased(worker);
         self.leased += 1;
         Ok(Some((chain, lease)))
     }

@@ -1,32 +1,47 @@
 //! The opening of a campaign.
 
 ghost use Rattle.std.specs.Prelude.{◌≡◌, ◌-◌, ◌<◌, ◌≤◌, ◌∷◌, IfOk, Ok, length, replicate, vec_capacity};
+ghost use Rattle.bx_plan.specs.Chains.{AreChains};
 ghost use Rattle.bx_board.specs.Kept.{IsOpening, Opens};
 ghost use Rattle.bx_world.specs.World.{started};
 
 use crate::books::Book;
 use crate::books::ending::push_all;
-use crate::slots::{ArcEnd, Slot};
+use crate::books::stands::{Stand, Way};
+use crate::reports::Shown;
+use crate::slots::ArcEnd;
 use bx_load::Image;
-use bx_plan::{Plan, chains_of};
+use bx_plan::{Chains, Plan, chains_of};
 use bx_share::{ArcHold, Hold};
 use bx_terms::{AtomId, Fault};
 use bx_world::ArcWorld;
 use std::alloc::{AllocError, Global};
 use std::collections::BTreeMap;
 
-/// The slots of so many chains, of which the root's alone is done.
-fn slots_of(alloc: Global, root: ArcHold<ArcEnd>, count: usize) -> Result<Vec<Slot>, AllocError>
-    requires { 0 < count }
-    ensures { IfOk result (λ slots. slots.items ≡ Slot.Done root ∷ replicate (count - 1)
-        Slot.Waiting) }
+/// By chain, how many schedules end with it.
+fn endings_of(alloc: Global, plan: &Plan, chains: &Chains) -> Result<Vec<usize>, AllocError>
+    requires { AreChains plan.now chains.now }
+    ensures { IfOk result (λ endings. length endings.items ≡ length chains.now.heads) }
 {
-    let mut slots = Vec::with_capacity(alloc, count)?;
-    slots.push_reserved(Slot::Done(root));
-    for _next in 1..count {
-        slots.push_reserved(Slot::Waiting);
+    let mut endings = vec![in alloc; 0usize; chains.len()]?;
+    for number in 0..plan.len() {
+        let chain = chains.end(number);
+        endings[chain] = endings[chain].saturating_add(1);
     }
-    Ok(slots)
+    Ok(endings)
+}
+
+/// So many chains, of which the root stands so, and the others wait.
+fn stands_of(alloc: Global, root: Stand, count: usize) -> Result<Vec<Stand>, AllocError>
+    requires { 0 < count }
+    ensures { IfOk result (λ stands. stands.items ≡ root ∷ replicate (count - 1) Stand.Waiting) }
+{
+    let mut stands = Vec::with_capacity(alloc, count)?;
+    stands.push_reserved(root);
+    for _next in 1..count {
+        stands.push_reserved(Stand::Waiting);
+    }
+    Ok(stands)
 }
 
 /// Chains in a row that has room for so many.
@@ -53,23 +68,27 @@ impl<'a> Book<'a> {
         ensures { IfOk result (IsOpening image.now start plan.now) }
     {
         let chains = chains_of(alloc, plan)?;
+        let endings = endings_of(alloc, plan, &chains)?;
         let end = ArcEnd {
             world,
             applied: 0,
             refused: None,
         };
-        let Ok(root) = ArcHold::put(alloc, end) else {
+        let told = Shown::many(alloc, &end, endings[0])?;
+        let Ok(end) = ArcHold::put(alloc, end) else {
             return Err(AllocError);
         };
+        let root = Stand::Done(told, Way::kept_for(end, chains.kids(0).len()));
         let count = chains.len();
-        let slots = slots_of(alloc, root, count)?;
+        let stands = stands_of(alloc, root, count)?;
         let ready = ready_of(alloc, chains.kids(0), count)?;
         Ok(Book {
             image,
             start,
             plan,
             chains,
-            slots,
+            endings,
+            stands,
             stopped: false,
             ready,
             holders: BTreeMap::new(alloc),

@@ -1,10 +1,9 @@
 use Rattle.std.proofs.Common.{◌≡◌, ℕ, Option, sym, ap, subst, ◌∙◌}
-use Rattle.bx_board.specs.declared.slots.Slot.TheVariants.{Leased}
 use Rattle.bx_board.specs.declared.slots.Event.TheVariants.{Lease, Submit}
 use Rattle.bx_board.specs.Alone.{GoesOn}
 use Rattle.bx_board.specs.Jobs.{Work, end_of, work_of}
 use Rattle.bx_board.specs.Kept.{Kept, Leases, then}
-use Rattle.bx_board.specs.Machine.{standing}
+use Rattle.bx_board.specs.Machine.{Leased, standing}
 use Rattle.bx_board.proofs.Idle.{gone_on, held_alone, held_there, idle_done}
 use Rattle.bx_board.proofs.Steps.{is_true}
 use Rattle.bx_board.proofs.books.Book.go_on.Goals as goal
@@ -36,4 +35,4 @@ hand_in-requires-clause-end c =
     let got = subst (λ (o : Option Work). Leases old 0 o c.lease.new.self) c.in-Some.is c.in_ok-lease.ensures.ok in
     let free = is_true _ got.1.0.0 in
     let same = held_alone old c.requires got.0 free c.in-Some-held_by.chain (subst (λ (b : Kept). standing b.state c.in-Some-held_by.chain ≡ Leased 0) got.1.1 c.in-Some-held_by.ensures) in
-    c.into_end.ensures ∙ ap end_of (c.in-Ok.ensures.ok ∙ got.2 ∙ ap (work_of old.job) (sym same) ∙ ap (λ (b : Kept). work_of b.job c.in-Some-held_by.chain) (sym got.1.1))
+    ap end_of (c.in-Ok.ensures.ok ∙ got.2 ∙ ap (work_of old.job) (sym same) ∙ ap (λ (b : Kept). work_of b.job c.in-Some-held_by.chain) (sym got.1.1))

@@ -4,12 +4,13 @@ use Rattle.std.specs.Ordering.{nat_cmp}
 use Rattle.std.specs.BTreeMap.{get}
 use Rattle.std.proofs.lemmas.Bool.{both_ways}
 use Rattle.std.proofs.lemmas.List.{length-set}
-use Rattle.bx_board.specs.declared.slots.Slot.TheVariants.{Leased}
 use Rattle.bx_board.specs.Kept.{Kept, MayLease}
 use Rattle.bx_board.specs.Jobs.{work_of}
+use Rattle.bx_board.specs.declared.books.stands.Stand.TheVariants as Stand
 use Rattle.bx_board.specs.Machine.{is_held, is_leased}
 use Rattle.bx_board.specs.Tended.{kept_view}
 use Rattle.bx_board.proofs.Found.{if_err_any, none_is, some_is}
+use Rattle.bx_board.proofs.Holding.{seen_long, seen_set}
 use Rattle.bx_board.proofs.Runs.{same_run}
 use Rattle.bx_board.proofs.Keeping.{may_top, none_left, same_holders, top_free, top_is, view_lease}
 use Rattle.bx_board.proofs.RowLengths.{how_many_less}
@@ -42,54 +43,53 @@ lease_of-requires c =
 pub invariant_of-self : goal.invariant_of-self
 invariant_of-self c =
     let i = c.self.inside in
-    (same_holders _ i.ready.items i.holders i.leased i.done c.self.invariant.0 c.insert.new.self c.in_default-insert.ensures.err, c.self.invariant.1)
+    (same_holders _ i.ready.items i.holders i.leased i.done c.self.invariant.0 c.insert.new.self c.in_default-insert.ensures.err, c.self.invariant.1, c.self.invariant.2, c.self.invariant.3)
 
 pub index_mut-requires : goal.index_mut-requires
 index_mut-requires c =
     let i = c.self.inside in
-    let b = kept_view i.image.now i.start i.plan.now i.chains i.slots.items i.stopped in
+    let b = kept_view i.image.now i.start i.plan.now i.chains i.stands.items i.stopped in
     let last : slice_get i.ready.items (length i.ready.items - 1) ≡ Some c.in-Some.chain = ap (λ xs. slice_get xs (length xs - 1)) (sym c.deref.ensures.value) ∙ sym c.last.ensures.value ∙ sym c.copied.ensures ∙ c.in-Some.is in
     let was = free_is b.job b.state c.in-Some.chain (top_free b i.ready.items i.holders i.leased i.done c.self.invariant.0 c.in-Some.chain last) in
-    omega (arith, was.within, i.slots.ok.0)
+    omega (arith, was.within, i.stands.ok.0, seen_long c.self.invariant.2 refl)
 
 -- a chain that is free is held by nobody, so not all are
 pub overflow_add-self : goal.overflow_add-self
 overflow_add-self c =
     let i = c.self.inside in
-    let b = kept_view i.image.now i.start i.plan.now i.chains i.slots.items i.stopped in
+    let b = kept_view i.image.now i.start i.plan.now i.chains i.stands.items i.stopped in
     let last : slice_get i.ready.items (length i.ready.items - 1) ≡ Some c.in-Some.chain = ap (λ xs. slice_get xs (length xs - 1)) (sym c.deref.ensures.value) ∙ sym c.last.ensures.value ∙ sym c.copied.ensures ∙ c.in-Some.is in
     let was = free_is b.job b.state c.in-Some.chain (top_free b i.ready.items i.holders i.leased i.done c.self.invariant.0 c.in-Some.chain last) in
-    omega (arith, i.slots.ok.0, c.self.invariant.0.some_leased, how_many_less (is_held b.state) (length i.slots.items) c.in-Some.chain was.within (ap is_leased (waiting_is _ was.waiting)))
+    omega (arith, i.stands.ok.0, seen_long c.self.invariant.2 refl, c.self.invariant.0.some_leased, how_many_less (is_held b.state) (length b.state.slots) c.in-Some.chain was.within (ap is_leased (waiting_is _ was.waiting)))
 
 pub invariant_of-self-2 : goal.invariant_of-self-2
 invariant_of-self-2 c =
     let i = c.self.inside in
-    let b = kept_view i.image.now i.start i.plan.now i.chains i.slots.items i.stopped in
+    let b = kept_view i.image.now i.start i.plan.now i.chains i.stands.items i.stopped in
     let last : slice_get i.ready.items (length i.ready.items - 1) ≡ Some c.in-Some.chain = ap (λ xs. slice_get xs (length xs - 1)) (sym c.deref.ensures.value) ∙ sym c.last.ensures.value ∙ sym c.copied.ensures ∙ c.in-Some.is in
     let free = top_free b i.ready.items i.holders i.leased i.done c.self.invariant.0 c.in-Some.chain last in
     let none = none_is (get nat_cmp i.holders c.args.worker) (sym c.contains_key.ensures ∙ c.if-contains_key.false) in
     let count : length i.ready.items - 1 ≡ vec_len i.ready - 1 = omega (arith, i.ready.ok.0) in
     let row : i.ready.items ≡ c.pop-taken.new.self.items ++ c.in-Some.chain ∷ [] =
     top_is b i.ready.items i.holders i.leased i.done c.self.invariant.0 c.in-Some.chain last
-    ∙ ap (λ front. front ++ c.in-Some.chain ∷ []) (ap (λ k. take k i.ready.items) count ∙ sym c.pop-taken.ensures.rest) in (
-      view_lease i.image.now i.start i.plan.now i.chains i.slots.items i.stopped i.ready.items i.holders i.leased i.done c.self.invariant.0
-          c.args.worker c.in-Some.chain _ c.pop-taken.new.self.items c.insert.new.self
-          (true_is _ free, c.if-self.false, holds_none b i.ready.items i.holders i.leased i.done c.self.invariant.0 c.args.worker none)
-          refl row c.in-Ok.ensures.updates,
-      omega (arith, length-set i.slots.items c.in-Some.chain (Leased c.args.worker), c.pop-taken.ensures.capacity, c.self.invariant.1),
-    )
+    ∙ ap (λ front. front ++ c.in-Some.chain ∷ []) (ap (λ k. take k i.ready.items) count ∙ sym c.pop-taken.ensures.rest) in
+    let both =
+    view_lease c.self.invariant.0 c.self.invariant.2 refl c.args.worker c.in-Some.chain c.pop-taken.new.self.items c.insert.new.self
+    (true_is _ free, c.if-self.false, holds_none b i.ready.items i.holders i.leased i.done c.self.invariant.0 c.args.worker none) row c.in-Ok.ensures.updates in
+    let long = length-set i.stands.items c.in-Some.chain (Stand.Leased c.args.worker) in
+    (both.0, omega (arith, c.pop-taken.ensures.capacity, c.self.invariant.1), both.1, omega (arith, c.self.invariant.3))
 
 pub returns-clause-ok : goal.returns-clause-ok
 returns-clause-ok c =
     let i = c.self.inside in
-    let b = kept_view i.image.now i.start i.plan.now i.chains i.slots.items i.stopped in
+    let b = kept_view i.image.now i.start i.plan.now i.chains i.stands.items i.stopped in
     let last : slice_get i.ready.items (length i.ready.items - 1) ≡ Some c.in-Some.chain = ap (λ xs. slice_get xs (length xs - 1)) (sym c.deref.ensures.value) ∙ sym c.last.ensures.value ∙ sym c.copied.ensures ∙ c.in-Some.is in
     let free = top_free b i.ready.items i.holders i.leased i.done c.self.invariant.0 c.in-Some.chain last in
     let none = none_is (get nat_cmp i.holders c.args.worker) (sym c.contains_key.ensures ∙ c.if-contains_key.false) in
     let of : c.in_ok-lease.lease ≡ work_of b.job c.in-Some.chain = subst (λ (k : Kept). c.in_ok-lease.lease ≡ work_of k.job c.in-Some.chain) (sym c.self.view_is) c.in_ok-lease.ensures in
     let within = (free_is b.job b.state c.in-Some.chain free).within in
     rw (← c.self.view_is) (
-      ((true_is _ free, c.if-self.false, holds_none b i.ready.items i.holders i.leased i.done c.self.invariant.0 c.args.worker none), refl),
+      ((true_is _ free, c.if-self.false, holds_none b i.ready.items i.holders i.leased i.done c.self.invariant.0 c.args.worker none), seen_set c.self.invariant.2 refl c.in-Some.chain (Stand.Leased c.args.worker)),
       (omega (arith, within, c.self.invariant.0.kept.count), same_run of),
       of,
     )
@@ -97,7 +97,7 @@ returns-clause-ok c =
 pub returns-in_err-lease-clause-free : goal.returns-in_err-lease-clause-free
 returns-in_err-lease-clause-free c =
     let i = c.self.inside in
-    let b = kept_view i.image.now i.start i.plan.now i.chains i.slots.items i.stopped in
+    let b = kept_view i.image.now i.start i.plan.now i.chains i.stands.items i.stopped in
     let last : slice_get i.ready.items (length i.ready.items - 1) ≡ Some c.in-Some.chain = ap (λ xs. slice_get xs (length xs - 1)) (sym c.deref.ensures.value) ∙ sym c.last.ensures.value ∙ sym c.copied.ensures ∙ c.in-Some.is in
     let may : MayLease b c.args.worker = (c.in-Some.chain, may_top b i.ready.items i.holders i.leased i.done c.self.invariant.0 c.args.worker c.in-Some.chain c.if-self.false (sym c.contains_key.ensures ∙ c.if-contains_key.false) last) in
     if_err_any _ (subst (λ (k : Kept). MayLease k c.args.worker) c.self.view_is may)
@@ -105,7 +105,7 @@ returns-in_err-lease-clause-free c =
 pub returns-in_default-insert-clause-free : goal.returns-in_default-insert-clause-free
 returns-in_default-insert-clause-free c =
     let i = c.self.inside in
-    let b = kept_view i.image.now i.start i.plan.now i.chains i.slots.items i.stopped in
+    let b = kept_view i.image.now i.start i.plan.now i.chains i.stands.items i.stopped in
     let last : slice_get i.ready.items (length i.ready.items - 1) ≡ Some c.in-Some.chain = ap (λ xs. slice_get xs (length xs - 1)) (sym c.deref.ensures.value) ∙ sym c.last.ensures.value ∙ sym c.copied.ensures ∙ c.in-Some.is in
     let may : MayLease b c.args.worker = (c.in-Some.chain, may_top b i.ready.items i.holders i.leased i.done c.self.invariant.0 c.args.worker c.in-Some.chain c.if-self.false (sym c.contains_key.ensures ∙ c.if-contains_key.false) last) in
     subst (λ (k : Kept). MayLease k c.args.worker) c.self.view_is may

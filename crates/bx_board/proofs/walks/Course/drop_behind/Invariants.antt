@@ -1,6 +1,7 @@
 use Rattle.std.proofs.Common.{length}
 use Rattle.std.specs.List.{All}
-use Rattle.bx_board.specs.Walks.{EndsSo, chain_end, job_of}
+use Rattle.bx_board.specs.Jobs.{chain_end}
+use Rattle.bx_board.specs.Walks.{EndsSo, job_of}
 use Rattle.bx_board.proofs.walks.Course.drop_behind.Given as goal
 
 abbrev pub invariant-loop-last : goal.invariant-loop-last
