@@ -9,7 +9,7 @@ use Rattle.std.proofs.lemmas.List.{length-replicate}
 use Rattle.std.proofs.lemmas.Bool.{cases_eq, lt-ltb, le-ltb}
 use Rattle.bx_load.specs.Image.{Loaded}
 use Rattle.bx_world.specs.World.{State, started}
-use Rattle.bx_world.specs.Running.{Ended, ran, unchosen}
+use Rattle.bx_world.specs.Running.{ran, unchosen}
 use Rattle.bx_plan.specs.Planned.{Planned}
 use Rattle.bx_plan.specs.Chains.{AreChains, Chained, above, chain_count, is_kid, kids, one_if, path_at}
 use Rattle.bx_plan.proofs.Times.{below_or_past, both_true, mid_false, not_eq}

@@ -7,7 +7,7 @@ use Rattle.bx_plan.specs.Chains.{AreChains, chain_count, one_if}
 use Rattle.bx_plan.proofs.Times.{not_eq}
 use Rattle.bx_board.specs.declared.slots.Event.{Event, TheVariants.Lease, TheVariants.Submit, TheVariants.GiveBack, TheVariants.Stop}
 use Rattle.bx_board.specs.Jobs.{Job, end_of, work_of}
-use Rattle.bx_board.specs.Machine.{Slot, Waiting, Leased, Done, standing, is_waiting, is_done, is_finished, how_many, May, with_slot, after, initial, replay, IsLegal}
+use Rattle.bx_board.specs.Machine.{Slot, Waiting, Leased, Done, standing, is_waiting, is_done, is_finished, how_many, May, with_slot, initial, replay, IsLegal}
 use Rattle.bx_board.specs.Kept.{Kept, then, begun_with, IsKept}
 use Rattle.bx_board.specs.Histories.{accepted_by, accepted, submitted_by, submitted, EveryHistoryIsSound}
 use Rattle.bx_board.proofs.Numbers.{how_many_but}

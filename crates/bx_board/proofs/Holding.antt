@@ -1,11 +1,9 @@
 -- What a book keeps of each chain, as chains are leased, given back and handed in.
 use Rattle.std.proofs.Common.{◌≡◌, ◌≢◌, ◌⊎◌, inl, inr, ℕ, zero, suc, ◌+◌, ◌-◌, ◌<◌, ◌≤◌, ◌==◌, ◌&&◌, not, nat_lt, cond, true, false, Bool, Global, Vec, Option, None, Some, List, [], ◌∷◌, get_or, length, replicate, set, refl, sym, ap, subst, ◌∙◌, arith}
-use Rattle.std.specs.Prelude.{IsOk}
 use Rattle.std.specs.List.{All}
 use Rattle.std.proofs.lemmas.Bool.{cases_eq, cases_Bool, both_ways, and_parts, eq-eqb, eqb-true, le-ltb, lt-ltb, ltb-true}
 use Rattle.std.proofs.lemmas.List.{get_or_read, get_or-set_same, get_or-set_other, length-set, set-get_or}
 use Rattle.bx_world.specs.Running.{Ended}
-use Rattle.bx_world.specs.World.{started}
 use Rattle.bx_plan.specs.declared.chains.Head.{Head}
 use Rattle.bx_plan.specs.Chains.{AreForest, above, chain_count, head, is_kid, kids, one_if}
 use Rattle.bx_plan.proofs.Times.{and_false, both_true, mid_false, not_eq}
@@ -14,9 +12,9 @@ use Rattle.bx_board.specs.declared.books.stands.Stand.TheVariants as stands
 use Rattle.bx_board.specs.declared.books.stands.Way.{Way}
 use Rattle.bx_board.specs.declared.reports.Shown.{Shown}
 use Rattle.bx_board.specs.declared.slots.Event.TheVariants.{Submit}
-use Rattle.bx_board.specs.Jobs.{Job, chain_end}
+use Rattle.bx_board.specs.Jobs.{chain_end}
 use Rattle.bx_board.specs.Kept.{IsKept, Kept, then}
-use Rattle.bx_board.specs.Machine.{Slot, Waiting, Leased, Done, how_many, is_done, is_free, is_waiting, standing, with_slot}
+use Rattle.bx_board.specs.Machine.{Waiting, Leased, Done, how_many, is_done, is_free, standing, with_slot}
 use Rattle.bx_board.specs.Reported.{IsShown}
 use Rattle.bx_board.specs.Stands.{IsHeld, Keeps, book_view, end_in, fewer, is_left, kept_for, left_on, passed, slot_of, slots_of, stand_at}
 use Rattle.bx_board.proofs.Numbers.{how_many_but, how_many_same}

@@ -1,5 +1,5 @@
 -- What a book keeps with each event.
-use Rattle.std.proofs.Common.{◌≡◌, ◌⊎◌, inl, inr, ℕ, zero, suc, ◌+◌, ◌-◌, ◌<◌, ◌≤◌, ◌==◌, ◌&&◌, not, nat_lt, Bool, true, false, Global, Vec, Option, None, Some, is_some, List, [], ◌∷◌, ◌++◌, get_or, length, set, slice_get, take, refl, sym, ap, subst, ◌∙◌, arith, length-append}
+use Rattle.std.proofs.Common.{◌≡◌, ℕ, zero, suc, ◌+◌, ◌-◌, ◌<◌, ◌≤◌, ◌==◌, ◌&&◌, not, nat_lt, Bool, true, false, Global, Vec, Option, None, Some, is_some, List, [], ◌∷◌, ◌++◌, get_or, length, set, slice_get, take, refl, sym, ap, subst, ◌∙◌, arith, length-append}
 use Rattle.std.specs.Prelude.{◌↔◌, IsTrue}
 use Rattle.std.specs.Ordering.{nat_cmp}
 use Rattle.std.specs.BTreeMap.{BTreeMap, get, is_at, Updates, IsUnchanged}
@@ -14,14 +14,14 @@ use Rattle.bx_board.specs.declared.books.stands.Stand.TheVariants as stands
 use Rattle.bx_board.specs.declared.books.stands.Way.{Way}
 use Rattle.bx_board.specs.declared.reports.Shown.{Shown}
 use Rattle.bx_board.specs.declared.slots.Counts.{Counts}
-use Rattle.bx_board.specs.declared.slots.Event.TheVariants.{Lease, Submit, GiveBack, Stop}
+use Rattle.bx_board.specs.declared.slots.Event.TheVariants.{Lease, Submit}
 use Rattle.bx_board.specs.Alone.{IsUnheld}
 use Rattle.bx_board.specs.Counted.{counts_of}
 use Rattle.bx_board.specs.Jobs.{Job, chain_end}
 use Rattle.bx_board.specs.Kept.{Kept, IsAllDone, then}
 use Rattle.bx_board.specs.Machine.{Slot, Waiting, Leased, Done, Frontier, standing, is_waiting, is_leased, is_done, is_free, is_unborn, is_held, is_finished, how_many, May}
 use Rattle.bx_board.specs.Reported.{IsShown}
-use Rattle.bx_board.specs.Stands.{IsHeld, Keeps, book_view, kept_for, left_on, passed, slot_of, slots_of, stand_at}
+use Rattle.bx_board.specs.Stands.{IsHeld, Keeps, book_view, kept_for, left_on, passed, slot_of, slots_of}
 use Rattle.bx_board.specs.Tended.{IsTended}
 use Rattle.bx_board.proofs.Found.{empty_is, none_is, some_last, split_last}
 use Rattle.bx_board.proofs.Holding.{held_set, keeps_set, seen_long, seen_same, seen_set, submit_held, submit_seen}

@@ -1,5 +1,5 @@
 -- A walk of one worker along the chains of a plan.
-use Rattle.std.specs.Prelude.{◌≡◌, ℕ, ◌<◌, List, Option, None, Some, option_map, length, slice_get}
+use Rattle.std.specs.Prelude.{◌≡◌, ℕ, ◌<◌, List, Option, Some, option_map, length, slice_get}
 use Rattle.std.specs.List.{All}
 use Rattle.bx_world.specs.Running.{Ended}
 use Rattle.bx_plan.specs.Chains.{AreChains, end}

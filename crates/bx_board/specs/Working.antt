@@ -1,5 +1,5 @@
 -- What a lease and a piece hold: a chain of a plan, and an end.
-use Rattle.std.specs.Prelude.{◌≡◌, ℕ, ◌-◌, ◌<◌, ◌≤◌, length, take}
+use Rattle.std.specs.Prelude.{ℕ, ◌-◌, ◌<◌, ◌≤◌, length, take}
 use Rattle.bx_load.specs.Image.{Loaded}
 use Rattle.bx_plan.specs.Planned.{Planned, choices_at}
 use Rattle.bx_world.specs.Running.{Ended}

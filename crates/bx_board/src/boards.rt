@@ -1,12 +1,12 @@
 //! A book behind a lock, which workers serve.
 
-ghost use Rattle.std.specs.Prelude.{◌≡◌, ◌≢◌, ◌⊎◌, IfErr, IfOk, IfSome, MatchBool};
+ghost use Rattle.std.specs.Prelude.{◌≡◌, ◌≢◌, ◌⊎◌, IfErr, IfOk, IfSome, MatchOption};
 ghost use Rattle.bx_board.specs.Counted.{counts_of};
 ghost use Rattle.bx_board.specs.Kept.{GivesBack, Happens, IsOf, MayLease, Takes};
 ghost use Rattle.bx_board.specs.Machine.{standing, Holds, Leased};
 
 use crate::books::Book;
-use crate::slots::{Counts, Event};
+use crate::slots::{Counts, Event, Gone};
 use crate::working::{Crew, Lease, Piece, work_over};
 use bx_load::Image;
 use bx_terms::Fault;
@@ -130,11 +130,11 @@ impl<'a, J: Campaign> Shelf<'a, J> {
         self.book.take(alloc, worker)
     }
 
-    /// Hands in what came of a chain. Whether the worker held it.
-    fn accept(&mut self, worker: usize, chain: usize, piece: Piece<'a>) -> bool
+    /// Hands in what came of a chain, where the worker holds it.
+    fn accept(&mut self, worker: usize, chain: usize, piece: Piece<'a>) -> Option<Gone>
         requires { IsOf J.job piece chain }
-        ensures { MatchBool result (Happens self.old (Event.Submit worker chain) self.new)
-            ((self.new ≡ self.old) × (standing self.old.state chain ≢ Leased worker)) }
+        ensures { MatchOption result ((self.new ≡ self.old) × (standing self.old.state chain ≢
+            Leased worker)) (λ _. Happens self.old (Event.Submit worker chain) self.new) }
     {
         self.book.accept(worker, chain, piece)
     }
@@ -251,9 +251,9 @@ impl<'a, J: Campaign> Board<'a, J> {
     fn hand_in<R: Wait>(&self, rt: &R, worker: usize, chain: usize, piece: Piece<'a>) -> bool
         requires { IsOf J.job piece chain }
     {
-        let taken = self.shelf.lock(rt).accept(worker, chain, piece);
+        let gone = self.shelf.lock(rt).accept(worker, chain, piece);
         self.changed.notify_all();
-        taken
+        gone.is_some()
     }
 
     /// Gives the worker's lease back, and wakes all who wait.

@@ -7,6 +7,10 @@ use bx_world::{Lanes, RunEnd};
 /// Where a list of choices has led, in a world whose parts threads may share.
 pub type ArcEnd = RunEnd<ArcHold<Proc>, ArcHold<Lanes>>;
 
+/// Ends that a book lets go as a piece is handed in: that of the chain that it stands on, and its own. Freeing a world takes time, so
+/// that is left to the caller, when others may have the book again.
+pub(crate) type Gone = (Option<ArcHold<ArcEnd>>, Option<ArcHold<ArcEnd>>);
+
 /// What changes a campaign: each names the worker, and the chain's number.
 #[derive(Clone, Copy, Debug, PartialEq, Eq)]
 pub enum Event {

@@ -8,7 +8,7 @@ ghost use Rattle.bx_board.specs.Machine.{standing, is_done, Holds, Leased};
 
 use crate::books::Book;
 use crate::books::stands::{Stand, Way};
-use crate::slots::Event;
+use crate::slots::{Event, Gone};
 use crate::working::Piece;
 use bx_terms::Fault;
 
@@ -48,34 +48,35 @@ impl<'a> Book<'a> {
     }
 
     /// Takes what came of a chain that the worker holds. With the last chain that goes on from an end, that end goes.
-    pub(super) fn hand_in(&mut self, worker: usize, chain: usize, piece: Piece<'a>)
+    pub(super) fn hand_in(&mut self, worker: usize, chain: usize, piece: Piece<'a>) -> Gone
         requires held { standing self.old.state chain ≡ Leased worker }
         requires end { end_of piece ≡ chain_end self.old.job chain }
         ensures { Happens self.old (Event.Submit worker chain) self.new }
     {
         let _held = self.holders.remove(&worker);
         let head = self.chains.head(chain);
-        self.stands[head.above].pass();
+        let above = self.stands[head.above].pass();
         let (end, told) = piece.into_parts();
         let left = self.chains.kids(chain).len();
-        self.stands[chain] = Stand::Done(told, Way::kept_for(end, left));
+        let (way, own) = Way::kept_for(end, left);
+        self.stands[chain] = Stand::Done(told, way);
         self.leased -= 1;
         self.done += 1;
         push_all(&mut self.ready, self.chains.kids(chain));
+        (above, own)
     }
 
-    /// Hands in what came of that chain, of which the piece is known to be: whether the worker holds it. It takes no memory,
+    /// Hands in what came of that chain, of which the piece is known to be, where the worker holds it. It takes no memory,
     /// and no time in proportion to the code or the path.
-    pub(crate) fn accept(&mut self, worker: usize, chain: usize, piece: Piece<'a>) -> bool
+    pub(crate) fn accept(&mut self, worker: usize, chain: usize, piece: Piece<'a>) -> Option<Gone>
         requires { IsOf self.old.job piece chain }
-        ensures { MatchBool result (Happens self.old (Event.Submit worker chain) self.new)
-            ((self.new ≡ self.old) × (standing self.old.state chain ≢ Leased worker)) }
+        ensures { MatchOption result ((self.new ≡ self.old) × (standing self.old.state chain ≢
+            Leased worker)) (λ _. Happens self.old (Event.Submit worker chain) self.new) }
     {
         if let Some(_fault) = self.refusal(worker, chain) {
-            return false;
+            return None;
         }
-        self.hand_in(worker, chain, piece);
-        true
+        Some(self.hand_in(worker, chain, piece))
     }
 
     /// Hands in what came of a chain.

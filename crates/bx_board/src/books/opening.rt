@@ -78,7 +78,8 @@ impl<'a> Book<'a> {
         let Ok(end) = ArcHold::put(alloc, end) else {
             return Err(AllocError);
         };
-        let root = Stand::Done(told, Way::kept_for(end, chains.kids(0).len()));
+        let (way, _) = Way::kept_for(end, chains.kids(0).len());
+        let root = Stand::Done(told, way);
         let count = chains.len();
         let stands = stands_of(alloc, root, count)?;
         let ready = ready_of(alloc, chains.kids(0), count)?;

@@ -17,19 +17,22 @@ pub(super) struct Way {
 }
 
 impl Way {
-    /// That end, where there are chains that go on from it.
-    pub(super) fn kept_for(end: ArcHold<ArcEnd>, left: usize) -> Option<Way>
-        ensures { result ≡ kept_for end left }
+    /// That end where there are chains that go on from it; else it comes back.
+    pub(super) fn kept_for(
+        end: ArcHold<ArcEnd>,
+        left: usize,
+    ) -> (Option<Way>, Option<ArcHold<ArcEnd>>)
+        ensures { result.0 ≡ kept_for end left }
     {
         if left == 0 {
-            return None;
+            return (None, Some(end));
         }
-        Some(Way { end, left })
+        (Some(Way { end, left }), None)
     }
 
     /// One chain more is done.
-    fn fewer(self) -> Option<Way>
-        ensures { result ≡ fewer (Some self) }
+    fn fewer(self) -> (Option<Way>, Option<ArcHold<ArcEnd>>)
+        ensures { result.0 ≡ fewer (Some self) }
     {
         let Way { end, left } = self;
         Way::kept_for(end, left.saturating_sub(1))
@@ -59,15 +62,16 @@ impl Stand {
         }
     }
 
-    /// A chain that goes on from this one is done.
-    pub(super) fn pass(&mut self)
+    /// A chain that goes on from this one is done. With the last one the end comes back.
+    pub(super) fn pass(&mut self) -> Option<ArcHold<ArcEnd>>
         ensures { self.new ≡ passed self.old }
     {
-        if let Stand::Done(_, way) = self {
-            if let Some(kept) = way.take() {
-                *way = kept.fewer();
-            }
-        }
+        let Stand::Done(_, way) = self else {
+            return None;
+        };
+        let (less, end) = way.take()?.fewer();
+        *way = less;
+        end
     }
 
     /// Takes what the chain's end shows, where some is left.

@@ -47,13 +47,13 @@ invariant_of-self c =
     let had = subst (λ (k : Kept). standing k.state c.args.chain ≡ Leased c.args.worker) (sym c.self.view_is) c.requires.held in
     let ends : end_of c.args.piece ≡ chain_end b.job c.args.chain = subst (λ (k : Kept). end_of c.args.piece ≡ chain_end k.job c.args.chain) (sym c.self.view_is) c.requires.end in
     let told = subst (λ (e : Ended). All (IsShown e) c.into_parts-end.result.1.items) ends c.into_parts-end.ensures.told in
-    let way = c.kept_for.ensures ∙ ap (λ (e : Ended). kept_for e (length c.kids-left.result.now)) (c.into_parts-end.ensures.end ∙ ends) ∙ ap (λ row. kept_for (chain_end b.job c.args.chain) (length row)) c.kids-left.ensures in
+    let way = c.kept_for-way.ensures ∙ ap (λ (e : Ended). kept_for e (length c.kids-left.result.now)) (c.into_parts-end.ensures.end ∙ ends) ∙ ap (λ row. kept_for (chain_end b.job c.args.chain) (length row)) c.kids-left.ensures in
     let both =
-    view_submit c.self.invariant.0 c.self.invariant.2 refl c.args.worker c.args.chain had c.head-head.result c.index_mut.result.now c.pass.new.self c.into_parts-end.result.1 c.kept_for.result c.head-head.ensures c.index_mut.ensures.value c.pass.ensures
+    view_submit c.self.invariant.0 c.self.invariant.2 refl c.args.worker c.args.chain had c.head-head.result c.index_mut.result.now c.pass-above.new.self c.into_parts-end.result.1 c.kept_for-way.result.0 c.head-head.ensures c.index_mut.ensures.value c.pass-above.ensures
     c.push_all.new.ready.items c.remove-held.new.self (c.push_all.ensures.items ∙ ap (λ row. i.ready.items ++ row) c.kids.ensures) c.remove-held.ensures.updates told way in
     (both.0, omega (arith, length-set {A = Stand}, c.push_all.ensures.capacity, c.self.invariant.1), both.1, omega (arith, length-set {A = Stand}, c.self.invariant.3))
 
 pub returns : goal.returns
 returns c =
     let had = subst (λ (k : Kept). standing k.state c.args.chain ≡ Leased c.args.worker) (sym c.self.view_is) c.requires.held in
-    rw (← c.self.view_is) (had, submit_view c.self.invariant.0 c.self.invariant.2 refl c.args.worker c.args.chain had c.head-head.result c.index_mut.result.now c.pass.new.self c.into_parts-end.result.1 c.kept_for.result c.head-head.ensures c.index_mut.ensures.value c.pass.ensures)
+    rw (← c.self.view_is) (had, submit_view c.self.invariant.0 c.self.invariant.2 refl c.args.worker c.args.chain had c.head-head.result c.index_mut.result.now c.pass-above.new.self c.into_parts-end.result.1 c.kept_for-way.result.0 c.head-head.ensures c.index_mut.ensures.value c.pass-above.ensures)

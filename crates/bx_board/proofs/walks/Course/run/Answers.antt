@@ -1,4 +1,4 @@
-use Rattle.std.proofs.Common.{◌≡◌, length, replicate, refl, ap, subst, ◌∙◌, arith, length-append}
+use Rattle.std.proofs.Common.{length, replicate, refl, ap, subst, ◌∙◌, arith, length-append}
 use Rattle.std.proofs.lemmas.List.{length-replicate}
 use Rattle.bx_plan.specs.Planned.{choices_at}
 use Rattle.bx_plan.specs.Runs.{NextRun}
