@@ -15,8 +15,7 @@ const LISTING: &str = "{module,m}. {exports,[{f,0}]}. {labels,3}. {function,f,0,
 pub const ONE: &str = "x: r0\n";
 
 /// What comes of it.
-pub const ONE_TEXT: &str =
-    "schedule x\napplied 1\nstate open r0\nprocess <0.0.0> ready\nend\n";
+pub const ONE_TEXT: &str = "schedule x\napplied 1\nstate open r0\nprocess <0.0.0> ready\nend\n";
 
 /// Two schedules that share nothing; the second one's choice is refused.
 pub const APART: &str = "x: r0\ny: r1\n";
