@@ -5,10 +5,7 @@ use Rattle.bx_plan.proofs.Words.{same_from_decides, list_any-append, bytes_eq-De
 use Rattle.bx_plan.proofs.Words.{count_of, spread, Line, Named, choices_of, has_name, named, with_lines, with_read, TakesFirst, lines_view, node_count}
 use Rattle.std.proofs.lemmas.Map.Text.{is_eq-slice_cmp}
 use Rattle.bx_plan.proofs.Counting.{no_more}
-
-pub length-spread : (entries : List Entry) → length (spread entries) ≡ count_of entries
-length-spread [] = refl
-length-spread (entry ∷ entries) = length-append (replicate entry.1 entry.0) (spread entries) ∙ ap (λ n. n + length (spread entries)) (length-replicate entry.1 entry.0) ∙ ap (λ n. entry.1 + n) (length-spread entries)
+use Rattle.bx_plan.proofs.Counts.{length-spread}
 
 -- the test on the count is one on the length
 module _ (entries : List Entry) (count : ℕ) (counted : count ≡ min (count_of entries) (2 ^ 64 - 1)) where

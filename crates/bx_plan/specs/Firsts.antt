@@ -1,5 +1,5 @@
 -- What stands first in a text, and the text behind it.
-use Rattle.std.specs.Prelude.{◌≡◌, ℕ, ◌+◌, ◌-◌, ◌*◌, ◌≤◌, if◌then◌else◌, ◌==◌, nat_le, List, [], ◌∷◌, Option, None, Some, length, option_map}
+use Rattle.std.specs.Prelude.{◌≡◌, ℕ, ◌+◌, ◌-◌, ◌*◌, ◌<◌, ◌≤◌, if◌then◌else◌, ◌==◌, nat_le, List, [], ◌∷◌, Option, None, Some, length, option_map}
 use Rattle.std.specs.Option.{option_and_then, option_map_or}
 use Rattle.std.specs.Borrow.{Bor}
 use Rattle.std.specs.Char.{is_ascii_digit}
@@ -59,9 +59,10 @@ words_left left = option_map_or (λ text. parts_of 32 text.now) left []
 abbrev pub size_left : Option (Bor (List ℕ)) → ℕ
 size_left left = option_map_or (λ text. length text.now + 1) left 0
 
--- the first word spells the entry, and the others are left
+-- the first word spells the entry, which makes its choice at least once, and the others are left
 pub record IsFirst (text : List ℕ) (first : First) : Type 0 where
   pub word : List ℕ
   pub split : parts_of 32 text ≡ word ∷ words_left first.1
   pub is : entry_of word ≡ Some first.0
+  pub some : 0 < first.0.1
   pub shorter : size_left first.1 ≤ length text

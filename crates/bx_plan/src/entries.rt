@@ -1,6 +1,6 @@
 //! Entries: a choice, and how many times it is made.
 
-ghost use Rattle.std.specs.Prelude.{◌≡◌, ◌++◌, ◌∷◌, [], List, option_map, IsSome, MatchOption, None, Ok};
+ghost use Rattle.std.specs.Prelude.{◌≡◌, ◌^◌, ◌<◌, ◌≤◌, ◌++◌, ◌∷◌, [], List, length, option_map, IsSome, MatchOption, None, Ok};
 ghost use Rattle.bx_terms.specs.Outcomes.{Gives};
 ghost use Rattle.bx_plan.specs.Entry.{Entry};
 ghost use Rattle.bx_plan.specs.Made.{Make, MakesThese};
@@ -9,7 +9,7 @@ ghost use Rattle.bx_plan.specs.Reading.{choice_of, entries_of, spread};
 
 use crate::numbers::{number_first, number_of};
 use crate::parts::cut;
-use crate::schedules::Schedule;
+use crate::schedules::{MOST, Schedule};
 use bx_terms::Fault;
 use bx_world::Choice;
 use std::alloc::Global;
@@ -123,16 +123,18 @@ impl Entries {
 
     /// Adds an entry. Past `most` choices, and where memory runs out, they are counted on and not kept.
     fn add(&mut self, choice: Choice, times: u32, most: usize)
+        requires kept { length self.old.schedule ≤ self.old.count }
+        requires some { 0 < times }
+        requires few { most < 2 ^ 63 }
         ensures { (entries : List Entry) → Make self.old entries
             → Make self.new (entries ++ (choice, times) ∷ []) }
     {
-        let times = times as usize;
-        self.count = self.count.saturating_add(times);
+        self.count = self.count.saturating_add(times as usize);
         if self.count > most {
             self.is_whole = false;
             return;
         }
-        let Ok(()) = self.schedule.push(choice, times) else {
+        let Ok(()) = self.schedule.push_up_to(choice, self.count) else {
             self.is_whole = false;
             return;
         };
@@ -141,6 +143,7 @@ impl Entries {
 
 /// Reads entries, with one space between one entry and the next, and keeps at most so many choices.
 pub(crate) fn read_entries(alloc: Global, words: &[u8], most: usize) -> Option<Entries>
+    requires { most < 2 ^ 63 }
     ensures { MatchOption result (entries_of words.now ≡ None)
         (λ made. MakesThese made (entries_of words.now)) }
 {
@@ -163,7 +166,7 @@ pub fn read_choices(alloc: Global, text: &[u8]) -> Result<Option<Schedule>, Faul
     ensures { Gives (IsSome (entries_of text.now)) (λ schedule. schedule) result
         (Ok (option_map spread (entries_of text.now))) }
 {
-    let Some(entries) = read_entries(alloc, text, usize::MAX) else {
+    let Some(entries) = read_entries(alloc, text, MOST) else {
         return Ok(None);
     };
     if entries.is_whole {

@@ -16,7 +16,7 @@ use std::marker::Model;
 use stretches::{Stretch, begin, chain, cut, exchange, join, made, merge, over_by, part_at};
 
 /// How many choices a schedule may make.
-const MOST: usize = usize::MAX / 2;
+pub(crate) const MOST: usize = usize::MAX / 2;
 
 /// A choice, and how many times it is made in a row.
 #[derive(Clone, Copy, Debug, PartialEq, Eq)]
@@ -103,7 +103,17 @@ impl Schedule {
         if times > MOST - count {
             return Err(AllocError);
         }
-        let past = count + times;
+        self.push_up_to(choice, count + times)
+    }
+
+    /// Makes a choice at the end, until so many choices are made in all.
+    #[inline(always)]
+    pub(crate) fn push_up_to(&mut self, choice: Choice, past: usize) -> Result<(), AllocError>
+        requires more { length self.old < past }
+        requires few { past < 2 ^ 63 }
+        ensures ok { OnOk result (self.new ≡ self.old ++ replicate (past - length self.old) choice) }
+        ensures err { OnErr result (self.new ≡ self.old) }
+    {
         join(&mut self.stretches, Stretch { choice, past })?;
         Ok(())
     }

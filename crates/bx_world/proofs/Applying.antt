@@ -1,5 +1,5 @@
 -- What a choice makes of processes and lanes is its change, applied; and it makes something exactly where it is enabled.
-use Rattle.bx_world.proofs.Words.{◌≡◌, ℕ, zero, suc, List, [], ◌∷◌, ◌++◌, Option, Some, None, Result, Ok, Err, Bool, true, false, length, refl, sym, ap, subst, ◌∙◌, IsTrue, ◌&&◌, if◌then◌else◌, is_some, is_none}
+use Rattle.bx_world.proofs.Words.{◌≡◌, ℕ, List, [], ◌∷◌, ◌++◌, Option, Some, None, Result, Ok, Err, Bool, true, false, length, refl, sym, ap, subst, ◌∙◌, IsTrue, ◌&&◌, if◌then◌else◌, is_some, is_none}
 use Rattle.bx_world.proofs.Words.{slice_get, slice_set, set, pid, Fault, NotEnabled, Halted, Trap, Loaded, first, waiting, Signal, Process, can_run, can_expire, expired, Value, Choice, Run, Deliver, Expire}
 use Rattle.bx_world.proofs.Words.{Lanes, SpawnRequest, Turn, Life, Live, Exited, State, Done, whole, done, runs, heard, able, can, actor, may_at, may_run, may_expire, Spawned, acted_at, lives_acted, Among, lived}
 use Rattle.bx_world.proofs.Words.{lived_if, exited_if, life_run, put_back, at_life, lives_run, childless_at_trap, lives_with_child, lives_spawned, tell, world_if, spawned_too, made, unless_refused, chosen}

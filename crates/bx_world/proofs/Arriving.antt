@@ -1,5 +1,5 @@
 -- What choices make of channels, told by what they put and take.
-use Rattle.bx_world.proofs.Words.{◌≡◌, ℕ, List, [], ◌∷◌, ◌++◌, Bool, true, false, cond, Ok, Err, refl, sym, ap, ◌∙◌, append_assoc, append-nil, ◌&&◌, is_some, is_none, if◌then◌else◌, Place, Loaded, first}
+use Rattle.bx_world.proofs.Words.{◌≡◌, ℕ, List, [], ◌∷◌, ◌++◌, Bool, true, false, cond, Ok, Err, refl, sym, ap, ◌∙◌, append_assoc, append-nil, is_some, is_none, if◌then◌else◌, Place, Loaded, first}
 use Rattle.bx_world.proofs.Words.{Channels, waiting, put, Signal, waiting_empty, equal_pair, Choice, Run, Deliver, Expire, State, begun, able, can, actor, Posts, all_posted, Coming, coming, after, chosen}
 use Rattle.bx_world.proofs.Words.{same_pair, in_channel, as_row, first_of, put_by, taken_by, behind, all_behind}
 use Rattle.std.proofs.lemmas.Bool.{and_parts}

@@ -1,6 +1,6 @@
 -- Choices of different actors, of which one at least is local, lead to the same world in both orders: their changes are the same in both.
 use Rattle.bx_world.proofs.Words.{◌≡◌, ◌≢◌, ℕ, zero, suc, ◌<◌, List, [], ◌∷◌, ◌++◌, Bool, true, false, ◌⊎◌, inl, inr, Option, Some, None, Result, Ok, Err, length, refl, sym, ap, subst, ◌∙◌, arith, append_assoc}
-use Rattle.bx_world.proofs.Words.{append-nil, length-append, length-set, ◌==◌, ◌&&◌, ◌||◌, is_some, is_none, if◌then◌else◌, slice_get, slice_set, option_map, Tree, NotEnabled, Trap, Loaded, first, Channels}
+use Rattle.bx_world.proofs.Words.{append-nil, length-append, length-set, ◌&&◌, ◌||◌, is_some, is_none, if◌then◌else◌, slice_get, slice_set, option_map, Tree, NotEnabled, Trap, Loaded, first, Channels}
 use Rattle.bx_world.proofs.Words.{waiting, Signal, equal_pair, Process, can_run, can_expire, expired, attempted, Effect, to_itself, Choice, Run, Deliver, Expire, Turn, Life, Live, Exited, State, able, can, actor}
 use Rattle.bx_world.proofs.Words.{may_at, may_run, may_expire, Posts, Deed, did, instruction, signalled, Coming, turned_to, run_turn, run_coming, signal_coming, expire_coming, change_of, heeds, coming, with_life}
 use Rattle.bx_world.proofs.Words.{with_child, after, chosen, same_pair, in_channel, as_row, first_of, put_by, taken_by, behind, all_behind, is_local_at, runs_local, one_is_local, AreIndependent, IsLocal}

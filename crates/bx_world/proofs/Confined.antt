@@ -1,6 +1,6 @@
 -- What a change leaves of the other processes, and of one that has ended.
-use Rattle.bx_world.proofs.Words.{◌≡◌, ◌≢◌, ℕ, zero, suc, ◌+◌, ◌<◌, ◌≤◌, List, [], ◌∷◌, ◌++◌, Bool, true, false, ◌⊎◌, inl, inr, Option, Some, None, Ok, Err, length, refl, sym, ap, subst, ◌∙◌, arith}
-use Rattle.bx_world.proofs.Words.{length-append, length-set, ◌&&◌, ◌==◌, if◌then◌else◌, is_none, option_map, slice_get, slice_set, Tree, Loaded, Signal, Process, Choice, Run, Deliver, Expire, Life, Live, Exited}
+use Rattle.bx_world.proofs.Words.{◌≡◌, ◌≢◌, ℕ, zero, suc, ◌+◌, ◌<◌, ◌≤◌, List, [], ◌∷◌, ◌++◌, false, ◌⊎◌, inl, inr, Option, Some, None, Ok, Err, length, refl, sym, ap, subst, ◌∙◌, arith}
+use Rattle.bx_world.proofs.Words.{length-append, length-set, ◌&&◌, is_none, option_map, slice_get, slice_set, Tree, Loaded, Signal, Process, Choice, Run, Deliver, Expire, Life, Live, Exited}
 use Rattle.bx_world.proofs.Words.{State, can, actor, may_at, may_run, may_expire, Coming, change_of, heeds, coming, with_life, with_child, after, chosen, behind, all_behind}
 use Rattle.std.proofs.lemmas.Bool.{cases_eq, and_right}
 use Rattle.std.proofs.lemmas.Option.{slice_get_within, slice_get_past}

@@ -1,5 +1,5 @@
 -- What stands in a set of links behind a choice stood there before it, or entered by it.
-use Rattle.bx_world.proofs.Words.{◌≡◌, ℕ, zero, suc, List, [], ◌∷◌, ◌++◌, Bool, true, false, cond, ◌⊎◌, inl, inr, Option, Some, None, Ok, Err, length, refl, sym, ap, subst, ◌∙◌, arith, ◌||◌, not, if◌then◌else◌}
+use Rattle.bx_world.proofs.Words.{◌≡◌, ℕ, zero, suc, List, [], ◌∷◌, ◌++◌, Bool, true, false, cond, ◌⊎◌, inl, inr, Option, Some, None, Ok, Err, length, refl, sym, ap, subst, ◌∙◌, arith, not, if◌then◌else◌}
 use Rattle.bx_world.proofs.Words.{nat_lt, slice_get, slice_set, Tree, atom, pid, KILLED, NotEnabled, Place, Loaded, first, waiting, Signal, among, Process, can_run, can_expire, with_link, without_link, expired}
 use Rattle.bx_world.proofs.Words.{attempted, settled, settled_with, Whole, Answer, Effect, settled_whole, settled_with_whole, Choice, Run, Deliver, Expire, SpawnRequest, Request, Turn, Life, Live, Exited, State}
 use Rattle.bx_world.proofs.Words.{begun, requested, can, actor, Deed, closes, yes, exit_message, is_kill, is_normal, low_enough, past_limits, system_limit, other_if, is_answered, new_child, performs, did}

@@ -1,5 +1,5 @@
 -- Choices that are independent one way are independent the other way: each stays enabled beside the other.
-use Rattle.bx_world.proofs.Words.{◌≡◌, ◌≢◌, ℕ, ◌<◌, [], ◌∷◌, Bool, true, false, Option, Some, None, length, refl, sym, ap, ◌∙◌, ◌&&◌, ◌||◌, is_some, is_none, if◌then◌else◌, Trap, Loaded, Choice, Run, Deliver}
+use Rattle.bx_world.proofs.Words.{◌≡◌, ◌≢◌, ℕ, ◌<◌, [], ◌∷◌, true, Option, Some, None, length, refl, sym, ap, ◌∙◌, ◌&&◌, is_some, is_none, if◌then◌else◌, Trap, Loaded, Choice, Run, Deliver}
 use Rattle.bx_world.proofs.Words.{Expire, State, able, can, actor, may_at, may_run, may_expire, chosen, behind, all_behind, runs_local, one_is_local, AreIndependent, IsLocal}
 use Rattle.std.proofs.Math.Bool.{or_comm}
 use Rattle.bx_world.proofs.Confined.{chosen_confined}

@@ -1,5 +1,5 @@
 -- What a copy of a world takes, in cells of some twenty bytes.
-use Rattle.std.specs.Prelude.{ℕ, ◌+◌, List, length, sum_by}
+use Rattle.std.specs.Prelude.{ℕ, ◌+◌, length, sum_by}
 use Rattle.std.specs.FinMap as map
 use Rattle.bx_cells.specs.Weights.{stack_cells}
 use Rattle.bx_mail.specs.Mail.{Mail}
