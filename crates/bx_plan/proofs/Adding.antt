@@ -1,6 +1,6 @@
 -- One schedule more in a plan that is read.
 use Rattle.bx_plan.proofs.Words.{cases_Bool, cond_both, take-append-le, Updates, with_loose, Overfull, with_schedule, ◌≡◌, ◌⊎◌, inl, inr, ℕ, ◌+◌, ◌-◌, ◌^◌, ◌<◌, ◌≤◌, min, Bool, true, false, cond, List, [], ◌∷◌, ◌++◌, Option, None, Some}
-use Rattle.bx_plan.proofs.Words.{Result, Ok, Err, length, get_or, replicate, take, refl, sym, ap, subst, ◌∙◌, arith, length-append, Bor, get_or-append, get_or-append_seam, length-map, length-replicate, map-append, take_all}
+use Rattle.bx_plan.proofs.Words.{Result, Ok, Err, length, get_or, take, refl, sym, ap, subst, ◌∙◌, arith, length-append, Bor, get_or-append, get_or-append_seam, length-map, map-append, take_all}
 use Rattle.bx_plan.proofs.Words.{same_from_decides, list_any-append, bytes_eq-Decides, nat_lt, BTreeSet, contains, both_ways, cases_lt, lt-ltb, le-ltb, ltb-true, ltb-false, ◌>>=◌, Fault, TooLong, read_loose, text_cmp, Stands, Entry}
 use Rattle.bx_plan.proofs.Words.{count_of, spread, Line, Named, choices_of, has_name, named, with_lines, with_read, TakesFirst, lines_view, node_count}
 use Rattle.std.proofs.lemmas.Map.Text.{is_eq-slice_cmp}

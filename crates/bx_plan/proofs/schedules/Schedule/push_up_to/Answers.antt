@@ -1,4 +1,4 @@
-use Rattle.bx_plan.proofs.Words.{◌≡◌, ◌∙◌, ◌<◌, ◌-◌, ◌++◌, List, length, replicate, ap, arith, length-append, length-replicate, Choice, choices_from}
+use Rattle.bx_plan.proofs.Words.{◌∙◌, ◌<◌, ◌-◌, ◌++◌, List, length, replicate, ap, arith, length-append, length-replicate, Choice, choices_from}
 use Rattle.bx_plan.proofs.schedules.Schedule.push_up_to.Goals as goal
 
 pub invariant_of-self-2 : goal.invariant_of-self-2
