@@ -5,15 +5,15 @@ use Rattle.bx_plan.proofs.Words.{same_from_decides, list_any-append, bytes_eq-De
 use Rattle.bx_plan.proofs.Words.{count_of, spread, Line, Named, choices_of, has_name, named, with_lines, with_read, TakesFirst, lines_view, node_count}
 use Rattle.std.proofs.lemmas.Map.Text.{is_eq-slice_cmp}
 use Rattle.bx_plan.proofs.Counting.{no_more}
-use Rattle.bx_plan.proofs.Counts.{length-spread}
+use Rattle.bx_plan.proofs.Counts.{length_spread}
 
 -- the test on the count is one on the length
 module _ (entries : List Entry) (count : ℕ) (counted : count ≡ min (count_of entries) (2 ^ 64 - 1)) where
   pub is_long : 100000 < count → 100000 < length (spread entries)
-  is_long h = omega (arith, length-spread entries)
+  is_long h = omega (arith, length_spread entries)
 
   pub is_short : count ≤ 100000 → length (spread entries) ≤ 100000
-  is_short h = omega (arith, length-spread entries)
+  is_short h = omega (arith, length_spread entries)
 
 -- ---- names
 

@@ -196,11 +196,8 @@ first_is text None h = next_none text (sym h)
 first_is text (Some first) h =
     let is = next_is text first.0 (option_map (λ (t : Bor (List ℕ)). t.now) first.1) (sym h) in
     let same = both first.1 in
-    record { word = is.0; split = is.1 ∙ ap (λ ws. is.0 ∷ ws) same.0; is = is.2; some = times_some is.0 first.0 (entry_spelled is.0 first.0 is.2); shorter = omega (arith, is.3, same.1) }
+    record { word = is.0; split = is.1 ∙ ap (λ ws. is.0 ∷ ws) same.0; is = is.2; some = let spelled = entry_spelled is.0 first.0 is.2 in grind arith; shorter = omega (arith, is.3, same.1) }
   where
-    times_some : (word : List ℕ) (entry : Entry) → IsEntry word entry → 0 < entry.1
-    times_some word entry h = grind (arith)
-
     both : (b : Option (Bor (List ℕ))) → (option_map_or (parts_of 32) (option_map (λ (t : Bor (List ℕ)). t.now) b) [] ≡ words_left b)
         × (option_map_or (λ (t : List ℕ). length t + 1) (option_map (λ (t : Bor (List ℕ)). t.now) b) 0 ≡ size_left b)
     both b = grind (arith)

@@ -122,6 +122,7 @@ impl Entries {
     }
 
     /// Adds an entry. Past `most` choices, and where memory runs out, they are counted on and not kept.
+    #[tactic(auto, using(crate::proofs::Counts::count_push))]
     fn add(&mut self, choice: Choice, times: u32, most: usize)
         requires kept { length self.old.schedule ≤ self.old.count }
         requires some { 0 < times }

@@ -11,9 +11,7 @@ pub loop-left-smaller : goal.loop-left-smaller
 loop-left-smaller c = let is = rw c.in_ok-choice.was at (first_is c.in-Some.text.now c.first_of.result c.first_of.ensures) in search rules
 
 pub add-requires-clause-some : goal.add-requires-clause-some
-add-requires-clause-some c =
-    let first : First = ((c.in_ok-choice.choice, c.in_ok-choice.times), c.in_ok-choice.behind) in
-    let is : IsFirst c.in-Some.text.now first = rw c.in_ok-choice.was at (first_is c.in-Some.text.now c.first_of.result c.first_of.ensures) in is.some
+add-requires-clause-some c = let is = rw c.in_ok-choice.was at (first_is c.in-Some.text.now c.first_of.result c.first_of.ensures) in search rules
 
 after : (entries : List Entry) (word : List ℕ) (words : List (List ℕ)) (entry : Entry) → entry_of word ≡ Some entry → entries_after (entries ++ entry ∷ []) words ≡ entries_after entries (word ∷ words)
 after entries word words entry e = grind (arith, append_assoc)
