@@ -1,8 +1,8 @@
 //! Runs: what a list of choices leads to.
 
-ghost use Rattle.std.specs.Prelude.{◌≡◌, ◌↔◌, ◌+◌, ◌<◌, ◌≤◌, ◌||◌, replicate, IsTrue, Ok, OnErr, OnOk, is_some};
+ghost use Rattle.std.specs.Prelude.{◌≡◌, ◌↔◌, ◌+◌, ◌<◌, ◌≤◌, ◌||◌, IsTrue, Ok, is_some};
 ghost use Rattle.bx_terms.specs.Outcomes.{Does};
-ghost use Rattle.bx_world.specs.Running.{advanced, ran, AdvanceTakes, DoesMany, DoesSome, Lacks, Notes};
+ghost use Rattle.bx_world.specs.Running.{advanced, AdvanceTakes, DoesMany, DoesSome, Notes};
 
 use crate::choices::Choice;
 use crate::lanes::Lanes;
@@ -93,33 +93,12 @@ pub fn advance_many<P: Hold<Proc>, C: Hold<Lanes>>(
     requires { end.old.applied + times ≤ u64.MAX }
     ensures { DoesMany image.now choice times end.old end.new result }
 {
-    if times == 0 {
-        return Ok(());
-    }
-    let made = advance_some(alloc, end, image, choice, times)?;
-    if made < times {
-        advance_rest(alloc, end, image, choice, times - made)?;
-    }
-    Ok(())
-}
-
-/// So many choices more, all of them equal. Apart, since one look at the process mostly makes all: a loop around the first look would
-/// work out for each choice what few of them want.
-#[inline(never)]
-fn advance_rest<P: Hold<Proc>, C: Hold<Lanes>>(
-    alloc: Global,
-    end: &mut RunEnd<P, C>,
-    image: &Image,
-    choice: Choice,
-    times: u64,
-) -> Result<(), AllocError>
-    requires { end.old.applied + times ≤ u64.MAX }
-    ensures ok { OnOk result (end.new ≡ ran image.now (replicate times choice) end.old) }
-    ensures err { OnErr result (Lacks image.now choice times end.old end.new) }
-{
     let mut left = times;
     while left > 0 {
-        left -= advance_some(alloc, end, image, choice, left)?;
+        match advance_some(alloc, end, image, choice, left) {
+            Ok(made) => left -= made,
+            Err(_) => return Err(Fault::Memory),
+        }
     }
     Ok(())
 }

@@ -1,5 +1,5 @@
 use Rattle.bx_world.proofs.Words.{◌≡◌, ◌≤◌, ◌-◌, replicate, ran}
-use Rattle.bx_world.proofs.runs.advance_rest.Given as goal
+use Rattle.bx_world.proofs.runs.advance_many.Given as goal
 
 -- those that are made so far
 abbrev pub invariant-loop-left : goal.invariant-loop-left
